@@ -1,0 +1,31 @@
+use arrayvec::ArrayVec;
+use lists::Sequence;
+use record_dim::LeafType;
+
+/// What a mapping is built over: a leaf and the type in which it is stored.
+#[derive(Clone, Copy, Debug)]
+pub struct Cell {
+    pub leaf: usize,
+    pub kind: LeafType,
+}
+
+/// The cells of a mapping, in order.
+pub type CellList = Sequence<Cell>;
+
+/// How a cell is stored: as a signed or unsigned number of so many bits.
+#[derive(Clone, Copy, Debug, PartialEq, Eq)]
+pub struct Hold {
+    pub signed: bool,
+    pub width: u32,
+}
+
+/// Consecutive bits of one blob, from bit `bit` on.
+#[derive(Clone, Copy, Debug, Default, PartialEq, Eq)]
+pub struct Piece {
+    pub blob: usize,
+    pub bit: u64,
+    pub bits: u32,
+}
+
+/// Where the bits of one cell in one slot lie, least significant first.
+pub type Pieces = ArrayVec<Piece, 8>;
