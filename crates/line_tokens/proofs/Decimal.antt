@@ -1,0 +1,35 @@
+-- The value of decimal digits, read from the left.
+use Rattle.std.proofs.Common.{◌≡◌, ℕ, ◌+◌, ◌-◌, ◌*◌, ◌/◌, ◌^◌, ◌<◌, ◌≤◌, Bool, true, List, length, get_or, take, arith}
+use Rattle.std.specs.Char.{is_ascii_digit}
+use Rattle.std.specs.List.{AllPass, prefix_len}
+use Rattle.std.specs.Str.Parse.{digits_value}
+use Rattle.std.proofs.lemmas.List.{get_or-take}
+use Rattle.std.proofs.lemmas.List.Folds.{length-prefix_len}
+use Rattle.std.proofs.lemmas.List.Sums.{prefix_len_passes}
+use Rattle.std.proofs.lemmas.Bool.Decides.{nat_tests}
+use Rattle.std.proofs.lemmas.Int.Digits.{digits_value_more}
+use Rattle.std.proofs.lemmas.Str.{digit_value_digit}
+use Rattle.std.proofs.lemmas.Str.Parse.{digits_value-take-le}
+
+pub digit_range : (b : ℕ) → is_ascii_digit b ≡ true → (48 ≤ b) × (b ≤ 57)
+digit_range b h = grind (arith, nat_tests)
+
+-- one digit more
+pub digits_more : (digits : List ℕ) (i : ℕ) → i < length digits → is_ascii_digit (get_or digits i 0) ≡ true →
+    digits_value 10 (take (i + 1) digits) ≡ digits_value 10 (take i digits) * 10 + (get_or digits i 0 - 48)
+digits_more digits i l h =
+    let r = digit_range (get_or digits i 0) h in
+    omega (arith, digits_value_more 10 digits i l, digit_value_digit (get_or digits i 0) r)
+
+-- where a value is above a tenth of the greatest, one digit more passes it, and so do all the digits
+pub digits_pass : (digits : List ℕ) (i value : ℕ) → i < length digits → is_ascii_digit (get_or digits i 0) ≡ true →
+    value ≡ digits_value 10 (take i digits) → (2 ^ 127 - 1) / 10 < value → 2 ^ 127 ≤ digits_value 10 digits
+digits_pass digits i value l h e over =
+    let more = digits_more digits i l h in
+    omega (arith, digits_value-take-le 10 digits (i + 1) (omega arith))
+
+-- each byte of a run passes the test of the run
+pub AllPass-take_prefix_len : (p : ℕ → Bool) (xs : List ℕ) → AllPass p (take (prefix_len p xs) xs)
+AllPass-take_prefix_len p xs k d l =
+    let short : k < prefix_len p xs = rw length-prefix_len at l in
+    rw (get_or-take (prefix_len p xs) xs k d short) (prefix_len_passes p xs k d short)

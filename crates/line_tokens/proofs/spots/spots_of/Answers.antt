@@ -1,0 +1,27 @@
+use Rattle.std.proofs.Common.{◌++◌, [], ◌∷◌, Some, None, sym, refl, append-nil, arith}
+use Rattle.line_tokens.specs.Spots.{Spots}
+use Rattle.line_tokens.proofs.SpotLaws.{brackets_after-le, Spots-last, Spots-more, same_spots, spot_at, spots_inside}
+use Rattle.line_tokens.proofs.spots.spots_of.Goals as goal
+
+pub returns-in-End : goal.returns-in-End
+returns-in-End c =
+    let all : Spots c.args.text.now 0 0 c.loop-spots.spots = rw append-nil at (c.loop-spots.invariant.found [] (sym c.in-End.ensures.next)) in
+    record { spots = all; inside = spots_inside c.args.text.now 0 0 c.loop-spots.spots (omega arith) all; only = λ other h. same_spots c.args.text.now 0 0 c.loop-spots.spots other all h }
+
+pub returns-in-Bad : goal.returns-in-Bad
+returns-in-Bad c =
+    let text = c.args.text.now in let found = c.loop-spots.spots in let from = c.in-Bad.from in
+    let all = Spots-last text found c.loop-spots.at c.loop-spots.brackets from (sym c.in-Bad.ensures.next) c.loop-spots.invariant.found in
+    let is = c.in_ok-push-in-Bad.ensures.ok in
+    record { spots = rw is all; inside = rw is (spots_inside text 0 0 (found ++ spot_at from from None ∷ []) (omega arith) all); only = λ other h. rw is (same_spots text 0 0 (found ++ spot_at from from None ∷ []) other all h) }
+
+pub loop-spots-preserved : goal.loop-spots-preserved
+loop-spots-preserved c =
+    let text = c.args.text.now in let t = c.in-Token in
+    let next = sym t.ensures.next in let inside = t.ensures.inside in
+    record {
+      within = omega arith;
+      few = rw c.brackets_after-brackets.ensures (brackets_after-le text c.loop-spots.at c.loop-spots.brackets t.from t.end t.kind next c.loop-spots.invariant.few);
+      found = λ rest h. rw c.in_ok-push-in-Token.ensures.ok
+          (Spots-more text c.loop-spots.spots c.loop-spots.at c.loop-spots.brackets (spot_at t.from t.end (Some t.kind)) t.kind refl next c.loop-spots.invariant.found rest (rw c.brackets_after-brackets.ensures at h));
+    }

@@ -1,0 +1,17 @@
+use Rattle.std.proofs.Common.{get_or, arith}
+use Rattle.std.proofs.lemmas.Bool.Decides.{nat_tests}
+use Rattle.line_tokens.proofs.Decimal.{digit_range, digits_more, digits_pass}
+use Rattle.line_tokens.proofs.token.value_of.Goals as goal
+
+pub returns-then-value : goal.returns-then-value
+returns-then-value c =
+    let great = digits_pass c.args.digits.now c.loop-byte.byte-index c.loop-byte.value c.loop-byte-test.true
+    (c.requires _ 0 c.loop-byte-test.true) c.loop-byte.invariant.0 c.if-value.true in
+    grind (arith, nat_tests)
+
+pub loop-byte-preserved : goal.loop-byte-preserved
+loop-byte-preserved c =
+    let digit = c.requires c.loop-byte.byte-index 0 c.loop-byte-test.true in
+    let range = digit_range (get_or c.args.digits.now c.loop-byte.byte-index 0) digit in
+    let more = digits_more c.args.digits.now c.loop-byte.byte-index c.loop-byte-test.true digit in
+    (omega arith, omega arith)
