@@ -1,0 +1,49 @@
+use Rattle.std.proofs.Common.{◌≡◌, ℕ, length, inl, inr, ⊎_elim, arith, rules, Iter}
+use Rattle.std.specs.Iterator.Adapters.{zip_first, zip_second}
+use Rattle.std.specs.Slice.Iter.{iter_rest}
+use Rattle.std.proofs.lemmas.Option.{slice_get_within}
+use Rattle.extents.specs.IndicesLaws.{place, same_row}
+use Rattle.extents.proofs.RowLemmas.{IsRowSoFar-none, row_turn, row_end, row_so_far_le, place_fits, place_is_row}
+use Rattle.extents.proofs.rows.Extents.row_of.Goals as goal
+
+pub loop-component-init : goal.loop-component-init
+loop-component-init c =
+    let first : iter_rest (zip_first c.into_iter-component-iterator.result) ≡ c.args.index.now = search rules in
+    let second : iter_rest (zip_second c.into_iter-component-iterator.result) ≡ c.args.self.now = search rules in
+    ((tt, tt), tt, rw (first, second) (IsRowSoFar-none c.args.self.now c.args.index.now c.requires))
+
+pub overflow_mul-row : goal.overflow_mul-row
+overflow_mul-row c =
+    let s = c.in-Some.ensures.steps in
+    let turn = row_turn _ _ _ _ _ _ _ _ s.1 s.0 c.loop-component.invariant.2 in
+    let fits = place_fits c.args.self.now c.args.index.now c.sizes.ensures.extents c.requires in
+    let le = row_so_far_le _ _ _ _ turn in
+    rw c.from.ensures (omega arith)
+
+pub overflow_add-row : goal.overflow_add-row
+overflow_add-row c =
+    let s = c.in-Some.ensures.steps in
+    let turn = row_turn _ _ _ _ _ _ _ _ s.1 s.0 c.loop-component.invariant.2 in
+    let fits = place_fits c.args.self.now c.args.index.now c.sizes.ensures.extents c.requires in
+    let le = row_so_far_le _ _ _ _ turn in
+    rw c.from.ensures (omega arith)
+
+pub loop-component-preserved : goal.loop-component-preserved
+loop-component-preserved c =
+    let s = c.in-Some.ensures.steps in
+    let turn = row_turn _ _ _ _ _ _ _ _ s.1 s.0 c.loop-component.invariant.2 in
+    ((tt, tt), tt, rw c.from.ensures turn)
+
+found : (c : goal.In-None) → c.loop-component.row ≡ place c.args.self.now c.args.index.now
+found c =
+    row_end _ _ _ _ (⊎_elim (λ (z : (x : Iter ℕ) × ((length (iter_rest (zip_first c.loop-component.component-iterator)) ≡ 0) × (x ≡ zip_first c.loop-component.component-iterator))). inl z.1.0) (λ (z : (x : Iter ℕ) × ((length (iter_rest (zip_second c.loop-component.component-iterator)) ≡ 0) × (x ≡ zip_second c.loop-component.component-iterator))). inr z.1.0) c.in-None.ensures.steps) c.loop-component.invariant.2
+
+pub returns-clause-entry : goal.returns-clause-entry
+returns-clause-entry c = place_is_row c.args.self.now c.args.index.now c.loop-component.row c.requires (found c)
+
+pub returns-clause-below : goal.returns-clause-below
+returns-clause-below c = slice_get_within _ _ _ (place_is_row c.args.self.now c.args.index.now c.loop-component.row c.requires (found c))
+
+pub returns-clause-alone : goal.returns-clause-alone
+returns-clause-alone c = λ other at.
+    same_row c.args.self.now c.args.index.now other c.loop-component.row at (place_is_row c.args.self.now c.args.index.now c.loop-component.row c.requires (found c))

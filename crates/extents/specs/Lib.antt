@@ -1,0 +1,4 @@
+pub mod Indices
+pub mod IndicesLaws
+pub mod Shapes
+pub mod Stored

@@ -1,0 +1,11 @@
+//! The extents of an array, its rows and its indices.
+//!
+//! Row `r` of an array is the place, counted from 0, of an index in the lexicographic list of all
+//! indices. Nothing here takes memory.
+#![tactic(auto)]
+
+mod rows;
+mod words;
+
+pub use rows::Extents;
+pub use words::{BadExtents, ExtentWord, Shape};

@@ -1,0 +1,12 @@
+use Rattle.std.proofs.Common.{IsErr, rules}
+use Rattle.layout_io.specs.GatheringLaws.{Puts-nil, Puts-loop_err}
+use Rattle.layout_io.specs.Parts.{text_of_part}
+use Rattle.layout_io.proofs.text_buffer.TextBuffer.put_parts.Goals as goal
+
+pub loop-part-init : goal.loop-part-init
+loop-part-init g c = Puts-nil _ _ _ _ _
+
+pub returns-in_err-put_part : goal.returns-in_err-put_part
+returns-in_err-put_part g c =
+    let err : IsErr c.from_residual.result = search rules in
+    Puts-loop_err _ text_of_part _ _ _ c.loop-part-test.true err c.loop-part.invariant c.in_err-put_part.ensures

@@ -1,0 +1,13 @@
+pub mod Faults
+pub mod Files
+pub mod Writing
+pub mod WritingLaws
+pub mod Gathering
+pub mod GatheringLaws
+pub mod Decimal
+pub mod Reading
+pub mod MemoryShelf
+pub mod MemorySink
+pub mod Entries
+pub mod DecimalLaws
+pub mod Parts

@@ -1,0 +1,9 @@
+use Rattle.std.proofs.Common.{take}
+use Rattle.std.specs.Prelude.{reverse}
+use Rattle.extents.specs.IndicesLaws.{place}
+use Rattle.extents.proofs.RowLemmas.{IsRowSoFar}
+use Rattle.linearize.proofs.place_by_columns.Given as goal
+
+abbrev pub invariant-loop-d : goal.invariant-loop-d
+invariant-loop-d l =
+    IsRowSoFar (reverse (take l.d l.extents)) (reverse (take l.d l.index)) l.place (place (reverse l.extents) (reverse l.index))
