@@ -23,6 +23,10 @@ pub record IsLaidOut (layout : List (List Owner)) (slots : ℕ) (widths : List �
 abbrev pub owners_in : List (List Owner) → Piece → List Owner
 owners_in layout piece = map (owner_at layout piece.blob) (range_with_len piece.bit piece.bits)
 
+-- a piece of later blobs, which stand behind `by` others
+abbrev pub shifted : ℕ → Piece → Piece
+shifted by piece = record { blob = piece.blob + by; bit = piece.bit; bits = piece.bits }
+
 -- a piece is not empty and lies within its blob
 pub record IsPiece (layout : List (List Owner)) (piece : Piece) : Type 0 where
   pub blob_in : piece.blob < length layout

@@ -1,8 +1,10 @@
 // What lies where: layouts as lists of bits, and the contract of a mapping.
 #![tactic(auto)]
 
+mod laws;
 mod mapping;
 mod piece;
 
-pub use mapping::{Mapping, NewMapping};
-pub use piece::{Cell, CellList, Hold, Piece, Pieces};
+pub use laws::{pieces_of, writes_keep_others, writes_read_back};
+pub use mapping::{MAX_BLOB_BITS, MAX_SLOTS, Mapping, NewMapping};
+pub use piece::{Cell, CellList, Hold, Piece, Pieces, Run, RunList, RunOwner};

@@ -1,6 +1,7 @@
 ghost use Rattle.std.specs.Prelude.{ℕ, ◌≡◌, ◌*◌, ◌<◌, List, [], length, map, slice_index, slice_index_or, slice_get, Some};
 ghost use Rattle.places.specs.Layout.{Owner};
 ghost use Rattle.places.specs.Laws.{IsLaidOut, IsLocated};
+ghost use Rattle.places.specs.declared.mapping.NewMapping.TheVariants.{NoMemory};
 ghost use Rattle.places.specs.declared.piece.Cell.{Cell};
 ghost use Rattle.places.specs.declared.piece.Hold.{Hold};
 
@@ -22,6 +23,28 @@ pub enum NewMapping {
     /// More than 2^24 slots, or more than 2^28 bytes in all blobs.
     TooBig,
     NoMemory,
+}
+
+/// The most slots of a mapping.
+pub const MAX_SLOTS: u64 = 1 << 24;
+
+/// The most bits in all blobs of a mapping: those of 2^28 bytes.
+pub const MAX_BLOB_BITS: u64 = 1 << 31;
+
+impl From<AllocError> for NewMapping {
+    ghost from_gives = { λ _ e. e ≡ NoMemory };
+
+    fn from(_e: AllocError) -> NewMapping {
+        NewMapping::NoMemory
+    }
+}
+
+impl<T: Drop> From<AllocFailed<T>> for NewMapping {
+    ghost from_gives = { λ _ e. e ≡ NoMemory };
+
+    fn from(_e: AllocFailed<T>) -> NewMapping {
+        NewMapping::NoMemory
+    }
 }
 
 /// Where each cell of each slot lies. Its meaning is a layout, the number of slots, the cells and their holds.

@@ -29,3 +29,22 @@ pub struct Piece {
 
 /// Where the bits of one cell in one slot lie, least significant first.
 pub type Pieces = ArrayVec<Piece, 8>;
+
+/// Who owns a run of bits: nobody, or consecutive bits of one leaf in one row, from bit `low` of it on.
+#[derive(Clone, Copy, Debug, PartialEq, Eq)]
+pub enum RunOwner {
+    Pad,
+    Leaf { row: u64, leaf: usize, low: u32 },
+}
+
+/// Consecutive bits of one blob that have one owner, from bit `bit` on.
+#[derive(Clone, Copy, Debug, PartialEq, Eq)]
+pub struct Run {
+    pub blob: usize,
+    pub bit: u64,
+    pub bits: u64,
+    pub owner: RunOwner,
+}
+
+/// The runs of a blob, in the order of its bits.
+pub type RunList = Sequence<Run>;

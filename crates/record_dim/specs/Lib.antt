@@ -1,1 +1,9 @@
+pub mod Faults
+pub mod Gathering
 pub mod LeafTypes
+pub mod Leaves
+pub mod Names
+pub mod Nodes
+pub mod Paths
+pub mod Schemas
+pub mod Trees

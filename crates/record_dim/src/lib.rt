@@ -1,6 +1,25 @@
 // What the records of a data set are: named fields of whole-number leaves, nested records and static arrays.
 #![tactic(auto)]
 
+mod checks;
+mod copies;
+mod dim;
+mod fault;
 mod leaf_type;
+mod name;
+mod nodes;
+mod path;
+mod schema;
+mod tables;
+mod text;
 
+pub use dim::{Dim, Field, FieldList};
+pub use fault::{BadRecord, MakeSchema};
 pub use leaf_type::LeafType;
+pub use name::Name;
+pub use path::{Path, PathStep};
+pub use schema::Schema;
+pub use text::Text;
+
+#[cfg(test)]
+mod tests;

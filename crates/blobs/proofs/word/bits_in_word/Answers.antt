@@ -1,0 +1,6 @@
+use Rattle.std.proofs.Common.{arith}
+use Rattle.blobs.proofs.Words.{read_field}
+use Rattle.blobs.proofs.word.bits_in_word.Goals as goal
+
+pub returns : goal.returns
+returns c = read_field c.args.word c.args.low c.args.n (omega arith)

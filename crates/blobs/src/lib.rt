@@ -1,0 +1,8 @@
+// Bytes of a view: read and written byte by byte, and bit by bit.
+#![tactic(auto)]
+
+mod blob;
+mod word;
+
+pub use blob::Blob;
+pub use word::{bits_in_word, with_bits};

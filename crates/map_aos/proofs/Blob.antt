@@ -1,0 +1,187 @@
+-- The blob of all slots: its length, and the places of a cell.
+use Rattle.std.proofs.Common.{◌≡◌, ℕ, zero, suc, ◌+◌, ◌-◌, ◌*◌, ◌/◌, ◌%◌, ◌^◌, ◌<◌, ◌≤◌, inr, ⊎_elim, List, [], ◌∷◌, ◌++◌, map, length, sum_by, get_or, slice_index, refl, sym, ap, ◌∙◌, subst, arith, length-append}
+use Rattle.std.specs.List.{flat_map, range_with_len}
+use Rattle.std.proofs.lemmas.Bool.{cases_lt}
+use Rattle.std.proofs.lemmas.Nat.{row_fits}
+use Rattle.std.proofs.lemmas.List.{get_or_read, get_or-map, length-map}
+use Rattle.record_dim.specs.LeafTypes.{width_of}
+use Rattle.places.specs.Layout.{Owner, Pad, Bit, owner_at}
+use Rattle.places.specs.Laws.{IsLocated}
+use Rattle.places.specs.Holds.{widths_of, full_holds, IsTooBig}
+use Rattle.places.specs.declared.piece.Cell.{Cell}
+use Rattle.places.specs.declared.piece.Hold.{Hold}
+use Rattle.places.specs.declared.piece.Piece.{Piece}
+use Rattle.places.proofs.Exact.{within}
+use Rattle.places.proofs.Slots.{length-parts, slot_at}
+use Rattle.places.proofs.Places.{one_piece}
+use Rattle.places.proofs.Widths.{widths_full, widths_wide, widths_narrow}
+use Rattle.map_aos.specs.Aos.{IsStored, aos_layout, part_of}
+use Rattle.map_aos.specs.AosLaws.{aos_laws, layout_parts}
+use Rattle.map_aos.specs.declared.form.AosForm.{AosForm}
+
+abbrev blob_of : AosForm → ℕ → List ℕ → List Owner
+blob_of form slots widths = flat_map (part_of form widths) (range_with_len 0 slots)
+
+-- the length of the blob in bits
+pub blob_size : (form : AosForm) (slots : ℕ) (widths offsets : List ℕ) (stride : ℕ) → (0 < slots → IsStored form widths offsets stride)
+    → length (blob_of form slots widths) ≡ slots * stride
+blob_size form slots widths offsets stride h =
+    ⊎_elim
+    (λ (some : 0 < slots). length-parts (part_of form widths) stride (h some).size 0 slots)
+    (λ (none : slots ≤ 0).
+    let zero : slots ≡ 0 = omega arith in
+    let empty : length (blob_of form slots widths) ≡ 0 = ap (λ (n : ℕ). length (blob_of form n widths)) zero in
+    let product : slots * stride ≡ 0 = ap (λ (n : ℕ). n * stride) zero ∙ (let e : 0 * stride ≡ 0 = omega arith in e) in
+    empty ∙ sym product)
+    (cases_lt 0 slots)
+
+pub layout_size : (form : AosForm) (slots : ℕ) (widths offsets : List ℕ) (stride : ℕ) → (0 < slots → IsStored form widths offsets stride)
+    → sum_by length (aos_layout form slots widths) ≡ slots * stride
+layout_size form slots widths offsets stride h =
+    let blob : List Owner = blob_of form slots widths in
+    let one : sum_by length (blob ∷ []) ≡ length blob = omega arith in
+    ap (λ (layout : List (List Owner)). sum_by length layout) (layout_parts form slots widths) ∙ one ∙ blob_size form slots widths offsets stride h
+
+-- the length of the one blob in bytes
+pub blob_bytes_is : (form : AosForm) (slots : ℕ) (cells : List Cell) (offsets : List ℕ) (stride blob : ℕ)
+    → (0 < slots → IsStored form (widths_of cells) offsets stride) → blob < length (aos_layout form slots (widths_of cells))
+    → 8 * (slots * stride / 8) ≡ length (get_or (aos_layout form slots (widths_of cells)) blob [])
+blob_bytes_is form slots cells offsets stride blob h inside =
+    let widths : List ℕ = widths_of cells in
+    let parts : aos_layout form slots widths ≡ blob_of form slots widths ∷ [] = layout_parts form slots widths in
+    let count : length (aos_layout form slots widths) ≡ 1 = ap (λ (layout : List (List Owner)). length layout) parts in
+    let first : blob ≡ 0 = omega arith in
+    let here : length (get_or (aos_layout form slots widths) blob []) ≡ length (blob_of form slots widths) =
+    ap (λ (b : ℕ). length (get_or (aos_layout form slots widths) b [])) first ∙ ap (λ (layout : List (List Owner)). length (get_or layout 0 [])) parts in
+    let size : length (blob_of form slots widths) ≡ slots * stride = blob_size form slots widths offsets stride h in
+    let whole : length (get_or (aos_layout form slots widths) blob []) % 8 ≡ 0 = (aos_laws form slots cells).whole_bytes blob [] inside in
+    omega arith
+
+-- the places of a cell's bits
+pub cell_at : (form : AosForm) (slots : ℕ) (widths offsets : List ℕ) (stride slot cell bit : ℕ) → IsStored form widths offsets stride
+    → slot < slots → cell < length widths → bit < slice_index widths cell
+    → owner_at (aos_layout form slots widths) 0 (slot * stride + slice_index offsets cell + bit) ≡ Bit slot cell bit
+cell_at form slots widths offsets stride slot cell bit h slot_in cell_in bit_in =
+    let part : List Owner = part_of form widths slot in
+    let place : ℕ = slice_index offsets cell + bit in
+    let here : get_or part place Pad ≡ Bit slot cell bit = h.here slot cell bit cell_in bit_in in
+    let low : place < length part = within part place slot cell bit here in
+    let size : length part ≡ stride = h.size slot in
+    let grouped : slot * stride + slice_index offsets cell + bit ≡ slot * stride + place = omega arith in
+    ap (λ (layout : List (List Owner)). owner_at layout 0 (slot * stride + slice_index offsets cell + bit)) (layout_parts form slots widths)
+    ∙ ap (λ (p : ℕ). get_or (blob_of form slots widths) p Pad) grouped
+    ∙ slot_at Pad (part_of form widths) stride h.size slots slot place slot_in (omega arith)
+    ∙ here
+
+-- a cell ends within the blob
+pub cell_end : (form : AosForm) (slots : ℕ) (widths offsets : List ℕ) (stride slot cell : ℕ) → IsStored form widths offsets stride
+    → slot < slots → cell < length widths → 1 ≤ slice_index widths cell → slot * stride + slice_index offsets cell + slice_index widths cell ≤ slots * stride
+cell_end form slots widths offsets stride slot cell h slot_in cell_in some =
+    let part : List Owner = part_of form widths slot in
+    let last : ℕ = slice_index widths cell - 1 in
+    let place : ℕ = slice_index offsets cell + last in
+    let here : get_or part place Pad ≡ Bit slot cell last = h.here slot cell last cell_in (omega arith) in
+    let low : place < length part = within part place slot cell last here in
+    let size : length part ≡ stride = h.size slot in
+    let fits : slot * stride + stride ≤ slots * stride = row_fits slot stride slots stride slot_in (omega arith) in
+    omega arith
+
+-- what the cells' widths are, as the laws and the code write them
+pub record IsCellWidth (cells : List Cell) (cell width : ℕ) : Type 0 where
+  pub inside : cell < length (widths_of cells)
+  pub hold : slice_index (map (λ (h : Hold). h.width) (full_holds cells)) cell ≡ width
+  pub same : slice_index (widths_of cells) cell ≡ width
+  pub some : 1 ≤ width
+  pub low : width ≤ 64
+
+pub cell_width : (cells : List Cell) (cell width : ℕ) → cell < length cells → width ≡ slice_index (widths_of cells) cell → IsCellWidth cells cell width
+cell_width cells cell width inside e =
+    let size : length (widths_of cells) ≡ length cells = length-map cells (λ (c : Cell). width_of c.kind) in
+    let cell_in : cell < length (widths_of cells) = omega arith in
+    let some : 1 ≤ slice_index (widths_of cells) cell = widths_wide cells cell 0 cell_in in
+    let low : slice_index (widths_of cells) cell ≤ 64 = widths_narrow cells cell 0 cell_in in
+    record {
+      inside = cell_in;
+      hold = ap (λ (ws : List ℕ). slice_index ws cell) (widths_full cells) ∙ sym e;
+      same = sym e;
+      some = omega arith;
+      low = omega arith;
+    }
+
+pub located_is : (form : AosForm) (slots : ℕ) (cells : List Cell) (offsets : List ℕ) (stride slot cell : ℕ) (piece : Piece) (pieces : List Piece)
+    → pieces ≡ piece ∷ [] → (0 < slots → IsStored form (widths_of cells) offsets stride) → slots * stride ≤ 2 ^ 31 → slot < slots → cell < length cells
+    → piece.blob ≡ 0 → piece.bit ≡ slot * stride + slice_index offsets cell → piece.bits ≡ slice_index (widths_of cells) cell
+    → IsLocated (aos_layout form slots (widths_of cells)) slot cell (slice_index (map (λ (h : Hold). h.width) (full_holds cells)) cell) pieces
+located_is form slots cells offsets stride slot cell piece pieces are h bound slot_in cell_in blob bit bits =
+    let widths : List ℕ = widths_of cells in
+    let layout : List (List Owner) = aos_layout form slots widths in
+    let w : ℕ = slice_index widths cell in
+    let stored : IsStored form widths offsets stride = h (omega arith) in
+    let width = cell_width cells cell w cell_in refl in
+    let some : 1 ≤ w = width.some in
+    let end : slot * stride + slice_index offsets cell + w ≤ slots * stride = cell_end form slots widths offsets stride slot cell stored slot_in width.inside some in
+    let one : IsLocated layout slot cell w (piece ∷ []) =
+    one_piece layout slot cell w piece bits (omega arith) (omega arith)
+    (λ k l.
+    ap (λ (b : ℕ). owner_at layout b (piece.bit + k)) blob
+    ∙ ap (λ (p : ℕ). owner_at layout 0 (p + k)) bit
+    ∙ cell_at form slots widths offsets stride slot cell k stored slot_in width.inside l) in
+    let held : IsLocated layout slot cell (slice_index (map (λ (h : Hold). h.width) (full_holds cells)) cell) (piece ∷ []) =
+    subst (λ (n : ℕ). IsLocated layout slot cell n (piece ∷ [])) (sym width.hold) one in
+    subst (λ (ps : List Piece). IsLocated layout slot cell (slice_index (map (λ (h : Hold). h.width) (full_holds cells)) cell) ps) (sym are) held
+
+-- a part that is too long makes the blob too long
+pub big_part : (form : AosForm) (slots : ℕ) (widths : List ℕ) → 0 < slots → ((slot : ℕ) → 2 ^ 31 < length (part_of form widths slot))
+    → IsTooBig slots (aos_layout form slots widths)
+big_part form zero widths some long = let none : ⊥ = omega arith in absurd none
+big_part form (suc n) widths some long =
+    let part : List Owner = part_of form widths 0 in
+    let rest : List Owner = flat_map (part_of form widths) (range_with_len (0 + 1) n) in
+    let blob : List Owner = part ++ rest in
+    let both : length blob ≡ length part + length rest = length-append part rest in
+    let first : 2 ^ 31 < length part = long 0 in
+    let one : sum_by length (blob ∷ []) ≡ length blob = omega arith in
+    let all : sum_by length (aos_layout form (suc n) widths) ≡ length blob =
+    ap (λ (layout : List (List Owner)). sum_by length layout) (layout_parts form (suc n) widths) ∙ one in
+    inr (omega arith)
+
+-- the limits, where each part has `stride` bits
+pub big_blob : (form : AosForm) (slots : ℕ) (widths offsets : List ℕ) (stride : ℕ) → IsStored form widths offsets stride → 2 ^ 31 < slots * stride
+    → IsTooBig slots (aos_layout form slots widths)
+big_blob form slots widths offsets stride h long =
+    let size : sum_by length (aos_layout form slots widths) ≡ slots * stride = layout_size form slots widths offsets stride (λ some. h) in
+    inr (omega arith)
+
+pub not_too_big : (form : AosForm) (slots : ℕ) (widths offsets : List ℕ) (stride : ℕ) → (0 < slots → IsStored form widths offsets stride)
+    → slots ≤ 2 ^ 24 → slots * stride ≤ 2 ^ 31 → IsTooBig slots (aos_layout form slots widths) → ⊥
+not_too_big form slots widths offsets stride h few small big =
+    let size : sum_by length (aos_layout form slots widths) ≡ slots * stride = layout_size form slots widths offsets stride h in
+    ⊎_elim
+    (λ (many : 2 ^ 24 < slots). let none : ⊥ = omega arith in none)
+    (λ (long : 8 * 2 ^ 28 < sum_by length (aos_layout form slots widths)). let none : ⊥ = omega arith in none)
+    big
+
+-- an offset and a width as the code reads them
+pub offset_read : (form : AosForm) (cells : List Cell) (offsets : List ℕ) (stride cell offset : ℕ) → IsStored form (widths_of cells) offsets stride
+    → cell < length cells → offset ≡ get_or offsets cell offset → offset ≡ slice_index offsets cell
+offset_read form cells offsets stride cell offset h inside read =
+    let count : length offsets ≡ length (widths_of cells) = h.each in
+    let size : length (widths_of cells) ≡ length cells = length-map cells (λ (c : Cell). width_of c.kind) in
+    get_or_read offsets cell offset (omega arith) read 0
+
+pub width_read : (cells : List Cell) (cell : ℕ) (found : Cell) (width : ℕ) → cell < length cells → found ≡ get_or cells cell found → width ≡ width_of found.kind
+    → width ≡ slice_index (widths_of cells) cell
+width_read cells cell found width inside read w =
+    w ∙ ap (λ (c : Cell). width_of c.kind) read ∙ sym (get_or-map (λ (c : Cell). width_of c.kind) cells cell found 0 inside)
+
+-- a place fits its type
+pub place_fits : (form : AosForm) (slots : ℕ) (cells : List Cell) (offsets : List ℕ) (stride slot cell offset : ℕ)
+    → (0 < slots → IsStored form (widths_of cells) offsets stride) → slots * stride ≤ 2 ^ 31 → slot < slots → cell < length cells
+    → offset ≡ get_or offsets cell offset → slot * stride + offset ≤ 2 ^ 31
+place_fits form slots cells offsets stride slot cell offset h bound slot_in cell_in read =
+    let stored : IsStored form (widths_of cells) offsets stride = h (omega arith) in
+    let same : offset ≡ slice_index offsets cell = offset_read form cells offsets stride cell offset stored cell_in read in
+    let width = cell_width cells cell (slice_index (widths_of cells) cell) cell_in refl in
+    let end : slot * stride + slice_index offsets cell + slice_index (widths_of cells) cell ≤ slots * stride =
+    cell_end form slots (widths_of cells) offsets stride slot cell stored slot_in width.inside width.some in
+    omega arith

@@ -1,0 +1,214 @@
+-- How the part of one slot is filled, cell after cell.
+use Rattle.std.proofs.Common.{◌≡◌, ℕ, ◌+◌, ◌-◌, ◌%◌, ◌<◌, ◌≤◌, ◌==◌, List, [], ◌∷◌, ◌++◌, map, filter, length, max, fold, replicate, get_or, set, take, slice_index, All, refl, sym, ap, ◌∙◌, subst, arith, lit≤}
+use Rattle.std.proofs.lemmas.List.{append-nil, append_assoc, take_more, take_all, get_or-map, length-map, get_or_append_left}
+use Rattle.std.proofs.lemmas.List.FromFn.{length-enumerate_from, get_or-enumerate_from}
+use Rattle.record_dim.specs.LeafTypes.{width_of}
+use Rattle.places.specs.Layout.{Owner, Pad, Bit, cells_of, field, falling}
+use Rattle.places.specs.Holds.{widths_of}
+use Rattle.places.specs.declared.piece.Cell.{Cell}
+use Rattle.places.proofs.Exact.{Member, length-field, field_at, within}
+use Rattle.places.proofs.Cells.{member_at, member_cells, cells_member, fresh_at}
+use Rattle.places.proofs.Stacked.{stacked, up, IsFilled, filled_more, length-padded, stacked_take}
+use Rattle.places.proofs.Widths.{IsWidth, by_width, widths_are}
+use Rattle.map_aos.specs.Aos.{IsStored, part_of, order_of, alignment}
+use Rattle.map_aos.specs.AosLaws.{laid_fields, widest, part_is, apart_order, order_member, member_order, member_width}
+use Rattle.map_aos.specs.declared.form.AosForm.{AosForm}
+use Rattle.map_aos.specs.declared.form.AosForm.TheVariants.{Packed, Aligned, Min}
+
+-- the numbered cells, one by one
+pub length-cells : (cells : List Cell) → length (cells_of (widths_of cells)) ≡ length cells
+length-cells cells = length-enumerate_from 0 (widths_of cells) ∙ length-map cells (λ (cell : Cell). width_of cell.kind)
+
+pub cells_more : (cells : List Cell) (i : ℕ) (d : Cell) → i < length cells
+    → take (i + 1) (cells_of (widths_of cells)) ≡ take i (cells_of (widths_of cells)) ++ (i, width_of (get_or cells i d).kind) ∷ []
+cells_more cells i d inside =
+    let size : length (cells_of (widths_of cells)) ≡ length cells = length-cells cells in
+    let size' : length (widths_of cells) ≡ length cells = length-map cells (λ (cell : Cell). width_of cell.kind) in
+    let step : take (i + 1) (cells_of (widths_of cells)) ≡ take i (cells_of (widths_of cells)) ++ get_or (cells_of (widths_of cells)) i (0, 0) ∷ [] =
+    take_more (cells_of (widths_of cells)) i (0, 0) (omega arith) in
+    let at : get_or (cells_of (widths_of cells)) i (0, 0) ≡ (0 + i, get_or (widths_of cells) i 0) =
+    get_or-enumerate_from 0 (widths_of cells) i (0, 0) (omega arith) in
+    let number : 0 + i ≡ i = omega arith in
+    let width : get_or (widths_of cells) i 0 ≡ width_of (get_or cells i d).kind =
+    get_or-map (λ (cell : Cell). width_of cell.kind) cells i d 0 inside in
+    let cell : (0 + i, get_or (widths_of cells) i 0) ≡ (i, width_of (get_or cells i d).kind) =
+    ap (λ (n : ℕ). (n, get_or (widths_of cells) i 0)) number ∙ ap (λ (w : ℕ). (i, w)) width in
+    step ∙ ap (λ (e : ℕ × ℕ). take i (cells_of (widths_of cells)) ++ e ∷ []) (at ∙ cell)
+
+-- four filters behind one another
+pub falling_is : (none : List (ℕ × ℕ)) (cells : List (ℕ × ℕ)) → none ≡ []
+    → none ++ filter (λ cell. cell.1 == 64) cells ++ filter (λ cell. cell.1 == 32) cells ++ filter (λ cell. cell.1 == 16) cells ++ filter (λ cell. cell.1 == 8) cells ≡ falling cells
+falling_is none cells e =
+    let a : List (ℕ × ℕ) = filter (λ cell. cell.1 == 64) cells in
+    let b : List (ℕ × ℕ) = filter (λ cell. cell.1 == 32) cells in
+    let c : List (ℕ × ℕ) = filter (λ cell. cell.1 == 16) cells in
+    let d : List (ℕ × ℕ) = filter (λ cell. cell.1 == 8) cells in
+    ap (λ (xs : List (ℕ × ℕ)). xs ++ a ++ b ++ c ++ d) e
+    ∙ ap (λ (xs : List (ℕ × ℕ)). xs ++ d) (append_assoc a b c)
+    ∙ append_assoc a (b ++ c) d
+    ∙ ap (λ (xs : List (ℕ × ℕ)). a ++ xs) (append_assoc b c d)
+    ∙ ap (λ (xs : List (ℕ × ℕ)). a ++ (b ++ (c ++ xs))) (sym (append-nil d))
+
+-- every slot's cells, as far as they are placed
+pub record IsPlaced (form : AosForm) (order : List (ℕ × ℕ)) (offsets : List ℕ) (end : ℕ) : Type 0 where
+  pub each : (slot : ℕ) → IsFilled (alignment form) (field slot) offsets end order
+
+-- a place of the order has a cell of its list
+pub record IsOrdered (widths : List ℕ) (cell : ℕ × ℕ) : Type 0 where
+  pub number : cell.0 < length widths
+  pub width : IsWidth cell.1
+
+pub order_at : (form : AosForm) (widths : List ℕ) (i : ℕ) (d : ℕ × ℕ) → All IsWidth widths → i < length (order_of form (cells_of widths))
+    → IsOrdered widths (get_or (order_of form (cells_of widths)) i d)
+order_at form widths i d each l =
+    let cell : ℕ × ℕ = get_or (order_of form (cells_of widths)) i d in
+    let m : Member (cells_of widths) cell.0 cell.1 = member_order form widths cell.0 cell.1 (member_at (order_of form (cells_of widths)) i d l) in
+    record { number = (member_cells widths cell.0 cell.1 m).0; width = member_width widths cell.0 cell.1 each m }
+
+-- one cell more
+pub placed_more : (form : AosForm) (widths : List ℕ) (offsets : List ℕ) (end i : ℕ) (d : ℕ × ℕ) → All IsWidth widths → length offsets ≡ length widths
+    → i < length (order_of form (cells_of widths)) → IsPlaced form (take i (order_of form (cells_of widths))) offsets end
+    → IsPlaced form (take (i + 1) (order_of form (cells_of widths)))
+    (set offsets (get_or (order_of form (cells_of widths)) i d).0 (up (alignment form (get_or (order_of form (cells_of widths)) i d).1) end))
+    (up (alignment form (get_or (order_of form (cells_of widths)) i d).1) end + (get_or (order_of form (cells_of widths)) i d).1)
+placed_more form widths offsets end i d each size l h =
+    let order : List (ℕ × ℕ) = order_of form (cells_of widths) in
+    let c : ℕ = (get_or order i d).0 in
+    let w : ℕ = (get_or order i d).1 in
+    let place : ℕ = up (alignment form w) end in
+    let inside : c < length widths = (order_at form widths i d each l).number in
+    record {
+      each = λ slot.
+          let more : IsFilled (alignment form) (field slot) (set offsets c place) (place + length (field slot (c, w))) (take i order ++ (c, w) ∷ []) =
+          filled_more (alignment form) (field slot) offsets end (take i order) c w (h.each slot) (omega arith)
+          (λ v m. fresh_at order i d v (apart_order form widths) l m) in
+          let sized : IsFilled (alignment form) (field slot) (set offsets c place) (place + w) (take i order ++ (c, w) ∷ []) =
+          subst (λ (n : ℕ). IsFilled (alignment form) (field slot) (set offsets c place) (place + n) (take i order ++ (c, w) ∷ [])) (length-field slot c w) more in
+          subst (λ (xs : List (ℕ × ℕ)). IsFilled (alignment form) (field slot) (set offsets c place) (place + w) xs) (sym (take_more order i d l)) sized;
+    }
+
+widest_push_from : (form : AosForm) (start : ℕ) (cells : List (ℕ × ℕ)) (cell : ℕ × ℕ)
+    → fold max start (map (λ cell. alignment form cell.1) (cells ++ cell ∷ [])) ≡ max (fold max start (map (λ cell. alignment form cell.1) cells)) (alignment form cell.1)
+widest_push_from form start [] cell = refl
+widest_push_from form start (first ∷ cells) cell = widest_push_from form (max start (alignment form first.1)) cells cell
+
+widest_push : (form : AosForm) (cells : List (ℕ × ℕ)) (cell : ℕ × ℕ) → widest form (cells ++ cell ∷ []) ≡ max (widest form cells) (alignment form cell.1)
+widest_push form cells cell = widest_push_from form 1 cells cell
+
+-- what the end is aligned to, one cell more
+pub widest_more : (form : AosForm) (order : List (ℕ × ℕ)) (i : ℕ) (d : ℕ × ℕ) → i < length order
+    → widest form (take (i + 1) order) ≡ max (widest form (take i order)) (alignment form (get_or order i d).1)
+widest_more form order i d l =
+    let step : take (i + 1) order ≡ take i order ++ get_or order i d ∷ [] = take_more order i d l in
+    ap (widest form) step ∙ widest_push form (take i order) (get_or order i d)
+
+-- all cells are placed
+pub stored : (form : AosForm) (widths offsets : List ℕ) (end : ℕ) → All IsWidth widths → length offsets ≡ length widths
+    → IsPlaced form (order_of form (cells_of widths)) offsets end → IsStored form widths offsets (up (widest form (order_of form (cells_of widths))) end)
+stored form widths offsets end each size h =
+    let order : List (ℕ × ℕ) = order_of form (cells_of widths) in
+    let pad : ℕ = widest form order in
+    record {
+      each = size;
+      size = λ slot.
+          ap (λ (owners : List Owner). length owners) (part_is form widths slot each)
+          ∙ length-padded pad (laid_fields form widths slot)
+          ∙ ap (up pad) (h.each slot).size;
+      here = λ slot c k c_in k_in.
+          let w : ℕ = slice_index widths c in
+          let m : Member order c w = order_member form widths c w each (cells_member widths c c_in) in
+          let laid : List Owner = laid_fields form widths slot in
+          let place : ℕ = slice_index offsets c + k in
+          let in_field : k < length (field slot (c, w)) = let e : length (field slot (c, w)) ≡ w = length-field slot c w in omega arith in
+          let owner : get_or laid place Pad ≡ Bit slot c k = (h.each slot).here c w k m in_field ∙ field_at slot c w k k_in in
+          let inside : place < length laid = within laid place slot c k owner in
+          ap (λ (owners : List Owner). get_or owners place Pad) (part_is form widths slot each)
+          ∙ get_or_append_left laid (replicate ((pad - length laid % pad) % pad) Pad) Pad place inside
+          ∙ owner;
+    }
+
+-- a part is at least as long as what is placed of it
+pub placed_le : (form : AosForm) (widths offsets : List ℕ) (end i slot : ℕ) → All IsWidth widths
+    → IsPlaced form (take i (order_of form (cells_of widths))) offsets end → end ≤ length (part_of form widths slot)
+placed_le form widths offsets end i slot each h =
+    let order : List (ℕ × ℕ) = order_of form (cells_of widths) in
+    let laid : List Owner = laid_fields form widths slot in
+    let some : length (stacked (alignment form) (field slot) [] (take i order)) ≤ length laid = stacked_take (alignment form) (field slot) order i in
+    let here : length (stacked (alignment form) (field slot) [] (take i order)) ≡ end = (h.each slot).size in
+    let size : length (part_of form widths slot) ≡ up (widest form order) (length laid) =
+    ap (λ (owners : List Owner). length owners) (part_is form widths slot each) ∙ length-padded (widest form order) laid in
+    omega arith
+
+-- one cell more is numbered
+pub numbered_more : (cells : List Cell) (i : ℕ) (d : Cell) (w : ℕ) (old new : List (ℕ × ℕ)) → i < length cells
+    → old ≡ take i (cells_of (widths_of cells)) → w ≡ width_of (get_or cells i d).kind → new ≡ old ++ (i, w) ∷ []
+    → new ≡ take (i + 1) (cells_of (widths_of cells))
+numbered_more cells i d w old new inside was width pushed =
+    let all : List (ℕ × ℕ) = cells_of (widths_of cells) in
+    let one : new ≡ take i all ++ (i, w) ∷ [] = pushed ∙ ap (λ (xs : List (ℕ × ℕ)). xs ++ (i, w) ∷ []) was in
+    let two : new ≡ take i all ++ (i, width_of (get_or cells i d).kind) ∷ [] = one ∙ ap (λ (v : ℕ). take i all ++ (i, v) ∷ []) width in
+    two ∙ sym (cells_more cells i d inside)
+
+alignment_some : (form : AosForm) (w : ℕ) → IsWidth w → (1 ≤ alignment form w) × (alignment form w ≤ 64)
+alignment_some Packed w h = ((let l : 1 ≤ 1 = omega arith in l), (let l : 1 ≤ 64 = omega arith in l))
+alignment_some Aligned w h = by_width (λ w. (1 ≤ w) × (w ≤ 64)) w (lit≤ tt, lit≤ tt) (lit≤ tt, lit≤ tt) (lit≤ tt, lit≤ tt) (lit≤ tt, lit≤ tt) h
+alignment_some Min w h = by_width (λ w. (1 ≤ w) × (w ≤ 64)) w (lit≤ tt, lit≤ tt) (lit≤ tt, lit≤ tt) (lit≤ tt, lit≤ tt) (lit≤ tt, lit≤ tt) h
+
+-- what is known of the cell at a place of the order
+pub record IsNext (form : AosForm) (count : ℕ) (cell : ℕ × ℕ) : Type 0 where
+  pub number : cell.0 < count
+  pub some : 1 ≤ alignment form cell.1
+  pub low : alignment form cell.1 ≤ 64
+
+pub next_at : (form : AosForm) (cells : List Cell) (order : List (ℕ × ℕ)) (i : ℕ) (d : ℕ × ℕ) → order ≡ order_of form (cells_of (widths_of cells)) → i < length order
+    → IsNext form (length cells) (get_or order i d)
+next_at form cells order i d e l =
+    let Next : List (ℕ × ℕ) → Type 0 = λ xs. i < length xs → IsNext form (length cells) (get_or xs i d) in
+    let widths : List ℕ = widths_of cells in
+    let there : Next (order_of form (cells_of widths)) = λ l.
+    let o = order_at form widths i d (widths_are cells) l in
+    let a = alignment_some form (get_or (order_of form (cells_of widths)) i d).1 o.width in
+    let same : length (widths_of cells) ≡ length cells = length-map cells (λ (cell : Cell). width_of cell.kind) in
+    let number : (get_or (order_of form (cells_of widths)) i d).0 < length widths = o.number in
+    record { number = omega arith; some = a.0; low = a.1 } in
+    subst Next (sym e) there l
+
+pub placed_next : (form : AosForm) (cells : List Cell) (order : List (ℕ × ℕ)) (i : ℕ) (d : ℕ × ℕ) (offsets : List ℕ) (end align offset width : ℕ)
+    → order ≡ order_of form (cells_of (widths_of cells)) → i < length order → length offsets ≡ length cells
+    → align ≡ alignment form (get_or order i d).1 → offset ≡ end + (align - end % align) % align → width ≡ (get_or order i d).1
+    → IsPlaced form (take i order) offsets end
+    → IsPlaced form (take (i + 1) order) (set offsets (get_or order i d).0 offset) (offset + width)
+placed_next form cells order i d offsets end align offset width e l size a o w h =
+    let widths : List ℕ = widths_of cells in
+    let Placed : List (ℕ × ℕ) → Type 0 = λ xs. i < length xs → IsPlaced form (take i xs) offsets end
+    → IsPlaced form (take (i + 1) xs) (set offsets (get_or xs i d).0 (up (alignment form (get_or xs i d).1) end)) (up (alignment form (get_or xs i d).1) end + (get_or xs i d).1) in
+    let same : length (widths_of cells) ≡ length cells = length-map cells (λ (cell : Cell). width_of cell.kind) in
+    let there : Placed (order_of form (cells_of widths)) = λ l h. placed_more form widths offsets end i d (widths_are cells) (size ∙ sym same) l h in
+    let here = subst Placed (sym e) there l h in
+    let place : up (alignment form (get_or order i d).1) end ≡ offset = ap (λ (n : ℕ). up n end) (sym a) ∙ sym o in
+    let moved = subst (λ (n : ℕ). IsPlaced form (take (i + 1) order) (set offsets (get_or order i d).0 n) (n + (get_or order i d).1)) place here in
+    subst (λ (n : ℕ). IsPlaced form (take (i + 1) order) (set offsets (get_or order i d).0 offset) (offset + n)) (sym w) moved
+
+-- all cells of the order are placed
+pub stored_all : (form : AosForm) (cells : List Cell) (order : List (ℕ × ℕ)) (i : ℕ) (offsets : List ℕ) (end last size : ℕ)
+    → order ≡ order_of form (cells_of (widths_of cells)) → length order ≤ i → length offsets ≡ length cells
+    → last ≡ widest form (take i order) → size ≡ end + (last - end % last) % last
+    → IsPlaced form (take i order) offsets end → IsStored form (widths_of cells) offsets size
+stored_all form cells order i offsets end last size e all count l s h =
+    let widths : List ℕ = widths_of cells in
+    let Stored : List (ℕ × ℕ) → Type 0 = λ xs. IsPlaced form xs offsets end → IsStored form widths offsets (up (widest form xs) end) in
+    let same : length (widths_of cells) ≡ length cells = length-map cells (λ (cell : Cell). width_of cell.kind) in
+    let whole : take i order ≡ order = take_all i order all in
+    let there : Stored (order_of form (cells_of widths)) = λ h. stored form widths offsets end (widths_are cells) (count ∙ sym same) h in
+    let here = subst Stored (sym (whole ∙ e)) there h in
+    let sized : up (widest form (take i order)) end ≡ size = ap (λ (n : ℕ). up n end) (sym l) ∙ sym s in
+    subst (λ (n : ℕ). IsStored form widths offsets n) sized here
+
+-- what is placed is no longer than a part
+pub placed_below : (form : AosForm) (cells : List Cell) (order : List (ℕ × ℕ)) (i : ℕ) (offsets : List ℕ) (end slot : ℕ)
+    → order ≡ order_of form (cells_of (widths_of cells)) → IsPlaced form (take i order) offsets end → end ≤ length (part_of form (widths_of cells) slot)
+placed_below form cells order i offsets end slot e h =
+    let widths : List ℕ = widths_of cells in
+    let Below : List (ℕ × ℕ) → Type 0 = λ xs. IsPlaced form (take i xs) offsets end → end ≤ length (part_of form widths slot) in
+    let there : Below (order_of form (cells_of widths)) = λ h. placed_le form widths offsets end i slot (widths_are cells) h in
+    subst Below (sym e) there h

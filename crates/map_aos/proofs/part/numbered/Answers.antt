@@ -1,0 +1,16 @@
+use Rattle.std.proofs.Common.{◌∙◌, arith}
+use Rattle.std.proofs.lemmas.List.{take_all}
+use Rattle.places.specs.Layout.{cells_of}
+use Rattle.places.specs.Holds.{widths_of}
+use Rattle.map_aos.proofs.Parts.{numbered_more, length-cells}
+use Rattle.map_aos.proofs.part.numbered.Goals as goal
+
+pub loop-number-preserved : goal.loop-number-preserved
+loop-number-preserved c =
+    numbered_more c.args.cells.now c.loop-number.number _ c.width.result c.loop-number.order.items _ c.loop-number-test.true c.loop-number.invariant c.width.ensures c.in_ok-push.ensures.items
+
+pub returns : goal.returns
+returns c =
+    let all = cells_of (widths_of c.args.cells.now) in
+    let size = length-cells c.args.cells.now in
+    c.loop-number.invariant ∙ take_all c.loop-number.number all (omega arith)

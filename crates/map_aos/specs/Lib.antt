@@ -1,0 +1,2 @@
+pub mod Aos
+pub mod AosLaws

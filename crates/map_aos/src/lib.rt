@@ -1,0 +1,12 @@
+// Arrays of structs: slot after slot, packed, aligned, or aligned with the least padding.
+#![tactic(auto)]
+
+mod aos;
+mod form;
+mod part;
+
+pub use aos::Aos;
+pub use form::AosForm;
+
+#[cfg(test)]
+mod tests;

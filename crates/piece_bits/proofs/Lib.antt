@@ -1,0 +1,7 @@
+pub mod SpotsOf
+pub mod Writes
+pub mod Located
+pub mod TableLaws
+pub mod Entries
+pub mod Values
+pub mod Cells

@@ -1,0 +1,127 @@
+-- Tables by their entries: when two are equal, what one changed entry does, and the entries of a table that is read off bits.
+use Rattle.std.proofs.Common.{◌≡◌, ℕ, ◌+◌, ◌<◌, Bool, ℤ, pos, List, [], length, get_or, set, map, replicate, sym, ap, ◌∙◌, ⊎_elim, arith}
+use Rattle.std.specs.List.{enumerate_from}
+use Rattle.std.proofs.lemmas.List.{length-map, length-set, length-replicate, get_or-map, get_or-replicate, get_or-set_same, get_or-set_other, ext_get_or}
+use Rattle.std.proofs.lemmas.List.FromFn.{length-map-range_with_len, get_or-map-range_with_len, length-enumerate_from, get_or-enumerate_from}
+use Rattle.std.proofs.lemmas.Bool.{cases_eq}
+use Rattle.places.specs.Layout.{Owner}
+use Rattle.places.specs.Image.{entry, reading, table_of}
+use Rattle.places.specs.declared.piece.Hold.{Hold}
+use Rattle.piece_bits.specs.Tables.{with_entry, zeros, HasShape, signs_and_widths}
+
+-- tables of one shape with the same entries are the same
+pub tables_same : (rows leaves : ℕ) (one two : List (List ℤ)) → HasShape rows leaves one → HasShape rows leaves two
+    → ((row leaf : ℕ) → row < rows → leaf < leaves → entry one row leaf ≡ entry two row leaf) → one ≡ two
+tables_same rows leaves one two first second same =
+    ext_get_or [] one two (first.row_count ∙ sym second.row_count)
+    (λ row l.
+    let in_rows : row < rows = omega (arith, first.row_count) in
+    ext_get_or (pos 0) (get_or one row []) (get_or two row []) (first.leaf_count row in_rows ∙ sym (second.leaf_count row in_rows))
+    (λ leaf m. same row leaf in_rows (omega (arith, first.leaf_count row in_rows))))
+
+module _ (rows leaves : ℕ) (table : List (List ℤ)) (shape : HasShape rows leaves table) (row leaf : ℕ) (value : ℤ) (row_in : row < rows) (leaf_in : leaf < leaves) where
+  row_same : get_or (with_entry table row leaf value) row [] ≡ set (get_or table row []) leaf value
+  row_same = get_or-set_same table row (set (get_or table row []) leaf value) [] (omega (arith, shape.row_count))
+
+  row_other : (r : ℕ) → (r ≡ row → ⊥) → get_or (with_entry table row leaf value) r [] ≡ get_or table r []
+  row_other r other = get_or-set_other table row r (set (get_or table row []) leaf value) [] other
+
+  -- a changed table keeps its shape
+  pub with_entry_shape : HasShape rows leaves (with_entry table row leaf value)
+  with_entry_shape = record {
+    row_count = length-set table row (set (get_or table row []) leaf value) ∙ shape.row_count;
+    leaf_count = λ r l.
+        ⊎_elim (λ (same : r ≡ row).
+        ap (λ (w : ℕ). length (get_or (with_entry table row leaf value) w [])) same ∙ ap (length {A = ℤ}) row_same
+        ∙ length-set (get_or table row []) leaf value ∙ shape.leaf_count row row_in)
+        (λ (other : r ≡ row → ⊥). ap (length {A = ℤ}) (row_other r other) ∙ shape.leaf_count r l)
+        (cases_eq r row);
+  }
+
+  pub with_entry_same : entry (with_entry table row leaf value) row leaf ≡ value
+  with_entry_same =
+      ap (λ (w : List ℤ). get_or w leaf (pos 0)) row_same
+      ∙ get_or-set_same (get_or table row []) leaf value (pos 0) (omega (arith, shape.leaf_count row row_in))
+
+  pub with_entry_other : (r c : ℕ) → ((r ≡ row) × (c ≡ leaf) → ⊥) → entry (with_entry table row leaf value) r c ≡ entry table r c
+  with_entry_other r c other =
+      ⊎_elim (λ (same : r ≡ row).
+      ap (λ (w : ℕ). entry (with_entry table row leaf value) w c) same
+      ∙ ap (λ (w : List ℤ). get_or w c (pos 0)) row_same
+      ∙ get_or-set_other (get_or table row []) leaf c value (pos 0) (λ e. other (same, e))
+      ∙ ap (λ (w : ℕ). entry table w c) (sym same))
+      (λ (apart : r ≡ row → ⊥). ap (λ (w : List ℤ). get_or w c (pos 0)) (row_other r apart))
+      (cases_eq r row)
+
+  -- the table whose entry is the value and whose other entries stand is the table with this entry
+  pub is_with_entry : (new : List (List ℤ)) → HasShape rows leaves new → entry new row leaf ≡ value
+      → ((r c : ℕ) → r < rows → c < leaves → ((r ≡ row) × (c ≡ leaf) → ⊥) → entry new r c ≡ entry table r c)
+      → new ≡ with_entry table row leaf value
+  is_with_entry new shaped is others =
+      tables_same rows leaves new (with_entry table row leaf value) shaped with_entry_shape
+      (λ r c l m.
+      ⊎_elim (λ (same_row : r ≡ row).
+      ⊎_elim (λ (same_leaf : c ≡ leaf).
+      ap (λ (w : ℕ). entry new w c) same_row ∙ ap (entry new row) same_leaf ∙ is ∙ sym with_entry_same
+      ∙ ap (entry (with_entry table row leaf value) row) (sym same_leaf)
+      ∙ ap (λ (w : ℕ). entry (with_entry table row leaf value) w c) (sym same_row))
+      (λ (apart : c ≡ leaf → ⊥).
+      let none : (r ≡ row) × (c ≡ leaf) → ⊥ = λ e. apart e.1 in
+      others r c l m none ∙ sym (with_entry_other r c none))
+      (cases_eq c leaf))
+      (λ (apart : r ≡ row → ⊥).
+      let none : (r ≡ row) × (c ≡ leaf) → ⊥ = λ e. apart e.0 in
+      others r c l m none ∙ sym (with_entry_other r c none))
+      (cases_eq r row))
+
+-- a table of zeros
+pub zeros_shape : (rows leaves : ℕ) → HasShape rows leaves (zeros rows leaves)
+zeros_shape rows leaves = record {
+  row_count = length-replicate rows (replicate leaves (pos 0));
+  leaf_count = λ row l. ap (length {A = ℤ}) (get_or-replicate rows row (replicate leaves (pos 0)) [] l) ∙ length-replicate leaves (pos 0);
+}
+
+pub zeros_entry : (rows leaves row leaf : ℕ) → row < rows → leaf < leaves → entry (zeros rows leaves) row leaf ≡ pos 0
+zeros_entry rows leaves row leaf l m =
+    ap (λ (w : List ℤ). get_or w leaf (pos 0)) (get_or-replicate rows row (replicate leaves (pos 0)) [] l) ∙ get_or-replicate leaves leaf (pos 0) (pos 0) m
+
+module _ (layout : List (List Owner)) (rows : ℕ) (holds : List Hold) (bits : ℕ → ℕ → ℕ) where
+  row_of : ℕ → List ℤ
+  row_of row = map (λ e. reading layout bits row e.0 (e.1).0 (e.1).1) (enumerate_from 0 (signs_and_widths holds))
+
+  row_is : (row : ℕ) → row < rows → get_or (table_of layout rows (signs_and_widths holds) bits) row [] ≡ row_of row
+  unfolding row_of
+  row_is row l = get_or-map-range_with_len (λ r. row_of r) 0 rows row row [] l (omega arith)
+
+  length-pairs : length (enumerate_from 0 (signs_and_widths holds)) ≡ length holds
+  length-pairs = length-enumerate_from 0 (signs_and_widths holds) ∙ length-map {B = Bool × ℕ} holds (λ (h : Hold). (h.signed, h.width))
+
+  length-row_of : (row : ℕ) → length (row_of row) ≡ length holds
+  unfolding row_of
+  length-row_of row = length-map (enumerate_from 0 (signs_and_widths holds)) (λ (e : ℕ × (Bool × ℕ)). reading layout bits row e.0 (e.1).0 (e.1).1) ∙ length-pairs
+
+  -- the table that is read off bits has a number for each hold in each row
+  pub table_shape : HasShape rows (length holds) (table_of layout rows (signs_and_widths holds) bits)
+  unfolding row_of
+  table_shape = record {
+    row_count = length-map-range_with_len (λ r. row_of r) 0 rows;
+    leaf_count = λ row l. ap (length {A = ℤ}) (row_is row l) ∙ length-row_of row;
+  }
+
+  -- an entry of it is the reading of its cell
+  pub entry_is : (row cell : ℕ) (d : Hold) → row < rows → cell < length holds →
+      entry (table_of layout rows (signs_and_widths holds) bits) row cell ≡ reading layout bits row cell (get_or holds cell d).signed (get_or holds cell d).width
+  unfolding row_of
+  entry_is row cell d l m =
+      let default : ℕ × (Bool × ℕ) = (0, (d.signed, d.width)) in
+      let read : ℕ × (Bool × ℕ) → ℤ = λ e. reading layout bits row e.0 (e.1).0 (e.1).1 in
+      let long : cell < length (signs_and_widths holds) = omega (arith, length-map {B = Bool × ℕ} holds (λ (h : Hold). (h.signed, h.width))) in
+      let inside : cell < length (enumerate_from 0 (signs_and_widths holds)) = omega (arith, length-pairs) in
+      let zero_on : 0 + cell ≡ cell = omega arith in
+      let pair_is : get_or (signs_and_widths holds) cell (d.signed, d.width) ≡ ((get_or holds cell d).signed, (get_or holds cell d).width) =
+      get_or-map (λ (h : Hold). (h.signed, h.width)) holds cell d (d.signed, d.width) m in
+      ap (λ (w : List ℤ). get_or w cell (pos 0)) (row_is row l)
+      ∙ get_or-map read (enumerate_from 0 (signs_and_widths holds)) cell default (pos 0) inside
+      ∙ ap read (get_or-enumerate_from 0 (signs_and_widths holds) cell default long)
+      ∙ ap (λ (w : ℕ). reading layout bits row w (get_or (signs_and_widths holds) cell (d.signed, d.width)).0 (get_or (signs_and_widths holds) cell (d.signed, d.width)).1) zero_on
+      ∙ ap (λ (w : Bool × ℕ). reading layout bits row cell w.0 w.1) pair_is

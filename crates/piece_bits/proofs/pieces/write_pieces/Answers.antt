@@ -1,0 +1,58 @@
+use Rattle.std.proofs.Common.{◌≡◌, ◌∙◌, ℕ, List, [], get_or, length, ap, arith}
+use Rattle.std.proofs.lemmas.List.{get_or_default}
+use Rattle.places.specs.declared.piece.Piece.{Piece}
+use Rattle.blobs.specs.Bits.{bit_of}
+use Rattle.piece_bits.specs.Spots.{spots_of, IsWithin}
+use Rattle.piece_bits.proofs.SpotsOf.{IsNext, nowhere, next_piece}
+use Rattle.piece_bits.proofs.Writes.{AreWritten, within_same, write_next}
+use Rattle.piece_bits.proofs.pieces.write_pieces.Goals as goal
+use Rattle.piece_bits.proofs.pieces.write_pieces.Goals.{In-loop-piece}
+
+abbrev piece_of : goal.In-loop-piece → Piece
+piece_of c = get_or c.args.pieces.now c.loop-piece.piece-index nowhere
+
+next : (c : goal.In-loop-piece) → IsNext c.args.pieces.now c.loop-piece.piece-index c.loop-piece.done (piece_of c)
+next c = next_piece c.args.pieces.now c.loop-piece.piece-index c.loop-piece.done nowhere c.loop-piece-test.true c.loop-piece.invariant.so_far
+
+within : (c : goal.In-loop-piece) → IsWithin c.loop-piece.blobs.items (piece_of c)
+within c =
+    within_same c.args.blobs.now.items c.loop-piece.blobs.items (piece_of c) c.loop-piece.invariant.lengths
+    (c.requires.within c.loop-piece.piece-index nowhere c.loop-piece-test.true)
+
+pub bits_in_word-part-requires-clause-within : goal.bits_in_word-part-requires-clause-within
+bits_in_word-part-requires-clause-within c =
+    let d = (goal.at.bits_in_word-part-requires-clause-within c).In-loop-piece in
+    omega (arith, (next d).within)
+
+pub put_bits-requires-clause-few : goal.put_bits-requires-clause-few
+put_bits-requires-clause-few c =
+    let d = (goal.at.put_bits-requires-clause-few c).In-loop-piece in
+    omega (arith, (next d).within)
+
+pub put_bits-requires-clause-within : goal.put_bits-requires-clause-within
+put_bits-requires-clause-within c =
+    let d = (goal.at.put_bits-requires-clause-within c).In-loop-piece in
+    let blob : c.index_mut.result.now ≡ get_or c.loop-piece.blobs.items (piece_of d).blob [] =
+    c.index_mut.ensures.value ∙ get_or_default c.loop-piece.blobs.items (piece_of d).blob _ [] (within d).blob_in in
+    omega (arith, (within d).bits_in, ap (length {A = ℕ}) blob)
+
+pub overflow_add-done : goal.overflow_add-done
+overflow_add-done c =
+    let d = (goal.at.overflow_add-done c).In-loop-piece in
+    omega (arith, (next d).within)
+
+pub loop-piece-preserved : goal.loop-piece-preserved
+loop-piece-preserved c =
+    let d = (goal.at.loop-piece-preserved c).In-loop-piece in
+    let piece = piece_of d in
+    let old = get_or c.loop-piece.blobs.items piece.blob [] in
+    let blob : c.index_mut.result.now ≡ old =
+    c.index_mut.ensures.value ∙ get_or_default c.loop-piece.blobs.items piece.blob _ [] (within d).blob_in in
+    let put = c.put_bits.ensures in
+    let same : (k : ℕ) → bit_of c.index_mut.result.now k ≡ bit_of old k = λ k. ap (λ (w : List ℕ). bit_of w k) blob in
+    let so_far : AreWritten c.args.blobs.now.items c.loop-piece.blobs.items (spots_of c.args.pieces.now) c.loop-piece.done c.args.value =
+    record { inside = c.loop-piece.invariant.inside; outside = c.loop-piece.invariant.outside; lengths = c.loop-piece.invariant.lengths } in
+    let now = write_next c.args.blobs.now.items c.loop-piece.blobs.items c.args.pieces.now c.loop-piece.piece-index c.loop-piece.done c.args.value piece
+    so_far (next d) (within d) c.requires.apart c.put_bits.new.self c.bits_in_word-part.result c.bits_in_word-part.ensures
+    put.inside (λ k l. put.before k l ∙ same k) (λ k l. put.after k l ∙ same k) (put.len ∙ ap (length {A = ℕ}) blob) in
+    record { so_far = (next d).more; inside = now.inside; outside = now.outside; lengths = now.lengths }

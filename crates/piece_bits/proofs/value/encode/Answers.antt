@@ -1,0 +1,29 @@
+use Rattle.std.proofs.Common.{◌^◌, ◌<◌, ℤ, subst, arith}
+use Rattle.record_dim.specs.LeafTypes.{IsIn}
+use Rattle.std.proofs.lemmas.Int.{ints}
+use Rattle.blobs.proofs.Words.{ones_of}
+use Rattle.piece_bits.proofs.Values.{encoded, held_negsuc, by_sign}
+use Rattle.piece_bits.proofs.value.encode.Goals as goal
+
+pub returns-then-value-ge0 : goal.returns-then-value-ge0
+returns-then-value-ge0 c =
+    let hold = c.args.hold in
+    encoded hold.signed hold.width c.args.value _ c.requires.some c.requires.fits
+    (λ n is small. omega (arith, ints))
+    (λ n is small. absurd (omega (arith, ints)))
+
+pub returns-else-value-ge0 : goal.returns-else-value-ge0
+returns-else-value-ge0 c =
+    let hold = c.args.hold in
+    encoded hold.signed hold.width c.args.value _ c.requires.some c.requires.fits
+    (λ n is small. absurd (omega (arith, ints)))
+    (λ n is small. omega (arith, ints, ones_of hold.width c.requires.narrow))
+
+pub overflow_sub-result-else-value-ge0-2 : goal.overflow_sub-result-else-value-ge0-2
+overflow_sub-result-else-value-ge0-2 c =
+    let hold = c.args.hold in
+    by_sign c.args.value
+    (λ n is. absurd (omega (arith, ints)))
+    (λ n is.
+    let small : n < 2 ^ hold.width = held_negsuc hold.signed hold.width n c.requires.some (subst (λ (v : ℤ). IsIn hold.signed hold.width v) is c.requires.fits) in
+    omega (arith, ints, ones_of hold.width c.requires.narrow))

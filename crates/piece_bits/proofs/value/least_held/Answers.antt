@@ -1,0 +1,13 @@
+use Rattle.std.proofs.Common.{◌≡◌, ◌-◌, true, ap, arith}
+use Rattle.std.proofs.lemmas.Int.{ints}
+use Rattle.std.proofs.lemmas.Nat.{pow_pos}
+use Rattle.record_dim.specs.LeafTypes.{least_in}
+use Rattle.places.proofs.Numbers.{half_of}
+use Rattle.blobs.proofs.Words.{ones_of}
+use Rattle.piece_bits.proofs.value.least_held.Goals as goal
+
+pub returns-then-hold : goal.returns-then-hold
+returns-then-hold c =
+    let hold = c.args.hold in
+    let is : least_in hold.signed hold.width ≡ least_in true hold.width = ap (λ s. least_in s hold.width) c.if-hold.true in
+    omega (arith, ints, is, ones_of hold.width c.requires.narrow, pow_pos hold.width, pow_pos (hold.width - 1), half_of hold.width c.requires.some)

@@ -1,0 +1,10 @@
+// One entry of a table that lies in blobs under any mapping: its bits, its value, and how both are read and written.
+#![tactic(auto)]
+
+mod entry;
+mod pieces;
+mod value;
+
+pub use entry::{read_entry, write_entry};
+pub use pieces::{read_pieces, write_pieces};
+pub use value::{decode, encode, greatest_held, least_held};

@@ -1,0 +1,7 @@
+use Rattle.std.proofs.Common.{◌≡◌, map, take}
+use Rattle.places.specs.Image.{image}
+use Rattle.plain_layouts.specs.Plain.{owners_of}
+use Rattle.plain_layouts.proofs.image.plain_image.Given as goal
+
+abbrev pub invariant-loop-blob : goal.invariant-loop-blob
+invariant-loop-blob l = l.bits ≡ image (map owners_of (take l.blob-index l.blob-items)) l.table

@@ -1,0 +1,10 @@
+use Rattle.std.proofs.Common.{◌≡◌, [], take}
+use Rattle.places.specs.Layout.{aligned_fields, greatest}
+use Rattle.plain_layouts.specs.Plain.{owners_of}
+use Rattle.plain_layouts.proofs.parts.aligned.Given as goal
+
+abbrev pub invariant-loop-cell : goal.invariant-loop-cell
+invariant-loop-cell l = record {
+  part : owners_of l.part ≡ aligned_fields l.slot [] (take l.cell-index l.cells);
+  greatest : l.greatest ≡ greatest (take l.cell-index l.cells);
+}

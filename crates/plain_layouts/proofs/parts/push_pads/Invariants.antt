@@ -1,0 +1,7 @@
+use Rattle.std.proofs.Common.{◌≡◌, ◌++◌, replicate}
+use Rattle.places.specs.Layout.{Pad}
+use Rattle.plain_layouts.specs.Plain.{owners_of}
+use Rattle.plain_layouts.proofs.parts.push_pads.Given as goal
+
+abbrev pub invariant-loop : goal.invariant-loop
+invariant-loop l = owners_of l.blob ≡ owners_of l.initial.blob ++ replicate l.counter Pad

@@ -1,0 +1,8 @@
+use Rattle.std.proofs.Common.{[]}
+use Rattle.places.specs.Layout.{aligned_part}
+use Rattle.plain_layouts.specs.Plain.{owners_of}
+use Rattle.plain_layouts.proofs.Growth.{grown_range}
+use Rattle.plain_layouts.proofs.plain.aligned.Goals as goal
+
+pub loop-slot-preserved : goal.loop-slot-preserved
+loop-slot-preserved c = grown_range (aligned_part c.args.cells.now) [] (owners_of c.loop-slot.blob) _ c.loop-slot.slot c.loop-slot.invariant c.in_ok-push_aligned.ensures

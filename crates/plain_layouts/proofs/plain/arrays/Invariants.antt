@@ -1,0 +1,7 @@
+use Rattle.std.proofs.Common.{◌≡◌, map, take, if◌then◌else◌}
+use Rattle.places.specs.Layout.{array, padded_to}
+use Rattle.plain_layouts.specs.Plain.{owners_of}
+use Rattle.plain_layouts.proofs.plain.arrays.Given as goal
+
+abbrev pub invariant-loop-cell : goal.invariant-loop-cell
+invariant-loop-cell l = map owners_of l.blobs ≡ map (λ cell. if l.padded then padded_to 64 (array l.slots cell) else array l.slots cell) (take l.cell-index l.cells)

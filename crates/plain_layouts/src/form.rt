@@ -1,0 +1,16 @@
+/// The forms of the base mappings.
+#[derive(Clone, Copy, Debug, PartialEq, Eq)]
+pub enum LayoutForm {
+    PackedAos,
+    AlignedAos,
+    MinAos,
+    SingleSoa,
+    AlignedSoa,
+    MultiSoa,
+    /// Blocks of so many slots.
+    Aosoa { lanes: u32 },
+    /// At most so many bits a cell.
+    BitAos { width: u32 },
+    /// At most so many bits a cell.
+    BitSoa { width: u32 },
+}

@@ -1,0 +1,64 @@
+-- A record that is fit has a leaf, and not too many.
+use Rattle.std.proofs.Common.{◌≡◌, ℕ, ◌*◌, ◌≤◌, Bool, true, false, cond, ◌||◌, nat_eq, nat_lt, Option, Some, None, List, ◌++◌, length, refl, sym, ◌∙◌, arith}
+use Rattle.std.specs.List.{list_any}
+use Rattle.std.proofs.lemmas.Bool.Decides.{nat_tests}
+use Rattle.std.proofs.lemmas.List.Folds.{list_any-append}
+use Rattle.record_dim.specs.Trees.{Tree, Single, Record, Array, Fields, End, Field}
+use Rattle.record_dim.specs.Leaves.{leaves_of, leaves, depth_of, records_of, records_below, lengths_of, lengths_below, is_empty_record, shares_name, first_fault}
+use Rattle.record_dim.proofs.Walks.{length-leaves, length-leaves_of_array}
+
+pub neither : (a b : Bool) → (a || b) ≡ false → (a ≡ false) × (b ≡ false)
+neither true b e = cc
+neither false b e = (refl, e)
+
+-- none in the whole: none in either part
+pub none_of_both : {X : Type 0} (p : X → Bool) (xs ys : List X) → list_any p (xs ++ ys) ≡ false → (list_any p xs ≡ false) × (list_any p ys ≡ false)
+none_of_both p xs ys h = neither (list_any p xs) (list_any p ys) (sym (list_any-append p xs ys) ∙ h)
+
+some_times : (n m : ℕ) → 1 ≤ n → 1 ≤ m → 1 ≤ n * m
+some_times n m hn hm = grind arith
+
+-- a tree with no empty record and no array without elements has a leaf
+some_leaf : (tree : Tree) → list_any is_empty_record (records_of tree) ≡ false → list_any (nat_eq 0) (lengths_of tree) ≡ false → 1 ≤ length (leaves_of tree)
+some_leaf (Single kind) full filled = omega arith
+some_leaf (Record End) full filled = cc
+some_leaf (Record (Field name held rest)) full filled =
+    let below = none_of_both is_empty_record (records_of held) (records_below rest) full in
+    let lengths = none_of_both (nat_eq 0) (lengths_of held) (lengths_below rest) filled in
+    let h : 1 ≤ length (leaves_of held) = some_leaf held below.0 lengths.0 in
+    let l = length-leaves name held rest in
+    omega arith
+some_leaf (Array len element) full filled =
+    let both = neither (nat_eq 0 len) (list_any (nat_eq 0) (lengths_of element)) filled in
+    let h : 1 ≤ length (leaves_of element) = some_leaf element full both.1 in
+    let l : 1 ≤ len = grind (arith, nat_tests) in
+    let e = length-leaves_of_array len element in
+    let p = some_times len (length (leaves_of element)) l h in
+    omega arith
+
+-- what a chain of tests that ends in None says
+passed : {A : Type 0} (b : Bool) (x : A) (o : Option A) → cond b (Some x) o ≡ None → (b ≡ false) × (o ≡ None)
+passed true x o e = cc
+passed false x o e = (refl, e)
+
+pub record IsFit (tree : Tree) : Type 0 where
+  pub shallow : nat_lt 8 (depth_of tree) ≡ false
+  pub full : list_any is_empty_record (records_of tree) ≡ false
+  pub apart : list_any shares_name (records_of tree) ≡ false
+  pub filled : list_any (nat_eq 0) (lengths_of tree) ≡ false
+  pub few : nat_lt 64 (length (leaves_of tree)) ≡ false
+
+pub fit_from : (tree : Tree) → first_fault tree ≡ None → IsFit tree
+fit_from tree e =
+    let a = passed (nat_lt 8 (depth_of tree)) _ _ e in
+    let b = passed (list_any is_empty_record (records_of tree)) _ _ a.1 in
+    let c = passed (list_any shares_name (records_of tree)) _ _ b.1 in
+    let d = passed (list_any (nat_eq 0) (lengths_of tree)) _ _ c.1 in
+    let f = passed (nat_lt 64 (length (leaves_of tree))) _ _ d.1 in
+    record { shallow = a.0; full = b.0; apart = c.0; filled = d.0; few = f.0 }
+
+pub fit_some : (fields : Fields) → first_fault (Record fields) ≡ None → 1 ≤ length (leaves fields)
+fit_some fields e = let f = fit_from (Record fields) e in some_leaf (Record fields) f.full f.filled
+
+pub fit_few : (fields : Fields) → first_fault (Record fields) ≡ None → length (leaves fields) ≤ 64
+fit_few fields e = let f : IsFit (Record fields) = fit_from (Record fields) e in grind (arith, nat_tests)

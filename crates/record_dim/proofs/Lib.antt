@@ -1,0 +1,7 @@
+pub mod NameBytes
+pub mod Walks
+pub mod Twice
+pub mod Gathered
+pub mod Fit
+pub mod Lookup
+pub mod Apart

@@ -1,0 +1,88 @@
+-- Steps of the walks over trees: one more field, one more level.
+use Rattle.std.proofs.Common.{◌≡◌, ℕ, ◌+◌, ◌*◌, ◌-◌, ◌≤◌, ◌<◌, min, max, suc, zero, Bool, true, false, nat_le, List, [], ◌∷◌, ◌++◌, length, map, refl, ap, ◌∙◌, ⊎_elim, arith}
+use Rattle.std.proofs.Math.Nat.{mul_comm, zero-mul}
+use Rattle.std.proofs.lemmas.Bool.{cases_lt}
+use Rattle.std.proofs.lemmas.List.FromFn.{length-range_with_len}
+use Rattle.std.proofs.lemmas.Bool.Decides.{nat_tests}
+use Rattle.std.proofs.lemmas.List.{length-append, length-map}
+use Rattle.std.proofs.lemmas.List.Folds.{list_any-append}
+use Rattle.std.proofs.lemmas.List.Concat.{flat_map-cons}
+use Rattle.std.specs.List.{list_any, flat_map, range_with_len}
+use Rattle.record_dim.specs.declared.path.PathStep.TheVariants.{At}
+use Rattle.record_dim.specs.Trees.{Tree, Array, Fields, Field}
+use Rattle.record_dim.specs.Leaves.{leaves, leaves_of, under}
+
+-- where the front has none, the whole has what the rest has
+pub any_rest : {X : Type 0} (p : X → Bool) (xs ys : List X) → list_any p xs ≡ false → list_any p (xs ++ ys) ≡ list_any p ys
+any_rest p xs ys none = rw (list_any-append, none) refl
+
+pub any_front : {X : Type 0} (p : X → Bool) (xs ys : List X) → list_any p xs ≡ true → list_any p (xs ++ ys) ≡ true
+any_front p xs ys some = rw (list_any-append, some) refl
+
+pub within_rest : (a b most : ℕ) → nat_le a most ≡ true → nat_le (max a b) most ≡ nat_le b most
+within_rest a b most h = grind (arith, nat_tests)
+
+pub within_front : (a b most : ℕ) → nat_le a most ≡ false → nat_le (max a b) most ≡ false
+within_front a b most h = grind (arith, nat_tests)
+
+pub within_one : (a most : ℕ) → 0 < most → nat_le (a + 1) most ≡ nat_le a (most - 1)
+within_one a most h = grind (arith, nat_tests)
+
+pub within_none : (a most : ℕ) → most ≤ 0 → nat_le (a + 1) most ≡ false
+within_none a most h = grind (arith, nat_tests)
+
+pub length-leaves : (name : List ℕ) (held : Tree) (rest : Fields) → length (leaves (Field name held rest)) ≡ length (leaves_of held) + length (leaves rest)
+length-leaves name held rest = rw (length-append, length-map) refl
+
+-- a list of pieces of one length
+length-pieces : {X Y : Type 0} (f : X → List Y) (n : ℕ) → ((x : X) → length (f x) ≡ n) → (xs : List X) → length (flat_map f xs) ≡ length xs * n
+length-pieces f n same [] = grind arith
+length-pieces f n same (x ∷ xs) =
+    let e = length-pieces f n same xs in
+    let h = same x in
+    rw (flat_map-cons, length-append, h, e) (grind arith)
+
+pub length-leaves_of_array : (len : ℕ) (element : Tree) → length (leaves_of (Array len element)) ≡ len * length (leaves_of element)
+length-leaves_of_array len element =
+    length-pieces (λ number. map (under (At number)) (leaves_of element)) (length (leaves_of element)) (λ number. length-map (leaves_of element) _) (range_with_len 0 len)
+    ∙ ap (λ n. n * length (leaves_of element)) (length-range_with_len 0 len)
+
+small_product : (n c : ℕ) → n ≤ 65 → c ≤ 65 → min (min n 65 * min 65 c) 65 ≡ min 65 (n * c)
+small_product n c hn hc =
+    let en : min n 65 ≡ n = omega arith in
+    let ec : min 65 c ≡ c = omega arith in
+    rw (en, ec) (omega arith)
+
+times_at_least : (n c : ℕ) → 65 ≤ n → 1 ≤ c → 65 ≤ n * c
+times_at_least n c hn hc = grind arith
+
+big_product : (n c : ℕ) → 65 ≤ n → 1 ≤ c → min (min n 65 * min 65 c) 65 ≡ min 65 (n * c)
+big_product n c hn hc =
+    let one = times_at_least n c hn hc in
+    let two = times_at_least (min n 65) (min 65 c) (omega arith) (omega arith) in
+    omega arith
+
+wide_product : (n c : ℕ) → 65 ≤ c → min (min n 65 * min 65 c) 65 ≡ min 65 (n * c)
+wide_product zero c h = rw (zero-mul (min 65 c), zero-mul c) (omega arith)
+wide_product (suc n) c h =
+    let one = times_at_least c (suc n) h (omega arith) in
+    let two = times_at_least (min 65 c) (min (suc n) 65) (omega arith) (omega arith) in
+    rw (mul_comm (suc n) c, mul_comm (min (suc n) 65) (min 65 c)) (omega arith)
+
+pub capped_product : (n c : ℕ) → min (min n 65 * min 65 c) 65 ≡ min 65 (n * c)
+capped_product n zero = omega arith
+capped_product n (suc c) =
+    ⊎_elim
+    (λ (h : n < 65). ⊎_elim (λ (k : suc c < 65). small_product n (suc c) (omega arith) (omega arith)) (λ (k : 65 ≤ suc c). wide_product n (suc c) k) (cases_lt (suc c) 65))
+    (λ (h : 65 ≤ n). big_product n (suc c) h (omega arith))
+    (cases_lt n 65)
+
+-- the number of leaves of an array, with a cap
+pub capped_leaves : (len : ℕ) (element : Tree) → min (min len 65 * min 65 (length (leaves_of element))) 65 ≡ min 65 (length (leaves_of (Array len element)))
+capped_leaves len element = rw length-leaves_of_array (capped_product len (length (leaves_of element)))
+
+pub ruleset any = (any_rest, any_front)
+
+pub ruleset within = (within_rest, within_front, within_one, within_none)
+
+pub ruleset count = (length-leaves, capped_leaves)

@@ -1,0 +1,10 @@
+use Rattle.std.proofs.Common.{◌≡◌, true, arith, rules}
+use Rattle.record_dim.specs.Names.{is_word}
+use Rattle.record_dim.proofs.NameBytes.{stored}
+use Rattle.record_dim.proofs.name.Name.new.Goals as goal
+
+pub invariant_of-result : goal.invariant_of-result
+invariant_of-result c =
+    let text = c.as_bytes-text.result.now in
+    let word : is_word text ≡ true = search rules in
+    rw c.copy_from_slice.ensures.after (stored text (omega arith) word)
