@@ -1,0 +1,10 @@
+pub mod Ends
+pub mod Words
+pub mod Cuts
+pub mod Rows
+pub mod Table
+pub mod Commas
+pub mod Stored
+pub mod Loaded
+pub mod Reading
+pub mod Headers
