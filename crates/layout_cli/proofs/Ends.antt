@@ -7,13 +7,12 @@ use Rattle.layout_io.specs.WritingLaws.{with_bytes-nil}
 use Rattle.layout_cli.specs.Outcome.{Output, IsText, Gives, Unread}
 use Rattle.layout_cli.specs.Answers.{Answers, IsRun, HasCause, HasSinkCause, ended}
 use Rattle.layout_cli.specs.Run.{run_words, run_script, run_form, run_lines, run_dataset, run_table, fails_at, faulted}
-use Rattle.std.proofs.lemmas.List.{append-nil}
-use Rattle.record_dim.specs.Leaves.{texts_of}
 use Rattle.layout_cli.specs.FirstScript.{FirstScript, FieldText, flat_fields, script_of, tree_and_file}
 use Rattle.record_dim.specs.Trees.{Fields}
 use Rattle.layout_cli.specs.FirstDataset.{table_in}
 use Rattle.layout_cli.specs.declared.fault.CommandFault.TheVariants.{ScriptTooLong, NotBuilt}
 use Rattle.layout_cli.specs.declared.status.Status.{Status}
+use Rattle.layout_cli.proofs.Loaded.{table_long}
 use Rattle.layout_cli.specs.declared.status.Status.TheVariants.{Done, CommandFault, Usage, SourceFault, SinkFault, NoMemory}
 
 -- a text was written, or not to its end, and the run has this text and status
@@ -74,23 +73,12 @@ pub loads : (files : List File) (script : FirstScript) (bytes : List ℕ) (unrea
 loads files script bytes unread is reads =
     ap (λ (b : Bool). run_dataset script (if b then None else file_of files script.file)) reads ∙ ap (run_dataset script) is
 
--- the names and the types of flat fields
-pub flat_texts : (fields : List FieldText) → texts_of (flat_fields fields) ≡ map (λ field. field.0) fields
-flat_texts [] = refl
-flat_texts (field ∷ fields) = ap (λ (name : List ℕ). name ∷ texts_of (flat_fields fields)) (append-nil field.0) ∙ ap (λ names. field.0 ∷ names) (flat_texts fields)
-
 -- a dataset that is too long is one of another form
 pub too_long : (told : Option (List File)) (files : List File) (script : FirstScript) → told ≡ Some files → HasFile told script.file (λ file. 2 ^ 20 < length file) → run_dataset script (file_of files script.file) ≡ faulted 2 NotBuilt
-unfolding table_in
 too_long told files script is_told has = long (file_of files script.file) (subst (λ (t : Option (List File)). HasFile t script.file (λ file. 2 ^ 20 < length file)) is_told has) where
-  no_table : (bytes : List ℕ) → 2 ^ 20 < length bytes → table_in script.fields bytes ≡ None
-  no_table bytes much =
-      let over : ltb (2 ^ 20) (length bytes) ≡ true = search (rules, tests) in
-      rw over
-
   long : (file : Option (List ℕ)) → IsSomeAnd file (λ f. 2 ^ 20 < length f) → run_dataset script file ≡ faulted 2 NotBuilt
   long None has = absurd has
-  long (Some bytes) has = ap (run_table script.fields) (no_table bytes has)
+  long (Some bytes) has = ap (run_table script.fields) (table_long script.fields bytes has)
 
 -- a script of another form
 pub form_other : (script : List ℕ) (files : List File) (unread : Option ℕ) → option_map tree_and_file (script_of script) ≡ None → run_form script files unread ≡ faulted 0 NotBuilt

@@ -34,14 +34,6 @@ table_short fields bytes lines short are =
     let test : nat_lt (2 ^ 20) (length bytes) ≡ false = grind (arith, nat_tests) in
     ap (λ (b : Bool). if b then None else table_of_lines fields (slice_split is_line_end bytes)) test ∙ ap (table_of_lines fields) are
 
--- nor is a text of one line
-pub table_headless : (fields : List FieldText) (bytes : List ℕ) → length bytes ≤ 2 ^ 20 → slice_split is_line_end bytes ≡ bytes ∷ [] → table_in fields bytes ≡ None
-table_headless fields bytes short line =
-    table_short fields bytes (bytes ∷ []) short line ∙ of_test (bytes_eq bytes (comma_joined (map (λ field. field.0) fields))) where
-      of_test : (test : Bool) → (if test then rows_of (map (λ field. field.1) fields) [] else None) ≡ None
-      of_test true = refl
-      of_test false = refl
-
 -- nor is a text with another header
 pub table_other : (fields : List FieldText) (tree : Fields) (bytes header body : List ℕ) → tree ≡ flat_fields fields → length bytes ≤ 2 ^ 20 → slice_split is_line_end bytes ≡ header ∷ slice_split is_line_end body → bytes_eq header (comma_joined (texts_of tree)) ≡ false → table_in fields bytes ≡ None
 table_other fields tree bytes header body flat short lines other =

@@ -50,8 +50,3 @@ value_stored seen leaf field value small own reads =
     let within : leaf < length (kinds_of (schema_fields seen.schema)) = omega (arith, length-map (leaves (schema_fields seen.schema)) (λ l. l.kind)) in
     let hold : hold_at seen.holds leaf ≡ hold_of (leaf_type_of seen leaf) = ap (λ holds. hold_at holds leaf) own ∙ get_or-map hold_of (kinds_of (schema_fields seen.schema)) leaf Truth _ within in
     ap (λ h. store_answer (leaf_type_of seen leaf) h value) hold ∙ stored (leaf_type_of seen leaf) value (value_declared (leaf_type_of seen leaf) field value reads)
-
--- with another table the leaves are stored as before
-pub own_kept : (old new : Seen) → new ≡ record old { table = new.table } → HoldsOwn old → HoldsOwn new
-own_kept old new same own =
-    ap (λ (seen : Seen). seen.holds) same ∙ own ∙ ap (λ (seen : Seen). map hold_of (kinds_of (schema_fields seen.schema))) (sym same)

@@ -2,7 +2,7 @@
 ghost use Rattle.std.specs.Prelude.{◌≡◌, ◌<◌, ◌≤◌, ◌∷◌, [], ◌==◌, ⊤, MatchOption, length};
 ghost use Rattle.std.specs.List.{slice_split, position_or_len};
 
-// What stands before the first `end` of the bytes, and what stands behind it.
+/// What stands before the first `end` of the bytes, and what stands behind it.
 pub fn cut(bytes: &[u8], end: u8) -> Option<(&[u8], &[u8])>
     ensures parts { MatchOption result
         (slice_split (λ byte. byte == end) bytes.now ≡ bytes.now ∷ [])
