@@ -1,3 +1,4 @@
+ghost use Rattle.std.specs.Prelude.{◌<◌};
 ghost use Rattle.plain_layouts.specs.Plain.{HasLanes};
 
 use super::*;
