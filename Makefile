@@ -8,6 +8,7 @@ demo: build/llama
 
 build/llama: $(wildcard crates/*/src/*.rt crates/*/src/*/*.rt crates/*/specs/*.antt)
 	mkdir -p build
+	rm -f crates/layout_cli/out/layout_cli
 	cd crates/layout_cli && (rt run > ../../build/llama.log 2>&1 || true)
 	test -x crates/layout_cli/out/layout_cli || { cat build/llama.log; exit 1; }
 	cp crates/layout_cli/out/layout_cli build/llama
