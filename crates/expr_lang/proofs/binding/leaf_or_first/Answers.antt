@@ -1,0 +1,6 @@
+use Rattle.std.proofs.Common.{◌∙◌, sym, ap, unwrap_or}
+use Rattle.expr_lang.proofs.Unknown.{leaf_number_is}
+use Rattle.expr_lang.proofs.binding.leaf_or_first.Goals as goal
+
+pub returns : goal.returns
+returns c = c.unwrap_or.ensures ∙ ap (λ o. unwrap_or o 0) (sym (leaf_number_is _ _ _ c.leaf_of.ensures.some c.leaf_of.ensures.only))

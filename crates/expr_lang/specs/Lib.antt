@@ -1,0 +1,6 @@
+pub mod Binding
+pub mod Bounds
+pub mod Chains
+pub mod Terms
+pub mod Unknowns
+pub mod Values
