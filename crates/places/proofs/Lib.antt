@@ -8,4 +8,5 @@ pub mod Slots
 pub mod Stacked
 pub mod Widths
 pub mod Falling
+pub mod CellWidths
 pub mod Memory
