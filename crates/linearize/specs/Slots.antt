@@ -1,25 +1,44 @@
 -- Orders: from an index to its slot, and from a slot to its row.
-use Rattle.std.specs.Prelude.{◌==◌, ℕ, List, [], length, reverse, nat_eq, slice_index_or, Option}
-use Rattle.std.specs.List.{position, position_or_len}
+use Rattle.std.specs.Prelude.{ℕ, ◌+◌, ◌-◌, ◌*◌, ◌/◌, ◌%◌, ◌^◌, ◌==◌, ⊤, List, [], length, filter, fold, max, reverse, nat_eq, nat_lt, sum_by, slice_index_or, Option}
+use Rattle.std.specs.Int.{bit_at}
+use Rattle.std.specs.List.{position, position_or_len, range_with_len}
 use Rattle.std.specs.Cmp.Lexicographic.{pointwise}
 use Rattle.linearize.specs.declared.Order.{Order}
-use Rattle.linearize.specs.declared.Order.TheVariants.{Row, Col}
+use Rattle.linearize.specs.declared.Order.TheVariants.{Row, Col, Morton}
 use Rattle.extents.specs.Indices.{indices}
 
 -- the place of an index in a list of indices
 abbrev pub place_in : List (List ℕ) → List ℕ → ℕ
 place_in list index = position_or_len (λ entry. pointwise nat_eq entry index) list
 
+-- the number whose binary digit b * rank + (rank - 1 - d) is digit b of component d, for components below 2^32
+-- (the Z order; Morton 1966)
+abbrev pub interleaved : List ℕ → ℕ
+interleaved index = let rank = length index in
+    sum_by (λ k. 2 ^ k * bit_at (slice_index_or index (rank - 1 - k % rank) 0) (k / rank)) (range_with_len 0 (32 * rank))
+
+-- the least number of binary digits that all components inside the extents have room in
+abbrev pub digits_for : List ℕ → ℕ
+digits_for extents = length (filter (λ b. nat_lt (2 ^ b) (fold max 0 extents)) (range_with_len 0 32))
+
 -- the slot of an index: by rows its place among the indices, by columns the place of the reversed
--- index among those of the reversed extents
+-- index among those of the reversed extents, in Morton order its digits interleaved
 abbrev pub slot_of : Order → List ℕ → List ℕ → ℕ
 slot_of Row extents index = place_in (indices extents) index
 slot_of Col extents index = place_in (indices (reverse extents)) (reverse index)
+slot_of Morton extents index = interleaved index
 
--- how many slots there are
+-- how many slots there are; in Morton order those of a square array whose extent is a power of two
 abbrev pub slot_count : Order → List ℕ → ℕ
 slot_count Row extents = length (indices extents)
 slot_count Col extents = length (indices (reverse extents))
+slot_count Morton extents = 2 ^ (length extents * digits_for extents)
+
+-- the orders whose slots are computed; those of Morton order are written here alone
+abbrev pub IsBuilt : Order → Type 0
+IsBuilt Row = ⊤
+IsBuilt Col = ⊤
+IsBuilt Morton = ⊥
 
 -- the index of a row
 abbrev pub index_at : List ℕ → ℕ → List ℕ

@@ -3,7 +3,7 @@
 
 ghost use Rattle.std.specs.Prelude.{◌≡◌, ◌-◌, ◌^◌, ◌<◌, ◌≤◌, ◌↔◌, ℕ, List, length, min, reverse, All, IfSome, IsNone, IsSomeAnd, Some, slice_get};
 ghost use Rattle.extents.specs.Indices.{indices, product, IsInside};
-ghost use Rattle.linearize.specs.Slots.{place_in, row_at, slot_count, slot_of};
+ghost use Rattle.linearize.specs.Slots.{place_in, row_at, slot_count, slot_of, IsBuilt};
 
 /// The greatest number of slots.
 const MAX_SLOTS: u64 = 1 << 24;
@@ -15,10 +15,14 @@ pub enum Order {
     Row,
     /// The first component of an index is the fastest.
     Col,
+    /// The binary digits of the components interleaved, the last component the lowest (the Z order). It is written and
+    /// read in scripts, and its slots are not computed yet.
+    Morton,
 }
 
 /// The number of slots over these extents, None where there are more than 2^24.
 pub fn slots<const R: usize>(order: Order, extents: &[u64; R]) -> Option<u64>
+    requires built { IsBuilt order }
     requires ranked { (0 < R) × (R ≤ 4) }
     requires narrow { All (λ n. n < 2 ^ 32) extents.now }
     ensures count { IfSome result (λ count. count ≡ slot_count order extents.now) }
@@ -26,12 +30,14 @@ pub fn slots<const R: usize>(order: Order, extents: &[u64; R]) -> Option<u64>
 {
     let count = match order {
         Order::Row | Order::Col => saturating_product(extents),
+        Order::Morton => unreachable!(),
     };
     if count > MAX_SLOTS { None } else { Some(count) }
 }
 
 /// The slot of an index inside extents with at most 2^24 slots.
 pub fn slot<const R: usize>(order: Order, extents: &[u64; R], index: &[u64; R]) -> u64
+    requires built { IsBuilt order }
     requires ranked { (0 < R) × (R ≤ 4) }
     requires narrow { All (λ n. n < 2 ^ 32) extents.now }
     requires few { slot_count order extents.now ≤ 2 ^ 24 }
@@ -45,6 +51,7 @@ pub fn slot<const R: usize>(order: Order, extents: &[u64; R], index: &[u64; R]) 
 }
 
 fn place(order: Order, extents: &[u64], index: &[u64]) -> u64
+    requires built { IsBuilt order }
     requires few { slot_count order extents.now ≤ 2 ^ 24 }
     requires inside { IsInside extents.now index.now }
     ensures { result ≡ slot_of order extents.now index.now }
@@ -52,6 +59,7 @@ fn place(order: Order, extents: &[u64], index: &[u64]) -> u64
     match order {
         Order::Row => place_by_rows(extents, index),
         Order::Col => place_by_columns(extents, index),
+        Order::Morton => unreachable!(),
     }
 }
 

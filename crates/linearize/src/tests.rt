@@ -1,7 +1,11 @@
+ghost use Rattle.linearize.specs.Slots.{IsBuilt};
+
 use super::*;
 use std::process::Abort;
 
-fn check_two_by_three(rt: &impl Abort, order: Order, want: [[u64; 3]; 2]) {
+fn check_two_by_three(rt: &impl Abort, order: Order, want: [[u64; 3]; 2])
+    requires { IsBuilt order }
+{
     let extents = [2, 3];
     assert_eq!(rt; slots(order, &extents), Some(6));
     for i in 0..2u64 {
@@ -15,7 +19,9 @@ fn check_two_by_three(rt: &impl Abort, order: Order, want: [[u64; 3]; 2]) {
     }
 }
 
-fn check_two_by_two_by_two(rt: &impl Abort, order: Order, want: [[[u64; 2]; 2]; 2]) {
+fn check_two_by_two_by_two(rt: &impl Abort, order: Order, want: [[[u64; 2]; 2]; 2])
+    requires { IsBuilt order }
+{
     let extents = [2, 2, 2];
     assert_eq!(rt; slots(order, &extents), Some(8));
     for i in 0..2u64 {
@@ -40,15 +46,20 @@ fn slots_follow_the_order(rt: HostRuntime) {
     check_two_by_two_by_two(&rt, Order::Col, [[[0, 4], [2, 6]], [[1, 5], [3, 7]]]);
 }
 
+fn check_limits(rt: &impl Abort, order: Order)
+    requires { IsBuilt order }
+{
+    let big = u64::from(u32::MAX);
+    assert_eq!(rt; slots(order, &[4096, 4096]), Some(1 << 24));
+    assert_eq!(rt; slots(order, &[4096, 4097]), None);
+    assert_eq!(rt; slots(order, &[(1 << 24) + 1]), None);
+    assert_eq!(rt; slots(order, &[big, big, big, big]), None);
+    assert_eq!(rt; slots(order, &[big, big, big, 0]), Some(0));
+    assert_eq!(rt; slots(order, &[1, 1, 1, 1]), Some(1));
+}
+
 #[test]
 fn slots_are_at_most_two_to_the_24(rt: HostRuntime) {
-    let big = u64::from(u32::MAX);
-    for order in [Order::Row, Order::Col] {
-        assert_eq!(rt; slots(order, &[4096, 4096]), Some(1 << 24));
-        assert_eq!(rt; slots(order, &[4096, 4097]), None);
-        assert_eq!(rt; slots(order, &[(1 << 24) + 1]), None);
-        assert_eq!(rt; slots(order, &[big, big, big, big]), None);
-        assert_eq!(rt; slots(order, &[big, big, big, 0]), Some(0));
-        assert_eq!(rt; slots(order, &[1, 1, 1, 1]), Some(1));
-    }
+    check_limits(&rt, Order::Row);
+    check_limits(&rt, Order::Col);
 }

@@ -5,15 +5,15 @@ use Rattle.linearize.proofs.slots.Goals as goal
 
 pub returns-then-count-gt-MAX_SLOTS-clause-too_many : goal.returns-then-count-gt-MAX_SLOTS-clause-too_many
 returns-then-count-gt-MAX_SLOTS-clause-too_many g c =
-    let same = slot_count_is c.args.order c.args.extents.now in
+    let same = slot_count_is c.args.order c.args.extents.now c.requires.built in
     ((λ _. omega arith), (λ _. refl))
 
 pub returns-else-count-gt-MAX_SLOTS-clause-count : goal.returns-else-count-gt-MAX_SLOTS-clause-count
 returns-else-count-gt-MAX_SLOTS-clause-count g c =
-    let same = slot_count_is c.args.order c.args.extents.now in
+    let same = slot_count_is c.args.order c.args.extents.now c.requires.built in
     omega arith
 
 pub returns-else-count-gt-MAX_SLOTS-clause-too_many : goal.returns-else-count-gt-MAX_SLOTS-clause-too_many
 returns-else-count-gt-MAX_SLOTS-clause-too_many g c =
-    let same = slot_count_is c.args.order c.args.extents.now in
+    let same = slot_count_is c.args.order c.args.extents.now c.requires.built in
     ((λ e. absurd (false≢true (sym e))), (λ h. absurd (omega arith)))
