@@ -3,7 +3,7 @@ use Rattle.std.proofs.Common.{◌≡◌, ℕ, zero, suc, ◌+◌, ◌-◌, ◌*�
 use Rattle.std.specs.List.{flat_map, range_with_len}
 use Rattle.std.proofs.lemmas.Bool.{cases_lt}
 use Rattle.std.proofs.lemmas.Nat.{row_fits}
-use Rattle.std.proofs.lemmas.List.{get_or_read, get_or-map, length-map}
+use Rattle.std.proofs.lemmas.List.{get_or_read, length-map}
 use Rattle.record_dim.specs.LeafTypes.{width_of}
 use Rattle.places.specs.Layout.{Owner, Pad, Bit, owner_at}
 use Rattle.places.specs.Laws.{IsLocated}
@@ -14,7 +14,7 @@ use Rattle.places.specs.declared.piece.Piece.{Piece}
 use Rattle.places.proofs.Exact.{within}
 use Rattle.places.proofs.Slots.{length-parts, slot_at}
 use Rattle.places.proofs.Places.{one_piece}
-use Rattle.places.proofs.Widths.{widths_full, widths_wide, widths_narrow}
+use Rattle.places.proofs.CellWidths.{cell_width}
 use Rattle.map_aos.specs.Aos.{IsStored, aos_layout, part_of}
 use Rattle.map_aos.specs.AosLaws.{aos_laws, layout_parts}
 use Rattle.map_aos.specs.declared.form.AosForm.{AosForm}
@@ -86,33 +86,12 @@ cell_end form slots widths offsets stride slot cell h slot_in cell_in some =
     let fits : slot * stride + stride ≤ slots * stride = row_fits slot stride slots stride slot_in (omega arith) in
     omega arith
 
--- what the cells' widths are, as the laws and the code write them
-pub record IsCellWidth (cells : List Cell) (cell width : ℕ) : Type 0 where
-  pub inside : cell < length (widths_of cells)
-  pub hold : slice_index (map (λ (h : Hold). h.width) (full_holds cells)) cell ≡ width
-  pub same : slice_index (widths_of cells) cell ≡ width
-  pub some : 1 ≤ width
-  pub low : width ≤ 64
-
-pub cell_width : (cells : List Cell) (cell width : ℕ) → cell < length cells → width ≡ slice_index (widths_of cells) cell → IsCellWidth cells cell width
-cell_width cells cell width inside e =
-    let size : length (widths_of cells) ≡ length cells = length-map cells (λ (c : Cell). width_of c.kind) in
-    let cell_in : cell < length (widths_of cells) = omega arith in
-    let some : 1 ≤ slice_index (widths_of cells) cell = widths_wide cells cell 0 cell_in in
-    let low : slice_index (widths_of cells) cell ≤ 64 = widths_narrow cells cell 0 cell_in in
-    record {
-      inside = cell_in;
-      hold = ap (λ (ws : List ℕ). slice_index ws cell) (widths_full cells) ∙ sym e;
-      same = sym e;
-      some = omega arith;
-      low = omega arith;
-    }
-
-pub located_is : (form : AosForm) (slots : ℕ) (cells : List Cell) (offsets : List ℕ) (stride slot cell : ℕ) (piece : Piece) (pieces : List Piece)
-    → pieces ≡ piece ∷ [] → (0 < slots → IsStored form (widths_of cells) offsets stride) → slots * stride ≤ 2 ^ 31 → slot < slots → cell < length cells
+-- a cell has one piece
+pub located_is : (form : AosForm) (slots : ℕ) (cells : List Cell) (offsets : List ℕ) (stride slot cell : ℕ) (piece : Piece)
+    → (0 < slots → IsStored form (widths_of cells) offsets stride) → slots * stride ≤ 2 ^ 31 → slot < slots → cell < length cells
     → piece.blob ≡ 0 → piece.bit ≡ slot * stride + slice_index offsets cell → piece.bits ≡ slice_index (widths_of cells) cell
-    → IsLocated (aos_layout form slots (widths_of cells)) slot cell (slice_index (map (λ (h : Hold). h.width) (full_holds cells)) cell) pieces
-located_is form slots cells offsets stride slot cell piece pieces are h bound slot_in cell_in blob bit bits =
+    → IsLocated (aos_layout form slots (widths_of cells)) slot cell (slice_index (map (λ (h : Hold). h.width) (full_holds cells)) cell) (piece ∷ [])
+located_is form slots cells offsets stride slot cell piece h bound slot_in cell_in blob bit bits =
     let widths : List ℕ = widths_of cells in
     let layout : List (List Owner) = aos_layout form slots widths in
     let w : ℕ = slice_index widths cell in
@@ -126,9 +105,7 @@ located_is form slots cells offsets stride slot cell piece pieces are h bound sl
     ap (λ (b : ℕ). owner_at layout b (piece.bit + k)) blob
     ∙ ap (λ (p : ℕ). owner_at layout 0 (p + k)) bit
     ∙ cell_at form slots widths offsets stride slot cell k stored slot_in width.inside l) in
-    let held : IsLocated layout slot cell (slice_index (map (λ (h : Hold). h.width) (full_holds cells)) cell) (piece ∷ []) =
-    subst (λ (n : ℕ). IsLocated layout slot cell n (piece ∷ [])) (sym width.hold) one in
-    subst (λ (ps : List Piece). IsLocated layout slot cell (slice_index (map (λ (h : Hold). h.width) (full_holds cells)) cell) ps) (sym are) held
+    subst (λ (n : ℕ). IsLocated layout slot cell n (piece ∷ [])) (sym width.hold) one
 
 -- a part that is too long makes the blob too long
 pub big_part : (form : AosForm) (slots : ℕ) (widths : List ℕ) → 0 < slots → ((slot : ℕ) → 2 ^ 31 < length (part_of form widths slot))
@@ -161,18 +138,13 @@ not_too_big form slots widths offsets stride h few small big =
     (λ (long : 8 * 2 ^ 28 < sum_by length (aos_layout form slots widths)). let none : ⊥ = omega arith in none)
     big
 
--- an offset and a width as the code reads them
+-- an offset as the code reads it
 pub offset_read : (form : AosForm) (cells : List Cell) (offsets : List ℕ) (stride cell offset : ℕ) → IsStored form (widths_of cells) offsets stride
     → cell < length cells → offset ≡ get_or offsets cell offset → offset ≡ slice_index offsets cell
 offset_read form cells offsets stride cell offset h inside read =
     let count : length offsets ≡ length (widths_of cells) = h.each in
     let size : length (widths_of cells) ≡ length cells = length-map cells (λ (c : Cell). width_of c.kind) in
     get_or_read offsets cell offset (omega arith) read 0
-
-pub width_read : (cells : List Cell) (cell : ℕ) (found : Cell) (width : ℕ) → cell < length cells → found ≡ get_or cells cell found → width ≡ width_of found.kind
-    → width ≡ slice_index (widths_of cells) cell
-width_read cells cell found width inside read w =
-    w ∙ ap (λ (c : Cell). width_of c.kind) read ∙ sym (get_or-map (λ (c : Cell). width_of c.kind) cells cell found 0 inside)
 
 -- a place fits its type
 pub place_fits : (form : AosForm) (slots : ℕ) (cells : List Cell) (offsets : List ℕ) (stride slot cell offset : ℕ)

@@ -1,17 +1,17 @@
 -- The laws of each form: each bit of each cell has one place, and the blob is whole bytes.
 use Rattle.std.proofs.Common.{◌≡◌, ℕ, ◌+◌, ◌-◌, ◌%◌, ◌<◌, ◌≤◌, inl, inr, List, [], ◌∷◌, map, length, max, fold, All, refl, sym, ap, ◌∙◌, subst, arith}
 use Rattle.std.specs.List.{flat_map, range_with_len}
-use Rattle.std.proofs.lemmas.List.{length-map}
 use Rattle.std.proofs.lemmas.List.Elements.{All-cons, All-nil}
 use Rattle.places.specs.Layout.{Owner, cells_of, field, greatest, falling, aligned_fields, aligned_part, padded_to}
 use Rattle.places.specs.Laws.{IsBitOf, IsLaidOut}
-use Rattle.places.specs.Holds.{widths_of, full_holds, hold_of}
+use Rattle.places.specs.Holds.{widths_of, full_holds}
 use Rattle.places.specs.declared.piece.Cell.{Cell}
 use Rattle.places.specs.declared.piece.Hold.{Hold}
 use Rattle.places.proofs.Exact.{Has, has_same, has_range, has_padded, has_field, length-field, Member, Apart}
 use Rattle.places.proofs.Falling.{apart_falling, member_falling, falling_member}
 use Rattle.places.proofs.Compose.{LaysOut, has_blob, laid_out}
-use Rattle.places.proofs.Cells.{apart_enumerate, member_cells, bit_of_cells, cells_of_bit}
+use Rattle.places.proofs.CellWidths.{member_width}
+use Rattle.places.proofs.Cells.{apart_enumerate, bit_of_cells, cells_of_bit}
 use Rattle.places.proofs.Slots.{parts_bytes}
 use Rattle.places.proofs.Stacked.{stacked, flat_stacked, fields_stacked, length-padded, padded_one, has_all_stacked, stacked_bytes, KeepsBytes}
 use Rattle.places.proofs.Widths.{IsWidth, by_width, widths_are, widths_narrow, widths_wide, widths_full, keeps_one, keeps_width, keeps_greater}
@@ -42,12 +42,6 @@ widest_greatest cell cells some =
 ones : (cells : List (ℕ × ℕ)) → fold max 1 (map (λ (cell : ℕ × ℕ). 1) cells) ≡ 1
 ones [] = refl
 ones (cell ∷ cells) = ones cells
-
--- a cell's width is one of the four
-pub member_width : (widths : List ℕ) (c w : ℕ) → All IsWidth widths → Member (cells_of widths) c w → IsWidth w
-member_width widths c w each m =
-    let r = member_cells widths c w m in
-    subst IsWidth (sym r.1) (each c 0 r.0)
 
 some_width : (w : ℕ) → IsWidth w → 1 ≤ w
 some_width w h = by_width (λ w. 1 ≤ w) w (omega arith) (omega arith) (omega arith) (omega arith) h
@@ -161,6 +155,3 @@ aos_laws form slots cells =
     let laid : IsLaidOut (aos_layout form slots widths) slots widths =
     laid_out (aos_lays_out form slots widths each) whole (widths_narrow cells) (widths_wide cells) in
     subst (λ (ws : List ℕ). IsLaidOut (aos_layout form slots widths) slots ws) (sym (widths_full cells)) laid
-
-pub aos_holds : (cells : List Cell) → length (full_holds cells) ≡ length cells
-aos_holds cells = length-map cells (λ (cell : Cell). hold_of cell.kind)

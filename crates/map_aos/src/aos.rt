@@ -1,10 +1,12 @@
-ghost use Rattle.std.specs.Prelude.{ℕ, ◌≡◌, ◌*◌, ◌^◌, ◌<◌, ◌≤◌, ◌⊎◌, IfOk, IfErr, OnOk, IsErrOf, List};
+ghost use Rattle.std.specs.Prelude.{ℕ, ◌≡◌, ◌*◌, ◌^◌, ◌<◌, ◌≤◌, ◌⊎◌, IfOk, IfErr, OnOk, IsErrOf, List, [], ◌∷◌, length, map, slice_index};
 ghost use Rattle.places.specs.Holds.{widths_of, full_holds, IsTooBig};
 ghost use Rattle.places.specs.declared.piece.Cell.{Cell};
 ghost use Rattle.places.specs.declared.piece.Hold.{Hold};
 ghost use Rattle.places.specs.Layout.{Owner};
+ghost use Rattle.places.specs.Laws.{IsLocated};
 ghost use Rattle.map_aos.specs.Aos.{IsStored, aos_layout};
-ghost use Rattle.map_aos.specs.AosLaws.{aos_laws, aos_holds};
+ghost use Rattle.map_aos.specs.AosLaws.{aos_laws};
+ghost use Rattle.places.proofs.CellWidths.{length-full};
 
 use crate::form::AosForm;
 use crate::part::lay_out;
@@ -69,6 +71,20 @@ impl Aos {
             stride: part.size,
         })
     }
+
+    /// The one piece of a cell in a slot, by the stored stride and offset.
+    #[inline]
+    pub fn piece(&self, slot: u64, cell: usize) -> Piece
+        requires slot_in { slot < ⟦<Aos as Mapping>⟧.slot_count self.now }
+        requires cell_in { cell < length (⟦<Aos as Mapping>⟧.cell_list self.now) }
+        ensures { IsLocated (⟦<Aos as Mapping>⟧.layout self.now) slot cell (slice_index (map (λ h. h.width) (⟦<Aos as Mapping>⟧.hold_list self.now)) cell) (result ∷ []) }
+    {
+        Piece {
+            blob: 0,
+            bit: slot * self.stride + self.offsets[cell],
+            bits: self.cells[cell].kind.width(),
+        }
+    }
 }
 
 impl Mapping for Aos {
@@ -108,18 +124,13 @@ impl Mapping for Aos {
         self.slots * self.stride / 8
     }
 
-    /// One piece, by the stored stride and offset.
     fn locate(&self, slot: u64, cell: usize) -> Pieces {
         let mut pieces = Pieces::new();
-        pieces.push(Piece {
-            blob: 0,
-            bit: slot * self.stride + self.offsets[cell],
-            bits: self.cells[cell].kind.width(),
-        });
+        pieces.push(self.piece(slot, cell));
         pieces
     }
 
     ghost laws = { λ m. aos_laws m.form m.slots m.cells.items };
 
-    ghost holds_cells = { λ m. aos_holds m.cells.items };
+    ghost holds_cells = { λ m. length-full m.cells.items };
 }
