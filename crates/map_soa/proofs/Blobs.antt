@@ -1,0 +1,157 @@
+-- The blobs: their lengths, and the places of a cell.
+use Rattle.std.proofs.Common.{◌≡◌, ℕ, ◌+◌, ◌-◌, ◌*◌, ◌/◌, ◌%◌, ◌^◌, ◌<◌, ◌≤◌, ◌⊎◌, ⊎_elim, List, [], ◌∷◌, map, length, sum_by, get_or, slice_index, refl, sym, ap, ◌∙◌, subst, arith}
+use Rattle.std.proofs.lemmas.List.{get_or_read, get_or-map, length-map}
+use Rattle.std.proofs.lemmas.List.Sums.{get_or-le-sum_by}
+use Rattle.record_dim.specs.LeafTypes.{width_of}
+use Rattle.places.specs.Layout.{Owner, Bit, owner_at, cells_of, array}
+use Rattle.places.specs.Laws.{IsLocated}
+use Rattle.places.specs.Holds.{widths_of, full_holds}
+use Rattle.places.specs.declared.piece.Cell.{Cell}
+use Rattle.places.specs.declared.piece.Hold.{Hold}
+use Rattle.places.specs.declared.piece.Piece.{Piece}
+use Rattle.places.proofs.CellWidths.{width_read}
+use Rattle.places.proofs.Compose.{within_blobs, within_blob}
+use Rattle.places.proofs.Places.{one_piece}
+use Rattle.places.proofs.Widths.{widths_full, widths_wide}
+use Rattle.map_soa.specs.Soa.{IsStored, soa_layout, blob_of}
+use Rattle.map_soa.specs.SoaLaws.{soa_laws}
+use Rattle.map_soa.specs.declared.form.SoaForm.{SoaForm}
+use Rattle.map_soa.specs.declared.form.SoaForm.TheVariants.{Single, Aligned, Multi}
+use Rattle.map_soa.proofs.Placed.{length-array, cell_at, length-cells}
+
+-- a blob has no more bits than all blobs
+pub blob_le : (form : SoaForm) (slots : ℕ) (widths offsets : List ℕ) (size blob : ℕ) → IsStored form slots widths offsets size
+    → blob < length (soa_layout form slots widths) → length (get_or (soa_layout form slots widths) blob []) ≤ size
+blob_le form slots widths offsets size blob h inside =
+    let all : sum_by length (soa_layout form slots widths) ≡ size = h.total in
+    let one : length (get_or (soa_layout form slots widths) blob []) ≤ sum_by length (soa_layout form slots widths) =
+    get_or-le-sum_by length (soa_layout form slots widths) blob [] inside in
+    omega arith
+
+-- a cell ends within all bits
+pub cell_end : (form : SoaForm) (slots : ℕ) (widths offsets : List ℕ) (size slot cell : ℕ) → IsStored form slots widths offsets size
+    → slot < slots → cell < length widths → 1 ≤ slice_index widths cell → slice_index offsets cell + slot * slice_index widths cell + slice_index widths cell ≤ size
+cell_end form slots widths offsets size slot cell h slot_in cell_in some =
+    let layout : List (List Owner) = soa_layout form slots widths in
+    let blob : ℕ = blob_of form cell in
+    let last : ℕ = slice_index widths cell - 1 in
+    let place : ℕ = slice_index offsets cell + slot * slice_index widths cell + last in
+    let here : owner_at layout blob place ≡ Bit slot cell last = h.here slot cell last slot_in cell_in (omega arith) in
+    let inside : blob < length layout = within_blobs layout blob place slot cell last here in
+    let low : place < length (get_or layout blob []) = within_blob layout blob place slot cell last here in
+    let all : length (get_or layout blob []) ≤ size = blob_le form slots widths offsets size blob h inside in
+    omega arith
+
+-- what is known of a cell that the code reads
+pub record IsRead (cells : List Cell) (offsets : List ℕ) (cell width offset : ℕ) : Type 0 where
+  pub inside : cell < length (widths_of cells)
+  pub hold : slice_index (map (λ (h : Hold). h.width) (full_holds cells)) cell ≡ width
+  pub width_is : width ≡ slice_index (widths_of cells) cell
+  pub offset_is : offset ≡ slice_index offsets cell
+  pub some : 1 ≤ width
+
+pub cell_read : (form : SoaForm) (slots : ℕ) (cells : List Cell) (offsets : List ℕ) (size cell : ℕ) (found : Cell) (width offset : ℕ)
+    → IsStored form slots (widths_of cells) offsets size → cell < length cells
+    → found ≡ get_or cells cell found → width ≡ width_of found.kind → offset ≡ get_or offsets cell offset
+    → IsRead cells offsets cell width offset
+cell_read form slots cells offsets size cell found width offset h inside read w o =
+    let count : length (widths_of cells) ≡ length cells = length-map cells (λ (c : Cell). width_of c.kind) in
+    let each : length offsets ≡ length (widths_of cells) = h.each in
+    let same : width ≡ slice_index (widths_of cells) cell = width_read cells cell found width inside read w in
+    let in_widths : cell < length (widths_of cells) = omega arith in
+    let wide : 1 ≤ slice_index (widths_of cells) cell = widths_wide cells cell 0 in_widths in
+    record {
+      inside = in_widths;
+      hold = ap (λ (ws : List ℕ). slice_index ws cell) (widths_full cells) ∙ sym same;
+      width_is = same;
+      offset_is = get_or_read offsets cell offset (omega arith) o 0;
+      some = omega arith;
+    }
+
+-- a place fits its type
+pub place_fits : (form : SoaForm) (slots : ℕ) (cells : List Cell) (offsets : List ℕ) (size slot cell width offset : ℕ)
+    → IsStored form slots (widths_of cells) offsets size → slot < slots → IsRead cells offsets cell width offset → offset + slot * width + width ≤ size
+place_fits form slots cells offsets size slot cell width offset h slot_in r =
+    let widths : List ℕ = widths_of cells in
+    let some : 1 ≤ width = r.some in
+    let Fits : ℕ → ℕ → Type 0 = λ w o. 1 ≤ w → o + slot * w + w ≤ size in
+    let end : Fits (slice_index widths cell) (slice_index offsets cell) = λ some. cell_end form slots widths offsets size slot cell h slot_in r.inside some in
+    subst (λ (w : ℕ). Fits w offset) (sym r.width_is) (subst (λ (o : ℕ). Fits (slice_index widths cell) o) (sym r.offset_is) end) some
+
+-- the places of a cell are one piece
+pub located_is : (form : SoaForm) (slots : ℕ) (cells : List Cell) (offsets : List ℕ) (size slot cell width offset : ℕ) (piece : Piece)
+    → IsStored form slots (widths_of cells) offsets size → size ≤ 2 ^ 31 → slot < slots → IsRead cells offsets cell width offset
+    → piece.blob ≡ blob_of form cell → piece.bit ≡ offset + slot * width → piece.bits ≡ width
+    → IsLocated (soa_layout form slots (widths_of cells)) slot cell (slice_index (map (λ (h : Hold). h.width) (full_holds cells)) cell) (piece ∷ [])
+located_is form slots cells offsets size slot cell width offset piece h bound slot_in r blob bit bits =
+    let widths : List ℕ = widths_of cells in
+    let layout : List (List Owner) = soa_layout form slots widths in
+    let w : ℕ = slice_index widths cell in
+    let some : 1 ≤ width = r.some in
+    let same : width ≡ w = r.width_is in
+    let end : offset + slot * width + width ≤ size = place_fits form slots cells offsets size slot cell width offset h slot_in r in
+    let begin : piece.bit ≡ slice_index offsets cell + slot * w = bit ∙ ap (λ (o : ℕ). o + slot * width) r.offset_is ∙ ap (λ (v : ℕ). slice_index offsets cell + slot * v) same in
+    let one : IsLocated layout slot cell w (piece ∷ []) =
+    one_piece layout slot cell w piece (bits ∙ same) (omega arith) (omega arith)
+    (λ k l.
+    ap (λ (b : ℕ). owner_at layout b (piece.bit + k)) blob
+    ∙ ap (λ (p : ℕ). owner_at layout (blob_of form cell) (p + k)) begin
+    ∙ h.here slot cell k slot_in r.inside l) in
+    subst (λ (n : ℕ). IsLocated layout slot cell n (piece ∷ [])) (sym (r.hold ∙ same)) one
+
+-- how many blobs there are
+pub one_blob : (form : SoaForm) (slots : ℕ) (widths : List ℕ) → (form ≡ Single) ⊎ (form ≡ Aligned) → length (soa_layout form slots widths) ≡ 1
+one_blob Single slots widths h = refl
+one_blob Aligned slots widths h = refl
+one_blob Multi slots widths h = ⊎_elim (λ (e : Multi ≡ Single). cc) (λ (e : Multi ≡ Aligned). cc) h
+
+pub blob_each : (form : SoaForm) (slots : ℕ) (cells : List Cell) → form ≡ Multi → length (soa_layout form slots (widths_of cells)) ≡ length cells
+blob_each Single slots cells e = cc
+blob_each Aligned slots cells e = cc
+blob_each Multi slots cells e =
+    length-map (cells_of (widths_of cells)) (array slots) ∙ length-cells (widths_of cells) ∙ length-map cells (λ (c : Cell). width_of c.kind)
+
+sum_one : (layout : List (List Owner)) → length layout ≡ 1 → sum_by length layout ≡ length (get_or layout 0 [])
+sum_one [] e = let none : ⊥ = omega arith in absurd none
+sum_one (blob ∷ []) e = omega arith
+sum_one (blob ∷ next ∷ rest) e = let none : ⊥ = omega arith in absurd none
+
+-- the length of a blob in bytes, where it is the only one
+pub one_blob_bytes : (form : SoaForm) (slots : ℕ) (cells : List Cell) (offsets : List ℕ) (size blob : ℕ) → IsStored form slots (widths_of cells) offsets size
+    → (form ≡ Single) ⊎ (form ≡ Aligned) → blob < length (soa_layout form slots (widths_of cells))
+    → 8 * (size / 8) ≡ length (get_or (soa_layout form slots (widths_of cells)) blob [])
+one_blob_bytes form slots cells offsets size blob h in_one inside =
+    let layout : List (List Owner) = soa_layout form slots (widths_of cells) in
+    let single : length layout ≡ 1 = one_blob form slots (widths_of cells) in_one in
+    let first : blob ≡ 0 = omega arith in
+    let all : sum_by length layout ≡ size = h.total in
+    let here : sum_by length layout ≡ length (get_or layout 0 []) = sum_one layout single in
+    let same : length (get_or layout blob []) ≡ length (get_or layout 0 []) = ap (λ (b : ℕ). length (get_or layout b [])) first in
+    let whole : length (get_or layout blob []) % 8 ≡ 0 = (soa_laws form slots cells).whole_bytes blob [] inside in
+    omega arith
+
+-- and where each cell has its own
+array_bytes : (slots : ℕ) (cells : List Cell) (blob width : ℕ) → blob < length cells → width ≡ slice_index (widths_of cells) blob
+    → slots * width ≡ length (get_or (soa_layout Multi slots (widths_of cells)) blob [])
+array_bytes slots cells blob width inside w =
+    let widths : List ℕ = widths_of cells in
+    let count : length widths ≡ length cells = length-map cells (λ (c : Cell). width_of c.kind) in
+    let numbered : length (cells_of widths) ≡ length widths = length-cells widths in
+    let here : get_or (soa_layout Multi slots widths) blob [] ≡ array slots (blob, slice_index widths blob) =
+    get_or-map (array slots) (cells_of widths) blob (0, 0) [] (omega arith) ∙ ap (array slots) (cell_at widths blob (0, 0) (omega arith)) in
+    ap (λ (v : ℕ). slots * v) w ∙ sym (length-array slots blob (slice_index widths blob)) ∙ sym (ap (λ (owners : List Owner). length owners) here)
+
+-- the bits of a blob of its own
+pub own_blob : (form : SoaForm) (slots : ℕ) (cells : List Cell) (blob : ℕ) (found : Cell) (width : ℕ) → form ≡ Multi → blob < length (soa_layout form slots (widths_of cells))
+    → found ≡ get_or cells blob found → width ≡ width_of found.kind → slots * width ≡ length (get_or (soa_layout form slots (widths_of cells)) blob [])
+own_blob form slots cells blob found width e inside read w =
+    let count : length (soa_layout form slots (widths_of cells)) ≡ length cells = blob_each form slots cells e in
+    let own : slots * width ≡ length (get_or (soa_layout Multi slots (widths_of cells)) blob []) =
+    array_bytes slots cells blob width (omega arith) (width_read cells blob found width (omega arith) read w) in
+    own ∙ ap (λ (f : SoaForm). length (get_or (soa_layout f slots (widths_of cells)) blob [])) (sym e)
+
+pub own_blob_bytes : (form : SoaForm) (slots : ℕ) (cells : List Cell) (blob bits : ℕ) → blob < length (soa_layout form slots (widths_of cells))
+    → bits ≡ length (get_or (soa_layout form slots (widths_of cells)) blob []) → 8 * (bits / 8) ≡ length (get_or (soa_layout form slots (widths_of cells)) blob [])
+own_blob_bytes form slots cells blob bits inside same =
+    let whole : length (get_or (soa_layout form slots (widths_of cells)) blob []) % 8 ≡ 0 = (soa_laws form slots cells).whole_bytes blob [] inside in
+    omega arith

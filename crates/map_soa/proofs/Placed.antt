@@ -1,0 +1,205 @@
+-- How the arrays are laid out, cell after cell.
+use Rattle.std.proofs.Common.{◌≡◌, ℕ, ◌+◌, ◌-◌, ◌*◌, ◌%◌, ◌<◌, ◌≤◌, ⊎_elim, List, [], ◌∷◌, ◌++◌, map, length, sum_by, replicate, get_or, take, drop, slice_index, refl, sym, ap, ◌∙◌, subst, arith, length-append}
+use Rattle.std.specs.List.{flat_map}
+use Rattle.std.proofs.lemmas.Bool.{cases_lt}
+use Rattle.std.proofs.lemmas.List.{take_more, take_all, take-append-drop, get_or_append_left, get_or-append-add, get_or_push, get_or_default, get_or-map, length-map}
+use Rattle.std.proofs.lemmas.List.FromFn.{length-enumerate_from, get_or-enumerate_from}
+use Rattle.std.proofs.lemmas.List.Sums.{sum_by-cons}
+use Rattle.record_dim.specs.LeafTypes.{width_of}
+use Rattle.places.specs.Layout.{Owner, Pad, Bit, owner_at, cells_of, field, array, padded_to}
+use Rattle.places.specs.Holds.{widths_of}
+use Rattle.places.specs.declared.piece.Cell.{Cell}
+use Rattle.places.proofs.Exact.{length-field, field_at, within}
+use Rattle.places.proofs.Slots.{length-parts, slot_at}
+use Rattle.places.proofs.Stacked.{stacked, up, stacked_push, stacked_append, stacked_take, length-padded, flat_stacked}
+use Rattle.map_soa.specs.Soa.{IsStored, soa_layout, blob_of, alignment, in_blob}
+use Rattle.map_soa.specs.SoaLaws.{laid_arrays, single_blob, aligned_blob}
+use Rattle.map_soa.specs.declared.form.SoaForm.{SoaForm}
+use Rattle.map_soa.specs.declared.form.SoaForm.TheVariants.{Single, Aligned, Multi}
+
+-- the array of one cell: its length, and its places
+pub length-array : (slots c w : ℕ) → length (array slots (c, w)) ≡ slots * w
+length-array slots c w = length-parts (λ slot. field slot (c, w)) w (λ s. length-field s c w) 0 slots
+
+pub array_at : (slots c w slot bit : ℕ) → slot < slots → bit < w → get_or (array slots (c, w)) (slot * w + bit) Pad ≡ Bit slot c bit
+array_at slots c w slot bit slot_in bit_in =
+    slot_at Pad (λ slot. field slot (c, w)) w (λ s. length-field s c w) slots slot bit slot_in bit_in ∙ field_at slot c w bit bit_in
+
+-- what lies behind lists leaves them as they are
+stacked_keeps : (align : ℕ → ℕ) (f : ℕ × ℕ → List Owner) (front : List Owner) (cells : List (ℕ × ℕ)) (p : ℕ) → p < length front
+    → get_or (stacked align f front cells) p Pad ≡ get_or front p Pad
+stacked_keeps align f front [] p l = refl
+stacked_keeps align f front (cell ∷ cells) p l =
+    let a : ℕ = align cell.1 in
+    let pads : List Owner = replicate ((a - length front % a) % a) Pad in
+    let padded : List Owner = padded_to a front in
+    let more : length padded ≡ length front + length pads = length-append front pads in
+    let all : length (padded ++ f cell) ≡ length padded + length (f cell) = length-append padded (f cell) in
+    stacked_keeps align f (padded ++ f cell) cells p (omega arith)
+    ∙ get_or_append_left padded (f cell) Pad p (omega arith)
+    ∙ get_or_append_left front pads Pad p l
+
+-- the place of a list among all: the next multiple of its alignment behind the lists before it
+stacked_at : (align : ℕ → ℕ) (f : ℕ × ℕ → List Owner) (cells : List (ℕ × ℕ)) (i : ℕ) (c w j : ℕ)
+    → take (i + 1) cells ≡ take i cells ++ (c, w) ∷ [] → j < length (f (c, w))
+    → get_or (stacked align f [] cells) (up (align w) (length (stacked align f [] (take i cells))) + j) Pad ≡ get_or (f (c, w)) j Pad
+stacked_at align f cells i c w j step l =
+    let before : List Owner = stacked align f [] (take i cells) in
+    let front : List Owner = stacked align f [] (take (i + 1) cells) in
+    let padded : List Owner = padded_to (align w) before in
+    let whole : stacked align f [] cells ≡ stacked align f front (drop (i + 1) cells) =
+    ap (stacked align f []) (sym (take-append-drop (i + 1) cells)) ∙ stacked_append align f [] (take (i + 1) cells) (drop (i + 1) cells) in
+    let front_is : front ≡ padded ++ f (c, w) = ap (stacked align f []) step ∙ stacked_push align f [] (take i cells) (c, w) in
+    let size : length padded ≡ up (align w) (length before) = length-padded (align w) before in
+    let both : length (padded ++ f (c, w)) ≡ length padded + length (f (c, w)) = length-append padded (f (c, w)) in
+    let same : length front ≡ length (padded ++ f (c, w)) = ap (λ (owners : List Owner). length owners) front_is in
+    let place : ℕ = up (align w) (length before) + j in
+    let at : place ≡ length padded + j = ap (λ (n : ℕ). n + j) (sym size) in
+    ap (λ (owners : List Owner). get_or owners place Pad) whole
+    ∙ stacked_keeps align f front (drop (i + 1) cells) place (omega arith)
+    ∙ ap (λ (owners : List Owner). get_or owners place Pad) front_is
+    ∙ ap (λ (n : ℕ). get_or (padded ++ f (c, w)) n Pad) at
+    ∙ get_or-append-add padded (f (c, w)) j Pad
+
+-- the numbered cells, one by one
+pub length-cells : (widths : List ℕ) → length (cells_of widths) ≡ length widths
+length-cells widths = length-enumerate_from 0 widths
+
+pub cell_at : (widths : List ℕ) (i : ℕ) (d : ℕ × ℕ) → i < length widths → get_or (cells_of widths) i d ≡ (i, slice_index widths i)
+cell_at widths i d inside =
+    let at : get_or (cells_of widths) i d ≡ (0 + i, get_or widths i d.1) = get_or-enumerate_from 0 widths i d inside in
+    let number : 0 + i ≡ i = omega arith in
+    let width : get_or widths i d.1 ≡ slice_index widths i = get_or_default widths i d.1 0 inside in
+    at ∙ ap (λ (n : ℕ). (n, get_or widths i d.1)) number ∙ ap (λ (w : ℕ). (i, w)) width
+
+pub cells_more : (widths : List ℕ) (i : ℕ) → i < length widths → take (i + 1) (cells_of widths) ≡ take i (cells_of widths) ++ (i, slice_index widths i) ∷ []
+cells_more widths i inside =
+    let size : length (cells_of widths) ≡ length widths = length-cells widths in
+    take_more (cells_of widths) i (0, 0) (omega arith)
+    ∙ ap (λ (cell : ℕ × ℕ). take i (cells_of widths) ++ cell ∷ []) (cell_at widths i (0, 0) inside)
+
+-- where the array of a cell begins, with all arrays behind one another
+abbrev begin_of : SoaForm → ℕ → List ℕ → ℕ → ℕ
+begin_of form slots widths cell = up (alignment form (slice_index widths cell)) (length (laid_arrays form slots (take cell (cells_of widths))))
+
+-- the first `count` cells are laid out
+pub record IsPlaced (form : SoaForm) (slots : ℕ) (widths : List ℕ) (count : ℕ) (offsets : List ℕ) (end : ℕ) : Type 0 where
+  pub size : length (laid_arrays form slots (take count (cells_of widths))) ≡ end
+  pub each : length offsets ≡ count
+  pub here : (cell : ℕ) → cell < count → slice_index offsets cell ≡ in_blob form (begin_of form slots widths cell)
+
+-- one cell more
+pub placed_more : (form : SoaForm) (slots : ℕ) (widths : List ℕ) (i : ℕ) (offsets : List ℕ) (end w begin offset : ℕ) → i < length widths
+    → w ≡ slice_index widths i → begin ≡ up (alignment form w) end → offset ≡ in_blob form begin
+    → IsPlaced form slots widths i offsets end → IsPlaced form slots widths (i + 1) (offsets ++ offset ∷ []) (begin + slots * w)
+placed_more form slots widths i offsets end w begin offset inside width b o h =
+    let v : ℕ = slice_index widths i in
+    let before : List Owner = laid_arrays form slots (take i (cells_of widths)) in
+    let padded : List Owner = padded_to (alignment form v) before in
+    let new : List Owner = laid_arrays form slots (take (i + 1) (cells_of widths)) in
+    let new_is : new ≡ padded ++ array slots (i, v) =
+    ap (laid_arrays form slots) (cells_more widths i inside) ∙ stacked_push (alignment form) (array slots) [] (take i (cells_of widths)) (i, v) in
+    let begins : begin ≡ begin_of form slots widths i =
+    b ∙ ap (λ (x : ℕ). up (alignment form x) end) width ∙ ap (up (alignment form v)) (sym h.size) in
+    let padded_size : length padded ≡ begin_of form slots widths i = length-padded (alignment form v) before in
+    let both : length (padded ++ array slots (i, v)) ≡ length padded + length (array slots (i, v)) = length-append padded (array slots (i, v)) in
+    let one : length (array slots (i, v)) ≡ slots * v = length-array slots i v in
+    let product : slots * w ≡ slots * v = ap (λ (x : ℕ). slots * x) width in
+    let long : length new ≡ length (padded ++ array slots (i, v)) = ap (λ (owners : List Owner). length owners) new_is in
+    let count : length (offsets ++ offset ∷ []) ≡ length offsets + 1 = length-append offsets (offset ∷ []) in
+    let was : length offsets ≡ i = h.each in
+    record {
+      size = omega arith;
+      each = omega arith;
+      here = λ cell l.
+          ⊎_elim
+          (λ (old : cell < i). get_or_append_left offsets (offset ∷ []) 0 cell (omega arith) ∙ h.here cell old)
+          (λ (last : i ≤ cell).
+          let same : i ≡ cell = omega arith in
+          let at : slice_index (offsets ++ offset ∷ []) i ≡ in_blob form (begin_of form slots widths i) =
+          get_or_push offsets offset 0 i was ∙ o ∙ ap (in_blob form) begins in
+          subst (λ (c : ℕ). slice_index (offsets ++ offset ∷ []) c ≡ in_blob form (begin_of form slots widths c)) same at)
+          (cases_lt cell i);
+    }
+
+-- a blob for each array has as many bits as one blob for all
+arrays_size : (slots : ℕ) (cells : List (ℕ × ℕ)) → sum_by length (map (array slots) cells) ≡ length (flat_map (array slots) cells)
+arrays_size slots [] = refl
+arrays_size slots (cell ∷ cells) =
+    let rest : sum_by length (map (array slots) cells) ≡ length (flat_map (array slots) cells) = arrays_size slots cells in
+    let first : sum_by length (map (array slots) (cell ∷ cells)) ≡ length (array slots cell) + sum_by length (map (array slots) cells) =
+    sum_by-cons length (array slots cell) (map (array slots) cells) in
+    let both : length (array slots cell ++ flat_map (array slots) cells) ≡ length (array slots cell) + length (flat_map (array slots) cells) =
+    length-append (array slots cell) (flat_map (array slots) cells) in
+    omega arith
+
+one_size : (layout : List (List Owner)) (blob : List Owner) → layout ≡ blob ∷ [] → sum_by length layout ≡ length blob
+one_size layout blob e =
+    let one : sum_by length (blob ∷ []) ≡ length blob = omega arith in
+    ap (λ (layout : List (List Owner)). sum_by length layout) e ∙ one
+
+pub layout_size : (form : SoaForm) (slots : ℕ) (widths : List ℕ) → sum_by length (soa_layout form slots widths) ≡ length (laid_arrays form slots (cells_of widths))
+layout_size Single slots widths = one_size (soa_layout Single slots widths) (laid_arrays Single slots (cells_of widths)) (single_blob slots widths)
+layout_size Aligned slots widths = one_size (soa_layout Aligned slots widths) (laid_arrays Aligned slots (cells_of widths)) (aligned_blob slots widths)
+layout_size Multi slots widths =
+    arrays_size slots (cells_of widths) ∙ ap (λ (owners : List Owner). length owners) (sym (flat_stacked (array slots) [] (cells_of widths)))
+
+-- what is laid out is no longer than the whole
+pub placed_le : (form : SoaForm) (slots : ℕ) (widths : List ℕ) (count : ℕ) (offsets : List ℕ) (end : ℕ)
+    → IsPlaced form slots widths count offsets end → end ≤ sum_by length (soa_layout form slots widths)
+placed_le form slots widths count offsets end h =
+    let here : length (laid_arrays form slots (take count (cells_of widths))) ≡ end = h.size in
+    let low : length (laid_arrays form slots (take count (cells_of widths))) ≤ length (laid_arrays form slots (cells_of widths)) =
+    stacked_take (alignment form) (array slots) (cells_of widths) count in
+    let all : sum_by length (soa_layout form slots widths) ≡ length (laid_arrays form slots (cells_of widths)) = layout_size form slots widths in
+    omega arith
+
+-- place j of a cell's array
+layout_at : (form : SoaForm) (slots : ℕ) (widths : List ℕ) (cell j : ℕ) → cell < length widths → j < length (array slots (cell, slice_index widths cell))
+    → owner_at (soa_layout form slots widths) (blob_of form cell) (in_blob form (begin_of form slots widths cell) + j) ≡ get_or (array slots (cell, slice_index widths cell)) j Pad
+layout_at Single slots widths cell j inside l =
+    ap (λ (layout : List (List Owner)). owner_at layout 0 (begin_of Single slots widths cell + j)) (single_blob slots widths)
+    ∙ stacked_at (alignment Single) (array slots) (cells_of widths) cell cell (slice_index widths cell) j (cells_more widths cell inside) l
+layout_at Aligned slots widths cell j inside l =
+    ap (λ (layout : List (List Owner)). owner_at layout 0 (begin_of Aligned slots widths cell + j)) (aligned_blob slots widths)
+    ∙ stacked_at (alignment Aligned) (array slots) (cells_of widths) cell cell (slice_index widths cell) j (cells_more widths cell inside) l
+layout_at Multi slots widths cell j inside l =
+    let size : length (cells_of widths) ≡ length widths = length-cells widths in
+    let place : 0 + j ≡ j = omega arith in
+    let blob : get_or (map (array slots) (cells_of widths)) cell [] ≡ array slots (cell, slice_index widths cell) =
+    get_or-map (array slots) (cells_of widths) cell (0, 0) [] (omega arith) ∙ ap (array slots) (cell_at widths cell (0, 0) inside) in
+    ap (λ (owners : List Owner). get_or owners (0 + j) Pad) blob ∙ ap (λ (p : ℕ). get_or (array slots (cell, slice_index widths cell)) p Pad) place
+
+-- all cells are laid out
+pub stored_all : (form : SoaForm) (slots : ℕ) (widths : List ℕ) (count : ℕ) (offsets : List ℕ) (end : ℕ) → count ≡ length widths
+    → IsPlaced form slots widths count offsets end → IsStored form slots widths offsets end
+stored_all form slots widths count offsets end all h =
+    let size : length (cells_of widths) ≡ length widths = length-cells widths in
+    let whole : take count (cells_of widths) ≡ cells_of widths = take_all count (cells_of widths) (omega arith) in
+    record {
+      each = h.each ∙ all;
+      total = layout_size form slots widths ∙ ap (λ (cells : List (ℕ × ℕ)). length (laid_arrays form slots cells)) (sym whole) ∙ h.size;
+      here = λ slot cell bit slot_in cell_in bit_in.
+          let w : ℕ = slice_index widths cell in
+          let offset : slice_index offsets cell ≡ in_blob form (begin_of form slots widths cell) = h.here cell (omega arith) in
+          let place : slice_index offsets cell + slot * w + bit ≡ in_blob form (begin_of form slots widths cell) + (slot * w + bit) = omega arith in
+          let bit_here : get_or (array slots (cell, w)) (slot * w + bit) Pad ≡ Bit slot cell bit = array_at slots cell w slot bit slot_in bit_in in
+          ap (λ (p : ℕ). owner_at (soa_layout form slots widths) (blob_of form cell) p) place
+          ∙ layout_at form slots widths cell (slot * w + bit) cell_in (within (array slots (cell, w)) (slot * w + bit) slot cell bit bit_here)
+          ∙ bit_here;
+    }
+
+-- one cell more, as the code reads it
+pub placed_next : (form : SoaForm) (slots : ℕ) (cells : List Cell) (i : ℕ) (d : Cell) (offsets : List ℕ) (end width align begin offset : ℕ) → i < length cells
+    → width ≡ width_of (get_or cells i d).kind → align ≡ alignment form width → begin ≡ end + (align - end % align) % align → offset ≡ in_blob form begin
+    → IsPlaced form slots (widths_of cells) i offsets end → IsPlaced form slots (widths_of cells) (i + 1) (offsets ++ offset ∷ []) (begin + slots * width)
+placed_next form slots cells i d offsets end width align begin offset inside w a b o h =
+    let size : length (widths_of cells) ≡ length cells = length-map cells (λ (cell : Cell). width_of cell.kind) in
+    let same : width ≡ slice_index (widths_of cells) i = w ∙ sym (get_or-map (λ (cell : Cell). width_of cell.kind) cells i d 0 inside) in
+    placed_more form slots (widths_of cells) i offsets end width begin offset (omega arith) same (b ∙ ap (λ (n : ℕ). up n end) a) o h
+
+pub stored_cells : (form : SoaForm) (slots : ℕ) (cells : List Cell) (count : ℕ) (offsets : List ℕ) (end : ℕ) → count ≤ length cells → length cells ≤ count
+    → IsPlaced form slots (widths_of cells) count offsets end → IsStored form slots (widths_of cells) offsets end
+stored_cells form slots cells count offsets end low high h =
+    let size : length (widths_of cells) ≡ length cells = length-map cells (λ (cell : Cell). width_of cell.kind) in
+    stored_all form slots (widths_of cells) count offsets end (omega arith) h

@@ -1,0 +1,2 @@
+pub mod Soa
+pub mod SoaLaws

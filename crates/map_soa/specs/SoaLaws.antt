@@ -1,0 +1,115 @@
+-- The laws of each form: each bit of each cell has one place, and each blob is whole bytes.
+use Rattle.std.proofs.Common.{◌≡◌, ℕ, ◌+◌, ◌%◌, ◌<◌, ◌≤◌, List, [], ◌∷◌, map, length, get_or, All, refl, sym, ap, ◌∙◌, subst, arith}
+use Rattle.std.proofs.lemmas.List.Elements.{All-cons, All-nil, All-map}
+use Rattle.places.specs.Layout.{Owner, cells_of, field, array, single_soa, aligned_soa}
+use Rattle.places.specs.Laws.{IsBitOf, IsLaidOut}
+use Rattle.places.specs.Holds.{widths_of, full_holds}
+use Rattle.places.specs.declared.piece.Cell.{Cell}
+use Rattle.places.specs.declared.piece.Hold.{Hold}
+use Rattle.places.proofs.Exact.{Has, has_same, has_range, has_field, length-field, Member}
+use Rattle.places.proofs.Compose.{LaysOut, lays_out_same, has_blob, blobs_of_cells, laid_out}
+use Rattle.places.proofs.CellWidths.{member_width}
+use Rattle.places.proofs.Cells.{apart_enumerate, member_at, bit_of_cells, cells_of_bit}
+use Rattle.places.proofs.Slots.{parts_bytes}
+use Rattle.places.proofs.Stacked.{stacked, flat_stacked, arrays_stacked, has_all_stacked, stacked_bytes, KeepsBytes}
+use Rattle.places.proofs.Widths.{IsWidth, by_width, widths_are, widths_narrow, widths_wide, widths_full, keeps_one, keeps_width}
+use Rattle.map_soa.specs.Soa.{soa_layout, alignment}
+use Rattle.map_soa.specs.declared.form.SoaForm.{SoaForm}
+use Rattle.map_soa.specs.declared.form.SoaForm.TheVariants.{Single, Aligned, Multi}
+
+-- all arrays behind one another, as they lie in the one blob of the forms that have one
+abbrev pub laid_arrays : SoaForm → ℕ → List (ℕ × ℕ) → List Owner
+laid_arrays form slots cells = stacked (alignment form) (array slots) [] cells
+
+pub single_blob : (slots : ℕ) (widths : List ℕ) → single_soa slots widths ≡ laid_arrays Single slots (cells_of widths) ∷ []
+single_blob slots widths = ap (λ (owners : List Owner). owners ∷ []) (sym (flat_stacked (array slots) [] (cells_of widths)))
+
+pub aligned_blob : (slots : ℕ) (widths : List ℕ) → aligned_soa slots widths ≡ laid_arrays Aligned slots (cells_of widths) ∷ []
+aligned_blob slots widths = ap (λ (owners : List Owner). owners ∷ []) (sym (arrays_stacked slots [] (cells_of widths)))
+
+-- the bits of one array
+abbrev BitOfArray : ℕ → ℕ × ℕ → ℕ → ℕ → ℕ → Type 0
+BitOfArray slots cell s c k = (s < slots) × (c ≡ cell.0) × (k < cell.1)
+
+has_array : (slots c w : ℕ) → Has (BitOfArray slots (c, w)) (array slots (c, w))
+has_array slots c w =
+    let Own : ℕ → ℕ → ℕ → ℕ → Type 0 = λ slot s c' k. (s ≡ slot) × (c' ≡ c) × (k < w) in
+    let all = has_range (λ slot. field slot (c, w)) Own 0 slots
+    (λ i low high. has_field i c w)
+    (λ i j s c' k (one : Own i s c' k) (two : Own j s c' k). sym one.0 ∙ two.0) in
+    has_same {Out = BitOfArray slots (c, w)} all
+    (λ s c' k (h : (i : ℕ) × (0 ≤ i) × (i < 0 + slots) × Own i s c' k).
+    let same : s ≡ h.0 = h.3.0 in
+    let high : h.0 < 0 + slots = h.2 in
+    ((let l : s < slots = omega arith in l), h.3.1, h.3.2))
+    (λ s c' k (h : BitOfArray slots (c, w) s c' k).
+    let inside : s < slots = h.0 in
+    (s, (let l : 0 ≤ s = omega arith in l), (let l : s < 0 + slots = omega arith in l), (refl, h.1, h.2)))
+
+array_bytes : (slots c w : ℕ) → IsWidth w → length (array slots (c, w)) % 8 ≡ 0
+array_bytes slots c w width =
+    parts_bytes (λ slot. field slot (c, w))
+    (λ s. ap (λ (n : ℕ). n % 8) (length-field s c w) ∙ by_width (λ w. w % 8 ≡ 0) w refl refl refl refl width) 0 slots
+
+keeps_alignment : (form : SoaForm) (w : ℕ) → IsWidth w → KeepsBytes (alignment form w)
+keeps_alignment Single w h = keeps_one
+keeps_alignment Aligned w h = keeps_width w h
+keeps_alignment Multi w h = keeps_one
+
+-- the bits of the cells' arrays are the bits of the slots' cells
+abbrev BitOfArrays : ℕ → List ℕ → ℕ → ℕ → ℕ → Type 0
+BitOfArrays slots widths s c k = (w : ℕ) × Member (cells_of widths) c w × BitOfArray slots (c, w) s c k
+
+bit_of_arrays : (slots : ℕ) (widths : List ℕ) (s c k : ℕ) → BitOfArrays slots widths s c k → IsBitOf slots widths s c k
+bit_of_arrays slots widths s c k h = bit_of_cells slots widths s c k h.2.0 (h.0, h.1, h.2.2)
+
+arrays_of_bit : (slots : ℕ) (widths : List ℕ) (s c k : ℕ) → IsBitOf slots widths s c k → BitOfArrays slots widths s c k
+arrays_of_bit slots widths s c k h =
+    let cell = cells_of_bit slots widths s c k h in
+    (cell.0, cell.1, (h.slot_in, refl, cell.2))
+
+-- each bit of each cell in each slot has one place
+arrays_lay_out : (form : SoaForm) (slots : ℕ) (widths : List ℕ) → LaysOut (IsBitOf slots widths) (laid_arrays form slots (cells_of widths) ∷ [])
+arrays_lay_out form slots widths =
+    lays_out_same
+    (has_blob (has_all_stacked (alignment form) (array slots) (BitOfArray slots) (cells_of widths) (apart_enumerate 0 widths)
+    (λ c w. has_array slots c w) (λ c w s c' k o. o.1)))
+    (bit_of_arrays slots widths) (arrays_of_bit slots widths)
+
+soa_lays_out : (form : SoaForm) (slots : ℕ) (widths : List ℕ) → LaysOut (IsBitOf slots widths) (soa_layout form slots widths)
+soa_lays_out Single slots widths = subst (LaysOut (IsBitOf slots widths)) (sym (single_blob slots widths)) (arrays_lay_out Single slots widths)
+soa_lays_out Aligned slots widths = subst (LaysOut (IsBitOf slots widths)) (sym (aligned_blob slots widths)) (arrays_lay_out Aligned slots widths)
+soa_lays_out Multi slots widths =
+    lays_out_same
+    (blobs_of_cells (array slots) (BitOfArray slots) (cells_of widths) (apart_enumerate 0 widths)
+    (λ c w. has_array slots c w) (λ c w s c' k o. o.1))
+    (bit_of_arrays slots widths) (arrays_of_bit slots widths)
+
+-- each blob is whole bytes
+abbrev HasWholeBytes : List Owner → Type 0
+HasWholeBytes blob = length blob % 8 ≡ 0
+
+arrays_bytes : (form : SoaForm) (slots : ℕ) (widths : List ℕ) → All IsWidth widths → All HasWholeBytes (laid_arrays form slots (cells_of widths) ∷ [])
+arrays_bytes form slots widths each =
+    All-cons HasWholeBytes (laid_arrays form slots (cells_of widths)) []
+    (stacked_bytes (alignment form) (array slots) [] (cells_of widths) refl
+    (λ c w m.
+    let width : IsWidth w = member_width widths c w each m in
+    (keeps_alignment form w width, array_bytes slots c w width)))
+    (All-nil HasWholeBytes)
+
+soa_bytes : (form : SoaForm) (slots : ℕ) (widths : List ℕ) → All IsWidth widths → All HasWholeBytes (soa_layout form slots widths)
+soa_bytes Single slots widths each = subst (All HasWholeBytes) (sym (single_blob slots widths)) (arrays_bytes Single slots widths each)
+soa_bytes Aligned slots widths each = subst (All HasWholeBytes) (sym (aligned_blob slots widths)) (arrays_bytes Aligned slots widths each)
+soa_bytes Multi slots widths each =
+    All-map HasWholeBytes (array slots) (cells_of widths)
+    (λ k d l.
+    let cell : ℕ × ℕ = get_or (cells_of widths) k d in
+    array_bytes slots cell.0 cell.1 (member_width widths cell.0 cell.1 each (member_at (cells_of widths) k d l)))
+
+pub soa_laws : (form : SoaForm) (slots : ℕ) (cells : List Cell) → IsLaidOut (soa_layout form slots (widths_of cells)) slots (map (λ (h : Hold). h.width) (full_holds cells))
+soa_laws form slots cells =
+    let widths : List ℕ = widths_of cells in
+    let laid : IsLaidOut (soa_layout form slots widths) slots widths =
+    laid_out (soa_lays_out form slots widths) (soa_bytes form slots widths (widths_are cells)) (widths_narrow cells) (widths_wide cells) in
+    subst (IsLaidOut (soa_layout form slots widths) slots) (sym (widths_full cells)) laid

@@ -1,0 +1,12 @@
+// Structs of arrays: the arrays of the cells in one blob, packed or aligned, or each in a blob of its own.
+#![tactic(auto)]
+
+mod arrays;
+mod form;
+mod soa;
+
+pub use form::SoaForm;
+pub use soa::Soa;
+
+#[cfg(test)]
+mod tests;
