@@ -1,0 +1,2 @@
+pub mod Aosoa
+pub mod AosoaLaws

@@ -1,0 +1,145 @@
+ghost use Rattle.std.specs.Prelude.{ℕ, ◌≡◌, ◌*◌, ◌^◌, ◌<◌, ◌≤◌, ◌⊎◌, ◌↔◌, IfOk, IfErr, OnOk, IsErrOf, List, [], ◌∷◌, length, map, slice_index};
+ghost use Rattle.places.specs.Holds.{widths_of, full_holds, IsTooBig};
+ghost use Rattle.places.specs.declared.piece.Cell.{Cell};
+ghost use Rattle.places.specs.declared.piece.Hold.{Hold};
+ghost use Rattle.places.specs.Layout.{Owner, aosoa};
+ghost use Rattle.places.specs.Laws.{IsLocated};
+ghost use Rattle.map_aosoa.specs.Aosoa.{IsStored, block_count};
+ghost use Rattle.map_aosoa.specs.AosoaLaws.{aosoa_laws};
+ghost use Rattle.places.proofs.CellWidths.{length-full};
+
+use crate::block::{count_blocks, lay_out};
+use places::{Cell, CellList, Hold, MAX_BLOB_BITS, MAX_SLOTS, Mapping, NewMapping, Piece, Pieces};
+use record_dim::LeafType;
+use std::alloc::Global;
+
+/// The most lanes of a block.
+const MAX_LANES: u32 = 64;
+
+/// An array of structs of arrays: one blob of whole blocks. A block has `lanes` slots, cell after cell, and in a cell lane after lane.
+#[derive(Debug, Drop)]
+pub struct Aosoa {
+    lanes: u32,
+    slots: u64,
+    cells: Vec<Cell>,
+    /// Where the lanes of each cell begin, in bits from the block's beginning on. Empty where there is no slot.
+    offsets: Vec<u64>,
+    /// The bits of one block.
+    stride: u64,
+    ghost some: { 0 < lanes },
+    ghost stored: { 0 < slots → IsStored lanes (widths_of cells.items) offsets.items stride },
+    ghost bound: { block_count lanes slots * stride ≤ 2 ^ 31 },
+}
+
+impl Aosoa {
+    /// The mapping of `slots` slots of these cells, in blocks of `lanes`. `Lanes` comes exactly where these are not 1 to 64,
+    /// and else `TooBig` where there are more than 2^24 slots, or more than 2^28 bytes with the lanes that no slot has.
+    pub fn new(alloc: Global, cells: &CellList, slots: u64, lanes: u32) -> Result<Aosoa, NewMapping>
+        ensures slots { IfOk result (λ m. ⟦<Aosoa as Mapping>⟧.slot_count m ≡ slots) }
+        ensures cells { IfOk result (λ m. ⟦<Aosoa as Mapping>⟧.cell_list m ≡ cells.now) }
+        ensures holds { IfOk result (λ m. ⟦<Aosoa as Mapping>⟧.hold_list m ≡ full_holds cells.now) }
+        ensures layout { IfOk result (λ m. ⟦<Aosoa as Mapping>⟧.layout m ≡ aosoa lanes slots (widths_of cells.now)) }
+        ensures lanes { IsErrOf result NewMapping.Lanes ↔ ((lanes ≡ 0) ⊎ (64 < lanes)) }
+
+        // Only want of memory comes before the limits.
+        ensures fits { OnOk result (IsTooBig slots (aosoa lanes slots (widths_of cells.now)) → ⊥) }
+        ensures too_big { IsErrOf result NewMapping.TooBig → IsTooBig slots (aosoa lanes slots (widths_of cells.now)) }
+        ensures only { IfErr result (λ e. (e ≡ NewMapping.Lanes) ⊎ ((e ≡ NewMapping.TooBig) ⊎ (e ≡ NewMapping.NoMemory))) }
+    {
+        if !(1..=MAX_LANES).contains(&lanes) {
+            return Err(NewMapping::Lanes);
+        }
+        if slots > MAX_SLOTS {
+            return Err(NewMapping::TooBig);
+        }
+        let kept = Vec::from_slice(alloc, cells.as_slice())?;
+        if slots == 0 {
+            return Ok(Aosoa {
+                lanes,
+                slots,
+                cells: kept,
+                offsets: Vec::new(alloc),
+                stride: 0,
+            });
+        }
+        let block = lay_out(alloc, &kept, lanes)?;
+        let bits = count_blocks(slots, lanes) * block.size;
+        if bits > MAX_BLOB_BITS {
+            return Err(NewMapping::TooBig);
+        }
+        Ok(Aosoa {
+            lanes,
+            slots,
+            cells: kept,
+            offsets: block.offsets,
+            stride: block.size,
+        })
+    }
+
+    /// The one piece of a cell in a slot, by the stored stride and offset.
+    #[inline]
+    pub fn piece(&self, slot: u64, cell: usize) -> Piece
+        requires slot_in { slot < ⟦<Aosoa as Mapping>⟧.slot_count self.now }
+        requires cell_in { cell < length (⟦<Aosoa as Mapping>⟧.cell_list self.now) }
+        ensures { IsLocated (⟦<Aosoa as Mapping>⟧.layout self.now) slot cell (slice_index (map (λ h. h.width) (⟦<Aosoa as Mapping>⟧.hold_list self.now)) cell) (result ∷ []) }
+    {
+        let lanes = u64::from(self.lanes);
+        let width = self.cells[cell].kind.width();
+        let block = slot / lanes * self.stride;
+        let lane = slot % lanes * u64::from(width);
+        Piece {
+            blob: 0,
+            bit: block + self.offsets[cell] + lane,
+            bits: width,
+        }
+    }
+}
+
+impl Mapping for Aosoa {
+    ghost layout = { λ m. aosoa m.lanes m.slots (widths_of m.cells.items) };
+
+    ghost slot_count = { λ m. m.slots };
+
+    ghost cell_list = { λ m. m.cells.items };
+
+    ghost hold_list = { λ m. full_holds m.cells.items };
+
+    fn slots(&self) -> u64 {
+        self.slots
+    }
+
+    fn cells(&self) -> usize {
+        self.cells.len()
+    }
+
+    fn kind(&self, cell: usize) -> LeafType {
+        self.cells[cell].kind
+    }
+
+    fn hold(&self, cell: usize) -> Hold {
+        let kind = self.cells[cell].kind;
+        Hold {
+            signed: kind.signed(),
+            width: kind.width(),
+        }
+    }
+
+    fn blob_count(&self) -> usize {
+        1
+    }
+
+    /// Whole blocks, with the lanes that no slot has.
+    fn blob_bytes(&self, _blob: usize) -> u64 {
+        count_blocks(self.slots, self.lanes) * self.stride / 8
+    }
+
+    fn locate(&self, slot: u64, cell: usize) -> Pieces {
+        let mut pieces = Pieces::new();
+        pieces.push(self.piece(slot, cell));
+        pieces
+    }
+
+    ghost laws = { λ m. aosoa_laws m.lanes m.slots m.cells.items m.some };
+
+    ghost holds_cells = { λ m. length-full m.cells.items };
+}

@@ -1,0 +1,10 @@
+// Arrays of structs of arrays: block after block, and in a block the lanes of each cell behind one another.
+#![tactic(auto)]
+
+mod aosoa;
+mod block;
+
+pub use aosoa::Aosoa;
+
+#[cfg(test)]
+mod tests;
