@@ -1,0 +1,78 @@
+ghost use Rattle.std.specs.Prelude.{◌≡◌, IfOk};
+ghost use Rattle.map_expr.specs.Terms.{term_of};
+
+use crate::MapExpr;
+use record_dim::{Path, PathStep};
+use std::alloc::{AllocError as NoMemory, Global};
+
+impl MapExpr {
+    /// An equal expression. It takes stack for each level of the expression.
+    pub fn copy(&self, alloc: Global) -> Result<MapExpr, NoMemory>
+        ensures { IfOk result (λ copy. term_of copy ≡ term_of self.now) }
+    {
+        match self {
+            MapExpr::Aos { form, order } => Ok(MapExpr::Aos {
+                form: *form,
+                order: *order,
+            }),
+            MapExpr::Soa { form, order } => Ok(MapExpr::Soa {
+                form: *form,
+                order: *order,
+            }),
+            MapExpr::Aosoa { lanes, order } => Ok(MapExpr::Aosoa {
+                lanes: *lanes,
+                order: *order,
+            }),
+            MapExpr::BitAos { width, order } => Ok(MapExpr::BitAos {
+                width: *width,
+                order: *order,
+            }),
+            MapExpr::BitSoa { width, order } => Ok(MapExpr::BitSoa {
+                width: *width,
+                order: *order,
+            }),
+            MapExpr::Split { path, first, rest } => {
+                let path = copy_path(alloc, path)?;
+                let first = Box::new(alloc, first.copy(alloc)?)?;
+                let rest = Box::new(alloc, rest.copy(alloc)?)?;
+                Ok(MapExpr::Split { path, first, rest })
+            }
+            MapExpr::Byteswap(inner) => {
+                Ok(MapExpr::Byteswap(Box::new(alloc, inner.copy(alloc)?)?))
+            }
+            MapExpr::Bytesplit(inner) => {
+                Ok(MapExpr::Bytesplit(Box::new(alloc, inner.copy(alloc)?)?))
+            }
+            MapExpr::Change { from, to, inner } => {
+                let inner = Box::new(alloc, inner.copy(alloc)?)?;
+                Ok(MapExpr::Change {
+                    from: *from,
+                    to: *to,
+                    inner,
+                })
+            }
+            MapExpr::Count(inner) => Ok(MapExpr::Count(Box::new(alloc, inner.copy(alloc)?)?)),
+            MapExpr::Heat { granule, inner } => {
+                let inner = Box::new(alloc, inner.copy(alloc)?)?;
+                Ok(MapExpr::Heat {
+                    granule: *granule,
+                    inner,
+                })
+            }
+            MapExpr::Named(name) => Ok(MapExpr::Named(*name)),
+        }
+    }
+}
+
+fn copy_path(alloc: Global, path: &Path) -> Result<Path, NoMemory>
+    ensures { IfOk result (λ copy. copy ≡ path.now) }
+{
+    let [PathStep::Name(first), rest @ ..] = path.as_slice() else {
+        unreachable!()
+    };
+    let mut copy = Path::new(alloc, *first)?;
+    for step in rest {
+        copy.push(*step)?;
+    }
+    Ok(copy)
+}

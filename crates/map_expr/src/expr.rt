@@ -1,0 +1,59 @@
+use linearize::Order;
+use map_aos::AosForm;
+use map_soa::SoaForm;
+use record_dim::{LeafType, Name, Path};
+
+/// How the cells of an array's records are to lie in blobs.
+#[derive(Debug, Drop)]
+pub enum MapExpr {
+    /// Slot after slot.
+    Aos {
+        form: AosForm,
+        order: Order,
+    },
+    /// Cell after cell.
+    Soa {
+        form: SoaForm,
+        order: Order,
+    },
+    /// Blocks of `lanes` slots, 1 to 64; in a block cell after cell.
+    Aosoa {
+        lanes: u32,
+        order: Order,
+    },
+    /// Slot after slot, each cell in at most `width` bits, 1 to 64.
+    BitAos {
+        width: u32,
+        order: Order,
+    },
+    /// A blob for each cell, each cell in at most `width` bits, 1 to 64.
+    BitSoa {
+        width: u32,
+        order: Order,
+    },
+    /// The cells whose leaf is under `path` as `first` says, the others as `rest` says.
+    Split {
+        path: Path,
+        first: Box<MapExpr>,
+        rest: Box<MapExpr>,
+    },
+    /// Each cell with its bytes in reverse order.
+    Byteswap(Box<MapExpr>),
+    /// Each cell as one `u8` cell for each of its bytes, least significant first.
+    Bytesplit(Box<MapExpr>),
+    /// Each cell of type `from` as a cell of type `to`.
+    Change {
+        from: LeafType,
+        to: LeafType,
+        inner: Box<MapExpr>,
+    },
+    /// As `inner`, with a count of accesses for each leaf.
+    Count(Box<MapExpr>),
+    /// As `inner`, with a count of accesses for each granule of `granule` bytes, a power of two from 1 to 4,096.
+    Heat {
+        granule: u32,
+        inner: Box<MapExpr>,
+    },
+    /// The expression that this name was given.
+    Named(Name),
+}

@@ -1,0 +1,12 @@
+//! Mapping expressions: how the records of an array are to lie in memory, as a script writes it.
+#![tactic(auto)]
+
+mod check;
+mod copies;
+mod expr;
+
+pub use check::BadMapping;
+pub use expr::MapExpr;
+
+#[cfg(test)]
+mod tests;
