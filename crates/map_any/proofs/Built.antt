@@ -1,0 +1,33 @@
+-- What being built, and being accepted, say of an expression.
+use Rattle.std.proofs.Common.{◌≡◌, Bool, true, false, Option, None, Some, Ok, Err, refl}
+use Rattle.std.specs.Prelude.{if◌then◌else◌, not, nat_lt}
+use Rattle.map_expr.specs.declared.check.BadMapping.{BadMapping}
+use Rattle.map_expr.specs.declared.check.BadMapping.TheVariants.{TooDeep, Counter}
+use Rattle.map_expr.specs.Terms.{Term, Aos, Soa, Aosoa, BitAos, BitSoa, Split, Byteswap, Bytesplit, Change, Count, Heat, Named, depth_of}
+use Rattle.map_expr.specs.Checks.{IsNameless, checked, answered, bad_number, counts_once}
+use Rattle.map_any.specs.Mappings.{IsBuiltTerm}
+
+-- no name stands in it
+pub built_nameless : (term : Term) → IsBuiltTerm term → IsNameless term
+built_nameless (Aos form order) h = tt
+built_nameless (Soa form order) h = tt
+built_nameless (Aosoa lanes order) h = tt
+built_nameless (BitAos width order) h = tt
+built_nameless (BitSoa width order) h = tt
+built_nameless (Split path first rest) h = absurd h
+built_nameless (Byteswap inner) h = absurd h
+built_nameless (Bytesplit inner) h = absurd h
+built_nameless (Change from to inner) h = absurd h
+built_nameless (Count inner) h = absurd h
+built_nameless (Heat granule inner) h = absurd h
+built_nameless (Named name) h = absurd h
+
+answered_none : (deep twice : Bool) (bad : Option BadMapping) → (if deep then Err TooDeep else (if twice then Err Counter else answered bad)) ≡ Ok tt → bad ≡ None
+answered_none true twice bad e = cc
+answered_none false true bad e = cc
+answered_none false false None e = refl
+answered_none false false (Some bad) e = cc
+
+-- its numbers are in their ranges
+pub accepted_numbers : (term : Term) → checked term ≡ Ok tt → bad_number term ≡ None
+accepted_numbers term e = answered_none (nat_lt 8 (depth_of term)) (not (counts_once true true term)) (bad_number term) e

@@ -1,0 +1,4 @@
+pub mod LeafCells
+pub mod Faults
+pub mod Limits
+pub mod Built
