@@ -1,2 +1,4 @@
 pub mod Words
 pub mod Bytes
+pub mod Tails
+pub mod Fields

@@ -3,7 +3,7 @@ ghost use Rattle.std.specs.Int.{bit_at};
 ghost use Rattle.places.specs.Image.{number};
 ghost use Rattle.blobs.specs.Bits.{bit_of};
 
-use crate::word::{bits_in_word, with_bits};
+use crate::word::{bits_in_word, read_word, with_bits, write_word};
 use std::alloc::{AllocError as NoMemory, Global};
 use std::marker::Model;
 
@@ -61,6 +61,11 @@ impl Blob {
         requires within { at + n ≤ 8 * length self.now }
         ensures { result ≡ number (λ k. bit_of self.now (at + k)) n }
     {
+        let first = (at / 8) as usize;
+        let low = (at % 8) as u32;
+        if low + n <= 64 && self.bytes.len() - first >= 8 {
+            return bits_in_word(read_word(&self.bytes, first), low, n);
+        }
         self.bits_by_bytes(at, n)
     }
 
@@ -75,6 +80,13 @@ impl Blob {
         ensures after { (k : ℕ) → at + n ≤ k → bit_of self.new k ≡ bit_of self.old k }
         ensures len { length self.new ≡ length self.old }
     {
+        let first = (at / 8) as usize;
+        let low = (at % 8) as u32;
+        if low + n <= 64 && self.bytes.len() - first >= 8 {
+            let word = with_bits(read_word(&self.bytes, first), low, n, value);
+            write_word(&mut self.bytes, first, word);
+            return;
+        }
         self.put_bits_by_bytes(at, n, value);
     }
 
