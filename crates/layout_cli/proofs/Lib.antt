@@ -8,3 +8,4 @@ pub mod Stored
 pub mod Loaded
 pub mod Reading
 pub mod Headers
+pub mod Resolved

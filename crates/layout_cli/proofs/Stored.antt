@@ -11,7 +11,7 @@ use Rattle.record_dim.specs.LeafTypes.{least_of, greatest_of}
 use Rattle.places.specs.Holds.{hold_of}
 use Rattle.piece_bits.specs.Tables.{hold_at}
 use Rattle.views.specs.Stores.{is_between, store_answer}
-use Rattle.views.specs.Seen.{Seen, leaf_count_of, leaf_type_of, answer_of}
+use Rattle.views.specs.Seen.{Seen, leaf_count_of, leaf_type_of, seen_holds, answer_of}
 use Rattle.layout_cli.specs.FirstDataset.{field_value, field_number, HoldsOwn}
 
 -- a truth lies in a byte
@@ -48,5 +48,5 @@ value_declared kind field value reads = of_number (field_number field) reads whe
 pub value_stored : (seen : Seen) (leaf : ℕ) (field : List ℕ) (value : ℤ) → leaf < leaf_count_of seen → HoldsOwn seen → field_value (leaf_type_of seen leaf) field ≡ Some value → answer_of seen leaf value ≡ Ok tt
 value_stored seen leaf field value small own reads =
     let within : leaf < length (kinds_of (schema_fields seen.schema)) = omega (arith, length-map (leaves (schema_fields seen.schema)) (λ l. l.kind)) in
-    let hold : hold_at seen.holds leaf ≡ hold_of (leaf_type_of seen leaf) = ap (λ holds. hold_at holds leaf) own ∙ get_or-map hold_of (kinds_of (schema_fields seen.schema)) leaf Truth _ within in
+    let hold : hold_at (seen_holds seen) leaf ≡ hold_of (leaf_type_of seen leaf) = ap (λ holds. hold_at holds leaf) own ∙ get_or-map hold_of (kinds_of (schema_fields seen.schema)) leaf Truth _ within in
     ap (λ h. store_answer (leaf_type_of seen leaf) h value) hold ∙ stored (leaf_type_of seen leaf) value (value_declared (leaf_type_of seen leaf) field value reads)

@@ -5,11 +5,9 @@ use Rattle.std.specs.Char.{is_ascii_digit}
 use Rattle.std.specs.Str.Parse.{digits_value}
 use Rattle.record_dim.specs.LeafTypes.{least_of, greatest_of}
 use Rattle.record_dim.specs.declared.leaf_type.LeafType.{LeafType}
-use Rattle.record_dim.specs.Schemas.{schema_fields}
-use Rattle.record_dim.specs.Leaves.{kinds_of}
 use Rattle.layout_io.specs.Decimal.{decimal_text}
 use Rattle.places.specs.Holds.{hold_of}
-use Rattle.views.specs.Seen.{Seen}
+use Rattle.views.specs.Seen.{Seen, leaf_types_of, seen_holds}
 use Rattle.layout_cli.specs.FirstScript.{◌>>=◌, is_line_end, FieldText}
 
 abbrev pub is_comma : ℕ → Bool
@@ -75,4 +73,4 @@ print_text names table = comma_line names ++ flat_map (λ row. comma_line (map d
 
 -- each leaf of the view is stored as its type says
 abbrev pub HoldsOwn : Seen → Type 0
-HoldsOwn seen = seen.holds ≡ map hold_of (kinds_of (schema_fields seen.schema))
+HoldsOwn seen = seen_holds seen ≡ map hold_of (leaf_types_of seen)

@@ -4,13 +4,17 @@ ghost use Rattle.std.specs.List.{list_all, slice_split};
 ghost use Rattle.std.specs.Str.Parse.{digits_value};
 ghost use Rattle.std.specs.Char.{is_ascii_digit};
 ghost use Rattle.record_dim.specs.Schemas.{schema_fields};
-ghost use Rattle.record_dim.specs.Leaves.{kinds_of, texts_of};
-ghost use Rattle.piece_bits.specs.Tables.{with_entry};
+ghost use Rattle.record_dim.specs.Leaves.{leaves, kinds_of, texts_of};
+ghost use Rattle.piece_bits.specs.Tables.{with_entry, zeros};
 ghost use Rattle.views.specs.Seen.{leaf_count_of, leaf_type_of};
 ghost use Rattle.layout_cli.specs.FirstScript.{FieldText, flat_fields, is_line_end};
 ghost use Rattle.layout_cli.specs.FirstDataset.{digits_number, field_number, field_value, is_comma, with_comma, comma_joined, row_values, rows_of, table_in, HoldsOwn};
 
 use crate::parts::cut;
+use extents::{ExtentWord, Shape};
+use linearize::Order;
+use map_any::MapExpr;
+use map_aos::AosForm;
 use record_dim::{LeafType, Schema};
 use std::alloc::{AllocError as NoMemory, Global};
 use std::sync::ledger::Ledger;
@@ -98,11 +102,34 @@ pub fn load_dataset<L: Ledger>(
     if header != names.as_slice() {
         return Ok(None);
     }
-    let mut view = View::packed(alloc, schema, count_lines(body))?;
+    let mut view = zero_view(alloc, schema, count_lines(body))?;
     if load_rows(body, &mut view, steps) {
         Ok(Some(view))
     } else {
         Ok(None)
+    }
+}
+
+// A view of so many rows of zeros, packed record after record. A dataset within the limits has no more rows than a view may have, nor
+// blobs over a view's bytes, but where most of its lines are empty: that is no dataset, and the answer is `NoMemory` too.
+fn zero_view(alloc: Global, schema: &Schema, rows: u64) -> Result<View, NoMemory>
+    ensures schema { IfOk result (λ v. schema_fields v.schema ≡ schema_fields schema.now) }
+    ensures holds { IfOk result (λ v. HoldsOwn v) }
+    ensures table { IfOk result (λ v. v.table ≡ zeros rows (length (leaves (schema_fields schema.now)))) }
+{
+    let Ok(shape) = Shape::new(&[ExtentWord::Rows]) else {
+        return Err(NoMemory);
+    };
+    let Ok(extents) = shape.resolve(Some(rows)) else {
+        return Err(NoMemory);
+    };
+    let expr = MapExpr::Aos {
+        form: AosForm::Packed,
+        order: Order::Row,
+    };
+    match View::new(alloc, schema, extents, &expr) {
+        Ok(view) => Ok(view),
+        Err(_) => Err(NoMemory),
     }
 }
 

@@ -50,7 +50,7 @@ fn put_rows<K: Sink, L: Ledger>(
     ensures { Puts K.taken K.faults sink.old sink.new buffer.old buffer.new result
         (flat_map (λ row. comma_line (map decimal_text row)) view.old.table) }
 {
-    for row in 0..view.rows() {
+    for row in 0..view.extents().count() {
         put_row(view, row, buffer, sink, steps)?;
     }
     Ok(())

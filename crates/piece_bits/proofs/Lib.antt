@@ -5,3 +5,4 @@ pub mod TableLaws
 pub mod Entries
 pub mod Values
 pub mod Cells
+pub mod OnePiece

@@ -5,6 +5,6 @@ mod entry;
 mod pieces;
 mod value;
 
-pub use entry::{read_entry, write_entry};
+pub use entry::{read_entry, read_piece, write_entry, write_piece};
 pub use pieces::{read_pieces, write_pieces};
 pub use value::{decode, encode, greatest_held, least_held};

@@ -1,73 +1,96 @@
 -- What follows from what a view keeps, over plain layouts, holds and bits.
-use Rattle.std.proofs.Common.{◌≡◌, ℕ, ◌-◌, ◌<◌, ◌≤◌, Bool, true, false, ℤ, pos, List, [], length, get_or, map, refl, sym, ap, ◌∙◌, subst, ⊎_elim, arith}
+use Rattle.std.proofs.Common.{◌≡◌, ℕ, suc, ◌*◌, ◌^◌, ◌∷◌, inr, ◌-◌, ◌<◌, ◌≤◌, Bool, true, false, ℤ, pos, List, [], length, get_or, map, refl, sym, ap, ◌∙◌, subst, ⊎_elim, arith}
+use Rattle.std.specs.List.{sum_by}
 use Rattle.std.proofs.lemmas.List.{length-map}
+use Rattle.std.proofs.lemmas.List.Sums.{sum_by-cons}
 use Rattle.std.proofs.lemmas.Option.{slice_get-get_or}
 use Rattle.std.proofs.lemmas.Nat.{pow_pos}
 use Rattle.std.proofs.lemmas.Int.{ints}
-use Rattle.std.proofs.lemmas.Bool.{cases_eq, cases_Bool}
+use Rattle.std.proofs.lemmas.Bool.{cases_lt, cases_eq, cases_Bool}
 use Rattle.record_dim.specs.declared.leaf_type.LeafType.{LeafType}
 use Rattle.record_dim.specs.declared.leaf_type.LeafType.TheVariants.{Bool as Truth, U8, U16, U32, U64, I8, I16, I32, I64}
 use Rattle.record_dim.specs.LeafTypes.{IsIn, IsDeclared}
 use Rattle.record_dim.specs.Trees.{Fields}
 use Rattle.record_dim.specs.Leaves.{Leaf, leaves, kinds_of}
-use Rattle.places.specs.declared.piece.Cell.{Cell}
 use Rattle.places.specs.declared.piece.Hold.{Hold}
 use Rattle.places.specs.Layout.{Owner}
 use Rattle.places.specs.Image.{entry, image}
 use Rattle.places.specs.Laws.{IsLaidOut}
+use Rattle.extents.specs.Indices.{indices}
+use Rattle.map_expr.specs.Terms.{Term}
+use Rattle.map_any.specs.Mappings.{layout_of, holds_of, IsTooBigFor}
 use Rattle.blobs.specs.Bits.{bits_of, bit_in}
-use Rattle.piece_bits.specs.Tables.{AreLaid, HasShape, table_in, hold_at, with_entry, zeros}
+use Rattle.piece_bits.specs.Tables.{AreLaid, HasShape, hold_at, with_entry, zeros}
 use Rattle.piece_bits.proofs.TableLaws.{table_shape, with_entry_same, with_entry_other, zeros_entry}
 use Rattle.piece_bits.proofs.Entries.{image_from_padding, blob_is, zeros_read}
 use Rattle.piece_bits.proofs.Cells.{bit_in_lt, hold_widths}
 use Rattle.views.specs.Stores.{kind_at, Fits, AllFit}
-use Rattle.views.specs.Kept.{IsKept}
+use Rattle.views.specs.Kept.{IsKept, table_under}
 
 -- as many types as leaves
 pub kind_count : (fields : Fields) → length (kinds_of fields) ≡ length (leaves fields)
 kind_count fields = length-map (leaves fields) (λ (leaf : Leaf). leaf.kind)
 
-module _ (layout : List (List Owner)) (slots : ℕ) (cells : List Cell) (holds : List Hold) (kinds : List LeafType) (blobs : List (List ℕ))
-    (kept : IsKept layout slots cells holds kinds blobs) (paired : length holds ≡ length cells) where
-  pub cell_count : length cells ≡ length kinds
-  cell_count = sym (length-map cells (λ (cell : Cell). cell.kind)) ∙ ap (length {A = LeafType}) kept.cells_are
+-- blobs of a layout's lengths have as many bytes as it has bits, by 8
+sum_lengths : (layout : List (List Owner)) (blobs : List (List ℕ)) → length blobs ≡ length layout →
+    ((b : ℕ) → b < length layout → 8 * length (get_or blobs b []) ≡ length (get_or layout b [])) →
+    8 * sum_by (length {A = ℕ}) blobs ≡ sum_by (length {A = Owner}) layout
+sum_lengths [] [] count each = omega arith
+sum_lengths [] (blob ∷ blobs) count each = absurd (omega arith)
+sum_lengths (owners ∷ layout) [] count each = absurd (omega arith)
+sum_lengths (owners ∷ layout) (blob ∷ blobs) count each =
+    let first : 8 * length blob ≡ length owners = each 0 (omega arith) in
+    let rest : 8 * sum_by (length {A = ℕ}) blobs ≡ sum_by (length {A = Owner}) layout = sum_lengths layout blobs (omega arith) (λ b l. each (suc b) (omega arith)) in
+    omega (arith, sum_by-cons (length {A = ℕ}) blob blobs, sum_by-cons (length {A = Owner}) owners layout)
 
-  pub hold_count : length holds ≡ length kinds
-  hold_count = paired ∙ cell_count
+module _ (term : Term) (extents : List ℕ) (kinds : List LeafType) (blobs : List (List ℕ)) (kept : IsKept term extents kinds blobs) where
+  -- the table has a row for each index and in it a number for each leaf
+  pub row_count : length (table_under term extents kinds blobs) ≡ length (indices extents)
+  row_count = (table_shape (layout_of term extents kinds) (length (indices extents)) (holds_of term kinds) (bit_in blobs)).row_count
 
-  -- the table has a row for each slot and in it a number for each leaf
-  pub row_count : length (table_in layout slots holds blobs) ≡ slots
-  row_count = (table_shape layout slots holds (bit_in blobs)).row_count
-
-  pub kept_shape : (leaves : ℕ) → length kinds ≡ leaves → HasShape (length (table_in layout slots holds blobs)) leaves (table_in layout slots holds blobs)
+  pub kept_shape : (leaves : ℕ) → length kinds ≡ leaves → HasShape (length (table_under term extents kinds blobs)) leaves (table_under term extents kinds blobs)
   kept_shape leaves same =
-      let shape = table_shape layout slots holds (bit_in blobs) in
+      let shape = table_shape (layout_of term extents kinds) (length (indices extents)) (holds_of term kinds) (bit_in blobs) in
       record {
         row_count = refl;
-        leaf_count = λ row l. shape.leaf_count row (omega (arith, row_count)) ∙ hold_count ∙ same;
+        leaf_count = λ row l. shape.leaf_count row (omega (arith, row_count)) ∙ kept.paired ∙ same;
       }
 
-  pub kept_fits : AllFit (length (table_in layout slots holds blobs)) kinds holds (table_in layout slots holds blobs)
+  pub kept_fits : AllFit (length (table_under term extents kinds blobs)) kinds (holds_of term kinds) (table_under term extents kinds blobs)
   kept_fits = λ row leaf l m. kept.fit row leaf (omega (arith, row_count)) m
 
+  -- the bytes of all blobs
+  pub byte_count : 8 * sum_by (length {A = ℕ}) blobs ≡ sum_by (length {A = Owner}) (layout_of term extents kinds)
+  byte_count = sum_lengths (layout_of term extents kinds) blobs kept.laid.count kept.laid.lengths
+
+  pub few_bytes : sum_by (length {A = ℕ}) blobs ≤ 2 ^ 28
+  few_bytes =
+      ⊎_elim (λ (many : 8 * 2 ^ 28 < sum_by (length {A = Owner}) (layout_of term extents kinds)). absurd (kept.within (inr many)))
+      (λ (few : sum_by (length {A = Owner}) (layout_of term extents kinds) ≤ 8 * 2 ^ 28). omega (arith, byte_count))
+      (cases_lt (8 * 2 ^ 28) (sum_by (length {A = Owner}) (layout_of term extents kinds)))
+
   -- a blob has the bits of the image
-  pub kept_blob : IsLaidOut layout slots (map (λ (h : Hold). h.width) holds) → (b : ℕ) → b < length layout →
-      bits_of (get_or blobs b []) ≡ get_or (image layout (table_in layout slots holds blobs)) b []
-  kept_blob laid b l =
-      blob_is layout (table_in layout slots holds blobs) blobs b l (kept.laid.lengths b l)
-      (image_from_padding layout slots holds laid (bit_in blobs) (bit_in_lt blobs) kept.laid.padding)
+  pub kept_blob : (b : ℕ) → b < length (layout_of term extents kinds) →
+      bits_of (get_or blobs b []) ≡ get_or (image (layout_of term extents kinds) (table_under term extents kinds blobs)) b []
+  kept_blob b l =
+      blob_is (layout_of term extents kinds) (table_under term extents kinds blobs) blobs b l (kept.laid.lengths b l)
+      (image_from_padding (layout_of term extents kinds) (length (indices extents)) (holds_of term kinds) kept.lawful (bit_in blobs) (bit_in_lt blobs) kept.laid.padding)
 
   -- one fitting value is written
-  pub kept_set : (new : List (List ℕ)) (row leaf : ℕ) (value : ℤ) → row < slots → leaf < length kinds → AreLaid layout new →
-      table_in layout slots holds new ≡ with_entry (table_in layout slots holds blobs) row leaf value → Fits (kind_at kinds leaf) (hold_at holds leaf) value →
-      IsKept layout slots cells holds kinds new
+  pub kept_set : (new : List (List ℕ)) (row leaf : ℕ) (value : ℤ) → row < length (indices extents) → leaf < length kinds → AreLaid (layout_of term extents kinds) new →
+      table_under term extents kinds new ≡ with_entry (table_under term extents kinds blobs) row leaf value →
+      Fits (kind_at kinds leaf) (hold_at (holds_of term kinds) leaf) value → IsKept term extents kinds new
   kept_set new row leaf value row_in leaf_in laid is fits =
-      let old = table_in layout slots holds blobs in
-      let shape = table_shape layout slots holds (bit_in blobs) in
-      let in_holds : leaf < length holds = omega (arith, hold_count) in
+      let holds = holds_of term kinds in
+      let slots = length (indices extents) in
+      let old = table_under term extents kinds blobs in
+      let shape = table_shape (layout_of term extents kinds) slots holds (bit_in blobs) in
+      let in_holds : leaf < length holds = omega (arith, kept.paired) in
       record {
+        lawful = kept.lawful;
+        paired = kept.paired;
+        within = kept.within;
         laid = laid;
-        cells_are = kept.cells_are;
         fit = λ r c l m.
             subst (λ (t : List (List ℤ)). Fits (kind_at kinds c) (hold_at holds c) (entry t r c)) (sym is)
             (⊎_elim (λ (same_row : r ≡ row).
@@ -106,24 +129,28 @@ zero_declared I32 = (omega (arith, ints), omega (arith, ints))
 zero_declared I64 = (omega (arith, ints), omega (arith, ints))
 
 -- blobs of zeros are kept, and hold zeros
-module _ (layout : List (List Owner)) (slots : ℕ) (cells : List Cell) (holds : List Hold) (kinds : List LeafType) (blobs : List (List ℕ))
-    (lawful : IsLaidOut layout slots (map (λ (h : Hold). h.width) holds)) (paired : length holds ≡ length cells)
-    (cells_are : map (λ (cell : Cell). cell.kind) cells ≡ kinds) (laid : AreLaid layout blobs) (none : (b p : ℕ) → bit_in blobs b p ≡ 0) where
-  pub zero_table : table_in layout slots holds blobs ≡ zeros slots (length holds)
-  zero_table = zeros_read layout slots holds (bit_in blobs) none
+module _ (term : Term) (extents : List ℕ) (kinds : List LeafType) (blobs : List (List ℕ))
+    (lawful : IsLaidOut (layout_of term extents kinds) (length (indices extents)) (map (λ (h : Hold). h.width) (holds_of term kinds)))
+    (paired : length (holds_of term kinds) ≡ length kinds) (within : IsTooBigFor term extents kinds → ⊥)
+    (laid : AreLaid (layout_of term extents kinds) blobs) (none : (b p : ℕ) → bit_in blobs b p ≡ 0) where
+  pub zero_table : table_under term extents kinds blobs ≡ zeros (length (indices extents)) (length (holds_of term kinds))
+  zero_table = zeros_read (layout_of term extents kinds) (length (indices extents)) (holds_of term kinds) (bit_in blobs) none
 
-  pub kept_zeros : IsKept layout slots cells holds kinds blobs
+  pub kept_zeros : IsKept term extents kinds blobs
   kept_zeros =
-      let count : length holds ≡ length kinds = paired ∙ sym (length-map cells (λ (cell : Cell). cell.kind)) ∙ ap (length {A = LeafType}) cells_are in
+      let holds = holds_of term kinds in
       record {
+        lawful = lawful;
+        paired = paired;
+        within = within;
         laid = laid;
-        cells_are = cells_are;
         fit = λ row leaf l m.
-            (let in_holds : leaf < length holds = omega arith in
-            let zero : entry (table_in layout slots holds blobs) row leaf ≡ pos 0 =
-            ap (λ (t : List (List ℤ)). entry t row leaf) zero_table ∙ zeros_entry slots (length holds) row leaf l in_holds in
+            (let in_holds : leaf < length holds = omega (arith, paired) in
+            let zero : entry (table_under term extents kinds blobs) row leaf ≡ pos 0 =
+            ap (λ (t : List (List ℤ)). entry t row leaf) zero_table ∙ zeros_entry (length (indices extents)) (length holds) row leaf l in_holds in
             let width : 1 ≤ (hold_at holds leaf).width =
-            (hold_widths layout slots holds lawful leaf (hold_at holds leaf) in_holds (slice_get-get_or holds leaf (record { signed = false; width = 0 }) in_holds)).0 in
+            (hold_widths (layout_of term extents kinds) (length (indices extents)) holds lawful leaf (hold_at holds leaf) in_holds
+            (slice_get-get_or holds leaf (record { signed = false; width = 0 }) in_holds)).0 in
             subst (λ (v : ℤ). Fits (kind_at kinds leaf) (hold_at holds leaf) v) (sym zero)
             (record { declared = zero_declared (kind_at kinds leaf); held = zero_held (hold_at holds leaf) width }));
       }

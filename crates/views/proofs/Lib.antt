@@ -1,6 +1,4 @@
-pub mod MapLaws
 pub mod KeptLaws
 pub mod StoreLaws
 pub mod Opened
 pub mod ZeroBlobs
-pub mod LeafCells

@@ -1,49 +1,105 @@
 -- A view by its fields.
-use Rattle.std.proofs.Common.{◌≡◌, ℕ, ℤ, ◌<◌, List, Ok, length, sym, ap, ◌∙◌, subst, arith}
+use Rattle.std.proofs.Common.{◌≡◌, ℕ, ℤ, ◌<◌, List, Ok, length, map, sym, ap, ◌∙◌, subst, arith}
+use Rattle.std.specs.List.{enumerate_from}
+use Rattle.std.proofs.lemmas.List.{length-map}
+use Rattle.std.proofs.lemmas.List.FromFn.{length-enumerate_from}
+use Rattle.record_dim.specs.Trees.{Fields}
+use Rattle.extents.specs.Indices.{indices}
 use Rattle.record_dim.specs.declared.schema.Schema.{Schema}
+use Rattle.record_dim.specs.declared.leaf_type.LeafType.{LeafType}
 use Rattle.record_dim.specs.Schemas.{schema_fields}
+use Rattle.record_dim.specs.LeafTypes.{IsIn}
 use Rattle.record_dim.specs.Leaves.{leaves, kinds_of}
 use Rattle.places.specs.Layout.{Owner}
-use Rattle.places.specs.Holds.{widths_of, full_holds}
-use Rattle.map_aos.specs.declared.aos.Aos.{Aos}
-use Rattle.map_aos.specs.Aos.{aos_layout}
+use Rattle.places.specs.Laws.{IsLaidOut}
+use Rattle.places.specs.Image.{entry}
+use Rattle.places.specs.declared.piece.Cell.{Cell}
+use Rattle.places.specs.declared.piece.Hold.{Hold}
+use Rattle.map_expr.specs.declared.expr.MapExpr.{MapExpr}
+use Rattle.map_expr.specs.Terms.{Term, term_of}
+use Rattle.map_any.specs.Mappings.{leaf_cells, layout_of, holds_of, IsTooBigFor}
 use Rattle.piece_bits.specs.Tables.{AreLaid, table_in, hold_at, with_entry}
 use Rattle.views.specs.Seen.{Seen, leaf_count_of, answer_of, IsTable}
 use Rattle.views.specs.Stores.{kind_at, store_answer, Fits}
-use Rattle.views.specs.Kept.{IsKept}
-use Rattle.views.proofs.MapLaws.{map_holds}
+use Rattle.views.specs.Kept.{IsKept, IsMappingOf, table_under}
 use Rattle.views.proofs.KeptLaws.{kind_count, row_count, kept_shape, kept_fits, kept_set}
 use Rattle.views.proofs.StoreLaws.{stored_fits}
 
--- the layout of a view's mapping
-abbrev pub layout_of : Aos → List (List Owner)
-layout_of map = aos_layout map.form map.slots (widths_of map.cells.items)
+-- as many cells as leaves
+pub length-leaf_cells : (kinds : List LeafType) → length (leaf_cells kinds) ≡ length kinds
+length-leaf_cells kinds =
+    let cell : ℕ × LeafType → Cell = λ e. record { leaf = e.0; kind = e.1 } in
+    length-map (enumerate_from 0 kinds) cell ∙ length-enumerate_from 0 kinds
 
--- what callers see of the fields, and what the fields keep
-abbrev pub seen_of : Schema → Aos → List (List ℕ) → Seen
-seen_of schema map blobs = record {
+-- what a mapping says is what its expression says
+module _ {term : Term} {extents : List ℕ} {kinds : List LeafType} {layout : List (List Owner)} {slots : ℕ} {cells : List Cell} {holds : List Hold}
+    (mapping : IsMappingOf term extents kinds layout slots cells holds) where
+  pub cell_count : length cells ≡ length kinds
+  cell_count = ap (length {A = Cell}) mapping.cells_are ∙ length-leaf_cells kinds
+
+  -- the table that its layout says is that of the expression
+  pub table_same : (blobs : List (List ℕ)) → table_in layout slots holds blobs ≡ table_under term extents kinds blobs
+  table_same blobs =
+      ap (λ (w : List (List Owner)). table_in w slots holds blobs) mapping.layout_is
+      ∙ ap (λ (w : ℕ). table_in (layout_of term extents kinds) w holds blobs) mapping.slots_are
+      ∙ ap (λ (w : List Hold). table_in (layout_of term extents kinds) (length (indices extents)) w blobs) mapping.holds_are
+
+  pub laid_there : (blobs : List (List ℕ)) → AreLaid layout blobs → AreLaid (layout_of term extents kinds) blobs
+  laid_there blobs laid = subst (λ (w : List (List Owner)). AreLaid w blobs) mapping.layout_is laid
+
+  -- the same of blobs that were lent
+  pub laid_here : (lent blobs : List (List ℕ)) → lent ≡ blobs → AreLaid (layout_of term extents kinds) blobs → AreLaid layout lent
+  laid_here lent blobs same laid = subst (λ (w : List (List ℕ)). AreLaid layout w) (sym same) (subst (λ (w : List (List Owner)). AreLaid w blobs) (sym mapping.layout_is) laid)
+
+  pub read_here : (lent blobs : List (List ℕ)) → lent ≡ blobs → (row leaf : ℕ) →
+      entry (table_in layout slots holds lent) row leaf ≡ entry (table_under term extents kinds blobs) row leaf
+  read_here lent blobs same row leaf =
+      ap (λ (w : List (List ℕ)). entry (table_in layout slots holds w) row leaf) same ∙ ap (λ (t : List (List ℤ)). entry t row leaf) (table_same blobs)
+
+  pub lawful_there : IsLaidOut layout slots (map (λ (h : Hold). h.width) holds) →
+      IsLaidOut (layout_of term extents kinds) (length (indices extents)) (map (λ (h : Hold). h.width) (holds_of term kinds))
+  lawful_there laws =
+      subst (λ (w : List Hold). IsLaidOut (layout_of term extents kinds) (length (indices extents)) (map (λ (h : Hold). h.width) w)) mapping.holds_are
+      (subst (λ (w : ℕ). IsLaidOut (layout_of term extents kinds) w (map (λ (h : Hold). h.width) holds)) mapping.slots_are
+      (subst (λ (w : List (List Owner)). IsLaidOut w slots (map (λ (h : Hold). h.width) holds)) mapping.layout_is laws))
+
+  pub paired_there : length holds ≡ length cells → length (holds_of term kinds) ≡ length kinds
+  paired_there paired = ap (length {A = Hold}) (sym mapping.holds_are) ∙ paired ∙ cell_count
+
+-- the same after copies of the schema and the expression
+pub mapping_copied : {term copy : Term} {fields same : Fields} {extents : List ℕ} {layout : List (List Owner)} {slots : ℕ} {cells : List Cell} {holds : List Hold} →
+    copy ≡ term → same ≡ fields → IsMappingOf term extents (kinds_of fields) layout slots cells holds → IsMappingOf copy extents (kinds_of same) layout slots cells holds
+mapping_copied {term} {copy} {fields} {same} {extents} {layout} {slots} {cells} {holds} terms trees mapping =
+    subst (λ (t : Term). IsMappingOf t extents (kinds_of same) layout slots cells holds) (sym terms)
+    (subst (λ (f : Fields). IsMappingOf term extents (kinds_of f) layout slots cells holds) (sym trees) mapping)
+
+pub within_copied : {term copy : Term} {fields same : Fields} (extents : List ℕ) → copy ≡ term → same ≡ fields →
+    (IsTooBigFor term extents (kinds_of fields) → ⊥) → IsTooBigFor copy extents (kinds_of same) → ⊥
+within_copied {term} {copy} {fields} {same} extents terms trees within =
+    subst (λ (t : Term). IsTooBigFor t extents (kinds_of same) → ⊥) (sym terms)
+    (subst (λ (f : Fields). IsTooBigFor term extents (kinds_of f) → ⊥) (sym trees) within)
+
+-- what callers see of the fields
+abbrev pub seen_from : Schema → List ℕ → MapExpr → List (List ℕ) → Seen
+seen_from schema extents expr blobs = record {
   schema = schema;
-  layout = layout_of map;
-  holds = full_holds map.cells.items;
-  table = table_in (layout_of map) map.slots (full_holds map.cells.items) blobs;
+  extents = extents;
+  expr = expr;
+  table = table_under (term_of expr) extents (kinds_of (schema_fields schema)) blobs;
 }
 
-abbrev pub KeptOf : Schema → Aos → List (List ℕ) → Type 0
-KeptOf schema map blobs = IsKept (layout_of map) map.slots map.cells.items (full_holds map.cells.items) (kinds_of (schema_fields schema)) blobs
-
-module _ (schema : Schema) (map : Aos) (blobs : List (List ℕ)) (kept : KeptOf schema map blobs) (seen : Seen) (is : seen_of schema map blobs ≡ seen) where
-  pub rows_seen : length seen.table ≡ map.slots
-  rows_seen =
-      ap (λ (s : Seen). length s.table) (sym is)
-      ∙ row_count (layout_of map) map.slots map.cells.items (full_holds map.cells.items) (kinds_of (schema_fields schema)) blobs kept (map_holds map)
+module _ (schema : Schema) (extents : List ℕ) (expr : MapExpr) (blobs : List (List ℕ)) (kept : IsKept (term_of expr) extents (kinds_of (schema_fields schema)) blobs)
+    (seen : Seen) (is : seen_from schema extents expr blobs ≡ seen) where
+  pub rows_seen : length seen.table ≡ length (indices extents)
+  rows_seen = ap (λ (s : Seen). length s.table) (sym is) ∙ row_count (term_of expr) extents (kinds_of (schema_fields schema)) blobs kept
 
   pub table_seen : IsTable seen
   table_seen =
-      let holds = full_holds map.cells.items in
       let kinds = kinds_of (schema_fields schema) in
-      let here : IsTable (seen_of schema map blobs) = record {
-        shape = kept_shape (layout_of map) map.slots map.cells.items holds kinds blobs kept (map_holds map) (length (leaves (schema_fields schema))) (kind_count (schema_fields schema));
-        fits = kept_fits (layout_of map) map.slots map.cells.items holds kinds blobs kept (map_holds map);
+      let here : IsTable (seen_from schema extents expr blobs) = record {
+        rows = row_count (term_of expr) extents kinds blobs kept;
+        shape = kept_shape (term_of expr) extents kinds blobs kept (length (leaves (schema_fields schema))) (kind_count (schema_fields schema));
+        fits = kept_fits (term_of expr) extents kinds blobs kept;
       } in
       subst (λ (s : Seen). IsTable s) is here
 
@@ -55,18 +111,19 @@ module _ (schema : Schema) (map : Aos) (blobs : List (List ℕ)) (kept : KeptOf 
 
   -- a value whose store is taken fits
   pub fits_seen : (leaf : ℕ) (value : ℤ) → Ok tt ≡ answer_of seen leaf value →
-      Fits (kind_at (kinds_of (schema_fields schema)) leaf) (hold_at (full_holds map.cells.items) leaf) value
+      Fits (kind_at (kinds_of (schema_fields schema)) leaf) (hold_at (holds_of (term_of expr) (kinds_of (schema_fields schema))) leaf) value
   fits_seen leaf value taken =
       let kind = kind_at (kinds_of (schema_fields schema)) leaf in
-      let hold = hold_at (full_holds map.cells.items) leaf in
+      let hold = hold_at (holds_of (term_of expr) (kinds_of (schema_fields schema))) leaf in
       let here : store_answer kind hold value ≡ Ok tt = ap (λ (s : Seen). answer_of s leaf value) is ∙ sym taken in
       stored_fits kind hold value here
 
   -- a fitting value is written
   pub kept_after : (row leaf : ℕ) (value : ℤ) (new : List (List ℕ)) → row < length seen.table → leaf < leaf_count_of seen → Ok tt ≡ answer_of seen leaf value →
-      AreLaid (layout_of map) new →
-      table_in (layout_of map) map.slots (full_holds map.cells.items) new
-      ≡ with_entry (table_in (layout_of map) map.slots (full_holds map.cells.items) blobs) row leaf value → KeptOf schema map new
+      AreLaid (layout_of (term_of expr) extents (kinds_of (schema_fields schema))) new →
+      table_under (term_of expr) extents (kinds_of (schema_fields schema)) new
+      ≡ with_entry (table_under (term_of expr) extents (kinds_of (schema_fields schema)) blobs) row leaf value →
+      IsKept (term_of expr) extents (kinds_of (schema_fields schema)) new
   kept_after row leaf value new row_in leaf_in taken laid table =
-      kept_set (layout_of map) map.slots map.cells.items (full_holds map.cells.items) (kinds_of (schema_fields schema)) blobs kept (map_holds map)
+      kept_set (term_of expr) extents (kinds_of (schema_fields schema)) blobs kept
       new row leaf value (omega (arith, rows_seen)) (leaf_seen leaf leaf_in) laid table (fits_seen leaf value taken)

@@ -1,3 +1,4 @@
 pub mod Seen
 pub mod Stores
 pub mod Kept
+pub mod Refusals

@@ -1,5 +1,6 @@
--- What a view is to its callers: a schema, how its blobs are laid out, and a table of numbers.
-use Rattle.std.specs.Prelude.{ℕ, ℤ, List, [], length, slice_index_or, Result}
+-- What a view is to its callers: a schema, the extents of an array, how its records lie in memory, and a table of numbers.
+use Rattle.std.specs.Prelude.{ℕ, ◌≡◌, ℤ, List, [], length, slice_index_or, Result}
+use Rattle.extents.specs.Indices.{indices}
 use Rattle.record_dim.specs.declared.schema.Schema.{Schema}
 use Rattle.record_dim.specs.declared.leaf_type.LeafType.{LeafType}
 use Rattle.record_dim.specs.Schemas.{schema_fields}
@@ -7,33 +8,49 @@ use Rattle.record_dim.specs.Leaves.{leaves, kinds_of}
 use Rattle.places.specs.Layout.{Owner}
 use Rattle.places.specs.Image.{image}
 use Rattle.places.specs.declared.piece.Hold.{Hold}
+use Rattle.map_expr.specs.declared.expr.MapExpr.{MapExpr}
+use Rattle.map_expr.specs.Terms.{term_of}
+use Rattle.map_any.specs.Mappings.{layout_of, holds_of}
 use Rattle.piece_bits.specs.Tables.{HasShape, hold_at}
 use Rattle.views.specs.Stores.{kind_at, store_answer, AllFit}
 use Rattle.views.specs.declared.fault.StoreFault.{StoreFault}
 
--- `layout` says who owns each bit of each blob, and `holds` how each leaf is stored
+-- a row of the table for each index inside the extents, and in it a number for each leaf of the schema
 pub record Seen : Type 0 where
   pub schema : Schema
-  pub layout : List (List Owner)
-  pub holds : List Hold
+  pub extents : List ℕ
+  pub expr : MapExpr
   pub table : List (List ℤ)
+
+-- the types of the leaves
+abbrev pub leaf_types_of : Seen → List LeafType
+leaf_types_of seen = kinds_of (schema_fields seen.schema)
+
+-- who owns each bit of each blob: the layout of the expression
+abbrev pub seen_layout : Seen → List (List Owner)
+seen_layout seen = layout_of (term_of seen.expr) seen.extents (leaf_types_of seen)
+
+-- how each leaf is stored
+abbrev pub seen_holds : Seen → List Hold
+seen_holds seen = holds_of (term_of seen.expr) (leaf_types_of seen)
 
 -- the number of leaves, and the type of one
 abbrev pub leaf_count_of : Seen → ℕ
 leaf_count_of seen = length (leaves (schema_fields seen.schema))
 
 abbrev pub leaf_type_of : Seen → ℕ → LeafType
-leaf_type_of seen leaf = kind_at (kinds_of (schema_fields seen.schema)) leaf
+leaf_type_of seen leaf = kind_at (leaf_types_of seen) leaf
 
 -- the answer to a store of a value in a leaf
 abbrev pub answer_of : Seen → ℕ → ℤ → Result Unit StoreFault
-answer_of seen leaf value = store_answer (leaf_type_of seen leaf) (hold_at seen.holds leaf) value
+answer_of seen leaf value = store_answer (leaf_type_of seen leaf) (hold_at (seen_holds seen) leaf) value
 
 -- the bits of a blob: those of the image of the table
 abbrev pub blob_bits_of : Seen → ℕ → List ℕ
-blob_bits_of seen blob = slice_index_or (image seen.layout seen.table) blob []
+blob_bits_of seen blob = slice_index_or (image (seen_layout seen) seen.table) blob []
 
--- a number for each leaf in each row, and each in the ranges of its leaf
+-- a row for each index inside the extents, in each a number for each leaf, and each number in the ranges of its leaf
 pub record IsTable (seen : Seen) : Type 0 where
+  pub rows : length seen.table ≡ length (indices seen.extents)
   pub shape : HasShape (length seen.table) (leaf_count_of seen) seen.table
-  pub fits : AllFit (length seen.table) (kinds_of (schema_fields seen.schema)) seen.holds seen.table
+  pub fits : AllFit (length seen.table) (leaf_types_of seen) (seen_holds seen) seen.table

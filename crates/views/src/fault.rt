@@ -1,3 +1,10 @@
+ghost use Rattle.std.specs.Prelude.{◌≡◌};
+ghost use Rattle.views.specs.declared.fault.MakeView.TheVariants.{NoMemory};
+ghost use Rattle.views.specs.Refusals.{made_view};
+
+use map_any::{BadMapping, MakeMap};
+use std::alloc::{AllocError, AllocFailed};
+
 /// Why a value was not stored.
 #[derive(Clone, Copy, Debug, PartialEq, Eq)]
 pub enum StoreFault {
@@ -5,4 +12,42 @@ pub enum StoreFault {
     Range,
     /// The value lies in the declared range and not in the range of how the leaf is stored.
     Narrow,
+}
+
+/// Why no view was made.
+#[derive(Clone, Copy, Debug, PartialEq, Eq)]
+pub enum MakeView {
+    /// The expression is no mapping of the leaves.
+    Bad(BadMapping),
+    /// A base mapping has more than 2^24 slots, or all blobs have more than 2^28 bytes.
+    TooBig,
+    NoMemory,
+}
+
+impl From<MakeMap> for MakeView {
+    ghost from_gives = { λ m v. v ≡ made_view m };
+
+    fn from(e: MakeMap) -> MakeView {
+        match e {
+            MakeMap::Bad(bad) => MakeView::Bad(bad),
+            MakeMap::TooBig => MakeView::TooBig,
+            MakeMap::NoMemory => MakeView::NoMemory,
+        }
+    }
+}
+
+impl From<AllocError> for MakeView {
+    ghost from_gives = { λ _ e. e ≡ NoMemory };
+
+    fn from(_e: AllocError) -> MakeView {
+        MakeView::NoMemory
+    }
+}
+
+impl<T: Drop> From<AllocFailed<T>> for MakeView {
+    ghost from_gives = { λ _ e. e ≡ NoMemory };
+
+    fn from(_e: AllocFailed<T>) -> MakeView {
+        MakeView::NoMemory
+    }
 }

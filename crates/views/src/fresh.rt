@@ -1,35 +1,27 @@
-ghost use Rattle.std.specs.Prelude.{ℕ, ◌≡◌, ◌*◌, ◌<◌, [], IfOk, length, replicate, slice_index_or};
+ghost use Rattle.std.specs.Prelude.{ℕ, ◌≡◌, IfOk, length, map};
 ghost use Rattle.blobs.specs.Bits.{bit_in};
-ghost use Rattle.record_dim.specs.Schemas.{schema_fields};
-ghost use Rattle.record_dim.specs.Leaves.{kinds_of};
+ghost use Rattle.places.specs.Laws.{IsLaidOut};
 ghost use Rattle.piece_bits.specs.Tables.{AreLaid};
-ghost use Rattle.views.specs.Kept.{leaf_cells};
 
+use crate::view::BlobList;
 use blobs::Blob;
-use places::{Cell, CellList, Mapping};
-use record_dim::Schema;
+use places::Mapping;
 use std::alloc::{AllocError as NoMemory, Global};
 
-/// The leaves of a schema as cells, in order.
-pub fn cells_of(alloc: Global, schema: &Schema) -> Result<CellList, NoMemory>
-    ensures { IfOk result (λ cells. cells ≡ leaf_cells (kinds_of (schema_fields schema.now))) }
-{
-    let mut cells = CellList::new(alloc);
-    for leaf in 0..schema.leaf_count() {
-        let kind = schema.leaf_type(leaf);
-        cells.push(Cell { leaf, kind })?;
-    }
-    Ok(cells)
-}
+/// The laws of a mapping. It does nothing: its contract is the law.
+pub fn laws_of<M: Mapping>(_mapping: &M)
+    ensures lawful { IsLaidOut (M.layout _mapping.now) (M.slot_count _mapping.now) (map (λ h. h.width) (M.hold_list _mapping.now)) }
+    ensures paired { length (M.hold_list _mapping.now) ≡ length (M.cell_list _mapping.now) }
+{}
 
 /// Blobs of a mapping's lengths that are all 0.
-pub fn zeroed_blobs<M: Mapping>(alloc: Global, map: &M) -> Result<Vec<Blob>, NoMemory>
-    ensures laid { IfOk result (λ blobs. AreLaid (M.layout map.now) blobs.items) }
+pub fn zeroed_blobs<M: Mapping>(alloc: Global, mapping: &M) -> Result<BlobList, NoMemory>
+    ensures laid { IfOk result (λ blobs. AreLaid (M.layout mapping.now) blobs.items) }
     ensures zero { IfOk result (λ blobs. (b p : ℕ) → bit_in blobs.items b p ≡ 0) }
 {
     let mut blobs = Vec::new(alloc);
-    for blob in 0..map.blob_count() {
-        blobs.push(Blob::zeroed(alloc, map.blob_bytes(blob) as usize)?)?;
+    for blob in 0..mapping.blob_count() {
+        blobs.push(Blob::zeroed(alloc, mapping.blob_bytes(blob) as usize)?)?;
     }
     Ok(blobs)
 }

@@ -1,10 +1,13 @@
-// A table of numbers that lies in blobs as a mapping says, and nowhere else.
+// A table of numbers that lies in blobs as a mapping expression says, and nowhere else.
 #![tactic(auto)]
 
+mod access;
 mod fault;
 mod fresh;
+mod row;
 mod store;
 mod view;
 
-pub use fault::StoreFault;
-pub use view::View;
+pub use fault::{MakeView, StoreFault};
+pub use row::RowRef;
+pub use view::{BlobList, View};

@@ -1,84 +1,108 @@
-ghost use Rattle.std.specs.Prelude.{ℕ, ◌≡◌, ◌+◌, ◌<◌, ◌≤◌, IfOk, OnOk, OnErr, length, map};
-ghost use Rattle.places.specs.Holds.{hold_of};
-ghost use Rattle.places.specs.Layout.{packed_aos};
+ghost use Rattle.std.specs.Prelude.{ℕ, ◌≡◌, ◌+◌, ◌*◌, ◌^◌, ◌<◌, ◌≤◌, IfOk, OnOk, IfErr, OnErr, Ok, length, sum_by};
+ghost use Rattle.extents.specs.Indices.{indices};
+ghost use Rattle.map_expr.specs.Terms.{term_of};
+ghost use Rattle.map_expr.specs.Checks.{checked};
+ghost use Rattle.map_any.specs.Mappings.{leaf_cells, IsBuiltTerm, IsTooBigFor};
 ghost use Rattle.places.specs.Image.{entry};
 ghost use Rattle.blobs.specs.Bits.{bits_of};
 ghost use Rattle.piece_bits.specs.Tables.{with_entry, zeros};
 
-use crate::fault::StoreFault;
-use crate::fresh::{cells_of, zeroed_blobs};
+use crate::access::{read, write};
+use crate::fault::{MakeView, StoreFault};
+use crate::fresh::{laws_of, zeroed_blobs};
 use crate::store::answer;
 use blobs::Blob;
-use map_aos::{Aos, AosForm};
-use piece_bits::{read_entry, write_entry};
+use extents::Extents;
+use map_any::{AnyMap, MapExpr};
 use places::Mapping;
 use record_dim::Schema;
-use std::alloc::{AllocError as NoMemory, Global};
+use std::alloc::Global;
 use std::marker::Model;
 use std::sync::ledger::Ledger;
 use steps::Steps;
 
 /// The blobs of a view, in the order of its mapping.
-type BlobList = Vec<Blob>;
+pub type BlobList = Vec<Blob>;
 
-/// A table of whole numbers: a row for each record, and in it a number for each leaf of the schema.
-/// It is read off the blobs, which are its image under the mapping, bit for bit, with padding 0.
+/// A table of whole numbers: a row for each index inside the extents, and in it a number for each leaf of the schema. It is read off the
+/// blobs, which are its image under the layout of the mapping expression, bit for bit, with padding 0.
 #[derive(Drop)]
 pub struct View {
     schema: Schema,
-    map: Aos,
+    extents: Extents,
+    expr: MapExpr,
+    map: AnyMap,
     blobs: BlobList,
 }
 
 impl Model for View {
+    ghost use Rattle.std.specs.Prelude.{◌≡◌};
     ghost use Rattle.record_dim.specs.contracts.dim.Dim as dim;
     ghost use Rattle.record_dim.specs.contracts.dim.FieldList as list;
+    ghost use Rattle.map_expr.specs.contracts.expr.MapExpr as mapping;
     ghost use Rattle.std.specs.Coded.{codes};
     ghost use Rattle.views.specs.Seen.{Seen};
 
     ghost Value = { Seen };
 
-    ghost coded = { Prim.hlevel (codes, dim.the_row.coded, list.the_row.coded) };
+    ghost coded = { Prim.hlevel (codes, dim.the_row.coded, list.the_row.coded, mapping.the_row.coded) };
 
     ghost use Rattle.record_dim.specs.Schemas.{schema_fields};
     ghost use Rattle.record_dim.specs.Leaves.{kinds_of};
-    ghost use Rattle.piece_bits.specs.Tables.{table_in};
-    ghost use Rattle.views.specs.Kept.{IsKept};
+    ghost use Rattle.map_expr.specs.Terms.{term_of};
+    ghost use Rattle.views.specs.Kept.{IsKept, IsMappingOf, table_under};
 
     ghost view = { λ v. record {
       schema = v.schema;
-      layout = ⟦<Aos as Mapping>⟧.layout v.map;
-      holds = ⟦<Aos as Mapping>⟧.hold_list v.map;
-      table = table_in (⟦<Aos as Mapping>⟧.layout v.map) (⟦<Aos as Mapping>⟧.slot_count v.map) (⟦<Aos as Mapping>⟧.hold_list v.map) v.blobs.items;
+      extents = v.extents;
+      expr = v.expr;
+      table = table_under (term_of v.expr) v.extents (kinds_of (schema_fields v.schema)) v.blobs.items;
     } };
 
-    ghost invariant = { λ v. IsKept (⟦<Aos as Mapping>⟧.layout v.map) (⟦<Aos as Mapping>⟧.slot_count v.map) (⟦<Aos as Mapping>⟧.cell_list v.map)
-        (⟦<Aos as Mapping>⟧.hold_list v.map) (kinds_of (schema_fields v.schema)) v.blobs.items };
+    ghost invariant = { λ v. IsMappingOf (term_of v.expr) v.extents (kinds_of (schema_fields v.schema)) (⟦<AnyMap as Mapping>⟧.layout v.map)
+        (⟦<AnyMap as Mapping>⟧.slot_count v.map) (⟦<AnyMap as Mapping>⟧.cell_list v.map) (⟦<AnyMap as Mapping>⟧.hold_list v.map)
+        × IsKept (term_of v.expr) v.extents (kinds_of (schema_fields v.schema)) v.blobs.items };
 }
 
 impl View {
     ghost use Rattle.record_dim.specs.Schemas.{schema_fields};
     ghost use Rattle.record_dim.specs.Leaves.{leaves, kinds_of};
-    ghost use Rattle.record_dim.specs.LeafTypes.{width_of};
     ghost use Rattle.piece_bits.specs.Tables.{hold_at};
     ghost use Rattle.views.specs.Stores.{Fits};
-    ghost use Rattle.views.specs.Seen.{leaf_count_of, leaf_type_of, answer_of, blob_bits_of, IsTable};
+    ghost use Rattle.views.specs.Refusals.{IsNoView};
+    ghost use Rattle.views.specs.Seen.{leaf_count_of, leaf_type_of, leaf_types_of, seen_layout, seen_holds, answer_of, blob_bits_of, IsTable};
 
-    /// A view of `rows` rows of zeros, packed record after record. Where the blob would have more than 2^28 bytes, the answer is `NoMemory` too.
-    pub fn packed(alloc: Global, schema: &Schema, rows: u64) -> Result<View, NoMemory>
+    /// A view of zeros, which lies in memory as the expression says. `Bad` comes exactly where the expression is refused, and `TooBig`
+    /// exactly where it is not and is over a limit.
+    pub fn new(
+        alloc: Global,
+        schema: &Schema,
+        extents: Extents,
+        expr: &MapExpr,
+    ) -> Result<View, MakeView>
+        requires built { IsBuiltTerm (term_of expr.now) }
         ensures schema { IfOk result (λ v. schema_fields v.schema ≡ schema_fields schema.now) }
-        ensures layout { IfOk result (λ v. v.layout ≡ packed_aos rows (map width_of (kinds_of (schema_fields schema.now)))) }
-        ensures holds { IfOk result (λ v. v.holds ≡ map hold_of (kinds_of (schema_fields schema.now))) }
-        ensures table { IfOk result (λ v. v.table ≡ zeros rows (length (leaves (schema_fields schema.now)))) }
+        ensures extents { IfOk result (λ v. v.extents ≡ extents) }
+        ensures expr { IfOk result (λ v. term_of v.expr ≡ term_of expr.now) }
+        ensures table { IfOk result (λ v. v.table ≡ zeros (length (indices extents)) (length (leaves (schema_fields schema.now)))) }
+
+        // Only want of memory comes before the other answers.
+        ensures accepted { OnOk result (checked (term_of expr.now) ≡ Ok tt) }
+        ensures fits { OnOk result (IsTooBigFor (term_of expr.now) extents (kinds_of (schema_fields schema.now)) → ⊥) }
+        ensures refused { IfErr result (IsNoView (term_of expr.now) extents (kinds_of (schema_fields schema.now))) }
     {
-        let cells = cells_of(alloc, schema)?;
-        let map = match Aos::new(alloc, &cells, rows, AosForm::Packed) {
-            Ok(map) => map,
-            Err(_) => return Err(NoMemory),
-        };
+        let map = AnyMap::new(alloc, schema, &extents, expr)?;
+        laws_of(&map);
         let schema = schema.copy(alloc)?;
+        let expr = expr.copy(alloc)?;
         let blobs = zeroed_blobs(alloc, &map)?;
-        Ok(View { schema, map, blobs })
+        Ok(View {
+            schema,
+            extents,
+            expr,
+            map,
+            blobs,
+        })
     }
 
     /// The schema of the rows.
@@ -89,20 +113,49 @@ impl View {
         &self.schema
     }
 
-    /// The number of rows.
-    pub fn rows(&self) -> u64
-        ensures value { result ≡ length self.now.table }
+    /// The extents of the array. They have as many rows as the table.
+    pub fn extents(&self) -> Extents
+        ensures value { result ≡ self.now.extents }
         ensures table { IsTable self.now }
     {
-        self.map.slots()
+        self.extents
+    }
+
+    /// How the rows lie in memory.
+    pub fn expr(&self) -> &MapExpr
+        ensures { result.now ≡ self.now.expr }
+    {
+        &self.expr
+    }
+
+    /// The mapping of the expression over the leaves and the rows.
+    pub fn map(&self) -> &AnyMap
+        ensures layout { ⟦<AnyMap as Mapping>⟧.layout result.now ≡ seen_layout self.now }
+        ensures slots { ⟦<AnyMap as Mapping>⟧.slot_count result.now ≡ length (indices self.now.extents) }
+        ensures cells { ⟦<AnyMap as Mapping>⟧.cell_list result.now ≡ leaf_cells (leaf_types_of self.now) }
+        ensures holds { ⟦<AnyMap as Mapping>⟧.hold_list result.now ≡ seen_holds self.now }
+    {
+        &self.map
     }
 
     /// A blob. Its bits are those of the image of the table, and its padding is 0.
     pub fn blob(&self, b: usize) -> &Blob
-        requires { b < length self.now.layout }
+        requires { b < length (seen_layout self.now) }
         ensures { bits_of result.now ≡ blob_bits_of self.now b }
     {
         &self.blobs[b]
+    }
+
+    /// The number of bytes of all blobs, at most 2^28.
+    pub fn blob_bytes(&self) -> u64
+        ensures sum { 8 * result ≡ sum_by length (seen_layout self.now) }
+        ensures few { result ≤ 2 ^ 28 }
+    {
+        let mut bytes = 0;
+        for blob in &self.blobs {
+            bytes += blob.len() as u64;
+        }
+        bytes
     }
 
     /// The value of a leaf in a row. It takes one step.
@@ -110,12 +163,12 @@ impl View {
         requires row_in { row < length self.old.table }
         requires leaf_in { leaf < leaf_count_of self.old }
         ensures value { result ≡ entry self.old.table row leaf }
-        ensures fits { Fits (leaf_type_of self.old leaf) (hold_at self.old.holds leaf) result }
+        ensures fits { Fits (leaf_type_of self.old leaf) (hold_at (seen_holds self.old) leaf) result }
         ensures same { self.new ≡ self.old }
         ensures step { steps.new ≡ steps.old + 1 }
     {
         steps.tick();
-        read_entry(&self.map, self.blobs.as_slice(), row, leaf)
+        read(&self.map, self.blobs.as_slice(), row, leaf)
     }
 
     /// Whether a value can be stored in a leaf: `Range` exactly where it lies outside of the leaf's declared range, and `Narrow` exactly
@@ -144,7 +197,7 @@ impl View {
     {
         steps.tick();
         self.fits(leaf, value)?;
-        write_entry(&self.map, &mut self.blobs, row, leaf, value);
+        write(&self.map, &mut self.blobs, row, leaf, value);
         Ok(())
     }
 }

@@ -1,11 +1,21 @@
-ghost use Rattle.std.specs.Prelude.{◌≡◌, ◌<◌, length};
+ghost use Rattle.std.specs.Prelude.{◌≡◌, ◌<◌, OnOk, length};
+ghost use Rattle.map_expr.specs.Terms.{term_of};
+ghost use Rattle.map_any.specs.Mappings.{IsBuiltTerm};
+ghost use Rattle.piece_bits.specs.Tables.{with_entry};
 ghost use Rattle.views.specs.Seen.{leaf_count_of};
 
 use super::View;
-use crate::StoreFault;
+use crate::{MakeView, StoreFault};
+use extents::{ExtentWord, Extents, Shape};
+use linearize::Order;
+use map_any::{BadMapping, MapExpr};
+use map_aos::AosForm;
+use map_soa::SoaForm;
+use places::Mapping;
 use record_dim::{Dim, Field, FieldList, LeafType, Name, Schema};
 use std::alloc::Global;
 use std::marker::Brand;
+use std::process::Abort;
 use std::sync::ledger::{Blank, Ledger};
 use std::test::Fail;
 use steps::Steps;
@@ -22,23 +32,61 @@ const KINDS: [LeafType; 9] = [
     LeafType::I64,
 ];
 
+// A leaf of one byte, one of four and one of two.
+const THREE: [LeafType; 3] = [LeafType::U8, LeafType::U32, LeafType::U16];
+
 // A flat schema with a leaf of each of these types.
-fn schema(alloc: Global, kinds: &[LeafType]) -> Result<Schema, Fail> {
+fn schema_of(alloc: Global, kinds: &[LeafType]) -> Result<Schema, Fail> {
     let mut fields = FieldList::End;
-    for (number, kind) in kinds.iter().enumerate() {
+    for (number, kind) in kinds.iter().enumerate().rev() {
         let text = format!(in alloc; "f{number}")?;
         let name = Name::new(text.as_str()).ok_or("no name")?;
-        let field = Box::new(
-            alloc,
-            Field {
-                name,
-                dim: Dim::Leaf(*kind),
-            },
-        )?;
+        let dim = Dim::Leaf(*kind);
+        let field = Box::new(alloc, Field { name, dim })?;
         let rest = Box::new(alloc, fields)?;
         fields = FieldList::More { field, rest };
     }
     Ok(Schema::new(alloc, Dim::Fields(fields))?)
+}
+
+fn extents_of(rows: u64) -> Result<Extents, Fail> {
+    let shape = Shape::new(&[ExtentWord::Rows]).ok().ok_or("no shape")?;
+    Ok(shape.resolve(Some(rows)).ok().ok_or("no extents")?)
+}
+
+fn view_of(alloc: Global, kinds: &[LeafType], rows: u64, expr: &MapExpr) -> Result<View, Fail>
+    requires { IsBuiltTerm (term_of expr.now) }
+{
+    let schema = schema_of(alloc, kinds)?;
+    let view = View::new(alloc, &schema, extents_of(rows)?, expr);
+    Ok(view.ok().ok_or("no view")?)
+}
+
+fn aos(form: AosForm) -> MapExpr
+    ensures { IsBuiltTerm (term_of result) }
+{
+    MapExpr::Aos {
+        form,
+        order: Order::Row,
+    }
+}
+
+fn soa(form: SoaForm) -> MapExpr
+    ensures { IsBuiltTerm (term_of result) }
+{
+    MapExpr::Soa {
+        form,
+        order: Order::Row,
+    }
+}
+
+fn aosoa(lanes: u32) -> MapExpr
+    ensures { IsBuiltTerm (term_of result) }
+{
+    MapExpr::Aosoa {
+        lanes,
+        order: Order::Row,
+    }
 }
 
 fn set_from<L: Ledger>(
@@ -69,54 +117,180 @@ fn get_from<L: Ledger>(view: &mut View, row: u64, leaf: usize, blank: Blank) -> 
     view.get(row, leaf, &mut steps)
 }
 
+// Stores through a row that is borrowed, and reads there.
+fn row_from<L: Ledger>(
+    view: &mut View,
+    row: u64,
+    leaf: usize,
+    value: i128,
+    blank: Blank,
+) -> (Result<(), StoreFault>, i128)
+    requires name { blank.name ≡ L.name }
+    requires parts { blank.parts ≡ L.parts }
+    requires some { 0 < blank.parts }
+    requires row_in { row < length view.old.table }
+    requires leaf_in { leaf < leaf_count_of view.old }
+    ensures { OnOk result.0 (view.new ≡ record view.old { table = with_entry view.old.table row leaf value }) }
+{
+    let mut steps = Steps::<L>::new(blank);
+    let mut borrowed = view.row_mut(row);
+    let answer = borrowed.set(leaf, value, &mut steps);
+    let value = borrowed.get(leaf, &mut steps);
+    (answer, value)
+}
+
 fn set(
     view: &mut View,
     row: u64,
     leaf: usize,
     value: i128,
 ) -> Result<Result<(), StoreFault>, Fail> {
-    if row < view.rows() && leaf < view.schema().leaf_count() {
+    if row < view.extents().count() && leaf < view.schema().leaf_count() {
         return Ok(set_from::<Brand>(view, row, leaf, value, Blank::new(1)));
     }
     Err(Fail::new("outside"))
 }
 
 fn get(view: &mut View, row: u64, leaf: usize) -> Result<i128, Fail> {
-    if row < view.rows() && leaf < view.schema().leaf_count() {
+    if row < view.extents().count() && leaf < view.schema().leaf_count() {
         return Ok(get_from::<Brand>(view, row, leaf, Blank::new(1)));
     }
     Err(Fail::new("outside"))
 }
 
-#[test]
-fn a_packed_view_lies_in_one_blob_and_nothing_else(rt: HostRuntime) -> Result<(), Fail> {
-    // `schema` puts the last type first.
-    let schema = schema(rt.alloc(), &[LeafType::I32, LeafType::U8])?;
-    let mut view = View::packed(rt.alloc(), &schema, 3)?;
-    let rows = [(1, -5), (255, 7), (0, 2147483647)];
-    for (row, (a, b)) in rows.iter().enumerate() {
-        assert_eq!(rt; set(&mut view, row as u64, 0, *a)?, Ok(()));
-        assert_eq!(rt; set(&mut view, row as u64, 1, *b)?, Ok(()));
+fn set_in_row(
+    view: &mut View,
+    row: u64,
+    leaf: usize,
+    value: i128,
+) -> Result<(Result<(), StoreFault>, i128), Fail> {
+    if row < view.extents().count() && leaf < view.schema().leaf_count() {
+        return Ok(row_from::<Brand>(view, row, leaf, value, Blank::new(1)));
     }
-    for (row, (a, b)) in rows.iter().enumerate() {
-        assert_eq!(rt; get(&mut view, row as u64, 0)?, *a);
-        assert_eq!(rt; get(&mut view, row as u64, 1)?, *b);
+    Err(Fail::new("outside"))
+}
+
+// Stores rows of values in a view of them as the expression says, and checks the bytes of its blobs.
+fn check_bytes(
+    rt: &impl Abort,
+    alloc: Global,
+    kinds: &[LeafType],
+    rows: &[&[i128]],
+    expr: &MapExpr,
+    blobs: &[&[u8]],
+) -> Result<(), Fail>
+    requires { IsBuiltTerm (term_of expr.now) }
+{
+    let mut view = view_of(alloc, kinds, rows.len() as u64, expr)?;
+    for (row, values) in rows.iter().enumerate() {
+        for (leaf, value) in values.iter().enumerate() {
+            assert_eq!(rt; set(&mut view, row as u64, leaf, *value)?, Ok(()));
+            assert_eq!(rt; get(&mut view, row as u64, leaf)?, *value);
+        }
     }
-    // Every field of a view stands here.
+    let mut sum = 0u64;
+    assert_eq!(rt; view.map().blob_count(), blobs.len());
+    for (b, bytes) in blobs.iter().enumerate() {
+        assert!(rt; b < view.map().blob_count());
+        let blob = view.blob(b);
+        assert_eq!(rt; blob.len(), bytes.len());
+        for (at, byte) in bytes.iter().enumerate() {
+            assert!(rt; at < blob.len());
+            assert_eq!(rt; blob.get(at), *byte);
+        }
+        sum = sum.wrapping_add(bytes.len() as u64);
+    }
+    assert_eq!(rt; view.blob_bytes(), sum);
+    // Every field of a view stands here: its values lie in the blobs and nowhere else.
     let View {
         schema: _,
+        extents: _,
+        expr: _,
         map: _,
-        blobs,
+        blobs: _,
     } = view;
-    assert_eq!(rt; blobs.len(), 1);
-    let bytes = [
-        0x01, 0xfb, 0xff, 0xff, 0xff, 0xff, 0x07, 0x00, 0x00, 0x00, 0x00, 0xff, 0xff, 0xff, 0x7f,
-    ];
-    assert_eq!(rt; blobs[0].len(), bytes.len());
-    for (at, byte) in bytes.iter().enumerate() {
-        assert!(rt; at < blobs[0].len());
-        assert_eq!(rt; blobs[0].get(at), *byte);
-    }
+    Ok(())
+}
+
+const ROWS: [&[i128]; 2] = [&[1, 258, 3], &[255, 4294967295, 0]];
+
+#[test]
+fn records_lie_one_after_another(rt: HostRuntime) -> Result<(), Fail> {
+    let alloc = rt.alloc();
+    check_bytes(
+        &rt,
+        alloc,
+        &THREE,
+        &ROWS,
+        &aos(AosForm::Packed),
+        &[b"\x01\x02\x01\x00\x00\x03\x00\xff\xff\xff\xff\xff\x00\x00"],
+    )?;
+    check_bytes(
+        &rt,
+        alloc,
+        &THREE,
+        &ROWS,
+        &aos(AosForm::Aligned),
+        &[
+            b"\x01\x00\x00\x00\x02\x01\x00\x00\x03\x00\x00\x00\xff\x00\x00\x00\xff\xff\xff\xff\x00\x00\x00\x00",
+        ],
+    )?;
+    check_bytes(
+        &rt,
+        alloc,
+        &THREE,
+        &ROWS,
+        &aos(AosForm::Min),
+        &[b"\x02\x01\x00\x00\x03\x00\x01\x00\xff\xff\xff\xff\x00\x00\xff\x00"],
+    )?;
+    Ok(())
+}
+
+#[test]
+fn leaves_lie_one_after_another(rt: HostRuntime) -> Result<(), Fail> {
+    let alloc = rt.alloc();
+    check_bytes(
+        &rt,
+        alloc,
+        &THREE,
+        &ROWS,
+        &soa(SoaForm::Single),
+        &[b"\x01\xff\x02\x01\x00\x00\xff\xff\xff\xff\x03\x00\x00\x00"],
+    )?;
+    check_bytes(
+        &rt,
+        alloc,
+        &THREE,
+        &ROWS,
+        &soa(SoaForm::Aligned),
+        &[b"\x01\xff\x00\x00\x02\x01\x00\x00\xff\xff\xff\xff\x03\x00\x00\x00"],
+    )?;
+    check_bytes(
+        &rt,
+        alloc,
+        &THREE,
+        &ROWS,
+        &soa(SoaForm::Multi),
+        &[
+            b"\x01\xff",
+            b"\x02\x01\x00\x00\xff\xff\xff\xff",
+            b"\x03\x00\x00\x00",
+        ],
+    )?;
+    Ok(())
+}
+
+#[test]
+fn the_last_block_of_lanes_is_whole(rt: HostRuntime) -> Result<(), Fail> {
+    let alloc = rt.alloc();
+    check_bytes(
+        &rt,
+        alloc,
+        &[LeafType::U8, LeafType::U16],
+        &[&[1, 10], &[2, 20], &[3, 30]],
+        &aosoa(2),
+        &[b"\x01\x02\x0a\x00\x14\x00\x03\x00\x1e\x00\x00\x00"],
+    )?;
     Ok(())
 }
 
@@ -124,10 +298,8 @@ fn a_packed_view_lies_in_one_blob_and_nothing_else(rt: HostRuntime) -> Result<()
 fn the_edges_of_each_type_are_stored_and_what_lies_past_them_is_not(
     rt: HostRuntime,
 ) -> Result<(), Fail> {
-    let schema = schema(rt.alloc(), &KINDS)?;
-    let mut view = View::packed(rt.alloc(), &schema, 2)?;
-    for leaf in 0..schema.leaf_count() {
-        let kind = schema.leaf_type(leaf);
+    let mut view = view_of(rt.alloc(), &KINDS, 2, &aos(AosForm::Packed))?;
+    for (leaf, kind) in KINDS.iter().enumerate() {
         for edge in [kind.least(), kind.greatest()] {
             assert_eq!(rt; set(&mut view, 1, leaf, edge)?, Ok(()));
             assert_eq!(rt; get(&mut view, 1, leaf)?, edge);
@@ -140,5 +312,29 @@ fn the_edges_of_each_type_are_stored_and_what_lies_past_them_is_not(
         assert_eq!(rt; set(&mut view, 1, leaf, i128::MAX)?, Err(StoreFault::Range));
         assert_eq!(rt; set(&mut view, 1, leaf, i128::MIN)?, Err(StoreFault::Range));
     }
+    Ok(())
+}
+
+#[test]
+fn a_borrowed_row_is_stored_and_read(rt: HostRuntime) -> Result<(), Fail> {
+    let mut view = view_of(rt.alloc(), &THREE, 2, &soa(SoaForm::Multi))?;
+    assert_eq!(rt; set_in_row(&mut view, 1, 2, 7)?, (Ok(()), 7));
+    assert_eq!(rt;
+        set_in_row(&mut view, 1, 2, -1)?,
+        (Err(StoreFault::Range), 7)
+    );
+    assert_eq!(rt; get(&mut view, 0, 2)?, 0);
+    assert_eq!(rt; get(&mut view, 1, 2)?, 7);
+    Ok(())
+}
+
+#[test]
+fn no_view_is_made_of_bad_lanes_or_of_too_many_bytes(rt: HostRuntime) -> Result<(), Fail> {
+    let alloc = rt.alloc();
+    let schema = schema_of(alloc, &[LeafType::U64, LeafType::U64, LeafType::U8])?;
+    let lanes = View::new(alloc, &schema, extents_of(1)?, &aosoa(65));
+    assert_eq!(rt; lanes.err(), Some(MakeView::Bad(BadMapping::Lanes)));
+    let bytes = View::new(alloc, &schema, extents_of(1 << 24)?, &aos(AosForm::Packed));
+    assert_eq!(rt; bytes.err(), Some(MakeView::TooBig));
     Ok(())
 }

@@ -1,0 +1,98 @@
+use Rattle.std.proofs.Common.{ℤ, ℕ, ◌≡◌, ◌<◌, ◌^◌, ◌∙◌, ◌∷◌, [], List, length, get_or, set, subst, sym, ap, arith, rules, SFits}
+use Rattle.std.specs.Int.{w128}
+use Rattle.std.proofs.lemmas.Int.{to_z-of_z}
+use Rattle.std.proofs.lemmas.List.{get_or_default}
+use Rattle.record_dim.specs.LeafTypes.{IsIn}
+use Rattle.places.specs.declared.piece.Hold.{Hold}
+use Rattle.places.specs.Image.{number, digit}
+use Rattle.places.proofs.Numbers.{number_lt, digit_lt}
+use Rattle.blobs.specs.Bits.{bit_of}
+use Rattle.piece_bits.specs.Spots.{spots_of, IsWithin}
+use Rattle.piece_bits.proofs.Cells.{IsCell, hold_is, some_bits, few_bits, bit_count, apart, within, written_table, written_padding, still_laid}
+use Rattle.piece_bits.proofs.OnePiece.{one_count, write_one}
+use Rattle.piece_bits.proofs.SpotsOf.{nowhere}
+use Rattle.piece_bits.proofs.Writes.{AreWritten}
+use Rattle.piece_bits.proofs.entry.write_piece.Given as given
+use Rattle.piece_bits.proofs.entry.write_piece.Goals as goal
+use Rattle.piece_bits.proofs.entry.write_piece.Goals.{After-hold-hold, After-encode, After-put_bits}
+
+at : (g : given.Over) (c : goal.After-hold-hold g) →
+    IsCell (g.M.Mapping.layout c.args.mapping.now) (g.M.Mapping.slot_count c.args.mapping.now) (g.M.Mapping.hold_list c.args.mapping.now)
+    c.args.slot c.args.cell c.hold-hold.result (c.args.piece ∷ [])
+at g c =
+    let m = c.args.mapping.now in
+    record {
+      laid = g.met.M.Mapping.laws m;
+      slot_in = c.requires.slot_in;
+      cell_in = omega (arith, g.met.M.Mapping.holds_cells m);
+      is = c.hold-hold.ensures;
+      located = c.requires.located;
+    }
+
+held : (g : given.Over) (c : goal.After-hold-hold g) → IsIn c.hold-hold.result.signed c.hold-hold.result.width c.args.value
+held g c = subst (λ (h : Hold). IsIn h.signed h.width c.args.value) (hold_is (at g c)) c.requires.held
+
+pub encode-requires-clause-some : goal.encode-requires-clause-some
+encode-requires-clause-some g c = some_bits (at g ((goal.at.encode-requires-clause-some g c).After-hold-hold))
+
+pub encode-requires-clause-narrow : goal.encode-requires-clause-narrow
+encode-requires-clause-narrow g c = few_bits (at g ((goal.at.encode-requires-clause-narrow g c).After-hold-hold))
+
+pub encode-requires-clause-fits : goal.encode-requires-clause-fits
+encode-requires-clause-fits g c =
+    let fits : SFits w128 c.args.value = search rules in
+    subst (λ (v : ℤ). IsIn c.hold-hold.result.signed c.hold-hold.result.width v) (sym (to_z-of_z w128 c.args.value fits))
+    (held g ((goal.at.encode-requires-clause-fits g c).After-hold-hold))
+
+code : (g : given.Over) (c : goal.After-encode g) → c.encode.result ≡ number (digit c.args.value) c.hold-hold.result.width
+code g c =
+    let fits : SFits w128 c.args.value = search rules in
+    c.encode.ensures ∙ ap (λ (v : ℤ). number (digit v) c.hold-hold.result.width) (to_z-of_z w128 c.args.value fits)
+
+small : (g : given.Over) (c : goal.After-encode g) → c.encode.result < 2 ^ c.args.piece.bits
+small g c =
+    let here = at g ((goal.at.After-encode g c).After-hold-hold) in
+    let bits : c.hold-hold.result.width ≡ c.args.piece.bits = sym (bit_count here) ∙ one_count c.args.piece in
+    subst (λ (w : ℕ). w < 2 ^ c.args.piece.bits) (sym (code g c))
+    (subst (λ (n : ℕ). number (digit c.args.value) c.hold-hold.result.width < 2 ^ n) bits
+    (number_lt (digit c.args.value) c.hold-hold.result.width (λ k l. digit_lt c.args.value k)))
+
+pub put_bits-requires-clause-few : goal.put_bits-requires-clause-few
+put_bits-requires-clause-few g c =
+    let here = at g ((goal.at.put_bits-requires-clause-few g c).After-hold-hold) in
+    omega (arith, few_bits here, bit_count here, one_count c.args.piece)
+
+pub put_bits-requires-clause-fits : goal.put_bits-requires-clause-fits
+put_bits-requires-clause-fits g c = small g ((goal.at.put_bits-requires-clause-fits g c).After-encode)
+
+abbrev blobs_after : (g : given.Over) → goal.After-put_bits g → List (List ℕ)
+blobs_after g c = set c.args.blobs.now.items c.args.piece.blob c.put_bits.new.self
+
+written : (g : given.Over) (c : goal.After-put_bits g) →
+    AreWritten c.args.blobs.now.items (blobs_after g c) (spots_of (c.args.piece ∷ [])) (length (spots_of (c.args.piece ∷ []))) c.encode.result
+written g c =
+    let here = at g ((goal.at.After-put_bits g c).After-hold-hold) in
+    let piece = c.args.piece in
+    let old = get_or c.args.blobs.now.items piece.blob [] in
+    let inside : IsWithin c.args.blobs.now.items piece = within here c.args.blobs.now.items c.requires.laid 0 nowhere (omega arith) in
+    let blob : c.index_mut.result.now ≡ old = c.index_mut.ensures.value ∙ get_or_default c.args.blobs.now.items piece.blob _ [] inside.blob_in in
+    let same : (k : ℕ) → bit_of c.index_mut.result.now k ≡ bit_of old k = λ k. ap (λ (w : List ℕ). bit_of w k) blob in
+    let put = c.put_bits.ensures in
+    write_one c.args.blobs.now.items piece c.encode.result c.put_bits.new.self inside (apart here) (small g ((goal.at.After-put_bits g c).After-encode))
+    put.inside (λ k l. put.before k l ∙ same k) (λ k l. put.after k l ∙ same k) (put.len ∙ ap (length {A = ℕ}) blob)
+
+pub returns-clause-table : goal.returns-clause-table
+returns-clause-table g c =
+    let d = (goal.at.returns-clause-table g c).After-hold-hold in
+    let done = written g ((goal.at.returns-clause-table g c).After-put_bits) in
+    written_table (at g d) c.args.blobs.now.items (set c.args.blobs.now.items c.args.piece.blob c.put_bits.new.self) c.args.value c.encode.result
+    (code g ((goal.at.returns-clause-table g c).After-encode)) (held g d) done.inside done.outside
+
+pub returns-clause-still_laid : goal.returns-clause-still_laid
+returns-clause-still_laid g c =
+    let d = (goal.at.returns-clause-still_laid g c).After-hold-hold in
+    let done = written g ((goal.at.returns-clause-still_laid g c).After-put_bits) in
+    let old = c.args.blobs.now.items in
+    let new = set old c.args.piece.blob c.put_bits.new.self in
+    still_laid (g.M.Mapping.layout c.args.mapping.now) old new c.requires.laid done.lengths
+    (written_padding (at g d) old new c.args.value c.encode.result (code g ((goal.at.returns-clause-still_laid g c).After-encode)) (held g d) done.inside done.outside)

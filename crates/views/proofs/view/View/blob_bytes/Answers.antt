@@ -1,0 +1,42 @@
+use Rattle.std.proofs.Common.{ℕ, ◌≡◌, ◌+◌, ◌*◌, ◌≤◌, ◌∙◌, List, [], length, get_or, take, sym, ap, arith}
+use Rattle.std.specs.List.{sum_by}
+use Rattle.std.proofs.lemmas.List.{take_all, get_or_read}
+use Rattle.std.proofs.lemmas.List.Sums.{sum_by_more_le}
+use Rattle.record_dim.specs.Schemas.{schema_fields}
+use Rattle.record_dim.specs.Leaves.{kinds_of}
+use Rattle.map_expr.specs.Terms.{term_of}
+use Rattle.places.specs.Layout.{Owner}
+use Rattle.views.specs.Seen.{Seen, seen_layout}
+use Rattle.views.proofs.KeptLaws.{byte_count, few_bytes}
+use Rattle.views.proofs.view.View.blob_bytes.Goals as goal
+
+pub overflow_add-bytes : goal.overflow_add-bytes
+overflow_add-bytes c =
+    let a = c.self.inside in
+    let items = c.deref-blob-items.result.now in
+    let total : sum_by (length {A = ℕ}) items ≡ sum_by (length {A = ℕ}) a.blobs.items = ap (sum_by (length {A = ℕ})) c.deref-blob-items.ensures.value in
+    let more : sum_by (length {A = ℕ}) (take c.loop-blob.blob-index items) + length (get_or items c.loop-blob.blob-index []) ≤ sum_by (length {A = ℕ}) items =
+    sum_by_more_le (length {A = ℕ}) items c.loop-blob.blob-index [] c.loop-blob-test.true in
+    let item : c.blob-item.result ≡ get_or items c.loop-blob.blob-index [] = get_or_read items c.loop-blob.blob-index c.blob-item.result c.loop-blob-test.true c.blob-item.is [] in
+    let long : length c.blob-item.result ≡ length (get_or items c.loop-blob.blob-index []) = ap (length {A = ℕ}) item in
+    omega (arith, c.loop-blob.invariant, c.len.ensures, few_bytes (term_of a.expr) a.extents (kinds_of (schema_fields a.schema)) a.blobs.items c.self.invariant.1)
+
+pub returns-clause-sum : goal.returns-clause-sum
+returns-clause-sum c =
+    let a = c.self.inside in
+    let items = c.deref-blob-items.result.now in
+    let whole : take c.loop-blob.blob-index items ≡ items = take_all c.loop-blob.blob-index items (omega arith) in
+    let bytes : c.loop-blob.bytes ≡ sum_by (length {A = ℕ}) a.blobs.items =
+    c.loop-blob.invariant ∙ ap (sum_by (length {A = ℕ})) (whole ∙ c.deref-blob-items.ensures.value) in
+    ap (λ (n : ℕ). 8 * n) bytes
+    ∙ byte_count (term_of a.expr) a.extents (kinds_of (schema_fields a.schema)) a.blobs.items c.self.invariant.1
+    ∙ ap (λ (s : Seen). sum_by (length {A = Owner}) (seen_layout s)) c.self.view_is
+
+pub returns-clause-few : goal.returns-clause-few
+returns-clause-few c =
+    let a = c.self.inside in
+    let items = c.deref-blob-items.result.now in
+    let whole : take c.loop-blob.blob-index items ≡ items = take_all c.loop-blob.blob-index items (omega arith) in
+    let bytes : c.loop-blob.bytes ≡ sum_by (length {A = ℕ}) a.blobs.items =
+    c.loop-blob.invariant ∙ ap (sum_by (length {A = ℕ})) (whole ∙ c.deref-blob-items.ensures.value) in
+    omega (arith, few_bytes (term_of a.expr) a.extents (kinds_of (schema_fields a.schema)) a.blobs.items c.self.invariant.1)

@@ -1,0 +1,6 @@
+use Rattle.std.proofs.Common.{ℕ, ◌≡◌, length, take}
+use Rattle.std.specs.List.{sum_by}
+use Rattle.views.proofs.view.View.blob_bytes.Given as goal
+
+abbrev pub invariant-loop-blob : goal.invariant-loop-blob
+invariant-loop-blob l = l.bytes ≡ sum_by (length {A = ℕ}) (take l.blob-index l.blob-items)

@@ -1,0 +1,44 @@
+ghost use Rattle.std.specs.Prelude.{◌≡◌, ◌<◌, length};
+ghost use Rattle.record_dim.specs.LeafTypes.{IsIn};
+ghost use Rattle.places.specs.Image.{entry};
+ghost use Rattle.piece_bits.specs.Tables.{AreLaid, hold_at, table_in, with_entry};
+
+use crate::view::BlobList;
+use blobs::Blob;
+use map_any::AnyMap;
+use piece_bits::{read_entry, read_piece, write_entry, write_piece};
+use places::Mapping;
+
+/// The value of a leaf in a row, in one step where it lies in one piece.
+#[inline]
+pub fn read(map: &AnyMap, blobs: &[Blob], row: u64, leaf: usize) -> i128
+    requires row_in { row < ⟦<AnyMap as Mapping>⟧.slot_count map.now }
+    requires leaf_in { leaf < length (⟦<AnyMap as Mapping>⟧.cell_list map.now) }
+    requires laid { AreLaid (⟦<AnyMap as Mapping>⟧.layout map.now) blobs.now }
+    ensures { result ≡ entry (table_in (⟦<AnyMap as Mapping>⟧.layout map.now) (⟦<AnyMap as Mapping>⟧.slot_count map.now)
+        (⟦<AnyMap as Mapping>⟧.hold_list map.now) blobs.now) row leaf }
+{
+    match map.piece(row, leaf) {
+        Some(piece) => read_piece(map, blobs, row, leaf, piece),
+        None => read_entry(map, blobs, row, leaf),
+    }
+}
+
+/// Makes the value of a leaf in a row this one, in one step where it lies in one piece.
+#[inline]
+pub fn write(map: &AnyMap, blobs: &mut BlobList, row: u64, leaf: usize, value: i128)
+    requires row_in { row < ⟦<AnyMap as Mapping>⟧.slot_count map.now }
+    requires leaf_in { leaf < length (⟦<AnyMap as Mapping>⟧.cell_list map.now) }
+    requires laid { AreLaid (⟦<AnyMap as Mapping>⟧.layout map.now) blobs.old.items }
+    requires held { let hold = hold_at (⟦<AnyMap as Mapping>⟧.hold_list map.now) leaf in IsIn hold.signed hold.width value }
+    ensures table { table_in (⟦<AnyMap as Mapping>⟧.layout map.now) (⟦<AnyMap as Mapping>⟧.slot_count map.now)
+        (⟦<AnyMap as Mapping>⟧.hold_list map.now) blobs.new.items
+        ≡ with_entry (table_in (⟦<AnyMap as Mapping>⟧.layout map.now) (⟦<AnyMap as Mapping>⟧.slot_count map.now)
+        (⟦<AnyMap as Mapping>⟧.hold_list map.now) blobs.old.items) row leaf value }
+    ensures still_laid { AreLaid (⟦<AnyMap as Mapping>⟧.layout map.now) blobs.new.items }
+{
+    match map.piece(row, leaf) {
+        Some(piece) => write_piece(map, blobs, row, leaf, piece, value),
+        None => write_entry(map, blobs, row, leaf, value),
+    }
+}

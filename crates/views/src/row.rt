@@ -1,0 +1,64 @@
+ghost use Rattle.std.specs.Prelude.{◌≡◌, ◌+◌, ◌<◌, OnOk, OnErr, length};
+ghost use Rattle.places.specs.Image.{entry};
+ghost use Rattle.piece_bits.specs.Tables.{hold_at, with_entry};
+ghost use Rattle.views.specs.Stores.{Fits};
+ghost use Rattle.views.specs.Seen.{leaf_count_of, leaf_type_of, seen_holds, answer_of};
+
+use crate::fault::StoreFault;
+use crate::view::View;
+use std::sync::ledger::Ledger;
+use steps::Steps;
+
+/// One row of a view that is borrowed.
+#[derive(Drop)]
+pub struct RowRef<'a> {
+    view: &'a mut View,
+    row: u64,
+}
+
+impl View {
+    /// The row of this number.
+    pub fn row_mut(&mut self, row: u64) -> RowRef<'_>
+        requires { row < length self.old.table }
+        ensures same_view { result.view.ghost_name ≡ self.entry.ghost_name }
+        ensures view { result.view.now ≡ self.old }
+        ensures row { result.row ≡ row }
+    {
+        RowRef { view: self, row }
+    }
+}
+
+impl RowRef<'_> {
+    /// The value of a leaf in the row. It takes one step.
+    pub fn get<L: Ledger>(&mut self, leaf: usize, steps: &mut Steps<L>) -> i128
+        requires row_in { self.old.row < length self.old.view.now.table }
+        requires leaf_in { leaf < leaf_count_of self.old.view.now }
+        ensures value { result ≡ entry self.old.view.now.table self.old.row leaf }
+        ensures fits { Fits (leaf_type_of self.old.view.now leaf) (hold_at (seen_holds self.old.view.now) leaf) result }
+        ensures same { self.new.view.now ≡ self.old.view.now }
+        ensures same_row { self.new.row ≡ self.old.row }
+        ensures same_view { self.new.view.ghost_name ≡ self.old.view.ghost_name }
+        ensures step { steps.new ≡ steps.old + 1 }
+    {
+        self.view.get(self.row, leaf, steps)
+    }
+
+    /// Makes the value of a leaf in the row this one. It takes one step, also where the value does not fit; then the table stands.
+    pub fn set<L: Ledger>(
+        &mut self,
+        leaf: usize,
+        value: i128,
+        steps: &mut Steps<L>,
+    ) -> Result<(), StoreFault>
+        requires row_in { self.old.row < length self.old.view.now.table }
+        requires leaf_in { leaf < leaf_count_of self.old.view.now }
+        ensures answer { result ≡ answer_of self.old.view.now leaf value }
+        ensures stored { OnOk result (self.new.view.now ≡ record self.old.view.now { table = with_entry self.old.view.now.table self.old.row leaf value }) }
+        ensures refused { OnErr result (self.new.view.now ≡ self.old.view.now) }
+        ensures same_row { self.new.row ≡ self.old.row }
+        ensures same_view { self.new.view.ghost_name ≡ self.old.view.ghost_name }
+        ensures step { steps.new ≡ steps.old + 1 }
+    {
+        self.view.set(self.row, leaf, value, steps)
+    }
+}
