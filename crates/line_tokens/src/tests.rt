@@ -18,7 +18,7 @@ fn span_of(next: Next) -> (usize, usize) {
 
 #[test]
 fn each_form_is_read_up_to_its_limits(rt: HostRuntime) {
-    let cases: [(&[u8], usize, usize); 22] = [
+    let cases: [(&[u8], usize, usize); 25] = [
         (b" \t ", 0, 0),
         (b"\t # \xFF {", 0, 0),
         (b"\t _a9 b", 2, 5),
@@ -29,15 +29,18 @@ fn each_form_is_read_up_to_its_limits(rt: HostRuntime) {
         (b" 170141183460469231731687303715884105728", 1, 1),
         (b" 999999999999999999999999999999999999999999", 1, 1),
         (b"\"a b#\"# c", 0, 6),
+        (b"# \"a\"", 0, 0),
+        (b" \"a #", 1, 1),
         (b" \"\"", 1, 1),
         (b"  \"abc", 2, 2),
         (b" \"a\\\"", 1, 1),
         (b" \"a\tb\"", 1, 1),
         (b"->", 0, 2),
         (b"- >", 0, 1),
+        (b"= ==", 0, 1),
         (b"===", 0, 2),
         (b"< =", 0, 1),
-        (b"! =", 0, 0),
+        (b" ! =", 1, 1),
         (b" !", 1, 1),
         (b" \x80abc", 1, 1),
         (b" &", 1, 1),
