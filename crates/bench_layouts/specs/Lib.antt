@@ -1,0 +1,4 @@
+pub mod Formula
+pub mod Modes
+pub mod Samples
+pub mod Totals

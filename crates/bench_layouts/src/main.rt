@@ -1,0 +1,32 @@
+// Measures what no script reaches: the words name what is done and how often, and its checksum is printed.
+#![tactic(auto)]
+
+mod evaluation;
+mod fault;
+mod formula;
+mod mode;
+mod sample;
+
+use crate::mode::Mode;
+use std::process::ExitCode;
+use std::{env, io};
+
+const USAGE: u8 = 2;
+
+const FAULT: u8 = 1;
+
+fn main(rt: HostRuntime) -> io::Result<ExitCode> {
+    let words: Vec<String> = env::args(&rt)?.skip(1).collect(rt.alloc())?;
+    let Some(mode) = Mode::of(words.as_slice()) else {
+        println!(rt; "usage: bench_layouts eval ROWS")?;
+        return Ok(ExitCode::from(USAGE));
+    };
+    match mode.checksum(rt.alloc()) {
+        Ok(checksum) => println!(rt; "{checksum}")?,
+        Err(fault) => {
+            println!(rt; "{fault:?}")?;
+            return Ok(ExitCode::from(FAULT));
+        }
+    }
+    Ok(ExitCode::SUCCESS)
+}
