@@ -1,0 +1,288 @@
+-- The grammar of a line. A word or a sign in `Behind` stands for itself, and `Joined` puts one phrase behind another.
+-- `n` bounds how deep brackets nest in the recursive phrases: a line has any such depth.
+use Rattle.std.specs.Prelude.{ℕ, zero, suc, List, [], ◌∷◌, ◌++◌, map, Option, Some, None, codes, ℤ, neg_ℤ}
+use Rattle.phrases.specs.Phrases.{IsItem, Behind, Joined, IsEither, IsNothing, Repeats}
+use Rattle.phrases.specs.Column.{IsAny}
+use Rattle.line_tokens.specs.declared.sign.Sign.TheVariants.{OpenBrace, CloseBrace, OpenBracket, CloseBracket, OpenParen, CloseParen, Colon, Comma, Dot, Equals, Minus, Arrow, Question}
+use Rattle.record_dim.specs.declared.leaf_type.LeafType.{LeafType}
+use Rattle.record_dim.specs.declared.path.PathStep.{PathStep}
+use Rattle.record_dim.specs.declared.path.PathStep.TheVariants as step
+use Rattle.record_dim.specs.Trees.{Tree, Single, Record, Array, Fields, End, Field}
+use Rattle.extents.specs.declared.words.ExtentWord.{ExtentWord}
+use Rattle.extents.specs.declared.words.ExtentWord.TheVariants as extent
+use Rattle.expr_lang.specs.declared.expr.BinOp.{BinOp}
+use Rattle.expr_lang.specs.Terms.{Number as Constant, Entry, Index, Neg, Not, Binary}
+use Rattle.map_expr.specs.Terms.{Term as MapTerm, Aos, Soa, Aosoa, BitAos, BitSoa, Split, Byteswap, Bytesplit, Change, Count as Counted, Heat as Heated, Named}
+use Rattle.line_grammar.specs.declared.token.Token.{Token}
+use Rattle.line_grammar.specs.declared.token.Token.TheVariants.{Word, Sign}
+use Rattle.line_grammar.specs.declared.line.Command.{Command}
+use Rattle.line_grammar.specs.declared.line.Command.TheVariants as command
+use Rattle.line_grammar.specs.declared.line.KernelText.{KernelText}
+use Rattle.line_grammar.specs.declared.line.KernelText.TheVariants as kernel
+use Rattle.line_grammar.specs.declared.line.KernelWord.{KernelWord}
+use Rattle.line_grammar.specs.declared.line.KernelWord.TheVariants as kernel_word
+use Rattle.line_grammar.specs.declared.line.MapWord.{MapWord}
+use Rattle.line_grammar.specs.declared.line.MapWord.TheVariants as form
+use Rattle.line_grammar.specs.Tokens.{name_of, number_of, count_of, string_of, type_of, integer_type_of, order_of, aos_form_of, soa_form_of, map_word, index_of, choice_of, or_of, and_of, comparison_of, sum_of, product_of, kernel_word_of, reduction_of, command_of}
+use Rattle.line_grammar.specs.Sentences.{Assignment, Sentence, Value, Blank, Define, Mapping, View, Load, Assign, Update, Kernel, Reduce, Count, Copy, Relayout, Print, Counts, Heat, Layout, Drop, Bytes}
+
+-- what is said of phrases: a list of tokens, and the value that it has
+abbrev pub Phrase : Type 0 → Type 1
+Phrase A = List Token → A → Type 0
+
+-- NAME, NUMBER, COUNT, STRING
+abbrev pub IsName : Phrase (List ℕ)
+IsName = IsItem name_of
+
+abbrev pub IsNumber : Phrase ℤ
+IsNumber = IsItem number_of
+
+abbrev pub IsCount : Phrase ℕ
+IsCount = IsItem count_of
+
+abbrev pub IsString : Phrase (List ℕ)
+IsString = IsItem string_of
+
+-- one phrase more at the end of those found
+abbrev pub IsMore : {A : Type 0} → Phrase A → List A → Phrase (List A)
+IsMore Is found = Joined Is (λ next. IsNothing (found ++ next ∷ []))
+
+-- phrase ("," phrase)*
+abbrev pub IsListed : {A : Type 0} → Phrase A → Phrase (List A)
+IsListed Is = Joined Is (λ first. Repeats (IsMore (Behind (Sign Comma) Is)) (first ∷ []))
+
+-- "." NAME | "[" COUNT "]"
+abbrev pub IsPart : Phrase PathStep
+IsPart = IsEither
+    (Behind (Sign Dot) (Joined IsName (λ name. IsNothing (step.Name name))))
+    (Behind (Sign OpenBracket) (Joined IsCount (λ number. Behind (Sign CloseBracket) (IsNothing (step.At number)))))
+
+-- path = NAME ("." NAME | "[" COUNT "]")*
+abbrev pub IsPath : Phrase (List PathStep)
+IsPath = Joined IsName (λ name. Repeats (IsMore IsPart) (step.Name name ∷ []))
+
+-- dims = ("[" COUNT "]")*
+abbrev pub IsDim : Phrase ℕ
+IsDim = Behind (Sign OpenBracket) (Joined IsCount (λ count. Behind (Sign CloseBracket) (IsNothing count)))
+
+abbrev pub IsDims : Phrase (List ℕ)
+IsDims = Repeats (IsMore IsDim) []
+
+-- the first count is the outermost: `u8[4][2]` is an array of 4 arrays of 2
+abbrev pub arrays : List ℕ → Tree → Tree
+arrays [] tree = tree
+arrays (count ∷ counts) tree = Array count (arrays counts tree)
+
+-- the fields of a record, in order
+abbrev pub fields_of_list : List (List ℕ × Tree) → Fields
+fields_of_list [] = End
+fields_of_list (field ∷ fields) = Field field.0 field.1 (fields_of_list fields)
+
+-- ":" TYPE dims, and fields dims
+abbrev pub IsTyped : List ℕ → Phrase (List ℕ × Tree)
+IsTyped name = Behind (Sign Colon) (Joined (IsItem type_of) (λ kind. Joined IsDims (λ counts. IsNothing (name, arrays counts (Single kind)))))
+
+abbrev pub IsNested : Phrase Fields → List ℕ → Phrase (List ℕ × Tree)
+IsNested IsInner name = Joined IsInner (λ fields. Joined IsDims (λ counts. IsNothing (name, arrays counts (Record fields))))
+
+-- "{" field ("," field)* "}"
+abbrev pub IsBraced : Phrase (List ℕ × Tree) → Phrase Fields
+IsBraced IsField = Behind (Sign OpenBrace) (Joined (IsListed IsField) (λ fields. Behind (Sign CloseBrace) (IsNothing (fields_of_list fields))))
+
+-- field = NAME ":" TYPE dims | NAME fields dims
+-- fields = "{" field ("," field)* "}"
+abbrev pub IsField : ℕ → Phrase (List ℕ × Tree)
+IsField zero = Joined IsName IsTyped
+IsField (suc n) = Joined IsName (λ name. IsEither (IsTyped name) (IsNested (IsBraced (IsField n)) name))
+
+abbrev pub IsFields : ℕ → Phrase Fields
+IsFields n = IsBraced (IsField n)
+
+-- const = "-"? NUMBER
+abbrev pub IsConst : Phrase ℤ
+IsConst = IsEither (Behind (Sign Minus) (Joined IsNumber (λ number. IsNothing (neg_ℤ number)))) IsNumber
+
+-- the inside of a form's brackets, in which maps are `IsMap`
+abbrev pub IsForm : Phrase MapTerm → MapWord → Phrase MapTerm
+-- ("packed" | "aligned" | "min") "," order
+IsForm IsMap form.Aos = Joined (IsItem aos_form_of) (λ form. Behind (Sign Comma) (Joined (IsItem order_of) (λ order. IsNothing (Aos form order))))
+-- ("single" | "aligned" | "multi") "," order
+IsForm IsMap form.Soa = Joined (IsItem soa_form_of) (λ form. Behind (Sign Comma) (Joined (IsItem order_of) (λ order. IsNothing (Soa form order))))
+-- COUNT "," order
+IsForm IsMap form.Aosoa = Joined IsCount (λ lanes. Behind (Sign Comma) (Joined (IsItem order_of) (λ order. IsNothing (Aosoa lanes order))))
+IsForm IsMap form.BitAos = Joined IsCount (λ width. Behind (Sign Comma) (Joined (IsItem order_of) (λ order. IsNothing (BitAos width order))))
+IsForm IsMap form.BitSoa = Joined IsCount (λ width. Behind (Sign Comma) (Joined (IsItem order_of) (λ order. IsNothing (BitSoa width order))))
+-- path "," map "," map
+IsForm IsMap form.Split = Joined IsPath (λ path. Behind (Sign Comma) (Joined IsMap (λ first. Behind (Sign Comma) (Joined IsMap (λ rest. IsNothing (Split path first rest))))))
+-- map
+IsForm IsMap form.Byteswap = Joined IsMap (λ inner. IsNothing (Byteswap inner))
+IsForm IsMap form.Bytesplit = Joined IsMap (λ inner. IsNothing (Bytesplit inner))
+-- TYPE "->" INTTYPE "," map
+IsForm IsMap form.Change = Joined (IsItem type_of) (λ from. Behind (Sign Arrow) (Joined (IsItem integer_type_of) (λ to. Behind (Sign Comma) (Joined IsMap (λ inner. IsNothing (Change from to inner))))))
+-- map
+IsForm IsMap form.Count = Joined IsMap (λ inner. IsNothing (Counted inner))
+-- COUNT "," map
+IsForm IsMap form.Heat = Joined IsCount (λ granule. Behind (Sign Comma) (Joined IsMap (λ inner. IsNothing (Heated granule inner))))
+
+-- a word that begins a form is that form where "(" follows it, and a NAME else
+abbrev pub IsFormOrName : Phrase MapTerm → List ℕ → Option MapWord → Phrase MapTerm
+IsFormOrName IsMap word None = IsNothing (Named word)
+IsFormOrName IsMap word (Some form) = IsEither
+    (Behind (Sign OpenParen) (Joined (IsForm IsMap form) (λ map. Behind (Sign CloseParen) (IsNothing map))))
+    (IsNothing (Named word))
+
+-- map = WORD "(" .. ")" | NAME
+abbrev pub IsMap : ℕ → Phrase MapTerm
+IsMap zero = Joined IsName (λ word. IsNothing (Named word))
+IsMap (suc n) = Joined IsName (λ word. IsFormOrName (IsMap n) word (map_word word))
+
+-- phrase (operator phrase)*, grouped to the left
+abbrev pub IsLink : (Token → Option BinOp) → Phrase Value → Value → Phrase Value
+IsLink operator Is left = Joined (IsItem operator) (λ op. Joined Is (λ right. IsNothing (Binary op left right)))
+
+abbrev pub IsChain : (Token → Option BinOp) → Phrase Value → Phrase Value
+IsChain operator Is = Joined Is (Repeats (IsLink operator Is))
+
+-- a value with so many of one operator in front
+abbrev pub wrapped : (Value → Value) → ℕ → Value → Value
+wrapped wrap zero value = value
+wrapped wrap (suc n) value = wrap (wrapped wrap n value)
+
+-- token* phrase
+abbrev pub IsPrefix : Token → ℕ → Phrase ℕ
+IsPrefix token n = Behind token (IsNothing (suc n))
+
+abbrev pub IsPrefixed : Token → (Value → Value) → Phrase Value → Phrase Value
+IsPrefixed token wrap Is = Joined (Repeats (IsPrefix token) zero) (λ n. Joined Is (λ value. IsNothing (wrapped wrap n value)))
+
+-- unary = "-"* atom
+-- prod = unary (("*" | "/" | "%") unary)*
+-- sum = prod (("+" | "-") prod)*
+abbrev pub IsUnary : Phrase Value → Phrase Value
+IsUnary IsAtom = IsPrefixed (Sign Minus) Neg IsAtom
+
+abbrev pub IsProduct : Phrase Value → Phrase Value
+IsProduct IsAtom = IsChain product_of (IsUnary IsAtom)
+
+abbrev pub IsSum : Phrase Value → Phrase Value
+IsSum IsAtom = IsChain sum_of (IsProduct IsAtom)
+
+-- comp = sum (cmp sum)?
+abbrev pub IsComparison : Phrase Value → Phrase Value
+IsComparison IsAtom = Joined (IsSum IsAtom) (λ left. IsEither (IsLink comparison_of (IsSum IsAtom) left) (IsNothing left))
+
+-- neg = "not"* comp
+-- conj = neg ("and" neg)*
+-- expr = conj ("or" conj)*
+abbrev pub IsNegation : Phrase Value → Phrase Value
+IsNegation IsAtom = IsPrefixed (Word (codes "not")) Not (IsComparison IsAtom)
+
+abbrev pub IsConjunction : Phrase Value → Phrase Value
+IsConjunction IsAtom = IsChain and_of (IsNegation IsAtom)
+
+abbrev pub IsExprOver : Phrase Value → Phrase Value
+IsExprOver IsAtom = IsChain or_of (IsConjunction IsAtom)
+
+-- NUMBER | "i0" | "i1" | "i2" | "i3" | path
+abbrev pub IsLeaf : Phrase Value
+IsLeaf = IsEither (Joined IsNumber (λ number. IsNothing (Constant number)))
+    (IsEither (Joined (IsItem index_of) (λ dimension. IsNothing (Index dimension)))
+    (Joined IsPath (λ path. IsNothing (Entry path))))
+
+-- ("min" | "max") "(" expr "," expr ")"
+abbrev pub IsChoice : Phrase Value → Phrase Value
+IsChoice IsExpr = Joined (IsItem choice_of) (λ op. Behind (Sign OpenParen) (Joined IsExpr (λ left. Behind (Sign Comma) (Joined IsExpr (λ right. Behind (Sign CloseParen) (IsNothing (Binary op left right)))))))
+
+-- "(" expr ")", which gives no node
+abbrev pub IsBracketed : Phrase Value → Phrase Value
+IsBracketed IsExpr = Behind (Sign OpenParen) (Joined IsExpr (λ value. Behind (Sign CloseParen) (IsNothing value)))
+
+-- atom = NUMBER | "i0" | "i1" | "i2" | "i3" | path | ("min" | "max") "(" expr "," expr ")" | "(" expr ")"
+abbrev pub IsAtom : ℕ → Phrase Value
+IsAtom zero = IsLeaf
+IsAtom (suc n) = IsEither (IsBracketed (IsExprOver (IsAtom n))) (IsEither (IsChoice (IsExprOver (IsAtom n))) IsLeaf)
+
+abbrev pub IsExpr : ℕ → Phrase Value
+IsExpr n = IsExprOver (IsAtom n)
+
+-- ext = COUNT | "?"
+abbrev pub IsFixed : Phrase ExtentWord
+IsFixed = Joined IsCount (λ count. IsNothing (extent.Fixed count))
+
+abbrev pub IsExtent : Phrase ExtentWord
+IsExtent = IsEither (Behind (Sign Question) (IsNothing extent.Rows)) IsFixed
+
+-- "[" phrase ("," phrase)* "]"
+abbrev pub IsBracketList : {A : Type 0} → Phrase A → Phrase (List A)
+IsBracketList Is = Behind (Sign OpenBracket) (Joined (IsListed Is) (λ found. Behind (Sign CloseBracket) (IsNothing found)))
+
+-- path "=" expr
+abbrev pub IsAssignment : ℕ → Phrase Assignment
+IsAssignment n = Joined IsPath (λ path. Behind (Sign Equals) (Joined (IsExpr n) (λ value. IsNothing (record { path = path; value = value }))))
+
+-- ("where" expr)?
+abbrev pub IsFilter : ℕ → Phrase (Option Value)
+IsFilter n = IsEither (Behind (Word (codes "where")) (Joined (IsExpr n) (λ filter. IsNothing (Some filter)))) (IsNothing None)
+
+-- the inside of a kernel's brackets
+abbrev pub IsKernelInside : KernelWord → Phrase KernelText
+-- const "," path "," path
+IsKernelInside kernel_word.Axpy = Joined IsConst (λ a. Behind (Sign Comma) (Joined IsPath (λ x. Behind (Sign Comma) (Joined IsPath (λ y. IsNothing (kernel.Axpy a x y))))))
+-- path "," const "," const
+IsKernelInside kernel_word.Clamp = Joined IsPath (λ x. Behind (Sign Comma) (Joined IsConst (λ lo. Behind (Sign Comma) (Joined IsConst (λ hi. IsNothing (kernel.Clamp x lo hi))))))
+-- path
+IsKernelInside kernel_word.Sum = Joined IsPath (λ x. IsNothing (kernel.Sum x))
+IsKernelInside kernel_word.Least = Joined IsPath (λ x. IsNothing (kernel.Least x))
+IsKernelInside kernel_word.Greatest = Joined IsPath (λ x. IsNothing (kernel.Greatest x))
+-- path cmp const
+IsKernelInside kernel_word.CountWhere = Joined IsPath (λ x. Joined (IsItem comparison_of) (λ op. Joined IsConst (λ c. IsNothing (kernel.CountWhere x op c))))
+
+-- kern = WORD "(" .. ")"
+abbrev pub IsKernel : Phrase KernelText
+IsKernel = Joined (IsItem kernel_word_of) (λ word. Behind (Sign OpenParen) (Joined (IsKernelInside word) (λ kernel. Behind (Sign CloseParen) (IsNothing kernel))))
+
+-- what stands behind the word of a command
+abbrev pub IsBody : ℕ → Command → Phrase Sentence
+-- "record" NAME fields
+IsBody n command.Record = Joined IsName (λ name. Joined (IsFields n) (λ fields. IsNothing (Define name (Record fields))))
+-- "mapping" NAME "=" map
+IsBody n command.Mapping = Joined IsName (λ name. Behind (Sign Equals) (Joined (IsMap n) (λ map. IsNothing (Mapping name map))))
+-- "view" NAME ":" NAME "[" COUNT ("," COUNT)* "]" "as" map
+IsBody n command.View = Joined IsName (λ name. Behind (Sign Colon) (Joined IsName (λ schema. Joined (IsBracketList IsFixed) (λ words.
+    Behind (Word (codes "as")) (Joined (IsMap n) (λ map. IsNothing (View name schema words map)))))))
+-- "load" NAME ":" NAME "[" ext ("," ext)* "]" "as" map "from" STRING
+IsBody n command.Load = Joined IsName (λ name. Behind (Sign Colon) (Joined IsName (λ schema. Joined (IsBracketList IsExtent) (λ words.
+    Behind (Word (codes "as")) (Joined (IsMap n) (λ map. Behind (Word (codes "from")) (Joined IsString (λ file. IsNothing (Load name schema words map file)))))))))
+-- "set" NAME "[" COUNT ("," COUNT)* "]" "." path "=" expr
+IsBody n command.Set = Joined IsName (λ view. Joined (IsBracketList IsCount) (λ index. Behind (Sign Dot) (Joined IsPath (λ path. Behind (Sign Equals) (Joined (IsExpr n) (λ value. IsNothing (Assign view index path value)))))))
+-- "update" NAME ("where" expr)? "set" path "=" expr ("," path "=" expr)*
+IsBody n command.Update = Joined IsName (λ view. Joined (IsFilter n) (λ filter. Behind (Word (codes "set")) (Joined (IsListed (IsAssignment n)) (λ sets. IsNothing (Update view filter sets)))))
+-- "kernel" NAME kern "lanes" COUNT
+IsBody n command.Kernel = Joined IsName (λ view. Joined IsKernel (λ kernel. Behind (Word (codes "lanes")) (Joined IsCount (λ lanes. IsNothing (Kernel view kernel lanes)))))
+-- "reduce" NAME "count" "where" expr | "reduce" NAME ("sum" | "min" | "max") path
+IsBody n command.Reduce = Joined IsName (λ view. IsEither
+    (Behind (Word (codes "count")) (Behind (Word (codes "where")) (Joined (IsExpr n) (λ filter. IsNothing (Count view filter)))))
+    (Joined (IsItem reduction_of) (λ kind. Joined IsPath (λ path. IsNothing (Reduce view kind path)))))
+-- "copy" NAME "to" NAME
+IsBody n command.Copy = Joined IsName (λ source. Behind (Word (codes "to")) (Joined IsName (λ target. IsNothing (Copy source target))))
+-- "relayout" NAME "as" map
+IsBody n command.Relayout = Joined IsName (λ view. Behind (Word (codes "as")) (Joined (IsMap n) (λ map. IsNothing (Relayout view map))))
+-- ("print" | "counts" | "heat" | "layout" | "drop") NAME
+IsBody n command.Print = Joined IsName (λ view. IsNothing (Print view))
+IsBody n command.Counts = Joined IsName (λ view. IsNothing (Counts view))
+IsBody n command.Heat = Joined IsName (λ view. IsNothing (Heat view))
+IsBody n command.Layout = Joined IsName (λ view. IsNothing (Layout view))
+IsBody n command.Drop = Joined IsName (λ view. IsNothing (Drop view))
+-- "bytes" NAME COUNT
+IsBody n command.Bytes = Joined IsName (λ view. Joined IsCount (λ blob. IsNothing (Bytes view blob)))
+
+-- line = nothing | command
+abbrev pub IsCommand : ℕ → Phrase Sentence
+IsCommand n = Joined (IsItem command_of) (IsBody n)
+
+abbrev pub IsLine : ℕ → Phrase Sentence
+IsLine n = IsEither (IsNothing Blank) (IsCommand n)
+
+-- a line, however deep its brackets nest
+abbrev pub IsSentence : Phrase Sentence
+IsSentence = IsAny IsLine

@@ -1,0 +1,5 @@
+pub mod FileNames
+pub mod Tokens
+pub mod Sentences
+pub mod Grammar
+pub mod Reads

@@ -1,0 +1,81 @@
+-- The lines of a script without pointers, and the lines of the code's values.
+use Rattle.std.specs.Prelude.{ℕ, max, List, [], ◌∷◌, map, Option, Some, None, option_map}
+use Rattle.record_dim.specs.declared.path.PathStep.{PathStep}
+use Rattle.record_dim.specs.Trees.{Tree, tree_of}
+use Rattle.extents.specs.declared.words.ExtentWord.{ExtentWord}
+use Rattle.expr_lang.specs.Terms.{Term, term_of, depth_of}
+use Rattle.map_expr.specs.Terms.{Term as MapTerm, term_of as map_of}
+use Rattle.line_grammar.specs.declared.line.KernelText.{KernelText}
+use Rattle.line_grammar.specs.declared.line.Line.{Line}
+use Rattle.line_grammar.specs.declared.line.Line.TheVariants as line
+use Rattle.line_grammar.specs.declared.line.ReduceKind.{ReduceKind}
+use Rattle.line_grammar.specs.declared.line.SetText.{SetText}
+
+-- an expression whose leaves are named by their paths
+abbrev pub Value : Type 0
+Value = Term (List PathStep)
+
+-- the path of a leaf, and the value that it gets
+pub record Assignment : Type 0 where
+  pub path : List PathStep
+  pub value : Value
+
+-- a line; a name is its bytes, and a path the list of its steps
+pub data Sentence : Type 0 where
+  Blank : Sentence
+  Define : List ℕ → Tree → Sentence
+  Mapping : List ℕ → MapTerm → Sentence
+  View : List ℕ → List ℕ → List ExtentWord → MapTerm → Sentence
+  Load : List ℕ → List ℕ → List ExtentWord → MapTerm → List ℕ → Sentence
+  Assign : List ℕ → List ℕ → List PathStep → Value → Sentence
+  Update : List ℕ → Option Value → List Assignment → Sentence
+  Kernel : List ℕ → KernelText → ℕ → Sentence
+  Reduce : List ℕ → ReduceKind → List PathStep → Sentence
+  Count : List ℕ → Value → Sentence
+  Copy : List ℕ → List ℕ → Sentence
+  Relayout : List ℕ → MapTerm → Sentence
+  Print : List ℕ → Sentence
+  Counts : List ℕ → Sentence
+  Heat : List ℕ → Sentence
+  Layout : List ℕ → Sentence
+  Drop : List ℕ → Sentence
+  Bytes : List ℕ → ℕ → Sentence
+
+-- the line that a value of the code stands for
+abbrev pub assignment_of : SetText → Assignment
+assignment_of set = record { path = set.path; value = term_of set.value }
+
+abbrev pub sentence_of : Line → Sentence
+sentence_of line.Blank = Blank
+sentence_of (line.Define name dim) = Define name (tree_of dim)
+sentence_of (line.Mapping name expr) = Mapping name (map_of expr)
+sentence_of (line.View name schema words expr) = View name schema words (map_of expr)
+sentence_of (line.Load name schema words expr file) = Load name schema words (map_of expr) file
+sentence_of (line.Assign view index path value) = Assign view index path (term_of value)
+sentence_of (line.Update view filter sets) = Update view (option_map term_of filter) (map assignment_of sets)
+sentence_of (line.Kernel view kernel lanes) = Kernel view kernel lanes
+sentence_of (line.Reduce view kind path) = Reduce view kind path
+sentence_of (line.Count view filter) = Count view (term_of filter)
+sentence_of (line.Copy source target) = Copy source target
+sentence_of (line.Relayout view expr) = Relayout view (map_of expr)
+sentence_of (line.Print view) = Print view
+sentence_of (line.Counts view) = Counts view
+sentence_of (line.Heat view) = Heat view
+sentence_of (line.Layout view) = Layout view
+sentence_of (line.Drop view) = Drop view
+sentence_of (line.Bytes view blob) = Bytes view blob
+
+-- the depth of the deepest expression, and 0 where there is none
+abbrev pub deepest_set : List Assignment → ℕ
+deepest_set [] = 0
+deepest_set (set ∷ sets) = max (depth_of set.value) (deepest_set sets)
+
+abbrev pub filter_depth : Option Value → ℕ
+filter_depth None = 0
+filter_depth (Some filter) = depth_of filter
+
+abbrev pub deepest : Sentence → ℕ
+deepest (Assign view index path value) = depth_of value
+deepest (Update view filter sets) = max (filter_depth filter) (deepest_set sets)
+deepest (Count view filter) = depth_of filter
+deepest _ = 0

@@ -1,0 +1,174 @@
+use crate::FileName;
+use expr_lang::{BinOp, Expr};
+use extents::ExtentWord;
+use lists::Sequence;
+use map_expr::MapExpr;
+use record_dim::{Dim, Name, Path};
+
+/// The extents of a view, in order.
+pub type ExtentWords = Sequence<ExtentWord>;
+
+/// The index of a row, in order.
+pub type IndexWords = Sequence<u32>;
+
+/// The assignments of an update, in order.
+pub type SetList = Sequence<SetText>;
+
+/// One line of a script.
+#[derive(Debug, Drop)]
+pub enum Line {
+    /// A line without tokens, which does nothing.
+    Blank,
+    /// Names a record.
+    Define {
+        name: Name,
+        dim: Dim,
+    },
+    /// Names a mapping.
+    Mapping {
+        name: Name,
+        expr: MapExpr,
+    },
+    /// A view of zeros over the record `schema`.
+    View {
+        name: Name,
+        schema: Name,
+        words: ExtentWords,
+        expr: MapExpr,
+    },
+    /// A view over the record `schema` with the values of the dataset `file`.
+    Load {
+        name: Name,
+        schema: Name,
+        words: ExtentWords,
+        expr: MapExpr,
+        file: FileName,
+    },
+    /// Stores a value in one row.
+    Assign {
+        view: Name,
+        index: IndexWords,
+        path: Path,
+        value: Expr,
+    },
+    /// Stores values in each row where the filter is not 0, and in each row where there is none.
+    Update {
+        view: Name,
+        filter: Option<Expr>,
+        sets: SetList,
+    },
+    /// Runs a kernel over so many lanes.
+    Kernel {
+        view: Name,
+        kernel: KernelText,
+        lanes: u32,
+    },
+    /// One number of all rows.
+    Reduce {
+        view: Name,
+        kind: ReduceKind,
+        path: Path,
+    },
+    /// The number of rows where the filter is not 0.
+    Count {
+        view: Name,
+        filter: Expr,
+    },
+    /// Copies the table of `source` to `target`.
+    Copy {
+        source: Name,
+        target: Name,
+    },
+    /// The same table under another mapping.
+    Relayout {
+        view: Name,
+        expr: MapExpr,
+    },
+    Print(Name),
+    Counts(Name),
+    Heat(Name),
+    Layout(Name),
+    Drop(Name),
+    /// The bytes of one blob.
+    Bytes {
+        view: Name,
+        blob: u32,
+    },
+}
+
+/// The path of a leaf, and the value that it gets.
+#[derive(Debug, Drop)]
+pub struct SetText {
+    pub path: Path,
+    pub value: Expr,
+}
+
+/// What a reduction gives.
+#[derive(Clone, Copy, Debug, PartialEq, Eq)]
+pub enum ReduceKind {
+    Sum,
+    Min,
+    Max,
+}
+
+/// A kernel with its leaves and numbers.
+#[derive(Debug, Drop)]
+pub enum KernelText {
+    /// `y + a * x` becomes `y`.
+    Axpy { a: i128, x: Path, y: Path },
+    /// `x` becomes the nearest number from `lo` to `hi`.
+    Clamp { x: Path, lo: i128, hi: i128 },
+    Sum(Path),
+    Least(Path),
+    Greatest(Path),
+    /// How many rows compare so. `op` is one of the six comparisons.
+    CountWhere { x: Path, op: BinOp, c: i128 },
+}
+
+/// The word that begins a line.
+#[derive(Clone, Copy, Debug, PartialEq, Eq)]
+pub enum Command {
+    Record,
+    Mapping,
+    View,
+    Load,
+    Set,
+    Update,
+    Kernel,
+    Reduce,
+    Copy,
+    Relayout,
+    Print,
+    Counts,
+    Heat,
+    Layout,
+    Drop,
+    Bytes,
+}
+
+/// The word that begins a form of a mapping.
+#[derive(Clone, Copy, Debug, PartialEq, Eq)]
+pub enum MapWord {
+    Aos,
+    Soa,
+    Aosoa,
+    BitAos,
+    BitSoa,
+    Split,
+    Byteswap,
+    Bytesplit,
+    Change,
+    Count,
+    Heat,
+}
+
+/// The word that begins a kernel.
+#[derive(Clone, Copy, Debug, PartialEq, Eq)]
+pub enum KernelWord {
+    Axpy,
+    Clamp,
+    Sum,
+    Least,
+    Greatest,
+    CountWhere,
+}

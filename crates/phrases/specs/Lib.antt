@@ -1,0 +1,4 @@
+pub mod Phrases
+pub mod Reading
+pub mod Column
+pub mod Ended
