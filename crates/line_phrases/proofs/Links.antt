@@ -1,0 +1,134 @@
+-- How the reading of a chain goes on, and of what stands in front of a value.
+use Rattle.std.proofs.Common.{◌≡◌, ℕ, zero, suc, ◌+◌, Bool, true, false, List, [], ◌∷◌, ◌++◌, Option, Result, Ok, Err, codes, refl, sym, ap, ◌∙◌, add-one}
+use Rattle.phrases.specs.Reading.{◌>>=◌, starts, past, item_at, behind_at, give_at, steps_at}
+use Rattle.phrases.proofs.Parses.{Exact, Parses}
+use Rattle.phrases.proofs.Repeated.{Steps, steps_end, steps_shrink, steps_stepped, steps_stop}
+use Rattle.line_tokens.specs.declared.sign.Sign.TheVariants.{Minus}
+use Rattle.expr_lang.specs.declared.expr.BinOp.{BinOp}
+use Rattle.expr_lang.specs.Terms.{Binary}
+use Rattle.line_grammar.specs.declared.token.Token.{Token}
+use Rattle.line_grammar.specs.declared.token.Token.TheVariants.{Word, Sign as Signed}
+use Rattle.line_grammar.specs.Tokens.{is_sign, is_word, or_of, and_of, sum_of, product_of}
+use Rattle.line_grammar.specs.Sentences.{Value}
+use Rattle.line_grammar.specs.Grammar.{IsLink, wrapped}
+use Rattle.line_phrases.specs.Exprs.{means, link_at, links_at, count_at, unary_over, product_over, sum_over, negation_over, conjunction_over, expr_over, atom_at}
+use Rattle.line_phrases.proofs.Basics.{exact_sign, exact_word}
+use Rattle.line_phrases.proofs.Levels.{and_operator, atoms, conjunction_parses, link_steps, negation_parses, or_operator, prefix_steps, product_operator, product_parses, sum_operator, unary_parses}
+
+-- an operator and an operand more, an operand or an operator that stops, and no operator
+
+module _ {Is : List Token → Value → Type 0} (read : List Token → Result (Value × List Token) ℕ) {operator : Token → Option BinOp} {Between After : List Token → Type 0} (s : Steps (IsLink operator Is) (means operator) (link_at operator read) Between After) where
+  linked : (left : Value) (tokens : List Token) (op : BinOp) (us : List Token) (right : Value) (rest : List Token) → starts (means operator) tokens ≡ true → item_at operator tokens ≡ Ok (op, us) → read us ≡ Ok (right, rest) →
+      links_at operator read left tokens ≡ links_at operator read (Binary op left right) rest
+  unfolding links_at
+  linked left tokens op us right rest passes is then = steps_stepped (means operator) (link_at operator read) (steps_shrink s) left tokens (Binary op left right) rest passes
+      (ap (λ r. r >>= λ x. (read x.1 >>= λ y. give_at (Binary x.0 left y.0) y.1)) is ∙ ap (λ r. r >>= λ y. give_at (Binary op left y.0) y.1) then)
+
+  link_stop : (left : Value) (tokens : List Token) (op : BinOp) (us : List Token) (k : ℕ) → starts (means operator) tokens ≡ true → item_at operator tokens ≡ Ok (op, us) → read us ≡ Err k → links_at operator read left tokens ≡ Err k
+  unfolding links_at
+  link_stop left tokens op us k passes is then = steps_stop (means operator) (link_at operator read) (steps_shrink s) left tokens k passes
+      (ap (λ r. r >>= λ x. (read x.1 >>= λ y. give_at (Binary x.0 left y.0) y.1)) is ∙ ap (λ r. r >>= λ y. give_at (Binary op left y.0) y.1) then)
+
+  link_bare : (left : Value) (tokens : List Token) (k : ℕ) → starts (means operator) tokens ≡ true → item_at operator tokens ≡ Err k → links_at operator read left tokens ≡ Err k
+  unfolding links_at
+  link_bare left tokens k passes is = steps_stop (means operator) (link_at operator read) (steps_shrink s) left tokens k passes
+      (ap (λ r. r >>= λ x. (read x.1 >>= λ y. give_at (Binary x.0 left y.0) y.1)) is)
+
+  link_end : (left : Value) (tokens : List Token) → starts (means operator) tokens ≡ false → links_at operator read left tokens ≡ Ok (left, tokens)
+  unfolding links_at
+  link_end left tokens falls = steps_end (means operator) (link_at operator read) left tokens falls
+
+pub expr_linked : (n : ℕ) (left : Value) (tokens : List Token) (op : BinOp) (us : List Token) (right : Value) (rest : List Token) → starts (means or_of) tokens ≡ true → item_at or_of tokens ≡ Ok (op, us) → conjunction_over (atom_at n) us ≡ Ok (right, rest) →
+    links_at or_of (conjunction_over (atom_at n)) left tokens ≡ links_at or_of (conjunction_over (atom_at n)) (Binary op left right) rest
+expr_linked n = linked (conjunction_over (atom_at n)) (link_steps 1 or_operator (conjunction_parses (atoms n)))
+
+pub expr_link_stop : (n : ℕ) (left : Value) (tokens : List Token) (op : BinOp) (us : List Token) (k : ℕ) → starts (means or_of) tokens ≡ true → item_at or_of tokens ≡ Ok (op, us) → conjunction_over (atom_at n) us ≡ Err k → links_at or_of (conjunction_over (atom_at n)) left tokens ≡ Err k
+expr_link_stop n = link_stop (conjunction_over (atom_at n)) (link_steps 1 or_operator (conjunction_parses (atoms n)))
+
+pub expr_link_bare : (n : ℕ) (left : Value) (tokens : List Token) (k : ℕ) → starts (means or_of) tokens ≡ true → item_at or_of tokens ≡ Err k → links_at or_of (conjunction_over (atom_at n)) left tokens ≡ Err k
+expr_link_bare n = link_bare (conjunction_over (atom_at n)) (link_steps 1 or_operator (conjunction_parses (atoms n)))
+
+pub expr_link_end : (n : ℕ) (left : Value) (tokens : List Token) → starts (means or_of) tokens ≡ false → links_at or_of (conjunction_over (atom_at n)) left tokens ≡ Ok (left, tokens)
+expr_link_end n = link_end (conjunction_over (atom_at n)) (link_steps 1 or_operator (conjunction_parses (atoms n)))
+
+pub ruleset expr_steps = (expr_linked, expr_link_stop, expr_link_bare, expr_link_end)
+
+pub conjunction_linked : (n : ℕ) (left : Value) (tokens : List Token) (op : BinOp) (us : List Token) (right : Value) (rest : List Token) → starts (means and_of) tokens ≡ true → item_at and_of tokens ≡ Ok (op, us) → negation_over (atom_at n) us ≡ Ok (right, rest) →
+    links_at and_of (negation_over (atom_at n)) left tokens ≡ links_at and_of (negation_over (atom_at n)) (Binary op left right) rest
+conjunction_linked n = linked (negation_over (atom_at n)) (link_steps 2 and_operator (negation_parses (atoms n)))
+
+pub conjunction_link_stop : (n : ℕ) (left : Value) (tokens : List Token) (op : BinOp) (us : List Token) (k : ℕ) → starts (means and_of) tokens ≡ true → item_at and_of tokens ≡ Ok (op, us) → negation_over (atom_at n) us ≡ Err k → links_at and_of (negation_over (atom_at n)) left tokens ≡ Err k
+conjunction_link_stop n = link_stop (negation_over (atom_at n)) (link_steps 2 and_operator (negation_parses (atoms n)))
+
+pub conjunction_link_bare : (n : ℕ) (left : Value) (tokens : List Token) (k : ℕ) → starts (means and_of) tokens ≡ true → item_at and_of tokens ≡ Err k → links_at and_of (negation_over (atom_at n)) left tokens ≡ Err k
+conjunction_link_bare n = link_bare (negation_over (atom_at n)) (link_steps 2 and_operator (negation_parses (atoms n)))
+
+pub conjunction_link_end : (n : ℕ) (left : Value) (tokens : List Token) → starts (means and_of) tokens ≡ false → links_at and_of (negation_over (atom_at n)) left tokens ≡ Ok (left, tokens)
+conjunction_link_end n = link_end (negation_over (atom_at n)) (link_steps 2 and_operator (negation_parses (atoms n)))
+
+pub ruleset conjunction_steps = (conjunction_linked, conjunction_link_stop, conjunction_link_bare, conjunction_link_end)
+
+pub sum_linked : (n : ℕ) (left : Value) (tokens : List Token) (op : BinOp) (us : List Token) (right : Value) (rest : List Token) → starts (means sum_of) tokens ≡ true → item_at sum_of tokens ≡ Ok (op, us) → product_over (atom_at n) us ≡ Ok (right, rest) →
+    links_at sum_of (product_over (atom_at n)) left tokens ≡ links_at sum_of (product_over (atom_at n)) (Binary op left right) rest
+sum_linked n = linked (product_over (atom_at n)) (link_steps 4 sum_operator (product_parses (atoms n)))
+
+pub sum_link_stop : (n : ℕ) (left : Value) (tokens : List Token) (op : BinOp) (us : List Token) (k : ℕ) → starts (means sum_of) tokens ≡ true → item_at sum_of tokens ≡ Ok (op, us) → product_over (atom_at n) us ≡ Err k → links_at sum_of (product_over (atom_at n)) left tokens ≡ Err k
+sum_link_stop n = link_stop (product_over (atom_at n)) (link_steps 4 sum_operator (product_parses (atoms n)))
+
+pub sum_link_bare : (n : ℕ) (left : Value) (tokens : List Token) (k : ℕ) → starts (means sum_of) tokens ≡ true → item_at sum_of tokens ≡ Err k → links_at sum_of (product_over (atom_at n)) left tokens ≡ Err k
+sum_link_bare n = link_bare (product_over (atom_at n)) (link_steps 4 sum_operator (product_parses (atoms n)))
+
+pub sum_link_end : (n : ℕ) (left : Value) (tokens : List Token) → starts (means sum_of) tokens ≡ false → links_at sum_of (product_over (atom_at n)) left tokens ≡ Ok (left, tokens)
+sum_link_end n = link_end (product_over (atom_at n)) (link_steps 4 sum_operator (product_parses (atoms n)))
+
+pub ruleset sum_steps = (sum_linked, sum_link_stop, sum_link_bare, sum_link_end)
+
+pub product_linked : (n : ℕ) (left : Value) (tokens : List Token) (op : BinOp) (us : List Token) (right : Value) (rest : List Token) → starts (means product_of) tokens ≡ true → item_at product_of tokens ≡ Ok (op, us) → unary_over (atom_at n) us ≡ Ok (right, rest) →
+    links_at product_of (unary_over (atom_at n)) left tokens ≡ links_at product_of (unary_over (atom_at n)) (Binary op left right) rest
+product_linked n = linked (unary_over (atom_at n)) (link_steps 5 product_operator (unary_parses (atoms n)))
+
+pub product_link_stop : (n : ℕ) (left : Value) (tokens : List Token) (op : BinOp) (us : List Token) (k : ℕ) → starts (means product_of) tokens ≡ true → item_at product_of tokens ≡ Ok (op, us) → unary_over (atom_at n) us ≡ Err k → links_at product_of (unary_over (atom_at n)) left tokens ≡ Err k
+product_link_stop n = link_stop (unary_over (atom_at n)) (link_steps 5 product_operator (unary_parses (atoms n)))
+
+pub product_link_bare : (n : ℕ) (left : Value) (tokens : List Token) (k : ℕ) → starts (means product_of) tokens ≡ true → item_at product_of tokens ≡ Err k → links_at product_of (unary_over (atom_at n)) left tokens ≡ Err k
+product_link_bare n = link_bare (unary_over (atom_at n)) (link_steps 5 product_operator (unary_parses (atoms n)))
+
+pub product_link_end : (n : ℕ) (left : Value) (tokens : List Token) → starts (means product_of) tokens ≡ false → links_at product_of (unary_over (atom_at n)) left tokens ≡ Ok (left, tokens)
+product_link_end n = link_end (unary_over (atom_at n)) (link_steps 5 product_operator (unary_parses (atoms n)))
+
+pub ruleset product_steps = (product_linked, product_link_stop, product_link_bare, product_link_end)
+
+pub word_counted : (count : ℕ) (tokens us : List Token) → starts (is_word (codes "not")) tokens ≡ true → past (is_word (codes "not")) tokens ≡ Ok us → count_at (is_word (codes "not")) count tokens ≡ count_at (is_word (codes "not")) (count + 1) us
+unfolding count_at
+word_counted count tokens us passes is = rw add-one (steps_stepped (is_word (codes "not")) _ (steps_shrink (prefix_steps (Word (codes "not")) (is_word (codes "not")) (exact_word (codes "not")))) count tokens (suc count) us passes
+    (ap (λ (r : Result (List Token) ℕ). r >>= give_at (suc count)) is))
+
+pub word_bare : (count : ℕ) (tokens : List Token) (k : ℕ) → starts (is_word (codes "not")) tokens ≡ true → past (is_word (codes "not")) tokens ≡ Err k → count_at (is_word (codes "not")) count tokens ≡ Err k
+unfolding count_at
+word_bare count tokens k passes is = steps_stop (is_word (codes "not")) _ (steps_shrink (prefix_steps (Word (codes "not")) (is_word (codes "not")) (exact_word (codes "not")))) count tokens k passes
+    (ap (λ (r : Result (List Token) ℕ). r >>= give_at (suc count)) is)
+
+pub word_end : (count : ℕ) (tokens : List Token) → starts (is_word (codes "not")) tokens ≡ false → count_at (is_word (codes "not")) count tokens ≡ Ok (count, tokens)
+unfolding count_at
+word_end count tokens falls = steps_end (is_word (codes "not")) _ count tokens falls
+
+pub ruleset word_steps = (word_counted, word_bare, word_end)
+
+pub sign_counted : (count : ℕ) (tokens us : List Token) → starts (is_sign Minus) tokens ≡ true → past (is_sign Minus) tokens ≡ Ok us → count_at (is_sign Minus) count tokens ≡ count_at (is_sign Minus) (count + 1) us
+unfolding count_at
+sign_counted count tokens us passes is = rw add-one (steps_stepped (is_sign Minus) _ (steps_shrink (prefix_steps (Signed Minus) (is_sign Minus) (exact_sign Minus))) count tokens (suc count) us passes
+    (ap (λ (r : Result (List Token) ℕ). r >>= give_at (suc count)) is))
+
+pub sign_bare : (count : ℕ) (tokens : List Token) (k : ℕ) → starts (is_sign Minus) tokens ≡ true → past (is_sign Minus) tokens ≡ Err k → count_at (is_sign Minus) count tokens ≡ Err k
+unfolding count_at
+sign_bare count tokens k passes is = steps_stop (is_sign Minus) _ (steps_shrink (prefix_steps (Signed Minus) (is_sign Minus) (exact_sign Minus))) count tokens k passes
+    (ap (λ (r : Result (List Token) ℕ). r >>= give_at (suc count)) is)
+
+pub sign_end : (count : ℕ) (tokens : List Token) → starts (is_sign Minus) tokens ≡ false → count_at (is_sign Minus) count tokens ≡ Ok (count, tokens)
+unfolding count_at
+sign_end count tokens falls = steps_end (is_sign Minus) _ count tokens falls
+
+pub ruleset sign_steps = (sign_counted, sign_bare, sign_end)
+
+pub wrapped_more : (wrap : Value → Value) (n : ℕ) (value : Value) → wrapped wrap (n + 1) value ≡ wrap (wrapped wrap n value)
+wrapped_more wrap n value = rw add-one refl

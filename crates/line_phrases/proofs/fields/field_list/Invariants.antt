@@ -1,0 +1,13 @@
+-- the fields that are left, in front of what is built
+use Rattle.std.proofs.Common.{◌≡◌, map, vec_len}
+use Rattle.record_dim.specs.Trees.{tree_of, fields_of}
+use Rattle.line_grammar.specs.Grammar.{fields_of_list}
+use Rattle.line_phrases.proofs.FieldLaws.{onto}
+use Rattle.line_phrases.proofs.fields.field_list.Given as goal
+
+abbrev pub invariant-loop-field : goal.invariant-loop-field
+invariant-loop-field l =
+    onto (map (λ field. (field.name, tree_of field.dim)) l.fields.items) (fields_of l.list) ≡ fields_of_list (map (λ field. (field.name, tree_of field.dim)) l.fn.fields.items)
+
+abbrev pub decreases-loop-field : goal.decreases-loop-field
+decreases-loop-field l = vec_len l.fields

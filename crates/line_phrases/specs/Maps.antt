@@ -1,0 +1,51 @@
+-- How a mapping is read.
+use Rattle.std.specs.Prelude.{ℕ, zero, suc, List, Option, Some, None, Result}
+use Rattle.phrases.specs.Reading.{item_at, behind_at, then_at, give_at, either_at}
+use Rattle.line_tokens.specs.declared.sign.Sign.TheVariants.{OpenParen, CloseParen, Comma, Arrow}
+use Rattle.map_expr.specs.Terms.{Term as MapTerm, Aos, Soa, Aosoa, BitAos, BitSoa, Split, Byteswap, Bytesplit, Change, Count, Heat, Named}
+use Rattle.line_grammar.specs.declared.line.MapWord.{MapWord}
+use Rattle.line_grammar.specs.declared.line.MapWord.TheVariants as form
+use Rattle.line_grammar.specs.declared.token.Token.{Token}
+use Rattle.line_grammar.specs.Tokens.{is_sign, name_of, count_of, type_of, integer_type_of, order_of, aos_form_of, soa_form_of, map_word}
+use Rattle.line_phrases.specs.Paths.{path_at}
+
+-- the inside of the brackets of the forms without mappings in them
+unfoldable pub aos_at : List Token → Result (MapTerm × List Token) ℕ
+aos_at = then_at (item_at aos_form_of) (λ form. behind_at (is_sign Comma) (then_at (item_at order_of) (λ order. give_at (Aos form order))))
+
+unfoldable pub soa_at : List Token → Result (MapTerm × List Token) ℕ
+soa_at = then_at (item_at soa_form_of) (λ form. behind_at (is_sign Comma) (then_at (item_at order_of) (λ order. give_at (Soa form order))))
+
+unfoldable pub aosoa_at : List Token → Result (MapTerm × List Token) ℕ
+aosoa_at = then_at (item_at count_of) (λ lanes. behind_at (is_sign Comma) (then_at (item_at order_of) (λ order. give_at (Aosoa lanes order))))
+
+unfoldable pub bit_aos_at : List Token → Result (MapTerm × List Token) ℕ
+bit_aos_at = then_at (item_at count_of) (λ width. behind_at (is_sign Comma) (then_at (item_at order_of) (λ order. give_at (BitAos width order))))
+
+unfoldable pub bit_soa_at : List Token → Result (MapTerm × List Token) ℕ
+bit_soa_at = then_at (item_at count_of) (λ width. behind_at (is_sign Comma) (then_at (item_at order_of) (λ order. give_at (BitSoa width order))))
+
+-- the inside of the brackets of each form, in which `read` reads mappings
+unfoldable pub form_at : (List Token → Result (MapTerm × List Token) ℕ) → MapWord → List Token → Result (MapTerm × List Token) ℕ
+form_at read form.Aos = aos_at
+form_at read form.Soa = soa_at
+form_at read form.Aosoa = aosoa_at
+form_at read form.BitAos = bit_aos_at
+form_at read form.BitSoa = bit_soa_at
+form_at read form.Split = then_at path_at (λ path. behind_at (is_sign Comma) (then_at read (λ first. behind_at (is_sign Comma) (then_at read (λ rest. give_at (Split path first rest))))))
+form_at read form.Byteswap = then_at read (λ inner. give_at (Byteswap inner))
+form_at read form.Bytesplit = then_at read (λ inner. give_at (Bytesplit inner))
+form_at read form.Change = then_at (item_at type_of) (λ from. behind_at (is_sign Arrow) (then_at (item_at integer_type_of) (λ to. behind_at (is_sign Comma) (then_at read (λ inner. give_at (Change from to inner))))))
+form_at read form.Count = then_at read (λ inner. give_at (Count inner))
+form_at read form.Heat = then_at (item_at count_of) (λ granule. behind_at (is_sign Comma) (then_at read (λ inner. give_at (Heat granule inner))))
+
+unfoldable pub form_or_name_at : (List Token → Result (MapTerm × List Token) ℕ) → List ℕ → Option MapWord → List Token → Result (MapTerm × List Token) ℕ
+form_or_name_at read word None = give_at (Named word)
+form_or_name_at read word (Some form) = either_at (is_sign OpenParen)
+    (behind_at (is_sign OpenParen) (then_at (form_at read form) (λ map. behind_at (is_sign CloseParen) (give_at map))))
+    (give_at (Named word))
+
+-- a mapping in which brackets nest at most so deep
+unfoldable pub map_at : ℕ → List Token → Result (MapTerm × List Token) ℕ
+map_at zero = then_at (item_at name_of) (λ word. give_at (Named word))
+map_at (suc n) = then_at (item_at name_of) (λ word. form_or_name_at (map_at n) word (map_word word))

@@ -1,0 +1,20 @@
+ghost use Rattle.std.specs.Prelude.{◌≡◌, ◌<◌, length, OnOk};
+ghost use Rattle.line_phrases.specs.Gives.{Gives};
+ghost use Rattle.line_phrases.specs.Constants.{const_at};
+
+use crate::{ReadError, Tokens};
+use line_tokens::Sign;
+
+/// A number with or without a minus.
+#[tactic(auto, unfolding(crate::specs::Constants::const_at))]
+pub fn read_const(tokens: &mut Tokens) -> Result<i128, ReadError>
+    ensures gives { Gives (λ x. (x, tokens.new)) result (const_at tokens.old) }
+    ensures shorter { OnOk result (length tokens.new < length tokens.old) }
+{
+    if tokens.begins_sign(Sign::Minus) {
+        tokens.sign(Sign::Minus)?;
+        let number = tokens.number()?;
+        return Ok(-number);
+    }
+    tokens.number()
+}

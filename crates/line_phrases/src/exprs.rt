@@ -1,0 +1,250 @@
+ghost use Rattle.std.specs.Prelude.{◌≡◌, ◌<◌, ◌≤◌, length, OnOk, IfOk};
+ghost use Rattle.expr_lang.specs.Terms.{term_of, Binary, Neg, Not};
+ghost use Rattle.line_tokens.specs.declared.sign.Sign.TheVariants.{Minus};
+ghost use Rattle.line_grammar.specs.Tokens.{is_sign, is_word};
+ghost use Rattle.line_grammar.specs.Grammar.{wrapped};
+ghost use Rattle.line_phrases.specs.Gives.{Gives};
+ghost use Rattle.line_phrases.specs.Exprs.{leaf_at, atom_at, bracketed_at, choice_at, count_at, unary_over, product_over, sum_over, comparison_over, negation_over, conjunction_over, expr_over};
+ghost use Rattle.std.specs.Prelude.{codes, zero};
+
+use crate::{ReadError, Tokens, read_path};
+use expr_lang::{BinOp, Expr};
+use line_tokens::Sign;
+use std::alloc::{AllocError as NoMemory, Global};
+
+/// The expression at the front. Its brackets nest at most `room` deep. Chains are walked by loops, so only brackets take stack.
+#[cycle(expr)]
+#[tactic(auto, unfolding(crate::specs::Exprs::expr_over, crate::specs::Exprs::chain_at), using(crate::proofs::Links::expr_steps))]
+pub fn read_expr(alloc: Global, room: usize, tokens: &mut Tokens) -> Result<Expr, ReadError>
+    ensures gives { Gives (λ x. (term_of x, tokens.new)) result (expr_over (atom_at room) tokens.old) }
+    ensures shorter { OnOk result (length tokens.new < length tokens.old) }
+{
+    let mut left = read_conjunction(alloc, room, tokens)?;
+    while tokens.begins_disjunction() {
+        let op = tokens.disjunction()?;
+        let right = read_conjunction(alloc, room, tokens)?;
+        left = binary(alloc, op, left, right)?;
+    }
+    Ok(left)
+}
+
+// `and` between negations.
+#[cycle(expr)]
+#[tactic(auto, unfolding(crate::specs::Exprs::conjunction_over, crate::specs::Exprs::chain_at), using(crate::proofs::Links::conjunction_steps))]
+fn read_conjunction(alloc: Global, room: usize, tokens: &mut Tokens) -> Result<Expr, ReadError>
+    ensures gives { Gives (λ x. (term_of x, tokens.new)) result (conjunction_over (atom_at room) tokens.old) }
+    ensures shorter { OnOk result (length tokens.new < length tokens.old) }
+{
+    let mut left = read_negation(alloc, room, tokens)?;
+    while tokens.begins_conjunction() {
+        let op = tokens.conjunction()?;
+        let right = read_negation(alloc, room, tokens)?;
+        left = binary(alloc, op, left, right)?;
+    }
+    Ok(left)
+}
+
+// `not` in front of a comparison, any number of times.
+#[cycle(expr)]
+#[tactic(auto, unfolding(crate::specs::Exprs::negation_over, crate::specs::Exprs::prefixed_at))]
+fn read_negation(alloc: Global, room: usize, tokens: &mut Tokens) -> Result<Expr, ReadError>
+    ensures gives { Gives (λ x. (term_of x, tokens.new)) result (negation_over (atom_at room) tokens.old) }
+    ensures shorter { OnOk result (length tokens.new < length tokens.old) }
+{
+    let count = count_words(tokens)?;
+    let inner = read_comparison(alloc, room, tokens)?;
+    let value = negated(alloc, count, inner)?;
+    Ok(value)
+}
+
+// Two sums and a comparison between them, or one sum.
+#[cycle(expr)]
+#[tactic(auto, unfolding(crate::specs::Exprs::comparison_over))]
+fn read_comparison(alloc: Global, room: usize, tokens: &mut Tokens) -> Result<Expr, ReadError>
+    ensures gives { Gives (λ x. (term_of x, tokens.new)) result (comparison_over (atom_at room) tokens.old) }
+    ensures shorter { OnOk result (length tokens.new < length tokens.old) }
+{
+    let left = read_sum(alloc, room, tokens)?;
+    if !tokens.begins_comparison() {
+        return Ok(left);
+    }
+    let op = tokens.comparison()?;
+    let right = read_sum(alloc, room, tokens)?;
+    let value = binary(alloc, op, left, right)?;
+    Ok(value)
+}
+
+// `+` and `-` between products.
+#[cycle(expr)]
+#[tactic(auto, unfolding(crate::specs::Exprs::sum_over, crate::specs::Exprs::chain_at), using(crate::proofs::Links::sum_steps))]
+fn read_sum(alloc: Global, room: usize, tokens: &mut Tokens) -> Result<Expr, ReadError>
+    ensures gives { Gives (λ x. (term_of x, tokens.new)) result (sum_over (atom_at room) tokens.old) }
+    ensures shorter { OnOk result (length tokens.new < length tokens.old) }
+{
+    let mut left = read_product(alloc, room, tokens)?;
+    while tokens.begins_sum() {
+        let op = tokens.sum()?;
+        let right = read_product(alloc, room, tokens)?;
+        left = binary(alloc, op, left, right)?;
+    }
+    Ok(left)
+}
+
+// `*`, `/` and `%` between operands.
+#[cycle(expr)]
+#[tactic(auto, unfolding(crate::specs::Exprs::product_over, crate::specs::Exprs::chain_at), using(crate::proofs::Links::product_steps))]
+fn read_product(alloc: Global, room: usize, tokens: &mut Tokens) -> Result<Expr, ReadError>
+    ensures gives { Gives (λ x. (term_of x, tokens.new)) result (product_over (atom_at room) tokens.old) }
+    ensures shorter { OnOk result (length tokens.new < length tokens.old) }
+{
+    let mut left = read_unary(alloc, room, tokens)?;
+    while tokens.begins_product() {
+        let op = tokens.product()?;
+        let right = read_unary(alloc, room, tokens)?;
+        left = binary(alloc, op, left, right)?;
+    }
+    Ok(left)
+}
+
+// `-` in front of an operand, any number of times.
+#[cycle(expr)]
+#[tactic(auto, unfolding(crate::specs::Exprs::unary_over, crate::specs::Exprs::prefixed_at))]
+fn read_unary(alloc: Global, room: usize, tokens: &mut Tokens) -> Result<Expr, ReadError>
+    ensures gives { Gives (λ x. (term_of x, tokens.new)) result (unary_over (atom_at room) tokens.old) }
+    ensures shorter { OnOk result (length tokens.new < length tokens.old) }
+{
+    let count = count_signs(tokens)?;
+    let inner = read_atom(alloc, room, tokens)?;
+    let value = negative(alloc, count, inner)?;
+    Ok(value)
+}
+
+// An operand without an operator of its own.
+#[cycle(expr)]
+#[tactic(auto, unfolding(crate::specs::Exprs::atom_at))]
+fn read_atom(alloc: Global, room: usize, tokens: &mut Tokens) -> Result<Expr, ReadError>
+    ensures gives { Gives (λ x. (term_of x, tokens.new)) result (atom_at room tokens.old) }
+    ensures shorter { OnOk result (length tokens.new < length tokens.old) }
+{
+    if room == 0 {
+        return read_leaf(alloc, tokens);
+    }
+    if tokens.begins_sign(Sign::OpenParen) {
+        return read_bracketed(alloc, room - 1, tokens);
+    }
+    if tokens.begins_choice() {
+        return read_choice(alloc, room - 1, tokens);
+    }
+    read_leaf(alloc, tokens)
+}
+
+#[cycle(expr)]
+#[tactic(auto, unfolding(crate::specs::Exprs::bracketed_at))]
+fn read_bracketed(alloc: Global, room: usize, tokens: &mut Tokens) -> Result<Expr, ReadError>
+    ensures gives { Gives (λ x. (term_of x, tokens.new)) result (bracketed_at (expr_over (atom_at room)) tokens.old) }
+    ensures shorter { OnOk result (length tokens.new < length tokens.old) }
+{
+    tokens.sign(Sign::OpenParen)?;
+    let value = read_expr(alloc, room, tokens)?;
+    tokens.sign(Sign::CloseParen)?;
+    Ok(value)
+}
+
+// `min` or `max` of two expressions.
+#[cycle(expr)]
+#[tactic(auto, unfolding(crate::specs::Exprs::choice_at))]
+fn read_choice(alloc: Global, room: usize, tokens: &mut Tokens) -> Result<Expr, ReadError>
+    ensures gives { Gives (λ x. (term_of x, tokens.new)) result (choice_at (expr_over (atom_at room)) tokens.old) }
+    ensures shorter { OnOk result (length tokens.new < length tokens.old) }
+{
+    let op = tokens.choice()?;
+    tokens.sign(Sign::OpenParen)?;
+    let left = read_expr(alloc, room, tokens)?;
+    tokens.sign(Sign::Comma)?;
+    let right = read_expr(alloc, room, tokens)?;
+    tokens.sign(Sign::CloseParen)?;
+    let value = binary(alloc, op, left, right)?;
+    Ok(value)
+}
+
+// A number, an index or a path.
+#[tactic(auto, unfolding(crate::specs::Exprs::leaf_at))]
+fn read_leaf(alloc: Global, tokens: &mut Tokens) -> Result<Expr, ReadError>
+    ensures gives { Gives (λ x. (term_of x, tokens.new)) result (leaf_at tokens.old) }
+    ensures shorter { OnOk result (length tokens.new < length tokens.old) }
+{
+    if tokens.begins_number() {
+        let number = tokens.number()?;
+        return Ok(Expr::Number(number));
+    }
+    if tokens.begins_index() {
+        let dimension = tokens.index()?;
+        return Ok(Expr::Index(dimension));
+    }
+    let path = read_path(alloc, tokens)?;
+    Ok(Expr::Path(path))
+}
+
+fn binary(alloc: Global, op: BinOp, left: Expr, right: Expr) -> Result<Expr, NoMemory>
+    ensures { IfOk result (λ x. term_of x ≡ Binary op (term_of left) (term_of right)) }
+{
+    let left = Box::new(alloc, left)?;
+    let right = Box::new(alloc, right)?;
+    Ok(Expr::Binary { op, left, right })
+}
+
+// How often `not` stands in front.
+#[tactic(auto, using(crate::proofs::Links::word_steps))]
+fn count_words(tokens: &mut Tokens) -> Result<usize, ReadError>
+    ensures gives { Gives (λ x. (x, tokens.new)) result (count_at (is_word (codes "not")) zero tokens.old) }
+    ensures no_longer { OnOk result (length tokens.new ≤ length tokens.old) }
+{
+    let most = tokens.len();
+    let mut count = 0;
+    while tokens.begins_word("not") {
+        tokens.word("not")?;
+        prove!(count < most);
+        count += 1;
+    }
+    Ok(count)
+}
+
+// How often `-` stands in front.
+#[tactic(auto, using(crate::proofs::Links::sign_steps))]
+fn count_signs(tokens: &mut Tokens) -> Result<usize, ReadError>
+    ensures gives { Gives (λ x. (x, tokens.new)) result (count_at (is_sign Minus) zero tokens.old) }
+    ensures no_longer { OnOk result (length tokens.new ≤ length tokens.old) }
+{
+    let most = tokens.len();
+    let mut count = 0;
+    while tokens.begins_sign(Sign::Minus) {
+        tokens.sign(Sign::Minus)?;
+        prove!(count < most);
+        count += 1;
+    }
+    Ok(count)
+}
+
+// The value with so many `not` in front.
+#[tactic(auto, using(crate::proofs::Links::wrapped_more))]
+fn negated(alloc: Global, count: usize, inner: Expr) -> Result<Expr, NoMemory>
+    ensures { IfOk result (λ x. term_of x ≡ wrapped Not count (term_of inner)) }
+{
+    let mut value = inner;
+    for _ in 0..count {
+        value = Expr::Not(Box::new(alloc, value)?);
+    }
+    Ok(value)
+}
+
+// The value with so many minuses in front.
+#[tactic(auto, using(crate::proofs::Links::wrapped_more))]
+fn negative(alloc: Global, count: usize, inner: Expr) -> Result<Expr, NoMemory>
+    ensures { IfOk result (λ x. term_of x ≡ wrapped Neg count (term_of inner)) }
+{
+    let mut value = inner;
+    for _ in 0..count {
+        value = Expr::Neg(Box::new(alloc, value)?);
+    }
+    Ok(value)
+}

@@ -1,0 +1,171 @@
+ghost use Rattle.std.specs.Prelude.{◌≡◌, ◌<◌, length, OnOk};
+ghost use Rattle.map_expr.specs.Terms.{term_of};
+ghost use Rattle.line_grammar.specs.declared.line.MapWord.TheVariants as form;
+ghost use Rattle.line_phrases.specs.Gives.{Gives};
+ghost use Rattle.line_phrases.specs.Maps.{aos_at, aosoa_at, bit_aos_at, bit_soa_at, form_at, map_at, soa_at};
+
+use crate::{ReadError, Tokens, read_path};
+use line_grammar::{MapWord, map_word};
+use line_tokens::Sign;
+use map_expr::MapExpr;
+use std::alloc::Global;
+
+/// The mapping at the front. Its brackets nest at most `room` deep.
+#[cycle(map)]
+#[tactic(auto, unfolding(crate::specs::Maps::map_at, crate::specs::Maps::form_or_name_at))]
+pub fn read_map(alloc: Global, room: usize, tokens: &mut Tokens) -> Result<MapExpr, ReadError>
+    ensures gives { Gives (λ x. (term_of x, tokens.new)) result (map_at room tokens.old) }
+    ensures shorter { OnOk result (length tokens.new < length tokens.old) }
+{
+    let word = tokens.name()?;
+    if room == 0 {
+        return Ok(MapExpr::Named(word));
+    }
+    match map_word(&word) {
+        None => Ok(MapExpr::Named(word)),
+        Some(form) => {
+            if !tokens.begins_sign(Sign::OpenParen) {
+                return Ok(MapExpr::Named(word));
+            }
+            tokens.sign(Sign::OpenParen)?;
+            let map = read_form(alloc, room - 1, form, tokens)?;
+            tokens.sign(Sign::CloseParen)?;
+            Ok(map)
+        }
+    }
+}
+
+// The inside of a form's brackets.
+#[cycle(map)]
+#[tactic(auto, unfolding(crate::specs::Maps::form_at))]
+fn read_form(
+    alloc: Global,
+    room: usize,
+    form: MapWord,
+    tokens: &mut Tokens,
+) -> Result<MapExpr, ReadError>
+    ensures gives { Gives (λ x. (term_of x, tokens.new)) result (form_at (map_at room) form tokens.old) }
+    ensures shorter { OnOk result (length tokens.new < length tokens.old) }
+{
+    match form {
+        MapWord::Aos => read_aos(tokens),
+        MapWord::Soa => read_soa(tokens),
+        MapWord::Aosoa => read_aosoa(tokens),
+        MapWord::BitAos => read_bit_aos(tokens),
+        MapWord::BitSoa => read_bit_soa(tokens),
+        MapWord::Split => read_split(alloc, room, tokens),
+        MapWord::Byteswap => {
+            let map = read_map(alloc, room, tokens)?;
+            Ok(MapExpr::Byteswap(Box::new(alloc, map)?))
+        }
+        MapWord::Bytesplit => {
+            let map = read_map(alloc, room, tokens)?;
+            Ok(MapExpr::Bytesplit(Box::new(alloc, map)?))
+        }
+        MapWord::Change => read_change(alloc, room, tokens),
+        MapWord::Count => {
+            let map = read_map(alloc, room, tokens)?;
+            Ok(MapExpr::Count(Box::new(alloc, map)?))
+        }
+        MapWord::Heat => read_heat(alloc, room, tokens),
+    }
+}
+
+#[cycle(map)]
+#[tactic(auto, unfolding(crate::specs::Maps::form_at))]
+fn read_split(alloc: Global, room: usize, tokens: &mut Tokens) -> Result<MapExpr, ReadError>
+    ensures gives { Gives (λ x. (term_of x, tokens.new)) result (form_at (map_at room) form.Split tokens.old) }
+    ensures shorter { OnOk result (length tokens.new < length tokens.old) }
+{
+    let path = read_path(alloc, tokens)?;
+    tokens.sign(Sign::Comma)?;
+    let first = read_map(alloc, room, tokens)?;
+    let first = Box::new(alloc, first)?;
+    tokens.sign(Sign::Comma)?;
+    let rest = read_map(alloc, room, tokens)?;
+    let rest = Box::new(alloc, rest)?;
+    Ok(MapExpr::Split { path, first, rest })
+}
+
+#[cycle(map)]
+#[tactic(auto, unfolding(crate::specs::Maps::form_at))]
+fn read_change(alloc: Global, room: usize, tokens: &mut Tokens) -> Result<MapExpr, ReadError>
+    ensures gives { Gives (λ x. (term_of x, tokens.new)) result (form_at (map_at room) form.Change tokens.old) }
+    ensures shorter { OnOk result (length tokens.new < length tokens.old) }
+{
+    let from = tokens.leaf_type()?;
+    tokens.sign(Sign::Arrow)?;
+    let to = tokens.integer_type()?;
+    tokens.sign(Sign::Comma)?;
+    let map = read_map(alloc, room, tokens)?;
+    let inner = Box::new(alloc, map)?;
+    Ok(MapExpr::Change { from, to, inner })
+}
+
+#[cycle(map)]
+#[tactic(auto, unfolding(crate::specs::Maps::form_at))]
+fn read_heat(alloc: Global, room: usize, tokens: &mut Tokens) -> Result<MapExpr, ReadError>
+    ensures gives { Gives (λ x. (term_of x, tokens.new)) result (form_at (map_at room) form.Heat tokens.old) }
+    ensures shorter { OnOk result (length tokens.new < length tokens.old) }
+{
+    let granule = tokens.count()?;
+    tokens.sign(Sign::Comma)?;
+    let map = read_map(alloc, room, tokens)?;
+    let inner = Box::new(alloc, map)?;
+    Ok(MapExpr::Heat { granule, inner })
+}
+
+#[tactic(auto, unfolding(crate::specs::Maps::aos_at))]
+fn read_aos(tokens: &mut Tokens) -> Result<MapExpr, ReadError>
+    ensures gives { Gives (λ x. (term_of x, tokens.new)) result (aos_at tokens.old) }
+    ensures shorter { OnOk result (length tokens.new < length tokens.old) }
+{
+    let form = tokens.aos_form()?;
+    tokens.sign(Sign::Comma)?;
+    let order = tokens.order()?;
+    Ok(MapExpr::Aos { form, order })
+}
+
+#[tactic(auto, unfolding(crate::specs::Maps::soa_at))]
+fn read_soa(tokens: &mut Tokens) -> Result<MapExpr, ReadError>
+    ensures gives { Gives (λ x. (term_of x, tokens.new)) result (soa_at tokens.old) }
+    ensures shorter { OnOk result (length tokens.new < length tokens.old) }
+{
+    let form = tokens.soa_form()?;
+    tokens.sign(Sign::Comma)?;
+    let order = tokens.order()?;
+    Ok(MapExpr::Soa { form, order })
+}
+
+#[tactic(auto, unfolding(crate::specs::Maps::aosoa_at))]
+fn read_aosoa(tokens: &mut Tokens) -> Result<MapExpr, ReadError>
+    ensures gives { Gives (λ x. (term_of x, tokens.new)) result (aosoa_at tokens.old) }
+    ensures shorter { OnOk result (length tokens.new < length tokens.old) }
+{
+    let lanes = tokens.count()?;
+    tokens.sign(Sign::Comma)?;
+    let order = tokens.order()?;
+    Ok(MapExpr::Aosoa { lanes, order })
+}
+
+#[tactic(auto, unfolding(crate::specs::Maps::bit_aos_at))]
+fn read_bit_aos(tokens: &mut Tokens) -> Result<MapExpr, ReadError>
+    ensures gives { Gives (λ x. (term_of x, tokens.new)) result (bit_aos_at tokens.old) }
+    ensures shorter { OnOk result (length tokens.new < length tokens.old) }
+{
+    let width = tokens.count()?;
+    tokens.sign(Sign::Comma)?;
+    let order = tokens.order()?;
+    Ok(MapExpr::BitAos { width, order })
+}
+
+#[tactic(auto, unfolding(crate::specs::Maps::bit_soa_at))]
+fn read_bit_soa(tokens: &mut Tokens) -> Result<MapExpr, ReadError>
+    ensures gives { Gives (λ x. (term_of x, tokens.new)) result (bit_soa_at tokens.old) }
+    ensures shorter { OnOk result (length tokens.new < length tokens.old) }
+{
+    let width = tokens.count()?;
+    tokens.sign(Sign::Comma)?;
+    let order = tokens.order()?;
+    Ok(MapExpr::BitSoa { width, order })
+}

@@ -1,0 +1,45 @@
+ghost use Rattle.std.specs.Prelude.{◌≡◌, ◌<◌, length, IfOk, OnOk};
+ghost use Rattle.phrases.specs.Reading.{starts};
+ghost use Rattle.line_phrases.specs.Gives.{Gives};
+ghost use Rattle.line_phrases.specs.Paths.{begins_part, part_at, path_at};
+
+use crate::{ReadError, Tokens};
+use line_tokens::Sign;
+use record_dim::{Path, PathStep};
+use std::alloc::Global;
+
+/// The path at the front.
+#[tactic(auto, unfolding(crate::specs::Paths::path_at), using(crate::proofs::Paths::path_steps))]
+pub fn read_path(alloc: Global, tokens: &mut Tokens) -> Result<Path, ReadError>
+    ensures gives { Gives (λ x. (x, tokens.new)) result (path_at tokens.old) }
+    ensures shorter { OnOk result (length tokens.new < length tokens.old) }
+{
+    let name = tokens.name()?;
+    let mut path = Path::new(alloc, name)?;
+    while begins_part(tokens) {
+        path.push(read_part(tokens)?)?;
+    }
+    Ok(path)
+}
+
+fn begins_part(tokens: &Tokens) -> bool
+    ensures { result ≡ starts begins_part tokens.now }
+{
+    tokens.begins_sign(Sign::Dot) || tokens.begins_sign(Sign::OpenBracket)
+}
+
+#[tactic(auto, unfolding(crate::specs::Paths::part_at))]
+fn read_part(tokens: &mut Tokens) -> Result<PathStep, ReadError>
+    ensures gives { Gives (λ x. (x, tokens.new)) result (part_at tokens.old) }
+    ensures shorter { OnOk result (length tokens.new < length tokens.old) }
+{
+    if tokens.begins_sign(Sign::Dot) {
+        tokens.sign(Sign::Dot)?;
+        let name = tokens.name()?;
+        return Ok(PathStep::Name(name));
+    }
+    tokens.sign(Sign::OpenBracket)?;
+    let number = tokens.count()?;
+    tokens.sign(Sign::CloseBracket)?;
+    Ok(PathStep::At(number))
+}

@@ -1,0 +1,5 @@
+pub mod Assignments
+pub mod CommandLaws
+pub mod Depths
+pub mod SpellingLaws
+pub mod LineLaws

@@ -1,0 +1,116 @@
+-- The spots of a text have the bytes of their kinds, and where the columns of spots are.
+use Rattle.std.proofs.Common.{◌≡◌, ℕ, zero, suc, ◌+◌, ◌-◌, ◌<◌, ◌≤◌, ◌^◌, Bool, true, false, ◌&&◌, nat_le, List, [], ◌∷◌, ◌++◌, length, take, drop, get_or, slice_range, map, All, MatchOption, Option, Some, None, refl, sym, ap, ◌∙◌, arith, length-append}
+use Rattle.std.proofs.Math.Seq.{take-append_seam}
+use Rattle.std.proofs.lemmas.Bool.Decides.{nat_tests}
+use Rattle.std.proofs.lemmas.List.{length-take, length-drop, take-take, drop-drop}
+use Rattle.std.proofs.lemmas.List.Elements.{All-cons}
+use Rattle.std.proofs.lemmas.List.Sums.{AllPass-from_list_all, list_all-from_AllPass}
+use Rattle.std.specs.List.{AllPass, list_all}
+use Rattle.std.specs.Str.{byte}
+use Rattle.record_dim.specs.Names.{begins_name, continues_name, is_name, is_word}
+use Rattle.line_tokens.specs.Bytes.{is_letter, is_word_byte, is_text_byte}
+use Rattle.line_tokens.specs.Next.{next_of}
+use Rattle.line_tokens.specs.Spelled.{Spells}
+use Rattle.line_tokens.specs.Spots.{brackets_after, Spots}
+use Rattle.line_tokens.specs.Tokens.{Begins}
+use Rattle.line_tokens.specs.declared.spots.Spot.{Spot}
+use Rattle.line_tokens.specs.declared.token.Next.TheVariants.{Bad, Token}
+use Rattle.line_tokens.specs.declared.token.TokenKind.{TokenKind}
+use Rattle.line_tokens.specs.declared.token.TokenKind.TheVariants.{Word, Number, Text, Sign as SignKind}
+use Rattle.line_tokens.proofs.NextToken.{next_inside}
+use Rattle.line_tokens.proofs.SpelledLaws.{next_spells}
+use Rattle.line_grammar.specs.FileNames.{is_file_name}
+use Rattle.line_grammar.specs.Reads.{column_behind}
+use Rattle.schema_lang.specs.Spelled.{IsSpelled, IsSpelledAs}
+
+letter_begins : (b : ℕ) → is_letter b ≡ true → begins_name b ≡ true
+letter_begins b h = h
+
+byte_continues : (b : ℕ) → is_word_byte b ≡ true → continues_name b ≡ true
+byte_continues b h = grind (arith, nat_tests)
+
+all_continue : (bytes : List ℕ) → list_all is_word_byte bytes ≡ true → list_all continues_name bytes ≡ true
+all_continue [] h = refl
+all_continue (b ∷ bytes) h = let parts = both (is_word_byte b) (list_all is_word_byte bytes) h in
+    rw (byte_continues b parts.0) (all_continue bytes parts.1)
+  where
+    both : (a c : Bool) → (a && c) ≡ true → (a ≡ true) × (c ≡ true)
+    both true c e = (refl, e)
+    both false c e = absurd cc
+
+word_name : (bytes : List ℕ) → Spells Word bytes → is_name bytes ≡ true
+word_name [] h = absurd h.0
+word_name (b ∷ bytes) h =
+    let first : begins_name b ≡ true = letter_begins b h.0 in
+    let all = list_all-from_AllPass is_word_byte (b ∷ bytes) h.1 in
+    let rest : list_all continues_name bytes ≡ true = all_continue bytes (second (is_word_byte b) (list_all is_word_byte bytes) all) in
+    let small : nat_le (length (b ∷ bytes)) 32 ≡ true = grind (arith, nat_tests) in
+    rw (small, first, rest) refl
+  where
+    second : (a c : Bool) → (a && c) ≡ true → c ≡ true
+    second true c e = e
+    second false c e = absurd cc
+
+-- what stands between the quotes
+between : (n : ℕ) (xs inside : List ℕ) (q : ℕ) → n ≡ length inside → take (suc (suc n)) xs ≡ q ∷ (inside ++ q ∷ []) → take n (drop 1 xs) ≡ inside
+between n [] inside q len e = absurd cc
+between n (x ∷ xs) inside q len e =
+    let tail : take (suc n) xs ≡ inside ++ q ∷ [] = cc in
+    sym (take-take n (suc n) xs (omega arith)) ∙ ap (take n) tail ∙ ap (λ k. take k (inside ++ q ∷ [])) len ∙ take-append_seam inside (q ∷ [])
+
+text_file : (text : List ℕ) (from end : ℕ) → from ≤ end → end ≤ length text → Spells Text (slice_range text from end) → IsSpelledAs text from end Text
+text_file text from end ordered within h =
+    let inside = h.0 in
+    let len : length (slice_range text from end) ≡ end - from = omega (arith, length-take (end - from) (drop from text), length-drop from text) in
+    let total = ap length h.1 in
+    let size : end - from ≡ suc (suc (length inside)) = omega (arith, length-append inside (byte "\"" ∷ [])) in
+    let cut : slice_range text (from + 1) (end - 1) ≡ inside =
+    ap (λ k. take k (drop (from + 1) text)) (let n : end - 1 - (from + 1) ≡ length inside = omega arith in n)
+    ∙ ap (take (length inside)) (sym (drop-drop 1 from text))
+    ∙ between (length inside) (drop from text) inside (byte "\"") refl (ap (λ k. take k (drop from text)) (sym size) ∙ h.1) in
+    let all = list_all-from_AllPass is_text_byte inside h.2 in
+    let least : nat_le 1 (length inside) ≡ true = grind (arith, nat_tests) in
+    let most : nat_le (length inside) 200 ≡ true = grind (arith, nat_tests) in
+    (omega arith, rw (cut, least, most, all) refl)
+
+kind_spelled : (text : List ℕ) (from end : ℕ) (kind : TokenKind) → from ≤ end → end ≤ length text → Spells kind (slice_range text from end) → IsSpelledAs text from end kind
+kind_spelled text from end Word ordered within h = word_name (slice_range text from end) h
+kind_spelled text from end Text ordered within h = text_file text from end ordered within h
+kind_spelled text from end (Number value) ordered within h = tt
+kind_spelled text from end (SignKind sign) ordered within h = tt
+
+none_spelled : (text : List ℕ) → All (IsSpelled text) []
+none_spelled text k d l = absurd (omega arith)
+
+spelled_step : (text : List ℕ) (at brackets f e : ℕ) (k : Option TokenKind) (rest : List Spot) → at ≤ length text →
+    ((at brackets : ℕ) → at ≤ length text → Spots text at brackets rest → All (IsSpelled text) rest) →
+    Spots text at brackets (record { from = f; end = e; kind = k } ∷ rest) → All (IsSpelled text) (record { from = f; end = e; kind = k } ∷ rest)
+spelled_step text at brackets f e None rest l behind h =
+    let inside = rw h.0 at (next_inside text at brackets l) in let place = h.1 in
+    All-cons (IsSpelled text) (record { from = f; end = e; kind = None }) rest (omega arith, omega arith, tt) (rw h.2 (none_spelled text))
+spelled_step text at brackets f e (Some kind) rest l behind h =
+    let inside = rw h.0 at (next_inside text at brackets l) in
+    let ordered : f ≤ e = omega arith in let within : e ≤ length text = omega arith in
+    All-cons (IsSpelled text) (record { from = f; end = e; kind = Some kind }) rest
+    (ordered, within, kind_spelled text f e kind ordered within (next_spells text at brackets f e kind h.0).0) (behind e (brackets_after kind brackets) within h.1)
+
+pub spots_spelled : (text : List ℕ) (at brackets : ℕ) (spots : List Spot) → at ≤ length text → Spots text at brackets spots → All (IsSpelled text) spots
+spots_spelled text at brackets [] l h = none_spelled text
+spots_spelled text at brackets (spot ∷ spots) l h = spelled_step text at brackets spot.from spot.end spot.kind spots l (λ at' brackets'. spots_spelled text at' brackets' spots) h
+
+-- the column of a spot, and the one past the last
+
+pub column_at : (n : ℕ) (spots : List Spot) (d : Spot) → n < length spots → column_behind n spots ≡ (get_or spots n d).from + 1
+column_at n [] d h = absurd (omega arith)
+column_at zero (spot ∷ spots) d h = refl
+column_at (suc n) (spot ∷ []) d h = absurd (omega arith)
+column_at (suc n) (spot ∷ next ∷ spots) d h = column_at n (next ∷ spots) d (omega arith)
+
+pub column_last : (n : ℕ) (spots : List Spot) (d : Spot) → length spots ≡ n + 1 → column_behind (length spots) spots ≡ (get_or spots n d).end + 1
+column_last n [] d h = absurd (omega arith)
+column_last zero (spot ∷ []) d h = refl
+column_last zero (spot ∷ next ∷ spots) d h = absurd (omega arith)
+column_last (suc n) (spot ∷ []) d h = absurd (omega arith)
+column_last (suc n) (spot ∷ next ∷ spots) d h = column_last n (next ∷ spots) d (omega arith)
+
+pub ruleset columns = (column_at, column_last)

@@ -1,0 +1,5 @@
+pub mod Kernels
+pub mod Updates
+pub mod Bodies
+pub mod Spelled
+pub mod Parsing

@@ -1,0 +1,20 @@
+-- What a fault says of a text, and what an answer says where the text is a line.
+use Rattle.std.specs.Prelude.{ℕ, ◌≡◌, ◌<◌, List, Result, Ok, Err}
+use Rattle.line_grammar.specs.declared.line.Line.{Line}
+use Rattle.line_grammar.specs.Sentences.{Sentence, deepest, sentence_of}
+use Rattle.line_grammar.specs.Reads.{Reads, StopsAt}
+use Rattle.schema_lang.specs.declared.fault.LineFault.{LineFault}
+use Rattle.schema_lang.specs.declared.fault.LineFault.TheVariants.{Syntax, TooDeep, NoMemory}
+
+-- the text is no line and stops at the column, or it is one that is too deep; memory may run out at any time
+abbrev pub IsFault : List ℕ → LineFault → Type 0
+IsFault text (Syntax column) = StopsAt text column
+IsFault text TooDeep = (sentence : Sentence) × Reads text sentence × (32 < deepest sentence)
+IsFault text NoMemory = Unit {0}
+
+-- the answer for a text that is this line
+abbrev pub IsAnswer : Sentence → Result Line LineFault → Type 0
+IsAnswer sentence (Ok line) = sentence_of line ≡ sentence
+IsAnswer sentence (Err (Syntax column)) = ⊥
+IsAnswer sentence (Err TooDeep) = 32 < deepest sentence
+IsAnswer sentence (Err NoMemory) = Unit {0}

@@ -1,0 +1,208 @@
+ghost use Rattle.std.specs.Prelude.{◌≡◌};
+ghost use Rattle.line_grammar.specs.Sentences.{sentence_of};
+ghost use Rattle.line_phrases.specs.Gives.{Gives};
+ghost use Rattle.schema_lang.specs.Bodies.{assign_at, body_at, bytes_at, command_at, copy_at, define_at, kernel_line_at, load_at, mapping_at, reduce_at, relayout_at, update_at, view_at};
+
+use crate::kernels::read_kernel;
+use crate::updates::{read_filter, read_sets};
+use line_grammar::{Command, Line};
+use line_phrases::{
+    ReadError, Tokens, read_expr, read_extents, read_fields, read_fixed_extents, read_index,
+    read_map, read_path,
+};
+use line_tokens::Sign;
+use record_dim::Dim;
+use std::alloc::Global;
+
+// A command, whose brackets nest at most `room` deep.
+#[tactic(auto, unfolding(crate::specs::Bodies::command_at))]
+pub(crate) fn read_command(
+    alloc: Global,
+    room: usize,
+    tokens: &mut Tokens,
+) -> Result<Line, ReadError>
+    ensures { Gives (λ x. (sentence_of x, tokens.new)) result (command_at room tokens.old) }
+{
+    let command = tokens.command()?;
+    read_body(alloc, room, command, tokens)
+}
+
+// What stands behind the word of a command.
+#[tactic(auto, unfolding(crate::specs::Bodies::body_at))]
+fn read_body(
+    alloc: Global,
+    room: usize,
+    command: Command,
+    tokens: &mut Tokens,
+) -> Result<Line, ReadError>
+    ensures { Gives (λ x. (sentence_of x, tokens.new)) result (body_at room command tokens.old) }
+{
+    match command {
+        Command::Record => read_define(alloc, room, tokens),
+        Command::Mapping => read_mapping(alloc, room, tokens),
+        Command::View => read_view(alloc, room, tokens),
+        Command::Load => read_load(alloc, room, tokens),
+        Command::Set => read_assign(alloc, room, tokens),
+        Command::Update => read_update(alloc, room, tokens),
+        Command::Kernel => read_kernel_line(alloc, tokens),
+        Command::Reduce => read_reduce(alloc, room, tokens),
+        Command::Copy => read_copy(tokens),
+        Command::Relayout => read_relayout(alloc, room, tokens),
+        Command::Print => Ok(Line::Print(tokens.name()?)),
+        Command::Counts => Ok(Line::Counts(tokens.name()?)),
+        Command::Heat => Ok(Line::Heat(tokens.name()?)),
+        Command::Layout => Ok(Line::Layout(tokens.name()?)),
+        Command::Drop => Ok(Line::Drop(tokens.name()?)),
+        Command::Bytes => read_bytes(tokens),
+    }
+}
+
+#[tactic(auto, unfolding(crate::specs::Bodies::define_at))]
+fn read_define(alloc: Global, room: usize, tokens: &mut Tokens) -> Result<Line, ReadError>
+    ensures { Gives (λ x. (sentence_of x, tokens.new)) result (define_at room tokens.old) }
+{
+    let name = tokens.name()?;
+    let fields = read_fields(alloc, room, tokens)?;
+    Ok(Line::Define {
+        name,
+        dim: Dim::Fields(fields),
+    })
+}
+
+#[tactic(auto, unfolding(crate::specs::Bodies::mapping_at))]
+fn read_mapping(alloc: Global, room: usize, tokens: &mut Tokens) -> Result<Line, ReadError>
+    ensures { Gives (λ x. (sentence_of x, tokens.new)) result (mapping_at room tokens.old) }
+{
+    let name = tokens.name()?;
+    tokens.sign(Sign::Equals)?;
+    let expr = read_map(alloc, room, tokens)?;
+    Ok(Line::Mapping { name, expr })
+}
+
+#[tactic(auto, unfolding(crate::specs::Bodies::view_at))]
+fn read_view(alloc: Global, room: usize, tokens: &mut Tokens) -> Result<Line, ReadError>
+    ensures { Gives (λ x. (sentence_of x, tokens.new)) result (view_at room tokens.old) }
+{
+    let name = tokens.name()?;
+    tokens.sign(Sign::Colon)?;
+    let schema = tokens.name()?;
+    let words = read_fixed_extents(alloc, tokens)?;
+    tokens.word("as")?;
+    let expr = read_map(alloc, room, tokens)?;
+    Ok(Line::View {
+        name,
+        schema,
+        words,
+        expr,
+    })
+}
+
+#[tactic(auto, unfolding(crate::specs::Bodies::load_at))]
+fn read_load(alloc: Global, room: usize, tokens: &mut Tokens) -> Result<Line, ReadError>
+    ensures { Gives (λ x. (sentence_of x, tokens.new)) result (load_at room tokens.old) }
+{
+    let name = tokens.name()?;
+    tokens.sign(Sign::Colon)?;
+    let schema = tokens.name()?;
+    let words = read_extents(alloc, tokens)?;
+    tokens.word("as")?;
+    let expr = read_map(alloc, room, tokens)?;
+    tokens.word("from")?;
+    let file = tokens.file_name()?;
+    Ok(Line::Load {
+        name,
+        schema,
+        words,
+        expr,
+        file,
+    })
+}
+
+#[tactic(auto, unfolding(crate::specs::Bodies::assign_at, line_phrases::specs::Exprs::expr_at))]
+fn read_assign(alloc: Global, room: usize, tokens: &mut Tokens) -> Result<Line, ReadError>
+    ensures { Gives (λ x. (sentence_of x, tokens.new)) result (assign_at room tokens.old) }
+{
+    let view = tokens.name()?;
+    let index = read_index(alloc, tokens)?;
+    tokens.sign(Sign::Dot)?;
+    let path = read_path(alloc, tokens)?;
+    tokens.sign(Sign::Equals)?;
+    let value = read_expr(alloc, room, tokens)?;
+    Ok(Line::Assign {
+        view,
+        index,
+        path,
+        value,
+    })
+}
+
+#[tactic(auto, unfolding(crate::specs::Bodies::update_at))]
+fn read_update(alloc: Global, room: usize, tokens: &mut Tokens) -> Result<Line, ReadError>
+    ensures { Gives (λ x. (sentence_of x, tokens.new)) result (update_at room tokens.old) }
+{
+    let view = tokens.name()?;
+    let filter = read_filter(alloc, room, tokens)?;
+    tokens.word("set")?;
+    let sets = read_sets(alloc, room, tokens)?;
+    Ok(Line::Update { view, filter, sets })
+}
+
+#[tactic(auto, unfolding(crate::specs::Bodies::kernel_line_at))]
+fn read_kernel_line(alloc: Global, tokens: &mut Tokens) -> Result<Line, ReadError>
+    ensures { Gives (λ x. (sentence_of x, tokens.new)) result (kernel_line_at tokens.old) }
+{
+    let view = tokens.name()?;
+    let kernel = read_kernel(alloc, tokens)?;
+    tokens.word("lanes")?;
+    let lanes = tokens.count()?;
+    Ok(Line::Kernel {
+        view,
+        kernel,
+        lanes,
+    })
+}
+
+#[tactic(auto, unfolding(crate::specs::Bodies::reduce_at, line_phrases::specs::Exprs::expr_at))]
+fn read_reduce(alloc: Global, room: usize, tokens: &mut Tokens) -> Result<Line, ReadError>
+    ensures { Gives (λ x. (sentence_of x, tokens.new)) result (reduce_at room tokens.old) }
+{
+    let view = tokens.name()?;
+    if tokens.begins_word("count") {
+        tokens.word("count")?;
+        tokens.word("where")?;
+        let filter = read_expr(alloc, room, tokens)?;
+        return Ok(Line::Count { view, filter });
+    }
+    let kind = tokens.reduction()?;
+    let path = read_path(alloc, tokens)?;
+    Ok(Line::Reduce { view, kind, path })
+}
+
+#[tactic(auto, unfolding(crate::specs::Bodies::copy_at))]
+fn read_copy(tokens: &mut Tokens) -> Result<Line, ReadError>
+    ensures { Gives (λ x. (sentence_of x, tokens.new)) result (copy_at tokens.old) }
+{
+    let source = tokens.name()?;
+    tokens.word("to")?;
+    let target = tokens.name()?;
+    Ok(Line::Copy { source, target })
+}
+
+#[tactic(auto, unfolding(crate::specs::Bodies::relayout_at))]
+fn read_relayout(alloc: Global, room: usize, tokens: &mut Tokens) -> Result<Line, ReadError>
+    ensures { Gives (λ x. (sentence_of x, tokens.new)) result (relayout_at room tokens.old) }
+{
+    let view = tokens.name()?;
+    tokens.word("as")?;
+    let expr = read_map(alloc, room, tokens)?;
+    Ok(Line::Relayout { view, expr })
+}
+
+#[tactic(auto, unfolding(crate::specs::Bodies::bytes_at))]
+fn read_bytes(tokens: &mut Tokens) -> Result<Line, ReadError>
+    ensures { Gives (λ x. (sentence_of x, tokens.new)) result (bytes_at tokens.old) }
+{
+    let view = tokens.name()?;
+    let blob = tokens.count()?;
+    Ok(Line::Bytes { view, blob })
+}

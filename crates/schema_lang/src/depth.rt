@@ -1,0 +1,47 @@
+ghost use Rattle.std.specs.Prelude.{◌≡◌, ◌≤◌, nat_le, map, List};
+ghost use Rattle.std.specs.List.{list_all};
+ghost use Rattle.expr_lang.specs.Terms.{depth_of, term_of};
+ghost use Rattle.line_grammar.specs.Sentences.{assignment_of, deepest, deepest_set, filter_depth, sentence_of};
+
+use expr_lang::Expr;
+use line_grammar::{Line, SetText};
+
+/// The most that an expression of a line may be deep.
+const MOST_DEPTH: u64 = 32;
+
+// Whether no expression of the line is too deep.
+pub(crate) fn is_shallow(line: &Line) -> bool
+    ensures { result ≡ nat_le (deepest (sentence_of line.now)) 32 }
+{
+    match line {
+        Line::Assign { value, .. } => is_low(value),
+        Line::Update {
+            filter: Some(filter),
+            sets,
+            ..
+        } => is_low(filter) && are_low(sets.as_slice()),
+        Line::Update {
+            filter: None,
+            sets,
+            ..
+        } => are_low(sets.as_slice()),
+        Line::Count { filter, .. } => is_low(filter),
+        _ => true,
+    }
+}
+
+fn is_low(value: &Expr) -> bool
+    ensures { result ≡ nat_le (depth_of (term_of value.now)) 32 }
+{
+    value.depth() <= MOST_DEPTH
+}
+
+#[tactic(auto, using(crate::proofs::Depths::low_first))]
+fn are_low(sets: &[SetText]) -> bool
+    ensures { result ≡ nat_le (deepest_set (map assignment_of sets.now)) 32 }
+{
+    match sets {
+        [] => true,
+        [first, rest @ ..] => is_low(&first.value) && are_low(rest),
+    }
+}

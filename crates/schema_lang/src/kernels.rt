@@ -1,0 +1,72 @@
+ghost use Rattle.std.specs.Prelude.{◌≡◌, ◌<◌, length, OnOk};
+ghost use Rattle.line_phrases.specs.Gives.{Gives};
+ghost use Rattle.schema_lang.specs.Kernels.{axpy_at, clamp_at, count_where_at, inside_at, kernel_at};
+
+use line_grammar::{KernelText, KernelWord};
+use line_phrases::{ReadError, Tokens, read_const, read_path};
+use line_tokens::Sign;
+use std::alloc::Global;
+
+// A kernel with its leaves and numbers.
+#[tactic(auto, unfolding(crate::specs::Kernels::kernel_at))]
+pub(crate) fn read_kernel(alloc: Global, tokens: &mut Tokens) -> Result<KernelText, ReadError>
+    ensures gives { Gives (λ x. (x, tokens.new)) result (kernel_at tokens.old) }
+{
+    let word = tokens.kernel_word()?;
+    tokens.sign(Sign::OpenParen)?;
+    let kernel = read_inside(alloc, word, tokens)?;
+    tokens.sign(Sign::CloseParen)?;
+    Ok(kernel)
+}
+
+#[tactic(auto, unfolding(crate::specs::Kernels::inside_at))]
+fn read_inside(
+    alloc: Global,
+    word: KernelWord,
+    tokens: &mut Tokens,
+) -> Result<KernelText, ReadError>
+    ensures gives { Gives (λ x. (x, tokens.new)) result (inside_at word tokens.old) }
+{
+    match word {
+        KernelWord::Axpy => read_axpy(alloc, tokens),
+        KernelWord::Clamp => read_clamp(alloc, tokens),
+        KernelWord::Sum => Ok(KernelText::Sum(read_path(alloc, tokens)?)),
+        KernelWord::Least => Ok(KernelText::Least(read_path(alloc, tokens)?)),
+        KernelWord::Greatest => Ok(KernelText::Greatest(read_path(alloc, tokens)?)),
+        KernelWord::CountWhere => read_count_where(alloc, tokens),
+    }
+}
+
+#[tactic(auto, unfolding(crate::specs::Kernels::axpy_at))]
+fn read_axpy(alloc: Global, tokens: &mut Tokens) -> Result<KernelText, ReadError>
+    ensures gives { Gives (λ x. (x, tokens.new)) result (axpy_at tokens.old) }
+{
+    let a = read_const(tokens)?;
+    tokens.sign(Sign::Comma)?;
+    let x = read_path(alloc, tokens)?;
+    tokens.sign(Sign::Comma)?;
+    let y = read_path(alloc, tokens)?;
+    Ok(KernelText::Axpy { a, x, y })
+}
+
+#[tactic(auto, unfolding(crate::specs::Kernels::clamp_at))]
+fn read_clamp(alloc: Global, tokens: &mut Tokens) -> Result<KernelText, ReadError>
+    ensures gives { Gives (λ x. (x, tokens.new)) result (clamp_at tokens.old) }
+{
+    let x = read_path(alloc, tokens)?;
+    tokens.sign(Sign::Comma)?;
+    let lo = read_const(tokens)?;
+    tokens.sign(Sign::Comma)?;
+    let hi = read_const(tokens)?;
+    Ok(KernelText::Clamp { x, lo, hi })
+}
+
+#[tactic(auto, unfolding(crate::specs::Kernels::count_where_at))]
+fn read_count_where(alloc: Global, tokens: &mut Tokens) -> Result<KernelText, ReadError>
+    ensures gives { Gives (λ x. (x, tokens.new)) result (count_where_at tokens.old) }
+{
+    let x = read_path(alloc, tokens)?;
+    let op = tokens.comparison()?;
+    let c = read_const(tokens)?;
+    Ok(KernelText::CountWhere { x, op, c })
+}

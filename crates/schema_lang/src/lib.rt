@@ -1,0 +1,20 @@
+//! The lines of the script language, read from their texts and written as them.
+#![tactic(auto)]
+
+mod bodies;
+mod depth;
+mod fault;
+mod kernels;
+mod line;
+mod token_list;
+mod updates;
+
+pub use fault::LineFault;
+pub use line::parse_line;
+pub use line_grammar::{
+    ExtentWords, FileName, IndexWords, KernelText, Line, ReduceKind, SetList, SetText,
+};
+pub use line_writer::write_line;
+
+#[cfg(test)]
+mod tests;

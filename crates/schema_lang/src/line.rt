@@ -1,0 +1,62 @@
+ghost use Rattle.std.specs.Prelude.{◌≡◌, ◌≤◌, [], length, IfOk, IfErr};
+ghost use Rattle.line_grammar.specs.Reads.{Reads};
+ghost use Rattle.line_grammar.specs.Sentences.{Sentence, deepest, sentence_of};
+ghost use Rattle.line_phrases.specs.Gives.{Gives};
+ghost use Rattle.schema_lang.specs.Bodies.{line_at};
+ghost use Rattle.schema_lang.specs.Parsing.{IsAnswer, IsFault};
+
+use crate::LineFault;
+use crate::bodies::read_command;
+use crate::depth::is_shallow;
+use crate::token_list::{column_of, tokens_of};
+use line_grammar::{Line, Token};
+use line_phrases::{ReadError, Tokens};
+use line_tokens::spots_of;
+use std::alloc::Global;
+
+/// The line that the text is. A fault is `Syntax` where it is none, and `TooDeep` where it is one with an expression more than
+/// 32 deep. The depth of a mapping is not looked at here.
+pub fn parse_line(alloc: Global, text: &[u8]) -> Result<Line, LineFault>
+    requires { length text.now ≤ 4096 }
+    // What is read is the line that the text is.
+    ensures found { IfOk result (λ line. Reads text.now (sentence_of line)) }
+    ensures shallow { IfOk result (λ line. deepest (sentence_of line) ≤ 32) }
+    // Which fault it is, and where it stands.
+    ensures fault { IfErr result (IsFault text.now) }
+    // A text that is a line is read as that line, unless it is too deep.
+    ensures only { (sentence : Sentence) → Reads text.now sentence → IsAnswer sentence result }
+    // No text is two lines.
+    ensures one { (a b : Sentence) → Reads text.now a → Reads text.now b → a ≡ b }
+{
+    let spots = spots_of(alloc, text)?;
+    let tokens = tokens_of(alloc, text, spots.as_slice())?;
+    match read_line(alloc, &tokens) {
+        Ok(line) => {
+            if is_shallow(&line) {
+                Ok(line)
+            } else {
+                Err(LineFault::TooDeep)
+            }
+        }
+        Err(ReadError::NoMemory) => Err(LineFault::NoMemory),
+        Err(ReadError::Syntax(left)) => Err(LineFault::Syntax {
+            column: column_of(spots.as_slice(), left),
+        }),
+    }
+}
+
+// The line that has these tokens.
+#[tactic(auto, unfolding(crate::specs::Bodies::line_at))]
+fn read_line(alloc: Global, tokens: &[Token]) -> Result<Line, ReadError>
+    ensures { Gives (λ x. (sentence_of x, [])) result (line_at (length tokens.now) tokens.now) }
+{
+    let mut left = Tokens::new(tokens);
+    if tokens.is_empty() {
+        return Ok(Line::Blank);
+    }
+    let line = read_command(alloc, tokens.len(), &mut left)?;
+    if left.len() > 0 {
+        return Err(ReadError::Syntax(left.len()));
+    }
+    Ok(line)
+}
