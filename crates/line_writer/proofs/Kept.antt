@@ -1,0 +1,332 @@
+-- The phrases that may have other tokens than the canonical ones: lines with expressions and kernels. Their canonical tokens are
+-- read as the same line, and open few brackets at once.
+use Rattle.std.proofs.Common.{◌≡◌, ℕ, zero, suc, ◌+◌, ◌≤◌, max, List, [], ◌∷◌, ◌++◌, map, length, Option, Some, None, codes, ℤ, pos, negsuc, neg_ℤ, inl, inr, refl, sym, ap, ◌∙◌, add-one, append-nil, append_assoc, arith}
+use Rattle.std.specs.List.{flat_map}
+use Rattle.phrases.specs.Phrases.{IsItem, Behind, Joined, IsEither, IsNothing, Chain, Repeats}
+use Rattle.line_tokens.specs.declared.sign.Sign.TheVariants.{OpenBracket, CloseBracket, OpenParen, CloseParen, Comma, Dot, Equals, Minus, EqualEqual, NotEqual, LessThan, LessEqual, GreaterThan, GreaterEqual}
+use Rattle.record_dim.specs.declared.path.PathStep.{PathStep}
+use Rattle.expr_lang.specs.declared.expr.BinOp.{BinOp}
+use Rattle.expr_lang.specs.declared.expr.BinOp.TheVariants.{Eq, Ne, Lt, Le, Gt, Ge}
+use Rattle.expr_lang.specs.Terms.{depth_of}
+use Rattle.line_grammar.specs.declared.token.Token.{Token}
+use Rattle.line_grammar.specs.declared.token.Token.TheVariants.{Word, Number, Text, Sign, Bad}
+use Rattle.line_grammar.specs.declared.line.Command.{Command}
+use Rattle.line_grammar.specs.declared.line.Command.TheVariants as command
+use Rattle.line_grammar.specs.declared.line.KernelText.{KernelText}
+use Rattle.line_grammar.specs.declared.line.KernelText.TheVariants as kernel
+use Rattle.line_grammar.specs.declared.line.KernelWord.{KernelWord}
+use Rattle.line_grammar.specs.declared.line.KernelWord.TheVariants as word
+use Rattle.line_grammar.specs.Tokens.{number_of, kernel_word_of, comparison_of, command_of}
+use Rattle.line_grammar.specs.Sentences.{Assignment, Sentence, Value, Assign, Update, Kernel, Count, filter_depth, deepest_set, deepest}
+use Rattle.line_grammar.specs.Grammar.{Phrase, IsName, IsCount, IsNumber, IsPath, IsMore, IsListed, IsConst, IsExpr, IsBracketList, IsAssignment, IsFilter, IsKernelInside, IsKernel, IsBody, IsLine}
+use Rattle.line_writer.specs.Canonical.{operator, count_token, number_tokens, path_tokens, with_commas, bracket_list, form_tokens, value_tokens, assignment_tokens, filter_tokens, kernel_tokens, line_tokens}
+use Rattle.line_writer.proofs.Gives.{IsClean, IsSpelled, Each, each_append, each_front, each_back, Gives, nothing_gives, item_gives, behind_gives, joined_gives, either_gives, repeats_gives, gives_also}
+use Rattle.line_writer.proofs.Words.{kernel_word, name_gives, count_gives, kernel_word_gives}
+use Rattle.line_writer.proofs.Phrases.{IsWritten, sound, path_gives, bracket_list_gives}
+use Rattle.line_writer.proofs.Leaves.{IsGood, number_gives, expr_gives}
+use Rattle.line_writer.proofs.Levels.{value_read}
+use Rattle.line_writer.proofs.Rooms.{Fits, no_tokens_fit, fits_more, fits_append, fits_flat, fits_operator, one_fits, path_fits, number_fits, value_fits, commas_fit, form_fits, bracket_list_fits, word_spelled}
+
+-- the canonical tokens of the value are read as this value, and are spelled
+pub record Kept {A : Type 0} (Is : Phrase A) (tokens : A → List Token) (v : A) : Type 0 where
+  pub reads : Is (tokens v) v
+  pub spelled : Each IsSpelled (tokens v)
+
+pub kept_from : {A : Type 0} (Is : Phrase A) (tokens : A → List Token) (xs : List Token) (v : A) → tokens v ≡ xs → Is xs v → Each IsSpelled xs → Kept Is tokens v
+kept_from Is tokens xs v same is spelled = record { reads = rw same is; spelled = rw same spelled }
+
+pub kept_gives : {A : Type 0} {Is : Phrase A} (tokens : A → List Token) → Gives Is (IsWritten tokens) → Gives Is (λ xs v. Kept Is tokens v)
+kept_gives {Is = Is} tokens one = gives_also one (λ xs v is spelled same. kept_from Is tokens xs v same is spelled)
+
+abbrev pub KeptName : List ℕ → Type 0
+KeptName name = Kept IsName (λ k. Word k ∷ []) name
+
+abbrev pub KeptCount : ℕ → Type 0
+KeptCount count = Kept IsCount (λ k. count_token k ∷ []) count
+
+abbrev pub KeptPath : List PathStep → Type 0
+KeptPath path = Kept IsPath path_tokens path
+
+-- one phrase behind another, and the last one
+join : {A B : Type 0} {Is : Phrase A} {Next : A → Phrase B} (front back : List Token) (a : A) (v : B) → Is front a → Next a back v → Joined Is Next (front ++ back) v
+join front back a v h g = record { first = a; front = front; back = back; whole = refl; begins = h; ends = g }
+
+last : {A B : Type 0} {Is : Phrase A} (f : A → B) (xs : List Token) (a : A) → Is xs a → Joined Is (λ a. IsNothing (f a)) xs (f a)
+last f xs a h = record { first = a; front = xs; back = []; whole = sym (append-nil xs); begins = h; ends = (refl, refl) }
+
+-- a constant
+negative : (n : ℕ) → neg_ℤ (pos (n + 1)) ≡ negsuc n
+negative n = rw add-one refl
+
+const_of : (v : ℤ) (n : ℕ) → v ≡ pos n → IsSpelled (Number (pos n)) → Kept IsConst number_tokens (neg_ℤ v)
+const_of v zero e spelled = rw e (record { reads = inr (Number (pos 0), refl, refl); spelled = (spelled, tt) })
+const_of v (suc n) e spelled = rw e (record {
+  reads = inl (refl, record { first = pos (n + 1); front = Number (pos (n + 1)) ∷ []; back = []; whole = refl; begins = (Number (pos (n + 1)), refl, refl); ends = (refl, sym (negative n)) });
+  spelled = (refl, (rw add-one spelled, tt));
+})
+
+numeral : (token : Token) (v : ℤ) → number_of token ≡ Some v → IsSpelled token → (n : ℕ) × (v ≡ pos n) × IsSpelled (Number (pos n))
+numeral (Number (pos value)) v h spelled = let e : v ≡ pos value = cc in (value, e, spelled)
+numeral (Number (negsuc value)) v h spelled = absurd cc
+numeral (Word text) v h spelled = absurd cc
+numeral (Text text) v h spelled = absurd cc
+numeral (Sign sign) v h spelled = absurd cc
+numeral Bad v h spelled = absurd cc
+
+numeral_gives : Gives IsNumber (λ xs v. (n : ℕ) × (v ≡ pos n) × IsSpelled (Number (pos n)))
+numeral_gives = item_gives {Q = λ xs v. (n : ℕ) × (v ≡ pos n) × IsSpelled (Number (pos n))} number_of refl numeral
+
+plain_const : (v : ℤ) (n : ℕ) → v ≡ pos n → IsSpelled (Number (pos n)) → Kept IsConst number_tokens v
+plain_const v n e spelled = rw e (record { reads = inr (Number (pos n), refl, refl); spelled = (spelled, tt) })
+
+pub const_gives : Gives IsConst (λ xs v. Kept IsConst number_tokens v)
+const_gives = either_gives
+    (behind_gives {Q = λ xs v. Kept IsConst number_tokens v} (Sign Minus) sound (joined_gives {Q = λ xs v. Kept IsConst number_tokens v} numeral_gives (λ front number i n s.
+    nothing_gives {Q = λ xs v. Kept IsConst number_tokens v} (neg_ℤ number) (const_of number n.0 n.1 n.2))))
+    (gives_also numeral_gives (λ xs v i s n. plain_const v n.0 n.1 n.2))
+
+-- kernels
+pub record KeptKernel (word : KernelWord) (text : KernelText) : Type 0 where
+  pub inside : List Token
+  pub whole : kernel_tokens text ≡ form_tokens (kernel_word word) inside
+  pub reads : IsKernelInside word inside text
+  pub fits : Fits 1 inside
+
+path_in : (path : List PathStep) → KeptPath path → Fits 1 (path_tokens path)
+path_in path h = path_fits path h.spelled
+
+const_in : (number : ℤ) → Kept IsConst number_tokens number → Fits 1 (number_tokens number)
+const_in number h = fits_more 0 1 _ (omega arith) (number_fits number h.spelled)
+
+axpy_kept : (a : ℤ) (x y : List PathStep) → Kept IsConst number_tokens a → KeptPath x → KeptPath y → KeptKernel word.Axpy (kernel.Axpy a x y)
+axpy_kept a x y ka kx ky = record {
+  inside = number_tokens a ++ Sign Comma ∷ (path_tokens x ++ Sign Comma ∷ path_tokens y);
+  whole = refl;
+  reads = join (number_tokens a) (Sign Comma ∷ (path_tokens x ++ Sign Comma ∷ path_tokens y)) a _ ka.reads
+      (refl, join (path_tokens x) (Sign Comma ∷ path_tokens y) x _ kx.reads (refl, last (λ y. kernel.Axpy a x y) (path_tokens y) y ky.reads));
+  fits = fits_append 1 (number_tokens a) _ (const_in a ka) (fits_flat 1 (Sign Comma) _ refl refl
+      (fits_append 1 (path_tokens x) _ (path_in x kx) (fits_flat 1 (Sign Comma) _ refl refl (path_in y ky))));
+}
+
+clamp_kept : (x : List PathStep) (lo hi : ℤ) → KeptPath x → Kept IsConst number_tokens lo → Kept IsConst number_tokens hi → KeptKernel word.Clamp (kernel.Clamp x lo hi)
+clamp_kept x lo hi kx kl kh = record {
+  inside = path_tokens x ++ Sign Comma ∷ (number_tokens lo ++ Sign Comma ∷ number_tokens hi);
+  whole = refl;
+  reads = join (path_tokens x) (Sign Comma ∷ (number_tokens lo ++ Sign Comma ∷ number_tokens hi)) x _ kx.reads
+      (refl, join (number_tokens lo) (Sign Comma ∷ number_tokens hi) lo _ kl.reads (refl, last (λ hi. kernel.Clamp x lo hi) (number_tokens hi) hi kh.reads));
+  fits = fits_append 1 (path_tokens x) _ (path_in x kx) (fits_flat 1 (Sign Comma) _ refl refl
+      (fits_append 1 (number_tokens lo) _ (const_in lo kl) (fits_flat 1 (Sign Comma) _ refl refl (const_in hi kh))));
+}
+
+count_where_kept : (x : List PathStep) (op : BinOp) (c : ℤ) → KeptPath x → comparison_of (operator op) ≡ Some op → Kept IsConst number_tokens c → KeptKernel word.CountWhere (kernel.CountWhere x op c)
+count_where_kept x op c kx e kc = record {
+  inside = path_tokens x ++ operator op ∷ number_tokens c;
+  whole = refl;
+  reads = join (path_tokens x) (operator op ∷ number_tokens c) x _ kx.reads
+      (join (operator op ∷ []) (number_tokens c) op _ (operator op, refl, e) (last (λ c. kernel.CountWhere x op c) (number_tokens c) c kc.reads));
+  fits = fits_append 1 (path_tokens x) _ (path_in x kx) (fits_operator 1 op _ (const_in c kc));
+}
+
+comparison_back : (op own : BinOp) → own ≡ op → comparison_of (operator own) ≡ Some own → comparison_of (operator op) ≡ Some op
+comparison_back op own e h = rw (← e) h
+
+comparison_is : (token : Token) (op : BinOp) → comparison_of token ≡ Some op → IsSpelled token → comparison_of (operator op) ≡ Some op
+comparison_is (Sign EqualEqual) op h spelled = comparison_back op Eq (cc) refl
+comparison_is (Sign NotEqual) op h spelled = comparison_back op Ne (cc) refl
+comparison_is (Sign LessThan) op h spelled = comparison_back op Lt (cc) refl
+comparison_is (Sign LessEqual) op h spelled = comparison_back op Le (cc) refl
+comparison_is (Sign GreaterThan) op h spelled = comparison_back op Gt (cc) refl
+comparison_is (Sign GreaterEqual) op h spelled = comparison_back op Ge (cc) refl
+comparison_is token op h spelled = absurd cc
+
+path_kernel : (word : KernelWord) (value : List PathStep → KernelText) → ((x : List PathStep) → KeptPath x → KeptKernel word (value x)) → Gives (Joined IsPath (λ x. IsNothing (value x))) (λ xs v. KeptKernel word v)
+path_kernel word value kept = joined_gives {Q = λ xs v. KeptKernel word v} (kept_gives path_tokens path_gives) (λ front x i k s. nothing_gives {Q = λ xs v. KeptKernel word v} (value x) (kept x k))
+
+pub kernel_inside_gives : (word : KernelWord) → Gives (IsKernelInside word) (λ xs v. KeptKernel word v)
+kernel_inside_gives word.Axpy = joined_gives {Q = λ xs v. KeptKernel word.Axpy v} const_gives (λ f a i ka s. behind_gives {Q = λ xs v. KeptKernel word.Axpy v} (Sign Comma) sound
+    (joined_gives {Q = λ xs v. KeptKernel word.Axpy v} (kept_gives path_tokens path_gives) (λ g x i' kx s'. behind_gives {Q = λ xs v. KeptKernel word.Axpy v} (Sign Comma) sound
+    (joined_gives {Q = λ xs v. KeptKernel word.Axpy v} (kept_gives path_tokens path_gives) (λ h y i'' ky s''. nothing_gives {Q = λ xs v. KeptKernel word.Axpy v} (kernel.Axpy a x y) (axpy_kept a x y ka kx ky))))))
+kernel_inside_gives word.Clamp = joined_gives {Q = λ xs v. KeptKernel word.Clamp v} (kept_gives path_tokens path_gives) (λ f x i kx s. behind_gives {Q = λ xs v. KeptKernel word.Clamp v} (Sign Comma) sound
+    (joined_gives {Q = λ xs v. KeptKernel word.Clamp v} const_gives (λ g lo i' kl s'. behind_gives {Q = λ xs v. KeptKernel word.Clamp v} (Sign Comma) sound
+    (joined_gives {Q = λ xs v. KeptKernel word.Clamp v} const_gives (λ h hi i'' kh s''. nothing_gives {Q = λ xs v. KeptKernel word.Clamp v} (kernel.Clamp x lo hi) (clamp_kept x lo hi kx kl kh))))))
+kernel_inside_gives word.Sum = path_kernel word.Sum kernel.Sum (λ x k. record { inside = path_tokens x; whole = refl; reads = last kernel.Sum (path_tokens x) x k.reads; fits = path_in x k })
+kernel_inside_gives word.Least = path_kernel word.Least kernel.Least (λ x k. record { inside = path_tokens x; whole = refl; reads = last kernel.Least (path_tokens x) x k.reads; fits = path_in x k })
+kernel_inside_gives word.Greatest = path_kernel word.Greatest kernel.Greatest (λ x k. record { inside = path_tokens x; whole = refl; reads = last kernel.Greatest (path_tokens x) x k.reads; fits = path_in x k })
+kernel_inside_gives word.CountWhere = joined_gives {Q = λ xs v. KeptKernel word.CountWhere v} (kept_gives path_tokens path_gives) (λ f x i kx s.
+    joined_gives {Q = λ xs v. KeptKernel word.CountWhere v} (item_gives {Q = λ xs op. comparison_of (operator op) ≡ Some op} comparison_of refl comparison_is) (λ g op i' e s'.
+    joined_gives {Q = λ xs v. KeptKernel word.CountWhere v} const_gives (λ h c i'' kc s''. nothing_gives {Q = λ xs v. KeptKernel word.CountWhere v} (kernel.CountWhere x op c) (count_where_kept x op c kx e kc))))
+
+-- a line is kept: its canonical tokens are read as this line, and open no 65th bracket
+abbrev pub IsKept : Sentence → Type 0
+IsKept sentence = deepest sentence ≤ 32 → Fits 64 (line_tokens sentence) × IsLine 32 (line_tokens sentence) sentence
+
+-- the words of such lines
+set_word : IsSpelled (Word (codes "set"))
+set_word = word_spelled (codes "set") refl refl (omega arith)
+
+update_word : IsSpelled (Word (codes "update"))
+update_word = word_spelled (codes "update") refl refl (omega arith)
+
+where_word : IsSpelled (Word (codes "where"))
+where_word = word_spelled (codes "where") refl refl (omega arith)
+
+reduce_word : IsSpelled (Word (codes "reduce"))
+reduce_word = word_spelled (codes "reduce") refl refl (omega arith)
+
+count_word : IsSpelled (Word (codes "count"))
+count_word = word_spelled (codes "count") refl refl (omega arith)
+
+kernel_command : IsSpelled (Word (codes "kernel"))
+kernel_command = word_spelled (codes "kernel") refl refl (omega arith)
+
+lanes_word : IsSpelled (Word (codes "lanes"))
+lanes_word = word_spelled (codes "lanes") refl refl (omega arith)
+
+kernel_word_spelled : (word : KernelWord) → IsSpelled (Word (kernel_word word))
+kernel_word_spelled word.Axpy = word_spelled (codes "axpy") refl refl (omega arith)
+kernel_word_spelled word.Clamp = word_spelled (codes "clamp") refl refl (omega arith)
+kernel_word_spelled word.Sum = word_spelled (codes "sum") refl refl (omega arith)
+kernel_word_spelled word.Least = word_spelled (codes "least") refl refl (omega arith)
+kernel_word_spelled word.Greatest = word_spelled (codes "greatest") refl refl (omega arith)
+kernel_word_spelled word.CountWhere = word_spelled (codes "count_where") refl refl (omega arith)
+
+kernel_word_back : (word : KernelWord) → kernel_word_of (Word (kernel_word word)) ≡ Some word
+kernel_word_back word.Axpy = refl
+kernel_word_back word.Clamp = refl
+kernel_word_back word.Sum = refl
+kernel_word_back word.Least = refl
+kernel_word_back word.Greatest = refl
+kernel_word_back word.CountWhere = refl
+
+-- a command with a word in front
+command_line : (c : Command) (text : List ℕ) (rest : List Token) (s : Sentence) → command_of (Word text) ≡ Some c → IsBody 32 c rest s → IsLine 32 (Word text ∷ rest) s
+command_line c text rest s e h = inr (join (Word text ∷ []) rest c s (Word text, refl, e) h)
+
+name_in : (name : List ℕ) → KeptName name → IsSpelled (Word name)
+name_in name h = h.spelled.0
+
+value_in : (value : Value) → IsGood value → depth_of value ≤ 32 → Fits 32 (value_tokens value)
+value_in value good small = fits_more (depth_of value) 32 _ small (value_fits value good)
+
+value_reads : (value : Value) → IsGood value → depth_of value ≤ 32 → IsExpr 32 (value_tokens value) value
+value_reads value good small = value_read value 32 good (omega arith)
+
+-- reduce .. count where
+pub count_kept : (view : List ℕ) (filter : Value) → KeptName view → IsGood filter → IsKept (Count view filter)
+count_kept view filter kv good = λ small. (
+  fits_more 32 64 _ (omega arith) (fits_flat 32 (Word (codes "reduce")) _ refl reduce_word (fits_flat 32 (Word view) _ refl (name_in view kv)
+      (fits_flat 32 (Word (codes "count")) _ refl count_word (fits_flat 32 (Word (codes "where")) _ refl where_word (value_in filter good small))))),
+  command_line command.Reduce (codes "reduce") _ _ refl (join (Word view ∷ []) _ view _ kv.reads
+      (inl (refl, (refl, last (λ filter. Count view filter) (value_tokens filter) filter (value_reads filter good small))))),
+)
+
+-- kernel
+kernel_reads : (word : KernelWord) (text : KernelText) → KeptKernel word text → IsKernel (kernel_tokens text) text
+kernel_reads word text k = rw k.whole (join (Word (kernel_word word) ∷ []) (Sign OpenParen ∷ (k.inside ++ Sign CloseParen ∷ [])) word text (Word (kernel_word word), refl, kernel_word_back word)
+    (refl, join k.inside (Sign CloseParen ∷ []) text text k.reads (refl, (refl, refl))))
+
+kernel_fits : (word : KernelWord) (text : KernelText) → KeptKernel word text → Fits 2 (kernel_tokens text)
+kernel_fits word text k = rw k.whole (form_fits 1 (kernel_word word) k.inside (kernel_word_spelled word) k.fits)
+
+pub kernel_kept : (view : List ℕ) (word : KernelWord) (text : KernelText) (lanes : ℕ) → KeptName view → KeptKernel word text → KeptCount lanes → IsKept (Kernel view text lanes)
+kernel_kept view word text lanes kv k kl = λ small. (
+  fits_more 2 64 _ (omega arith) (fits_flat 2 (Word (codes "kernel")) _ refl kernel_command (fits_flat 2 (Word view) _ refl (name_in view kv)
+      (fits_append 2 (kernel_tokens text) _ (kernel_fits word text k) (fits_flat 2 (Word (codes "lanes")) _ refl lanes_word (fits_more 0 2 _ (omega arith) (one_fits (count_token lanes) refl kl.spelled.0)))))),
+  command_line command.Kernel (codes "kernel") _ _ refl (join (Word view ∷ []) _ view _ kv.reads
+      (join (kernel_tokens text) (Word (codes "lanes") ∷ count_token lanes ∷ []) text _ (kernel_reads word text k)
+      (refl, last (λ lanes. Kernel view text lanes) (count_token lanes ∷ []) lanes kl.reads))),
+)
+
+-- set
+spelled_parts : (parts : List (List Token)) → Each IsSpelled (flat_map (λ next. Sign Comma ∷ next) parts) → Each (Each IsSpelled) parts
+spelled_parts [] h = tt
+spelled_parts (part ∷ parts) h =
+    (each_front IsSpelled part (flat_map (λ next. Sign Comma ∷ next) parts) h.1, spelled_parts parts (each_back IsSpelled part (flat_map (λ next. Sign Comma ∷ next) parts) h.1))
+
+spelled_commas : (parts : List (List Token)) → Each IsSpelled (with_commas parts) → Each (Each IsSpelled) parts
+spelled_commas [] h = tt
+spelled_commas (part ∷ parts) h =
+    (each_front IsSpelled part (flat_map (λ next. Sign Comma ∷ next) parts) h, spelled_parts parts (each_back IsSpelled part (flat_map (λ next. Sign Comma ∷ next) parts) h))
+
+counts_fit : (counts : List ℕ) → Each (Each IsSpelled) (map (λ count. count_token count ∷ []) counts) → Each (Fits 0) (map (λ count. count_token count ∷ []) counts)
+counts_fit [] h = tt
+counts_fit (count ∷ counts) h = (one_fits (count_token count) refl h.0.0, counts_fit counts h.1)
+
+abbrev pub index_tokens : List ℕ → List Token
+index_tokens index = bracket_list (map (λ count. count_token count ∷ []) index)
+
+index_fits : (index : List ℕ) → Each IsSpelled (index_tokens index) → Fits 1 (index_tokens index)
+index_fits index h = bracket_list_fits 0 _ (counts_fit index (spelled_commas _ (each_front IsSpelled (with_commas (map (λ count. count_token count ∷ []) index)) (Sign CloseBracket ∷ []) h.1)))
+
+pub assign_kept : (view : List ℕ) (index : List ℕ) (path : List PathStep) (value : Value) → KeptName view → Kept (IsBracketList IsCount) index_tokens index → KeptPath path → IsGood value → IsKept (Assign view index path value)
+assign_kept view index path value kv ki kp good = λ small. (
+  fits_more 32 64 _ (omega arith) (fits_flat 32 (Word (codes "set")) _ refl set_word (fits_flat 32 (Word view) _ refl (name_in view kv)
+      (fits_append 32 (index_tokens index) _ (fits_more 1 32 _ (omega arith) (index_fits index ki.spelled)) (fits_flat 32 (Sign Dot) _ refl refl
+      (fits_append 32 (path_tokens path) _ (fits_more 1 32 _ (omega arith) (path_in path kp)) (fits_flat 32 (Sign Equals) _ refl refl (value_in value good small))))))),
+  command_line command.Set (codes "set") _ _ refl (join (Word view ∷ []) _ view _ kv.reads
+      (join (index_tokens index) (Sign Dot ∷ (path_tokens path ++ Sign Equals ∷ value_tokens value)) index _ ki.reads (
+        refl,
+        join (path_tokens path) (Sign Equals ∷ value_tokens value) path _ kp.reads
+            (refl, last (λ value. Assign view index path value) (value_tokens value) value (value_reads value good small)),
+      ))),
+)
+
+-- update
+abbrev pub IsGoodSet : Assignment → Type 0
+IsGoodSet set = KeptPath set.path × IsGood set.value
+
+abbrev pub IsGoodFilter : Option Value → Type 0
+IsGoodFilter None = Unit {0}
+IsGoodFilter (Some filter) = IsGood filter
+
+abbrev pub IsFull : {A : Type 0} → List A → Type 0
+IsFull [] = ⊥
+IsFull (x ∷ xs) = Unit {0}
+
+set_reads : (set : Assignment) → IsGoodSet set → depth_of set.value ≤ 32 → IsAssignment 32 (assignment_tokens set) set
+set_reads set good small = join (path_tokens set.path) (Sign Equals ∷ value_tokens set.value) set.path _ good.0.reads
+    (refl, last (λ value. let made : Assignment = record { path = set.path; value = value } in made) (value_tokens set.value) set.value (value_reads set.value good.1 small))
+
+set_fits : (set : Assignment) → IsGoodSet set → depth_of set.value ≤ 32 → Fits 32 (assignment_tokens set)
+set_fits set good small = fits_append 32 (path_tokens set.path) _ (fits_more 1 32 _ (omega arith) (path_in set.path good.0)) (fits_flat 32 (Sign Equals) _ refl refl (value_in set.value good.1 small))
+
+sets_fit : (sets : List Assignment) → Each IsGoodSet sets → deepest_set sets ≤ 32 → Each (Fits 32) (map assignment_tokens sets)
+sets_fit [] good small = tt
+sets_fit (set ∷ sets) good small = (set_fits set good.0 (omega arith), sets_fit sets good.1 (omega arith))
+
+later_sets : (found sets : List Assignment) → Each IsGoodSet sets → deepest_set sets ≤ 32 →
+    Chain (IsMore (Behind (Sign Comma) (IsAssignment 32))) (length sets) found (flat_map (λ next. Sign Comma ∷ next) (map assignment_tokens sets)) (found ++ sets)
+later_sets found [] good small = (refl, append-nil found)
+later_sets found (set ∷ sets) good small =
+    let rest = later_sets (found ++ set ∷ []) sets good.1 (omega arith) in
+    record {
+      first = found ++ set ∷ [];
+      front = Sign Comma ∷ assignment_tokens set;
+      back = flat_map (λ next. Sign Comma ∷ next) (map assignment_tokens sets);
+      whole = refl;
+      begins = last (λ next. found ++ next ∷ []) (Sign Comma ∷ assignment_tokens set) set (refl, set_reads set good.0 (omega arith));
+      ends = rw append_assoc at rest;
+    }
+
+sets_read : (sets : List Assignment) → IsFull sets → Each IsGoodSet sets → deepest_set sets ≤ 32 → IsListed (IsAssignment 32) (with_commas (map assignment_tokens sets)) sets
+sets_read [] full good small = absurd full
+sets_read (set ∷ sets) full good small = join (assignment_tokens set) (flat_map (λ next. Sign Comma ∷ next) (map assignment_tokens sets)) set (set ∷ sets) (set_reads set good.0 (omega arith))
+    (length sets, later_sets (set ∷ []) sets good.1 (omega arith))
+
+filter_reads : (filter : Option Value) → IsGoodFilter filter → filter_depth filter ≤ 32 → IsFilter 32 (filter_tokens filter) filter
+filter_reads None good small = inr (refl, refl)
+filter_reads (Some filter) good small = inl (refl, last Some (value_tokens filter) filter (value_reads filter good small))
+
+filter_fits : (filter : Option Value) → IsGoodFilter filter → filter_depth filter ≤ 32 → Fits 32 (filter_tokens filter)
+filter_fits None good small = fits_more 0 32 [] (omega arith) no_tokens_fit
+filter_fits (Some filter) good small = fits_flat 32 (Word (codes "where")) _ refl where_word (value_in filter good small)
+
+pub update_kept : (view : List ℕ) (filter : Option Value) (sets : List Assignment) → KeptName view → IsGoodFilter filter → IsFull sets → Each IsGoodSet sets → IsKept (Update view filter sets)
+update_kept view filter sets kv good full goods = λ small.
+    let low : filter_depth filter ≤ 32 = omega arith in let low' : deepest_set sets ≤ 32 = omega arith in (
+      fits_more 32 64 _ (omega arith) (fits_flat 32 (Word (codes "update")) _ refl update_word (fits_flat 32 (Word view) _ refl (name_in view kv)
+          (fits_append 32 (filter_tokens filter) _ (filter_fits filter good low) (fits_flat 32 (Word (codes "set")) _ refl set_word (commas_fit 32 _ (sets_fit sets goods low')))))),
+      command_line command.Update (codes "update") _ _ refl (join (Word view ∷ []) _ view _ kv.reads
+          (join (filter_tokens filter) (Word (codes "set") ∷ with_commas (map assignment_tokens sets)) filter _ (filter_reads filter good low)
+          (refl, last (λ sets. Update view filter sets) (with_commas (map assignment_tokens sets)) sets (sets_read sets full goods low')))),
+    )

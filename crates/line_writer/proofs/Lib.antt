@@ -1,0 +1,10 @@
+pub mod Gives
+pub mod Words
+pub mod Phrases
+pub mod Leaves
+pub mod Levels
+pub mod Rooms
+pub mod Kept
+pub mod Lines
+pub mod ReadsBack
+pub mod Behind

@@ -1,0 +1,241 @@
+-- A path, a record and a mapping have one list of tokens each: the canonical one.
+use Rattle.std.proofs.Common.{◌≡◌, ℕ, zero, suc, Bool, true, false, List, [], ◌∷◌, ◌++◌, Option, Some, None, map, codes, refl, sym, ap, ◌∙◌, append-nil, append_assoc}
+use Rattle.std.specs.List.{flat_map}
+use Rattle.std.proofs.lemmas.Grind.{flat_map-append}
+use Rattle.phrases.specs.Phrases.{IsItem, Behind, Joined, IsEither, IsNothing, Repeats}
+use Rattle.line_tokens.specs.declared.sign.Sign.TheVariants.{OpenBrace, CloseBrace, OpenBracket, CloseBracket, OpenParen, CloseParen, Colon, Comma, Dot, Equals, Arrow, Question}
+use Rattle.record_dim.specs.declared.path.PathStep.{PathStep}
+use Rattle.record_dim.specs.declared.path.PathStep.TheVariants as step
+use Rattle.record_dim.specs.Trees.{Tree, Single, Record, Array, Fields, End, Field}
+use Rattle.extents.specs.declared.words.ExtentWord.{ExtentWord}
+use Rattle.extents.specs.declared.words.ExtentWord.TheVariants as extent
+use Rattle.linearize.specs.declared.Order.{Order}
+use Rattle.map_expr.specs.Terms.{Term as MapTerm, Aos, Soa, Aosoa, BitAos, BitSoa, Split, Byteswap, Bytesplit, Change, Count as Counted, Heat as Heated, Named}
+use Rattle.line_grammar.specs.declared.token.Token.{Token}
+use Rattle.line_grammar.specs.declared.token.Token.TheVariants.{Word, Number, Text, Sign, Bad}
+use Rattle.line_grammar.specs.declared.line.MapWord.{MapWord}
+use Rattle.line_grammar.specs.declared.line.MapWord.TheVariants as form
+use Rattle.line_grammar.specs.Tokens.{map_word, order_of}
+use Rattle.line_grammar.specs.Grammar.{Phrase, IsName, IsCount, IsMore, IsListed, IsPart, IsPath, IsDim, IsDims, arrays, fields_of_list, IsTyped, IsNested, IsBraced, IsField, IsFields, IsForm, IsFormOrName, IsMap, IsExtent, IsBracketList}
+use Rattle.line_writer.specs.Canonical.{count_token, bracketed_count, with_commas, bracket_list, step_tokens, path_tokens, dims_tokens, core_tokens, fields_tokens, later_tokens, held_tokens, form_tokens, ordered_tokens, map_tokens, extent_tokens, type_word, order_word, aos_word, soa_word}
+use Rattle.line_writer.proofs.Gives.{IsClean, IsSpelled, Each, Gives, nothing_gives, behind_gives, joined_gives, either_gives, repeats_gives, gives_also}
+use Rattle.line_writer.proofs.Words.{name_gives, count_gives, type_gives, integer_type_gives, order_gives, aos_form_gives, soa_form_gives, form_word, map_word_is}
+
+-- the tokens are the canonical ones
+abbrev pub IsWritten : {A : Type 0} → (A → List Token) → List Token → A → Type 0
+IsWritten tokens xs v = tokens v ≡ xs
+
+pub sound : {P : Type 0} → P → P
+sound h = h
+
+-- these are the values found and later ones, and the tokens are those of the later ones
+abbrev IsWrittenOn : {A : Type 0} → (A → List Token) → List A → List Token → List A → Type 0
+IsWrittenOn {A = A} tokens found xs v = (later : List A) × (v ≡ found ++ later) × (flat_map tokens later ≡ xs)
+
+-- phrases one after another
+pub more_gives : {A : Type 0} {Is : Phrase A} (tokens : A → List Token) → Gives Is (IsWritten tokens) → (found : List A) →
+    Gives (Repeats (IsMore Is) found) (IsWrittenOn tokens found)
+more_gives {A = A} {Is = Is} tokens one found = repeats_gives {Step = IsMore Is} {Q = IsWrittenOn tokens found} step found ([], sym (append-nil found), refl)
+  where
+    step : (before : List Token) (so_far : List A) → IsWrittenOn tokens found before so_far → Gives (IsMore Is so_far) (λ xs v. IsWrittenOn tokens found (before ++ xs) v)
+    step before so_far q = joined_gives {Q = λ xs v. IsWrittenOn tokens found (before ++ xs) v} one (λ front next is same spelled.
+        nothing_gives {Q = λ back v. IsWrittenOn tokens found (before ++ (front ++ back)) v} (so_far ++ next ∷ []) (
+          q.0 ++ next ∷ [],
+          rw q.1 (append_assoc found q.0 (next ∷ [])),
+          flat_map-append tokens q.0 (next ∷ []) ∙ ap (λ k. k ++ (tokens next ++ [])) q.2 ∙ ap (λ k. before ++ (k ++ [])) same,
+        ))
+
+pub listed_gives : {A : Type 0} {Is : Phrase A} (tokens : A → List Token) → Gives Is (IsWritten tokens) → Gives (IsListed Is) (λ xs v. with_commas (map tokens v) ≡ xs)
+listed_gives {A = A} {Is = Is} tokens one = joined_gives {Q = λ xs v. with_commas (map tokens v) ≡ xs} one (λ front first is same spelled.
+    gives_also (more_gives (λ v. Sign Comma ∷ tokens v) (behind_gives {Q = IsWritten (λ v. Sign Comma ∷ tokens v)} (Sign Comma) sound
+    (gives_also one (λ xs v is spelled same. ap (λ k. Sign Comma ∷ k) same))) (first ∷ []))
+    (λ back v is spelled h. rw h.1 (ap (λ k. tokens first ++ k) (commas h.0 ∙ h.2) ∙ ap (λ k. k ++ back) same)))
+  where
+    commas : (vs : List A) → flat_map (λ next. Sign Comma ∷ next) (map tokens vs) ≡ flat_map (λ v. Sign Comma ∷ tokens v) vs
+    commas [] = refl
+    commas (v ∷ vs) = ap (λ k. Sign Comma ∷ (tokens v ++ k)) (commas vs)
+
+pub bracketed_count_gives : {A : Type 0} (value : ℕ → A) (tokens : A → List Token) → ((count : ℕ) → tokens (value count) ≡ bracketed_count count) →
+    Gives (Behind (Sign OpenBracket) (Joined IsCount (λ number. Behind (Sign CloseBracket) (IsNothing (value number))))) (IsWritten tokens)
+bracketed_count_gives value tokens is = behind_gives {Q = IsWritten tokens} (Sign OpenBracket) sound
+    (joined_gives {Q = λ xs v. tokens v ≡ Sign OpenBracket ∷ xs} count_gives (λ front number i same spelled.
+    behind_gives {Q = λ xs v. tokens v ≡ Sign OpenBracket ∷ (front ++ xs)} (Sign CloseBracket) sound
+    (nothing_gives {Q = λ xs v. tokens v ≡ Sign OpenBracket ∷ (front ++ (Sign CloseBracket ∷ xs))} (value number)
+    (is number ∙ ap (λ k. Sign OpenBracket ∷ (k ++ Sign CloseBracket ∷ [])) same))))
+
+-- a path
+part_gives : Gives IsPart (IsWritten step_tokens)
+part_gives = either_gives
+    (behind_gives {Q = IsWritten step_tokens} (Sign Dot) sound (joined_gives {Q = λ xs v. step_tokens v ≡ Sign Dot ∷ xs} name_gives (λ front name is same spelled.
+    nothing_gives {Q = λ xs v. step_tokens v ≡ Sign Dot ∷ (front ++ xs)} (step.Name name) (ap (λ k. Sign Dot ∷ (k ++ [])) same))))
+    (bracketed_count_gives step.At step_tokens (λ count. refl))
+
+pub path_gives : Gives IsPath (IsWritten path_tokens)
+path_gives = joined_gives {Q = IsWritten path_tokens} name_gives (λ front name is same spelled.
+    gives_also (more_gives step_tokens part_gives (step.Name name ∷ []))
+    (λ back v i s h. rw h.1 (ap (λ k. Word name ∷ k) h.2 ∙ ap (λ k. k ++ back) same)))
+
+-- a record
+dims_give : Gives IsDims (λ xs counts. flat_map bracketed_count counts ≡ xs)
+dims_give = gives_also (more_gives bracketed_count (bracketed_count_gives (λ count. count) bracketed_count (λ count. refl)) [])
+    (λ xs v is spelled h. rw h.1 h.2)
+
+dims_of_arrays : (counts : List ℕ) (tree : Tree) → dims_tokens tree ≡ [] → dims_tokens (arrays counts tree) ≡ flat_map bracketed_count counts
+dims_of_arrays [] tree none = none
+dims_of_arrays (count ∷ counts) tree none = ap (λ k. bracketed_count count ++ k) (dims_of_arrays counts tree none)
+
+core_of_arrays : (counts : List ℕ) (tree : Tree) → core_tokens (arrays counts tree) ≡ core_tokens tree
+core_of_arrays [] tree = refl
+core_of_arrays (count ∷ counts) tree = core_of_arrays counts tree
+
+held_arrays : (counts : List ℕ) (tree : Tree) (core dims : List Token) → dims_tokens tree ≡ [] → core_tokens tree ≡ core → flat_map bracketed_count counts ≡ dims →
+    held_tokens (arrays counts tree) ≡ core ++ dims
+held_arrays counts tree core dims none is same = rw (core_of_arrays counts tree, dims_of_arrays counts tree none, is, same)
+
+abbrev field_tokens : List ℕ × Tree → List Token
+field_tokens field = Word field.0 ∷ held_tokens field.1
+
+-- a field of this name
+abbrev IsHeld : List ℕ → List Token → List ℕ × Tree → Type 0
+IsHeld name xs field = (field.0 ≡ name) × (held_tokens field.1 ≡ xs)
+
+typed_gives : (name : List ℕ) → Gives (IsTyped name) (IsHeld name)
+typed_gives name = behind_gives {Q = IsHeld name} (Sign Colon) sound
+    (joined_gives {Q = λ xs v. IsHeld name (Sign Colon ∷ xs) v} type_gives (λ front kind is same spelled.
+    joined_gives {Q = λ xs v. IsHeld name (Sign Colon ∷ (front ++ xs)) v} dims_give (λ dims counts i written s.
+    nothing_gives {Q = λ xs v. IsHeld name (Sign Colon ∷ (front ++ (dims ++ xs))) v} (name, arrays counts (Single kind))
+    (refl, held_arrays counts (Single kind) _ dims refl refl written ∙ ap (λ k. Sign Colon ∷ (k ++ dims)) same ∙ ap (λ k. Sign Colon ∷ (front ++ k)) (sym (append-nil dims))))))
+
+abbrev braced : Fields → List Token
+braced fields = Sign OpenBrace ∷ (fields_tokens fields ++ Sign CloseBrace ∷ [])
+
+nested_gives : {Is : Phrase Fields} → Gives Is (IsWritten braced) → (name : List ℕ) → Gives (IsNested Is name) (IsHeld name)
+nested_gives inner name = joined_gives {Q = IsHeld name} inner (λ front fields is same spelled.
+    joined_gives {Q = λ xs v. IsHeld name (front ++ xs) v} dims_give (λ dims counts i written s.
+    nothing_gives {Q = λ xs v. IsHeld name (front ++ (dims ++ xs)) v} (name, arrays counts (Record fields))
+    (refl, held_arrays counts (Record fields) front dims refl same written ∙ ap (λ k. front ++ k) (sym (append-nil dims)))))
+
+later_fields : (fields : List (List ℕ × Tree)) → later_tokens (fields_of_list fields) ≡ flat_map (λ next. Sign Comma ∷ next) (map field_tokens fields)
+later_fields [] = refl
+later_fields (field ∷ fields) = ap (λ k. (Sign Comma ∷ field_tokens field) ++ k) (later_fields fields)
+
+all_fields : (fields : List (List ℕ × Tree)) → fields_tokens (fields_of_list fields) ≡ with_commas (map field_tokens fields)
+all_fields [] = refl
+all_fields (field ∷ fields) = ap (λ k. field_tokens field ++ k) (later_fields fields)
+
+braced_gives : {IsField : Phrase (List ℕ × Tree)} → Gives IsField (IsWritten field_tokens) → Gives (IsBraced IsField) (IsWritten braced)
+braced_gives one = behind_gives {Q = IsWritten braced} (Sign OpenBrace) sound
+    (joined_gives {Q = λ xs v. braced v ≡ Sign OpenBrace ∷ xs} (listed_gives field_tokens one) (λ front fields is same spelled.
+    behind_gives {Q = λ xs v. braced v ≡ Sign OpenBrace ∷ (front ++ xs)} (Sign CloseBrace) sound
+    (nothing_gives {Q = λ xs v. braced v ≡ Sign OpenBrace ∷ (front ++ (Sign CloseBrace ∷ xs))} (fields_of_list fields)
+    (ap (λ k. Sign OpenBrace ∷ (k ++ Sign CloseBrace ∷ [])) (all_fields fields ∙ same)))))
+
+field_gives : {Held : List ℕ → Phrase (List ℕ × Tree)} → ((name : List ℕ) → Gives (Held name) (IsHeld name)) → Gives (Joined IsName Held) (IsWritten field_tokens)
+field_gives held = joined_gives {Q = IsWritten field_tokens} name_gives (λ front name is same spelled.
+    gives_also (held name) (λ xs v i s h. ap (λ k. Word k ∷ held_tokens v.1) h.0 ∙ ap (λ k. Word name ∷ k) h.1 ∙ ap (λ k. k ++ xs) same))
+
+one_field_gives : (n : ℕ) → Gives (IsField n) (IsWritten field_tokens)
+one_field_gives zero = field_gives typed_gives
+one_field_gives (suc n) =
+    field_gives (λ name. either_gives (typed_gives name) (nested_gives (braced_gives (one_field_gives n)) name))
+
+pub fields_give : (n : ℕ) → Gives (IsFields n) (IsWritten braced)
+fields_give n = braced_gives (one_field_gives n)
+
+-- a mapping: what stands between the brackets of a form
+abbrev IsInside : List ℕ → List Token → MapTerm → Type 0
+IsInside word xs v = map_tokens v ≡ form_tokens word xs
+
+ordered_gives : {A : Type 0} {Is : Phrase A} (first : A → Token) (word : List ℕ) (value : A → Order → MapTerm) → Gives Is (λ xs v. first v ∷ [] ≡ xs) →
+    ((a : A) (order : Order) → map_tokens (value a order) ≡ form_tokens word (ordered_tokens (first a) order)) →
+    Gives (Joined Is (λ a. Behind (Sign Comma) (Joined (IsItem order_of) (λ order. IsNothing (value a order))))) (IsInside word)
+ordered_gives first word value one is = joined_gives {Q = IsInside word} one (λ front a i same spelled.
+    behind_gives {Q = λ xs v. IsInside word (front ++ xs) v} (Sign Comma) sound
+    (joined_gives {Q = λ xs v. IsInside word (front ++ (Sign Comma ∷ xs)) v} order_gives (λ back order i' same' spelled'.
+    nothing_gives {Q = λ xs v. IsInside word (front ++ (Sign Comma ∷ (back ++ xs))) v} (value a order)
+    (is a order ∙ ap (λ k. form_tokens word (k ++ Sign Comma ∷ Word (order_word order) ∷ [])) same
+    ∙ ap (λ k. form_tokens word (front ++ Sign Comma ∷ (k ++ []))) same'))))
+
+inner_gives : {Is : Phrase MapTerm} (word : List ℕ) (value : MapTerm → MapTerm) → Gives Is (IsWritten map_tokens) →
+    ((inner : MapTerm) → map_tokens (value inner) ≡ form_tokens word (map_tokens inner)) → Gives (Joined Is (λ inner. IsNothing (value inner))) (IsInside word)
+inner_gives word value one is = joined_gives {Q = IsInside word} one (λ front inner i same spelled.
+    nothing_gives {Q = λ xs v. IsInside word (front ++ xs) v} (value inner)
+    (is inner ∙ ap (λ k. form_tokens word k) (same ∙ sym (append-nil front))))
+
+split_gives : {Is : Phrase MapTerm} → Gives Is (IsWritten map_tokens) → Gives (IsForm Is form.Split) (IsInside (codes "split"))
+split_gives one = joined_gives {Q = IsInside (codes "split")} path_gives (λ front path i same s.
+    behind_gives {Q = λ xs v. IsInside (codes "split") (front ++ xs) v} (Sign Comma) sound
+    (joined_gives {Q = λ xs v. IsInside (codes "split") (front ++ (Sign Comma ∷ xs)) v} one (λ middle first i' same' s'.
+    behind_gives {Q = λ xs v. IsInside (codes "split") (front ++ (Sign Comma ∷ (middle ++ xs))) v} (Sign Comma) sound
+    (joined_gives {Q = λ xs v. IsInside (codes "split") (front ++ (Sign Comma ∷ (middle ++ (Sign Comma ∷ xs)))) v} one (λ back rest i'' same'' s''.
+    nothing_gives {Q = λ xs v. IsInside (codes "split") (front ++ (Sign Comma ∷ (middle ++ (Sign Comma ∷ (back ++ xs))))) v} (Split path first rest)
+    (ap (λ k. form_tokens (codes "split") (k ++ Sign Comma ∷ (map_tokens first ++ Sign Comma ∷ map_tokens rest))) same
+    ∙ ap (λ k. form_tokens (codes "split") (front ++ Sign Comma ∷ (k ++ Sign Comma ∷ map_tokens rest))) same'
+    ∙ ap (λ k. form_tokens (codes "split") (front ++ Sign Comma ∷ (middle ++ Sign Comma ∷ k))) (same'' ∙ sym (append-nil back))))))))
+
+change_gives : {Is : Phrase MapTerm} → Gives Is (IsWritten map_tokens) → Gives (IsForm Is form.Change) (IsInside (codes "change"))
+change_gives one = joined_gives {Q = IsInside (codes "change")} type_gives (λ front from i same s.
+    behind_gives {Q = λ xs v. IsInside (codes "change") (front ++ xs) v} (Sign Arrow) sound
+    (joined_gives {Q = λ xs v. IsInside (codes "change") (front ++ (Sign Arrow ∷ xs)) v} integer_type_gives (λ middle to i' same' s'.
+    behind_gives {Q = λ xs v. IsInside (codes "change") (front ++ (Sign Arrow ∷ (middle ++ xs))) v} (Sign Comma) sound
+    (joined_gives {Q = λ xs v. IsInside (codes "change") (front ++ (Sign Arrow ∷ (middle ++ (Sign Comma ∷ xs)))) v} one (λ back inner i'' same'' s''.
+    nothing_gives {Q = λ xs v. IsInside (codes "change") (front ++ (Sign Arrow ∷ (middle ++ (Sign Comma ∷ (back ++ xs))))) v} (Change from to inner)
+    (ap (λ k. form_tokens (codes "change") (k ++ Sign Arrow ∷ Word (type_word to) ∷ Sign Comma ∷ map_tokens inner)) same
+    ∙ ap (λ k. form_tokens (codes "change") (front ++ Sign Arrow ∷ (k ++ Sign Comma ∷ map_tokens inner))) same'
+    ∙ ap (λ k. form_tokens (codes "change") (front ++ Sign Arrow ∷ (middle ++ Sign Comma ∷ k))) (same'' ∙ sym (append-nil back))))))))
+
+heat_gives : {Is : Phrase MapTerm} → Gives Is (IsWritten map_tokens) → Gives (IsForm Is form.Heat) (IsInside (codes "heat"))
+heat_gives one = joined_gives {Q = IsInside (codes "heat")} count_gives (λ front granule i same s.
+    behind_gives {Q = λ xs v. IsInside (codes "heat") (front ++ xs) v} (Sign Comma) sound
+    (joined_gives {Q = λ xs v. IsInside (codes "heat") (front ++ (Sign Comma ∷ xs)) v} one (λ back inner i' same' s'.
+    nothing_gives {Q = λ xs v. IsInside (codes "heat") (front ++ (Sign Comma ∷ (back ++ xs))) v} (Heated granule inner)
+    (ap (λ k. form_tokens (codes "heat") (k ++ Sign Comma ∷ map_tokens inner)) same
+    ∙ ap (λ k. form_tokens (codes "heat") (front ++ Sign Comma ∷ k)) (same' ∙ sym (append-nil back))))))
+
+form_gives : {Is : Phrase MapTerm} → Gives Is (IsWritten map_tokens) → (form : MapWord) → Gives (IsForm Is form) (IsInside (form_word form))
+form_gives one form.Aos = ordered_gives (λ form. Word (aos_word form)) (codes "aos") Aos aos_form_gives (λ form order. refl)
+form_gives one form.Soa = ordered_gives (λ form. Word (soa_word form)) (codes "soa") Soa soa_form_gives (λ form order. refl)
+form_gives one form.Aosoa = ordered_gives count_token (codes "aosoa") Aosoa count_gives (λ lanes order. refl)
+form_gives one form.BitAos = ordered_gives count_token (codes "bitaos") BitAos count_gives (λ width order. refl)
+form_gives one form.BitSoa = ordered_gives count_token (codes "bitsoa") BitSoa count_gives (λ width order. refl)
+form_gives one form.Split = split_gives one
+form_gives one form.Byteswap = inner_gives (codes "byteswap") Byteswap one (λ inner. refl)
+form_gives one form.Bytesplit = inner_gives (codes "bytesplit") Bytesplit one (λ inner. refl)
+form_gives one form.Change = change_gives one
+form_gives one form.Count = inner_gives (codes "count") Counted one (λ inner. refl)
+form_gives one form.Heat = heat_gives one
+
+-- what stands behind the word that begins a mapping
+abbrev IsBehindWord : List ℕ → List Token → MapTerm → Type 0
+IsBehindWord word xs v = map_tokens v ≡ Word word ∷ xs
+
+form_or_name_gives : {Is : Phrase MapTerm} → Gives Is (IsWritten map_tokens) → (word : List ℕ) (form : Option MapWord) → map_word word ≡ form → Gives (IsFormOrName Is word form) (IsBehindWord word)
+form_or_name_gives one word None is = nothing_gives {Q = IsBehindWord word} (Named word) refl
+form_or_name_gives {Is = Is} one word (Some form) is = either_gives
+    (behind_gives {Q = IsBehindWord word} (Sign OpenParen) sound
+    (joined_gives {Q = λ xs v. IsBehindWord word (Sign OpenParen ∷ xs) v} (form_gives one form) (λ front map i same s.
+    behind_gives {Q = λ xs v. IsBehindWord word (Sign OpenParen ∷ (front ++ xs)) v} (Sign CloseParen) sound
+    (nothing_gives {Q = λ xs v. IsBehindWord word (Sign OpenParen ∷ (front ++ (Sign CloseParen ∷ xs))) v} map
+    (same ∙ ap (λ k. form_tokens k front) (sym (map_word_is word form is)))))))
+    (nothing_gives {Q = IsBehindWord word} (Named word) refl)
+
+pub map_gives : (n : ℕ) → Gives (IsMap n) (IsWritten map_tokens)
+map_gives zero = joined_gives {Q = IsWritten map_tokens} name_gives (λ front name i same s.
+    nothing_gives {Q = λ xs v. map_tokens v ≡ front ++ xs} (Named name) (same ∙ sym (append-nil front)))
+map_gives (suc n) = joined_gives {Q = IsWritten map_tokens} name_gives (λ front word i same s.
+    gives_also (form_or_name_gives (map_gives n) word (map_word word) refl) (λ xs v i s is. is ∙ ap (λ k. k ++ xs) same))
+
+-- lists in brackets
+pub bracket_list_gives : {A : Type 0} {Is : Phrase A} (tokens : A → List Token) → Gives Is (IsWritten tokens) → Gives (IsBracketList Is) (λ xs v. bracket_list (map tokens v) ≡ xs)
+bracket_list_gives tokens one = behind_gives {Q = λ xs v. bracket_list (map tokens v) ≡ xs} (Sign OpenBracket) sound
+    (joined_gives {Q = λ xs v. bracket_list (map tokens v) ≡ Sign OpenBracket ∷ xs} (listed_gives tokens one) (λ front found i same s.
+    behind_gives {Q = λ xs v. bracket_list (map tokens v) ≡ Sign OpenBracket ∷ (front ++ xs)} (Sign CloseBracket) sound
+    (nothing_gives {Q = λ xs v. bracket_list (map tokens v) ≡ Sign OpenBracket ∷ (front ++ (Sign CloseBracket ∷ xs))} found
+    (ap (λ k. Sign OpenBracket ∷ (k ++ Sign CloseBracket ∷ [])) same))))
+
+pub fixed_gives : Gives (Joined IsCount (λ count. IsNothing (extent.Fixed count))) (IsWritten extent_tokens)
+fixed_gives = joined_gives {Q = IsWritten extent_tokens} count_gives (λ front count i same s.
+    nothing_gives {Q = λ xs v. extent_tokens v ≡ front ++ xs} (extent.Fixed count) (same ∙ sym (append-nil front)))
+
+pub extent_gives : Gives IsExtent (IsWritten extent_tokens)
+extent_gives = either_gives (behind_gives {Q = IsWritten extent_tokens} (Sign Question) sound (nothing_gives {Q = λ xs v. extent_tokens v ≡ Sign Question ∷ xs} extent.Rows refl)) fixed_gives

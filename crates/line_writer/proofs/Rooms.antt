@@ -1,0 +1,193 @@
+-- The canonical tokens of expressions and kernels are spelled, and open few brackets at once.
+use Rattle.std.proofs.Common.{◌≡◌, ℕ, zero, suc, ◌+◌, ◌-◌, ◌<◌, ◌≤◌, max, Bool, true, false, not, ◌&&◌, if◌then◌else◌, List, [], ◌∷◌, ◌++◌, map, length, Option, Some, None, codes, ℤ, pos, negsuc, inl, inr, refl, sym, ap, ◌∙◌, append-nil, append_assoc, arith}
+use Rattle.std.proofs.lemmas.List.{map-append}
+use Rattle.std.proofs.lemmas.List.Sums.{AllPass-from_list_all}
+use Rattle.std.proofs.Math.Nat.{le-max_left, le-max_right}
+use Rattle.std.specs.List.{list_all, flat_map}
+use Rattle.line_tokens.specs.Bytes.{is_letter, is_word_byte}
+use Rattle.line_tokens.specs.Signs.{opens, closes}
+use Rattle.line_tokens.specs.Tokens.{Begins}
+use Rattle.line_tokens.specs.Spots.{brackets_after}
+use Rattle.line_tokens.specs.Spelled.{Written, HasRoom, AreSpelled}
+use Rattle.line_tokens.specs.declared.sign.Sign.{Sign as SignName}
+use Rattle.line_tokens.specs.declared.sign.Sign.TheVariants.{OpenBracket, CloseBracket, OpenParen, CloseParen, Comma, Dot, Minus}
+use Rattle.record_dim.specs.declared.path.PathStep.{PathStep}
+use Rattle.record_dim.specs.declared.path.PathStep.TheVariants as step
+use Rattle.expr_lang.specs.declared.expr.BinOp.{BinOp}
+use Rattle.expr_lang.specs.declared.expr.BinOp.TheVariants.{Add, Sub, Mul, Div, Rem, Min, Max, Eq, Ne, Lt, Le, Gt, Ge, And, Or}
+use Rattle.expr_lang.specs.Terms.{Number as Constant, Entry, Index, Neg, Not, Binary, depth_of}
+use Rattle.line_grammar.specs.declared.token.Token.{Token}
+use Rattle.line_grammar.specs.declared.token.Token.TheVariants.{Word, Number, Text, Sign, Bad}
+use Rattle.line_grammar.specs.Sentences.{Value}
+use Rattle.line_writer.specs.Canonical.{is_choice, needs_brackets, operator, operand, number_tokens, bracketed_count, count_token, with_commas, bracket_list, first_tokens, step_tokens, path_tokens, form_tokens, value_tokens}
+use Rattle.line_writer.specs.Texts.{written}
+use Rattle.line_writer.proofs.Gives.{IsSpelled, Each, each_front, each_back}
+use Rattle.line_writer.proofs.Leaves.{IsGood, IsGoodLeaf}
+
+-- the tokens are spelled, close all brackets that they open, and have at most k of them open at once
+pub record Fits (k : ℕ) (tokens : List Token) : Type 0 where
+  pub at : (brackets : ℕ) (rest : List Written) → brackets + k ≤ 64 → AreSpelled brackets rest → AreSpelled brackets (map written tokens ++ rest)
+
+pub no_tokens_fit : Fits 0 []
+no_tokens_fit = record { at = λ b rest small h. h }
+
+pub fits_more : (k m : ℕ) (tokens : List Token) → k ≤ m → Fits k tokens → Fits m tokens
+fits_more k m tokens less f = record { at = λ b rest small h. f.at b rest (omega arith) h }
+
+pub fits_append : (k : ℕ) (xs ys : List Token) → Fits k xs → Fits k ys → Fits k (xs ++ ys)
+fits_append k xs ys f g = record {
+  at = λ b rest small h.
+      rw (map-append written xs ys, append_assoc) (f.at b (map written ys ++ rest) small (g.at b rest small h));
+}
+
+-- a token that is no bracket
+abbrev is_flat : Token → Bool
+is_flat (Sign sign) = not (opens sign) && not (closes sign)
+is_flat _ = true
+
+flat_room : (token : Token) (b : ℕ) → is_flat token ≡ true → HasRoom (written token).kind b × (brackets_after (written token).kind b ≡ b)
+flat_room (Word text) b e = (tt, refl)
+flat_room (Number value) b e = (tt, refl)
+flat_room (Text text) b e = (tt, refl)
+flat_room Bad b e = (tt, refl)
+flat_room (Sign sign) b e = sign_room (opens sign) (closes sign) b e
+  where
+    sign_room : (o c : Bool) (b : ℕ) → (not o && not c) ≡ true → (o ≡ true → b < 64) × ((if o then b + 1 else (if c then b - 1 else b)) ≡ b)
+    sign_room true c b e = absurd cc
+    sign_room false true b e = absurd cc
+    sign_room false false b e = (λ h. absurd cc, refl)
+
+pub fits_flat : (k : ℕ) (token : Token) (tokens : List Token) → is_flat token ≡ true → IsSpelled token → Fits k tokens → Fits k (token ∷ tokens)
+fits_flat k token tokens e spelled f = record {
+  at = λ b rest small h.
+      let room = flat_room token b e in
+      (spelled, room.0, rw room.1 (f.at b rest small h));
+}
+
+-- tokens in brackets
+pub fits_inside : (k : ℕ) (opening closing : SignName) (tokens : List Token) → opens opening ≡ true → opens closing ≡ false → closes closing ≡ true → Fits k tokens →
+    Fits (k + 1) (Sign opening ∷ (tokens ++ Sign closing ∷ []))
+fits_inside k opening closing tokens o p c f = record {
+  at = λ b rest small h.
+      let less : b < 64 = omega arith in
+      let back : b + 1 - 1 ≡ b = omega arith in
+      let last : AreSpelled (b + 1) (written (Sign closing) ∷ rest) = (refl, (λ h'. absurd (let bad = sym p ∙ h' in cc)), rw (p, c, back) h) in
+      (refl, (λ h'. less), rw (o, map-append written tokens (Sign closing ∷ []), append_assoc (map written tokens) (map written (Sign closing ∷ [])) rest) (f.at (b + 1) (written (Sign closing) ∷ rest) (omega arith) last));
+}
+
+-- words and signs of the language are spelled
+pub word_spelled : (text : List ℕ) → Begins is_letter text → list_all is_word_byte text ≡ true → length text ≤ 32 → IsSpelled (Word text)
+word_spelled text begins all short = (begins, AllPass-from_list_all is_word_byte text all, short)
+
+operator_spelled : (op : BinOp) → IsSpelled (operator op)
+operator_spelled Add = refl
+operator_spelled Sub = refl
+operator_spelled Mul = refl
+operator_spelled Div = refl
+operator_spelled Rem = refl
+operator_spelled Min = word_spelled (codes "min") refl refl (omega arith)
+operator_spelled Max = word_spelled (codes "max") refl refl (omega arith)
+operator_spelled Eq = refl
+operator_spelled Ne = refl
+operator_spelled Lt = refl
+operator_spelled Le = refl
+operator_spelled Gt = refl
+operator_spelled Ge = refl
+operator_spelled And = word_spelled (codes "and") refl refl (omega arith)
+operator_spelled Or = word_spelled (codes "or") refl refl (omega arith)
+
+operator_flat : (op : BinOp) → is_flat (operator op) ≡ true
+operator_flat Add = refl
+operator_flat Sub = refl
+operator_flat Mul = refl
+operator_flat Div = refl
+operator_flat Rem = refl
+operator_flat Min = refl
+operator_flat Max = refl
+operator_flat Eq = refl
+operator_flat Ne = refl
+operator_flat Lt = refl
+operator_flat Le = refl
+operator_flat Gt = refl
+operator_flat Ge = refl
+operator_flat And = refl
+operator_flat Or = refl
+
+pub fits_operator : (k : ℕ) (op : BinOp) (tokens : List Token) → Fits k tokens → Fits k (operator op ∷ tokens)
+fits_operator k op tokens f = fits_flat k (operator op) tokens (operator_flat op) (operator_spelled op) f
+
+-- one token, and a number in brackets
+pub one_fits : (token : Token) → is_flat token ≡ true → IsSpelled token → Fits 0 (token ∷ [])
+one_fits token e spelled = fits_flat 0 token [] e spelled no_tokens_fit
+
+pub bracketed_count_fits : (count : ℕ) → IsSpelled (count_token count) → Fits 1 (bracketed_count count)
+bracketed_count_fits count spelled = fits_inside 0 OpenBracket CloseBracket (count_token count ∷ []) refl refl refl (one_fits (count_token count) refl spelled)
+
+-- a path
+first_fits : (first : PathStep) → Each IsSpelled (first_tokens first) → Fits 1 (first_tokens first)
+first_fits (step.Name name) h = fits_more 0 1 _ (omega arith) (one_fits (Word name) refl h.0)
+first_fits (step.At number) h = bracketed_count_fits number h.1.0
+
+step_fits : (next : PathStep) → Each IsSpelled (step_tokens next) → Fits 1 (step_tokens next)
+step_fits (step.Name name) h = fits_more 0 1 _ (omega arith) (fits_flat 0 (Sign Dot) (Word name ∷ []) refl refl (one_fits (Word name) refl h.1.0))
+step_fits (step.At number) h = bracketed_count_fits number h.1.0
+
+steps_fit : (steps : List PathStep) → Each IsSpelled (flat_map step_tokens steps) → Fits 1 (flat_map step_tokens steps)
+steps_fit [] h = fits_more 0 1 [] (omega arith) no_tokens_fit
+steps_fit (next ∷ steps) h = fits_append 1 (step_tokens next) (flat_map step_tokens steps)
+    (step_fits next (each_front IsSpelled (step_tokens next) (flat_map step_tokens steps) h)) (steps_fit steps (each_back IsSpelled (step_tokens next) (flat_map step_tokens steps) h))
+
+pub path_fits : (path : List PathStep) → Each IsSpelled (path_tokens path) → Fits 1 (path_tokens path)
+path_fits [] h = fits_more 0 1 [] (omega arith) no_tokens_fit
+path_fits (first ∷ steps) h = fits_append 1 (first_tokens first) (flat_map step_tokens steps)
+    (first_fits first (each_front IsSpelled (first_tokens first) (flat_map step_tokens steps) h)) (steps_fit steps (each_back IsSpelled (first_tokens first) (flat_map step_tokens steps) h))
+
+-- numbers
+pub number_fits : (number : ℤ) → Each IsSpelled (number_tokens number) → Fits 0 (number_tokens number)
+number_fits (pos value) h = one_fits (Number (pos value)) refl h.0
+number_fits (negsuc value) h = fits_flat 0 (Sign Minus) _ refl refl (one_fits (Number (pos (value + 1))) refl h.1.0)
+
+-- an expression has at most as many brackets open as it is deep
+operand_in : (k : ℕ) (b : Bool) (tokens : List Token) → Fits k tokens → Fits (k + 1) (if b then Sign OpenParen ∷ (tokens ++ Sign CloseParen ∷ []) else tokens)
+operand_in k true tokens f = fits_inside k OpenParen CloseParen tokens refl refl refl f
+operand_in k false tokens f = fits_more k (k + 1) tokens (omega arith) f
+
+operand_fits : (k : ℕ) (v : Value) (tokens : List Token) → Fits k tokens → Fits (k + 1) (operand v tokens)
+operand_fits k v tokens f = operand_in k (needs_brackets v) tokens f
+
+binary_fits : (k m : ℕ) (b : Bool) (op : BinOp) (left right : Value) (xs ys : List Token) → Fits k xs → Fits m ys →
+    Fits (max k m + 1) (if b then operator op ∷ Sign OpenParen ∷ (xs ++ Sign Comma ∷ (ys ++ Sign CloseParen ∷ [])) else operand left xs ++ operator op ∷ operand right ys)
+binary_fits k m true op left right xs ys f g =
+    let all = fits_append (max k m) xs (Sign Comma ∷ ys) (fits_more k (max k m) xs (le-max_left k m) f) (fits_flat (max k m) (Sign Comma) ys refl refl (fits_more m (max k m) ys (le-max_right k m) g)) in
+    fits_operator (max k m + 1) op _ (rw append_assoc at (fits_inside (max k m) OpenParen CloseParen (xs ++ Sign Comma ∷ ys) refl refl refl all))
+binary_fits k m false op left right xs ys f g =
+    let more = le-max_left k m in let more' = le-max_right k m in
+    fits_append (max k m + 1) (operand left xs) (operator op ∷ operand right ys) (fits_more (k + 1) (max k m + 1) _ (omega arith) (operand_fits k left xs f))
+    (fits_operator (max k m + 1) op (operand right ys) (fits_more (m + 1) (max k m + 1) _ (omega arith) (operand_fits m right ys g)))
+
+pub value_fits : (v : Value) → IsGood v → Fits (depth_of v) (value_tokens v)
+value_fits (Constant number) good = fits_more 0 1 _ (omega arith) (number_fits number good.spelled)
+value_fits (Entry path) good = path_fits path good.spelled
+value_fits (Index dimension) good = fits_more 0 1 _ (omega arith) (one_fits _ refl good.spelled.0)
+value_fits (Neg inner) good = fits_flat (depth_of inner + 1) (Sign Minus) _ refl refl (operand_fits (depth_of inner) inner (value_tokens inner) (value_fits inner good))
+value_fits (Not inner) good = fits_flat (depth_of inner + 1) (Word (codes "not")) _ refl (word_spelled (codes "not") refl refl (omega arith)) (operand_fits (depth_of inner) inner (value_tokens inner) (value_fits inner good))
+value_fits (Binary op left right) good = binary_fits (depth_of left) (depth_of right) (is_choice op) op left right (value_tokens left) (value_tokens right) (value_fits left good.0) (value_fits right good.1)
+
+-- parts with commas, and forms
+pub commas_fit : (k : ℕ) (parts : List (List Token)) → Each (Fits k) parts → Fits k (with_commas parts)
+commas_fit k [] h = fits_more 0 k [] (omega arith) no_tokens_fit
+commas_fit k (part ∷ parts) h = fits_append k part (flat_map (λ next. Sign Comma ∷ next) parts) h.0 (later_fit k parts h.1)
+  where
+    later_fit : (k : ℕ) (parts : List (List Token)) → Each (Fits k) parts → Fits k (flat_map (λ next. Sign Comma ∷ next) parts)
+    later_fit k [] h = fits_more 0 k [] (omega arith) no_tokens_fit
+    later_fit k (part ∷ parts) h = fits_flat k (Sign Comma) _ refl refl (fits_append k part (flat_map (λ next. Sign Comma ∷ next) parts) h.0 (later_fit k parts h.1))
+
+pub form_fits : (k : ℕ) (word : List ℕ) (inside : List Token) → IsSpelled (Word word) → Fits k inside → Fits (k + 1) (form_tokens word inside)
+form_fits k word inside spelled f = fits_flat (k + 1) (Word word) _ refl spelled (fits_inside k OpenParen CloseParen inside refl refl refl f)
+
+pub bracket_list_fits : (k : ℕ) (parts : List (List Token)) → Each (Fits k) parts → Fits (k + 1) (bracket_list parts)
+bracket_list_fits k parts h = fits_inside k OpenBracket CloseBracket (with_commas parts) refl refl refl (commas_fit k parts h)
+
+-- such tokens alone have room
+pub fits_alone : (tokens : List Token) → Fits 64 tokens → AreSpelled 0 (map written tokens)
+fits_alone tokens f = rw append-nil at (f.at 0 [] (omega arith) tt)

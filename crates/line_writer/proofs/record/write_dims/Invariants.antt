@@ -1,0 +1,9 @@
+-- what is written so far, and the numbers that are left, are all
+use Rattle.std.proofs.Common.{◌≡◌}
+use Rattle.record_dim.specs.Trees.{tree_of}
+use Rattle.line_writer.specs.Canonical.{dims_tokens}
+use Rattle.line_writer.specs.Texts.{behind}
+use Rattle.line_writer.proofs.record.write_dims.Given as goal
+
+abbrev pub invariant-loop-node : goal.invariant-loop-node
+invariant-loop-node l = behind l.text (dims_tokens (tree_of l.node)) ≡ behind l.fn.text (dims_tokens (tree_of l.dim))

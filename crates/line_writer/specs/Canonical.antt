@@ -1,0 +1,236 @@
+-- The canonical tokens of a line: those of its grammar with no bracket that is not needed, and with no sign before a zero.
+use Rattle.std.specs.Prelude.{ℕ, ◌+◌, Bool, true, false, not, if◌then◌else◌, List, [], ◌∷◌, ◌++◌, map, Option, Some, None, codes, ℤ, pos, negsuc}
+use Rattle.std.specs.Fmt.{decimal}
+use Rattle.std.specs.List.{flat_map}
+use Rattle.line_tokens.specs.declared.sign.Sign.TheVariants.{OpenBrace, CloseBrace, OpenBracket, CloseBracket, OpenParen, CloseParen, Colon, Comma, Dot, Equals, EqualEqual, NotEqual, LessThan, LessEqual, GreaterThan, GreaterEqual, Plus, Minus, Arrow, Star, Slash, Percent, Question}
+use Rattle.record_dim.specs.declared.leaf_type.LeafType.{LeafType}
+use Rattle.record_dim.specs.declared.leaf_type.LeafType.TheVariants.{Bool as Truth, U8, U16, U32, U64, I8, I16, I32, I64}
+use Rattle.record_dim.specs.declared.path.PathStep.{PathStep}
+use Rattle.record_dim.specs.declared.path.PathStep.TheVariants as step
+use Rattle.record_dim.specs.Trees.{Tree, Single, Record, Array, Fields, End, Field}
+use Rattle.extents.specs.declared.words.ExtentWord.{ExtentWord}
+use Rattle.extents.specs.declared.words.ExtentWord.TheVariants as extent
+use Rattle.linearize.specs.declared.Order.{Order}
+use Rattle.linearize.specs.declared.Order.TheVariants.{Row, Col, Morton}
+use Rattle.map_aos.specs.declared.form.AosForm.{AosForm}
+use Rattle.map_aos.specs.declared.form.AosForm.TheVariants as aos
+use Rattle.map_soa.specs.declared.form.SoaForm.{SoaForm}
+use Rattle.map_soa.specs.declared.form.SoaForm.TheVariants as soa
+use Rattle.expr_lang.specs.declared.expr.BinOp.{BinOp}
+use Rattle.expr_lang.specs.declared.expr.BinOp.TheVariants.{Add, Sub, Mul, Div, Rem, Min, Max, Eq, Ne, Lt, Le, Gt, Ge, And, Or}
+use Rattle.expr_lang.specs.Terms.{Number as Constant, Entry, Index, Neg, Not, Binary}
+use Rattle.map_expr.specs.Terms.{Term as MapTerm, Aos, Soa, Aosoa, BitAos, BitSoa, Split, Byteswap, Bytesplit, Change, Count as Counted, Heat as Heated, Named}
+use Rattle.line_grammar.specs.declared.token.Token.{Token}
+use Rattle.line_grammar.specs.declared.token.Token.TheVariants.{Word, Number, Text, Sign}
+use Rattle.line_grammar.specs.declared.line.KernelText.{KernelText}
+use Rattle.line_grammar.specs.declared.line.KernelText.TheVariants as kernel
+use Rattle.line_grammar.specs.declared.line.ReduceKind.{ReduceKind}
+use Rattle.line_grammar.specs.declared.line.ReduceKind.TheVariants as reduce
+use Rattle.line_grammar.specs.Sentences.{Assignment, Sentence, Value, Blank, Define, Mapping, View, Load, Assign, Update, Kernel, Reduce, Count, Copy, Relayout, Print, Counts, Heat, Layout, Drop, Bytes}
+
+-- the words of types, orders, forms and reductions
+abbrev pub type_word : LeafType → List ℕ
+type_word Truth = codes "bool"
+type_word U8 = codes "u8"
+type_word U16 = codes "u16"
+type_word U32 = codes "u32"
+type_word U64 = codes "u64"
+type_word I8 = codes "i8"
+type_word I16 = codes "i16"
+type_word I32 = codes "i32"
+type_word I64 = codes "i64"
+
+abbrev pub order_word : Order → List ℕ
+order_word Row = codes "row"
+order_word Col = codes "col"
+order_word Morton = codes "morton"
+
+abbrev pub aos_word : AosForm → List ℕ
+aos_word aos.Packed = codes "packed"
+aos_word aos.Aligned = codes "aligned"
+aos_word aos.Min = codes "min"
+
+abbrev pub soa_word : SoaForm → List ℕ
+soa_word soa.Single = codes "single"
+soa_word soa.Aligned = codes "aligned"
+soa_word soa.Multi = codes "multi"
+
+abbrev pub reduction_word : ReduceKind → List ℕ
+reduction_word reduce.Sum = codes "sum"
+reduction_word reduce.Min = codes "min"
+reduction_word reduce.Max = codes "max"
+
+-- the sign or the word of an operator
+abbrev pub operator : BinOp → Token
+operator Add = Sign Plus
+operator Sub = Sign Minus
+operator Mul = Sign Star
+operator Div = Sign Slash
+operator Rem = Sign Percent
+operator Min = Word (codes "min")
+operator Max = Word (codes "max")
+operator Eq = Sign EqualEqual
+operator Ne = Sign NotEqual
+operator Lt = Sign LessThan
+operator Le = Sign LessEqual
+operator Gt = Sign GreaterThan
+operator Ge = Sign GreaterEqual
+operator And = Word (codes "and")
+operator Or = Word (codes "or")
+
+-- a number; the minus of a negative one is a token of its own
+abbrev pub number_tokens : ℤ → List Token
+number_tokens (pos value) = Number (pos value) ∷ []
+number_tokens (negsuc value) = Sign Minus ∷ Number (pos (value + 1)) ∷ []
+
+-- COUNT, and "[" COUNT "]"
+abbrev pub count_token : ℕ → Token
+count_token count = Number (pos count)
+
+abbrev pub bracketed_count : ℕ → List Token
+bracketed_count count = Sign OpenBracket ∷ count_token count ∷ Sign CloseBracket ∷ []
+
+-- the parts with a comma between each two
+abbrev pub with_commas : List (List Token) → List Token
+with_commas [] = []
+with_commas (part ∷ parts) = part ++ flat_map (λ next. Sign Comma ∷ next) parts
+
+-- "[" parts "]"
+abbrev pub bracket_list : List (List Token) → List Token
+bracket_list parts = Sign OpenBracket ∷ (with_commas parts ++ Sign CloseBracket ∷ [])
+
+-- a path: a later name stands behind a point, and a number in brackets
+abbrev pub step_tokens : PathStep → List Token
+step_tokens (step.Name name) = Sign Dot ∷ Word name ∷ []
+step_tokens (step.At number) = bracketed_count number
+
+abbrev pub first_tokens : PathStep → List Token
+first_tokens (step.Name name) = Word name ∷ []
+first_tokens (step.At number) = bracketed_count number
+
+abbrev pub path_tokens : List PathStep → List Token
+path_tokens [] = []
+path_tokens (first ∷ steps) = first_tokens first ++ flat_map step_tokens steps
+
+-- what a field holds: its numbers of elements stand last, the outermost first
+abbrev pub dims_tokens : Tree → List Token
+dims_tokens (Array count element) = bracketed_count count ++ dims_tokens element
+dims_tokens (Single kind) = []
+dims_tokens (Record fields) = []
+
+abbrev mutual
+  -- ":" TYPE, or the fields of a record
+  pub core_tokens : Tree → List Token
+  core_tokens (Single kind) = Sign Colon ∷ Word (type_word kind) ∷ []
+  core_tokens (Record fields) = Sign OpenBrace ∷ (fields_tokens fields ++ Sign CloseBrace ∷ [])
+  core_tokens (Array count element) = core_tokens element
+
+  pub fields_tokens : Fields → List Token
+  fields_tokens End = []
+  fields_tokens (Field name held rest) = (Word name ∷ core_tokens held) ++ dims_tokens held ++ later_tokens rest
+
+  -- fields behind another one
+  pub later_tokens : Fields → List Token
+  later_tokens End = []
+  later_tokens (Field name held rest) = (Sign Comma ∷ Word name ∷ core_tokens held) ++ dims_tokens held ++ later_tokens rest
+
+abbrev pub held_tokens : Tree → List Token
+held_tokens tree = core_tokens tree ++ dims_tokens tree
+
+-- a word with its inside in brackets
+abbrev pub form_tokens : List ℕ → List Token → List Token
+form_tokens word inside = Word word ∷ Sign OpenParen ∷ (inside ++ Sign CloseParen ∷ [])
+
+-- a number, or a word, and an order
+abbrev pub ordered_tokens : Token → Order → List Token
+ordered_tokens token order = token ∷ Sign Comma ∷ Word (order_word order) ∷ []
+
+-- a mapping
+abbrev pub map_tokens : MapTerm → List Token
+map_tokens (Aos form order) = form_tokens (codes "aos") (ordered_tokens (Word (aos_word form)) order)
+map_tokens (Soa form order) = form_tokens (codes "soa") (ordered_tokens (Word (soa_word form)) order)
+map_tokens (Aosoa lanes order) = form_tokens (codes "aosoa") (ordered_tokens (count_token lanes) order)
+map_tokens (BitAos width order) = form_tokens (codes "bitaos") (ordered_tokens (count_token width) order)
+map_tokens (BitSoa width order) = form_tokens (codes "bitsoa") (ordered_tokens (count_token width) order)
+map_tokens (Split path first rest) = form_tokens (codes "split") (path_tokens path ++ Sign Comma ∷ (map_tokens first ++ Sign Comma ∷ map_tokens rest))
+map_tokens (Byteswap inner) = form_tokens (codes "byteswap") (map_tokens inner)
+map_tokens (Bytesplit inner) = form_tokens (codes "bytesplit") (map_tokens inner)
+map_tokens (Change from to inner) = form_tokens (codes "change") (Word (type_word from) ∷ Sign Arrow ∷ Word (type_word to) ∷ Sign Comma ∷ map_tokens inner)
+map_tokens (Counted inner) = form_tokens (codes "count") (map_tokens inner)
+map_tokens (Heated granule inner) = form_tokens (codes "heat") (count_token granule ∷ Sign Comma ∷ map_tokens inner)
+map_tokens (Named name) = Word name ∷ []
+
+-- the operators that stand before their operands
+abbrev pub is_choice : BinOp → Bool
+is_choice Min = true
+is_choice Max = true
+is_choice _ = false
+
+-- an operand in brackets where it needs them
+abbrev pub needs_brackets : Value → Bool
+needs_brackets (Neg inner) = true
+needs_brackets (Not inner) = true
+needs_brackets (Binary op left right) = not (is_choice op)
+needs_brackets _ = false
+
+abbrev pub operand : Value → List Token → List Token
+operand value tokens = if needs_brackets value then Sign OpenParen ∷ (tokens ++ Sign CloseParen ∷ []) else tokens
+
+-- an expression
+abbrev pub value_tokens : Value → List Token
+value_tokens (Constant number) = number_tokens number
+value_tokens (Entry path) = path_tokens path
+value_tokens (Index dimension) = Word (codes "i" ++ decimal dimension) ∷ []
+value_tokens (Neg inner) = Sign Minus ∷ operand inner (value_tokens inner)
+value_tokens (Not inner) = Word (codes "not") ∷ operand inner (value_tokens inner)
+value_tokens (Binary op left right) =
+    if is_choice op then operator op ∷ Sign OpenParen ∷ (value_tokens left ++ Sign Comma ∷ (value_tokens right ++ Sign CloseParen ∷ []))
+    else operand left (value_tokens left) ++ operator op ∷ operand right (value_tokens right)
+
+-- the extents of a view
+abbrev pub extent_tokens : ExtentWord → List Token
+extent_tokens (extent.Fixed count) = count_token count ∷ []
+extent_tokens extent.Rows = Sign Question ∷ []
+
+abbrev pub view_tokens : List ℕ → List ℕ → List ExtentWord → MapTerm → List Token
+view_tokens name schema words map_term =
+    Word name ∷ Sign Colon ∷ Word schema ∷ (bracket_list (map extent_tokens words) ++ Word (codes "as") ∷ map_tokens map_term)
+
+-- the parts of an update
+abbrev pub assignment_tokens : Assignment → List Token
+assignment_tokens set = path_tokens set.path ++ Sign Equals ∷ value_tokens set.value
+
+abbrev pub filter_tokens : Option Value → List Token
+filter_tokens None = []
+filter_tokens (Some filter) = Word (codes "where") ∷ value_tokens filter
+
+-- a kernel
+abbrev pub kernel_tokens : KernelText → List Token
+kernel_tokens (kernel.Axpy a x y) = form_tokens (codes "axpy") (number_tokens a ++ Sign Comma ∷ (path_tokens x ++ Sign Comma ∷ path_tokens y))
+kernel_tokens (kernel.Clamp x lo hi) = form_tokens (codes "clamp") (path_tokens x ++ Sign Comma ∷ (number_tokens lo ++ Sign Comma ∷ number_tokens hi))
+kernel_tokens (kernel.Sum x) = form_tokens (codes "sum") (path_tokens x)
+kernel_tokens (kernel.Least x) = form_tokens (codes "least") (path_tokens x)
+kernel_tokens (kernel.Greatest x) = form_tokens (codes "greatest") (path_tokens x)
+kernel_tokens (kernel.CountWhere x op c) = form_tokens (codes "count_where") (path_tokens x ++ operator op ∷ number_tokens c)
+
+-- a line
+abbrev pub line_tokens : Sentence → List Token
+line_tokens Blank = []
+line_tokens (Define name tree) = Word (codes "record") ∷ Word name ∷ held_tokens tree
+line_tokens (Mapping name expr) = Word (codes "mapping") ∷ Word name ∷ Sign Equals ∷ map_tokens expr
+line_tokens (View name schema words expr) = Word (codes "view") ∷ view_tokens name schema words expr
+line_tokens (Load name schema words expr file) = Word (codes "load") ∷ (view_tokens name schema words expr ++ Word (codes "from") ∷ Text file ∷ [])
+line_tokens (Assign view index path value) = Word (codes "set") ∷ Word view ∷
+    (bracket_list (map (λ count. count_token count ∷ []) index) ++ Sign Dot ∷ (path_tokens path ++ Sign Equals ∷ value_tokens value))
+line_tokens (Update view filter sets) = Word (codes "update") ∷ Word view ∷ (filter_tokens filter ++ Word (codes "set") ∷ with_commas (map assignment_tokens sets))
+line_tokens (Kernel view text lanes) = Word (codes "kernel") ∷ Word view ∷ (kernel_tokens text ++ Word (codes "lanes") ∷ count_token lanes ∷ [])
+line_tokens (Reduce view kind path) = Word (codes "reduce") ∷ Word view ∷ Word (reduction_word kind) ∷ path_tokens path
+line_tokens (Count view filter) = Word (codes "reduce") ∷ Word view ∷ Word (codes "count") ∷ Word (codes "where") ∷ value_tokens filter
+line_tokens (Copy source target) = Word (codes "copy") ∷ Word source ∷ Word (codes "to") ∷ Word target ∷ []
+line_tokens (Relayout view expr) = Word (codes "relayout") ∷ Word view ∷ Word (codes "as") ∷ map_tokens expr
+line_tokens (Print view) = Word (codes "print") ∷ Word view ∷ []
+line_tokens (Counts view) = Word (codes "counts") ∷ Word view ∷ []
+line_tokens (Heat view) = Word (codes "heat") ∷ Word view ∷ []
+line_tokens (Layout view) = Word (codes "layout") ∷ Word view ∷ []
+line_tokens (Drop view) = Word (codes "drop") ∷ Word view ∷ []
+line_tokens (Bytes view blob) = Word (codes "bytes") ∷ Word view ∷ count_token blob ∷ []

@@ -1,0 +1,75 @@
+ghost use Rattle.std.specs.Prelude.{ℕ, List, ◌≡◌, ◌≤◌, [], IfOk, OnOk};
+ghost use Rattle.line_grammar.specs.Sentences.{sentence_of, deepest};
+ghost use Rattle.line_grammar.specs.Reads.{Reads};
+ghost use Rattle.line_writer.specs.Texts.{canonical};
+
+use crate::commands::{
+    write_assign, write_bytes, write_copy, write_count, write_define, write_kernel_line,
+    write_load, write_mapping, write_named, write_reduce, write_relayout, write_update, write_view,
+};
+use line_grammar::Line;
+use record_dim::Text;
+use std::alloc::{AllocError as NoMemory, Global};
+
+/// The canonical text of a line: its tokens with exactly one space between each two. Numbers have no leading zeros. In an
+/// expression an operand that is a negation, or has an operator other than `min` and `max`, stands in brackets, and nothing
+/// else does; the two operands of `min` and `max` stand without. A blank line is the empty text. It takes stack for each level
+/// of an expression, a mapping and a record.
+#[tactic(auto, using(crate::proofs::ReadsBack::reads_back))]
+pub fn write_line(alloc: Global, line: &Line) -> Result<Text, NoMemory>
+    ensures text { IfOk result (λ text. text ≡ canonical (sentence_of line.now)) }
+    // It is read as the same line, where some text is this line and no expression is deeper than 32.
+    ensures reads_back { (read : List ℕ) → Reads read (sentence_of line.now) → deepest (sentence_of line.now) ≤ 32 →
+        IfOk result (λ text. Reads text (sentence_of line.now)) }
+{
+    let mut text = Text::new(alloc);
+    write_command(&mut text, line)?;
+    Ok(text)
+}
+
+#[tactic(auto, using(crate::proofs::Behind::canonical_begun))]
+fn write_command(text: &mut Text, line: &Line) -> Result<(), NoMemory>
+    requires { text.old ≡ [] }
+    ensures { OnOk result (text.new ≡ canonical (sentence_of line.now)) }
+{
+    match line {
+        Line::Blank => Ok(()),
+        Line::Define { name, dim } => write_define(text, name, dim),
+        Line::Mapping { name, expr } => write_mapping(text, name, expr),
+        Line::View {
+            name,
+            schema,
+            words,
+            expr,
+        } => write_view(text, "view", name, schema, words, expr),
+        Line::Load {
+            name,
+            schema,
+            words,
+            expr,
+            file,
+        } => write_load(text, name, schema, words, expr, file),
+        Line::Assign {
+            view,
+            index,
+            path,
+            value,
+        } => write_assign(text, view, index, path, value),
+        Line::Update { view, filter, sets } => write_update(text, view, filter, sets),
+        Line::Kernel {
+            view,
+            kernel,
+            lanes,
+        } => write_kernel_line(text, view, kernel, *lanes),
+        Line::Reduce { view, kind, path } => write_reduce(text, view, *kind, path),
+        Line::Count { view, filter } => write_count(text, view, filter),
+        Line::Copy { source, target } => write_copy(text, source, target),
+        Line::Relayout { view, expr } => write_relayout(text, view, expr),
+        Line::Print(view) => write_named(text, "print", view),
+        Line::Counts(view) => write_named(text, "counts", view),
+        Line::Heat(view) => write_named(text, "heat", view),
+        Line::Layout(view) => write_named(text, "layout", view),
+        Line::Drop(view) => write_named(text, "drop", view),
+        Line::Bytes { view, blob } => write_bytes(text, view, *blob),
+    }
+}

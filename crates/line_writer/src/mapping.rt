@@ -1,0 +1,128 @@
+// A mapping.
+ghost use Rattle.std.specs.Prelude.{◌≡◌, ◌∷◌, [], OnOk};
+ghost use Rattle.line_tokens.specs.declared.sign.Sign.TheVariants.{OpenParen};
+ghost use Rattle.map_expr.specs.Terms.{term_of};
+ghost use Rattle.line_grammar.specs.declared.token.Token.TheVariants.{Word, Sign};
+ghost use Rattle.line_writer.specs.Canonical.{order_word, aos_word, soa_word, count_token, form_tokens, ordered_tokens, map_tokens};
+ghost use Rattle.line_writer.specs.Texts.{behind};
+
+use crate::record::type_word;
+use crate::tokens::{push, push_count, write_path};
+use linearize::Order;
+use map_aos::AosForm;
+use map_expr::MapExpr;
+use map_soa::SoaForm;
+use record_dim::Text;
+use std::alloc::AllocError as NoMemory;
+
+// It takes stack for each level of the mapping.
+#[cycle(mapping)]
+#[tactic(auto, using(crate::proofs::Behind::behind_append))]
+pub(crate) fn write_map(text: &mut Text, expr: &MapExpr) -> Result<(), NoMemory>
+    ensures { OnOk result (text.new ≡ behind text.old (map_tokens (term_of expr.now))) }
+{
+    match expr {
+        MapExpr::Aos { form, order } => write_worded(text, "aos", aos_word(*form), *order),
+        MapExpr::Soa { form, order } => write_worded(text, "soa", soa_word(*form), *order),
+        MapExpr::Aosoa { lanes, order } => write_counted(text, "aosoa", *lanes, *order),
+        MapExpr::BitAos { width, order } => write_counted(text, "bitaos", *width, *order),
+        MapExpr::BitSoa { width, order } => write_counted(text, "bitsoa", *width, *order),
+        MapExpr::Split { path, first, rest } => {
+            open(text, "split")?;
+            write_path(text, path)?;
+            push(text, ",")?;
+            write_map(text, first)?;
+            push(text, ",")?;
+            write_map(text, rest)?;
+            push(text, ")")
+        }
+        MapExpr::Byteswap(inner) => write_inner(text, "byteswap", inner),
+        MapExpr::Bytesplit(inner) => write_inner(text, "bytesplit", inner),
+        MapExpr::Change { from, to, inner } => {
+            open(text, "change")?;
+            push(text, type_word(*from))?;
+            push(text, "->")?;
+            push(text, type_word(*to))?;
+            push(text, ",")?;
+            write_map(text, inner)?;
+            push(text, ")")
+        }
+        MapExpr::Count(inner) => write_inner(text, "count", inner),
+        MapExpr::Heat { granule, inner } => {
+            open(text, "heat")?;
+            push_count(text, *granule)?;
+            push(text, ",")?;
+            write_map(text, inner)?;
+            push(text, ")")
+        }
+        MapExpr::Named(name) => push(text, name.as_str()),
+    }
+}
+
+#[cycle(mapping)]
+#[tactic(auto, using(crate::proofs::Behind::behind_append))]
+fn write_inner(text: &mut Text, form: &str, inner: &MapExpr) -> Result<(), NoMemory>
+    ensures { OnOk result (text.new ≡ behind text.old (form_tokens form.now (map_tokens (term_of inner.now)))) }
+{
+    open(text, form)?;
+    write_map(text, inner)?;
+    push(text, ")")
+}
+
+// A word and the bracket behind it.
+pub(crate) fn open(text: &mut Text, word: &str) -> Result<(), NoMemory>
+    ensures { OnOk result (text.new ≡ behind text.old (Word word.now ∷ Sign OpenParen ∷ [])) }
+{
+    push(text, word)?;
+    push(text, "(")
+}
+
+fn write_worded(text: &mut Text, form: &str, word: &str, order: Order) -> Result<(), NoMemory>
+    ensures { OnOk result (text.new ≡ behind text.old (form_tokens form.now (ordered_tokens (Word word.now) order))) }
+{
+    open(text, form)?;
+    push(text, word)?;
+    push(text, ",")?;
+    push(text, order_word(order))?;
+    push(text, ")")
+}
+
+fn write_counted(text: &mut Text, form: &str, count: u32, order: Order) -> Result<(), NoMemory>
+    ensures { OnOk result (text.new ≡ behind text.old (form_tokens form.now (ordered_tokens (count_token count) order))) }
+{
+    open(text, form)?;
+    push_count(text, count)?;
+    push(text, ",")?;
+    push(text, order_word(order))?;
+    push(text, ")")
+}
+
+fn order_word(order: Order) -> &'static str
+    ensures { result.now ≡ order_word order }
+{
+    match order {
+        Order::Row => "row",
+        Order::Col => "col",
+        Order::Morton => "morton",
+    }
+}
+
+fn aos_word(form: AosForm) -> &'static str
+    ensures { result.now ≡ aos_word form }
+{
+    match form {
+        AosForm::Packed => "packed",
+        AosForm::Aligned => "aligned",
+        AosForm::Min => "min",
+    }
+}
+
+fn soa_word(form: SoaForm) -> &'static str
+    ensures { result.now ≡ soa_word form }
+{
+    match form {
+        SoaForm::Single => "single",
+        SoaForm::Aligned => "aligned",
+        SoaForm::Multi => "multi",
+    }
+}
