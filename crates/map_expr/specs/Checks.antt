@@ -4,7 +4,7 @@ use Rattle.std.specs.List.{list_any, range_with_len}
 use Rattle.std.specs.Option.{option_or}
 use Rattle.map_expr.specs.declared.check.BadMapping.{BadMapping}
 use Rattle.map_expr.specs.declared.check.BadMapping.TheVariants.{TooDeep, Counter, Lanes, Width, Granule}
-use Rattle.map_expr.specs.Terms.{Term, Aos, Soa, Aosoa, BitAos, BitSoa, Split, Byteswap, Bytesplit, Change, Count, Heat, Named, depth_of}
+use Rattle.map_expr.specs.Terms.{Term, Aosoa, BitAos, BitSoa, Split, Byteswap, Bytesplit, Change, Count, Heat, Named, depth_of}
 
 -- no name stands in it
 abbrev pub IsNameless : Term → Type 0
