@@ -1,12 +1,14 @@
--- Eight bytes as one word, the least significant first.
-use Rattle.std.proofs.Common.{◌≡◌, ℕ, zero, suc, ◌+◌, ◌*◌, ◌-◌, ◌/◌, ◌%◌, ◌^◌, ◌<◌, ◌≤◌, List, [], ◌++◌, length, get_or, take, drop, refl, sym, ap, ◌∙◌, ⊎_elim, arith}
+-- Some bytes as one number, the least significant first.
+use Rattle.std.proofs.Common.{◌≡◌, ℕ, zero, suc, ◌+◌, ◌*◌, ◌-◌, ◌/◌, ◌%◌, ◌^◌, ◌<◌, ◌≤◌, List, [], ◌++◌, length, get_or, take, drop, mod-eq_of_lt, refl, sym, ap, ◌∙◌, subst, ⊎_elim, arith}
 use Rattle.std.specs.Int.{bit_at, byte_at, bytes_low_first}
 use Rattle.std.proofs.lemmas.Bool.{cases_lt}
-use Rattle.std.proofs.lemmas.List.{drop-take, get_or-drop, get_or-take, get_or_append_left, get_or-append_right, length-take, take_rest}
+use Rattle.std.proofs.lemmas.List.{append-nil, drop-take, get_or-drop, get_or-take, get_or_append_left, get_or-append_right, length-take, take_rest}
 use Rattle.std.proofs.lemmas.Nat.{pow-add}
 use Rattle.std.proofs.lemmas.Nat.Bits.{bit_at_cat_low, bit_at_cat_high}
 use Rattle.std.proofs.Math.Nat.{pow-suc, div-one}
 use Rattle.byteorder.specs.Endian.{little_from}
+use Rattle.places.specs.Image.{number}
+use Rattle.places.proofs.Numbers.{number_same, number_bits}
 use Rattle.blobs.specs.Bits.{bit_of}
 use Rattle.blobs.proofs.Bytes.{bit_of_byte, bit_of_part}
 use borrow.Rule.Slice.PartMut.{put_mid}
@@ -39,26 +41,44 @@ bits_of_bytes xs i zero k fits h = absurd (omega arith)
 bits_of_bytes xs i (suc n) k fits h =
     byte_then xs i n k (fits i) (λ (l : 8 ≤ k). bits_of_bytes xs (suc i) n (k - 8) fits (omega arith))
 
--- the word that is read at `at`
-pub word_read : (bytes : List ℕ) (at k : ℕ) → ((j : ℕ) → get_or bytes j 0 < 256) → k < 64
-    → bit_at (little_from 0 8 (take (length bytes - at) (drop at bytes))) k ≡ bit_of bytes (8 * at + k)
-word_read bytes at k fits h =
-    let tail : List ℕ = take (length bytes - at) (drop at bytes) in
-    let byte : (j : ℕ) → get_or (take (length bytes - at) (drop at bytes)) j 0 ≡ get_or bytes (at + j) 0 =
-    λ j. ap (λ (xs : List ℕ). get_or xs j 0) (take_rest bytes at) ∙ get_or-drop at bytes j 0 in
-    let small : (j : ℕ) → get_or (take (length bytes - at) (drop at bytes)) j 0 < 256 = λ j. omega (arith, byte j, fits (at + j)) in
-    let index : 0 + k / 8 ≡ k / 8 = omega arith in
-    bits_of_bytes tail 0 8 k small h
-    ∙ ap (λ (w : ℕ). bit_at w (k % 8)) (ap (λ (j : ℕ). get_or tail j 0) index ∙ byte (k / 8))
-    ∙ sym (bit_of_byte bytes (8 * at + k) (at + k / 8) (k % 8) (omega arith) (omega arith))
+-- the number in n bytes is below 256^n
+little_small : (xs : List ℕ) (i n : ℕ) → ((j : ℕ) → get_or xs j 0 < 256) → little_from i n xs < 256 ^ n
+little_small xs i zero fits = omega arith
+little_small xs i (suc n) fits = omega (arith, fits i, little_small xs (suc i) n fits, pow-suc 256 n)
 
 -- powers of 256
-bytes_power : (m : ℕ) → 256 ^ m ≡ 2 ^ (8 * m)
+pub bytes_power : (m : ℕ) → 256 ^ m ≡ 2 ^ (8 * m)
 bytes_power zero = refl
 bytes_power (suc m) =
     let size : 8 * suc m ≡ 8 * m + 8 = omega arith in
     let power : 2 ^ (8 * m + 8) ≡ 2 ^ (8 * m) * 2 ^ 8 = pow-add 2 (8 * m) 8 in
     pow-suc 256 m ∙ ap (λ (w : ℕ). w * 256) (bytes_power m) ∙ sym (ap (λ (w : ℕ). 2 ^ w) size ∙ power)
+
+-- the number in the n bytes from byte `at` on
+module _ (bytes : List ℕ) (at n : ℕ) (fits : (j : ℕ) → get_or bytes j 0 < 256) where
+  abbrev tail : List ℕ
+  tail = take (length bytes - at) (drop at bytes)
+
+  tail_byte : (j : ℕ) → get_or tail j 0 ≡ get_or bytes (at + j) 0
+  tail_byte j = ap (λ (xs : List ℕ). get_or xs j 0) (take_rest bytes at) ∙ get_or-drop at bytes j 0
+
+  tail_small : (j : ℕ) → get_or tail j 0 < 256
+  tail_small j = omega (arith, tail_byte j, fits (at + j))
+
+  bits_read : (k : ℕ) → k < 8 * n → bit_at (little_from 0 n tail) k ≡ bit_of bytes (8 * at + k)
+  bits_read k h =
+      let index : 0 + k / 8 ≡ k / 8 = omega arith in
+      bits_of_bytes tail 0 n k tail_small h
+      ∙ ap (λ (w : ℕ). bit_at w (k % 8)) (ap (λ (j : ℕ). get_or tail j 0) index ∙ tail_byte (k / 8))
+      ∙ sym (bit_of_byte bytes (8 * at + k) (at + k / 8) (k % 8) (omega arith) (omega arith))
+
+  pub number_read : little_from 0 n (take (length bytes - at) (drop at bytes)) ≡ number (λ k. bit_of bytes (8 * at + k)) (8 * n)
+  number_read =
+      let word : ℕ = little_from 0 n tail in
+      let small : little_from 0 n tail < 2 ^ (8 * n) = subst (λ (power : ℕ). little_from 0 n tail < power) (bytes_power n) (little_small tail 0 n tail_small) in
+      let whole : little_from 0 n tail % 2 ^ (8 * n) ≡ little_from 0 n tail = mod-eq_of_lt small in
+      sym whole ∙ sym (number_bits (little_from 0 n tail) (8 * n))
+      ∙ number_same (λ k. (little_from 0 n tail / 2 ^ k) % 2) (λ k. bit_of bytes (8 * at + k)) (8 * n) bits_read
 
 -- byte j of the bytes of a number
 byte_of : (i n j word : ℕ) → j < n → get_or (bytes_low_first i n word) j 0 ≡ byte_at (i + j) word
@@ -81,52 +101,53 @@ length-bytes : (i n word : ℕ) → length (bytes_low_first i n word) ≡ n
 length-bytes i zero word = refl
 length-bytes i (suc n) word = let rest = length-bytes (suc i) n word in omega (arith, rest)
 
--- the bytes that a write of a word to eight bytes gives
-abbrev pub put : List ℕ → ℕ → ℕ → List ℕ
-put old at word = take at old ++ (bytes_low_first 0 8 word ++ drop 8 (drop at old))
+-- the bytes that a write of a number to n bytes gives
+abbrev pub put : List ℕ → ℕ → ℕ → ℕ → List ℕ
+put old at n word = take at old ++ (bytes_low_first 0 n word ++ drop n (drop at old))
 
-pub put_is : (old buf : List ℕ) (at word : ℕ) → buf ≡ bytes_low_first 0 8 word ++ drop 8 (take (at + 8 - at) (drop at old)) → put_mid at (at + 8 - at) old buf ≡ put old at word
-put_is old buf at word e =
-    let eight : at + 8 - at ≡ 8 = omega arith in
-    let none : drop 8 (take (at + 8 - at) (drop at old)) ≡ [] = ap (λ (w : ℕ). drop 8 (take w (drop at old))) eight ∙ drop-take 8 0 (drop at old) in
-    let whole : buf ≡ bytes_low_first 0 8 word = e ∙ ap (λ (xs : List ℕ). bytes_low_first 0 8 word ++ xs) none in
-    ap (λ (w : ℕ). put_mid at w old buf) eight ∙ ap (λ (xs : List ℕ). take at old ++ (xs ++ drop 8 (drop at old))) whole
+pub put_is : (old buf : List ℕ) (at n word : ℕ) → buf ≡ bytes_low_first 0 n word ++ drop n (take (at + n - at) (drop at old)) → put_mid at (at + n - at) old buf ≡ put old at n word
+put_is old buf at n word e =
+    let size : at + n - at ≡ n = omega arith in
+    let plain : n ≡ n + 0 = omega arith in
+    let none : drop n (take (at + n - at) (drop at old)) ≡ [] = ap (λ (w : ℕ). drop n (take w (drop at old))) (size ∙ plain) ∙ drop-take n 0 (drop at old) in
+    let whole : buf ≡ bytes_low_first 0 n word = e ∙ ap (λ (xs : List ℕ). bytes_low_first 0 n word ++ xs) none ∙ append-nil (bytes_low_first 0 n word) in
+    ap (λ (w : ℕ). put_mid at w old buf) size ∙ ap (λ (xs : List ℕ). take at old ++ (xs ++ drop n (drop at old))) whole
 
--- its bits: eight bytes are the word's, and the others stand
-module _ (old : List ℕ) (at word : ℕ) (within : at + 8 ≤ length old) where
+-- its bits: n bytes are the number's, and the others stand
+module _ (old : List ℕ) (at n word : ℕ) (within : at + n ≤ length old) where
   front_long : length (take at old) ≡ at
   front_long = omega (arith, length-take at old)
 
-  pub put_before : (k : ℕ) → k < 8 * at → bit_of (put old at word) k ≡ bit_of old k
+  pub put_before : (k : ℕ) → k < 8 * at → bit_of (put old at n word) k ≡ bit_of old k
   put_before k h =
       ap (λ (w : ℕ). bit_at w (k % 8))
-      (get_or_append_left (take at old) (bytes_low_first 0 8 word ++ drop 8 (drop at old)) 0 (k / 8) (omega (arith, front_long))
+      (get_or_append_left (take at old) (bytes_low_first 0 n word ++ drop n (drop at old)) 0 (k / 8) (omega (arith, front_long))
       ∙ get_or-take at old (k / 8) 0 (omega arith))
 
-  behind_front : (index : ℕ) → at ≤ index → get_or (put old at word) index 0 ≡ get_or (bytes_low_first 0 8 word ++ drop 8 (drop at old)) (index - at) 0
-  behind_front index h = get_or-append_right (take at old) (bytes_low_first 0 8 word ++ drop 8 (drop at old)) at index 0 front_long h
+  behind_front : (index : ℕ) → at ≤ index → get_or (put old at n word) index 0 ≡ get_or (bytes_low_first 0 n word ++ drop n (drop at old)) (index - at) 0
+  behind_front index h = get_or-append_right (take at old) (bytes_low_first 0 n word ++ drop n (drop at old)) at index 0 front_long h
 
-  pub put_inside : (k : ℕ) → k < 64 → bit_of (put old at word) (8 * at + k) ≡ bit_at word k
+  pub put_inside : (k : ℕ) → k < 8 * n → bit_of (put old at n word) (8 * at + k) ≡ bit_at word k
   put_inside k h =
       let place : 8 * at + k ≡ 8 * (at + k / 8) + k % 8 = omega arith in
       let back : at + k / 8 - at ≡ k / 8 = omega arith in
       let whole : 8 * (0 + k / 8) + k % 8 ≡ k = omega arith in
-      let index : k / 8 < length (bytes_low_first 0 8 word) = omega (arith, length-bytes 0 8 word) in
-      bit_of_byte (put old at word) (8 * at + k) (at + k / 8) (k % 8) place (omega arith)
+      let index : k / 8 < length (bytes_low_first 0 n word) = omega (arith, length-bytes 0 n word) in
+      bit_of_byte (put old at n word) (8 * at + k) (at + k / 8) (k % 8) place (omega arith)
       ∙ ap (λ (w : ℕ). bit_at w (k % 8))
       (behind_front (at + k / 8) (omega arith)
-      ∙ ap (λ (w : ℕ). get_or (bytes_low_first 0 8 word ++ drop 8 (drop at old)) w 0) back
-      ∙ get_or_append_left (bytes_low_first 0 8 word) (drop 8 (drop at old)) 0 (k / 8) index
-      ∙ byte_of 0 8 (k / 8) word (omega arith))
+      ∙ ap (λ (w : ℕ). get_or (bytes_low_first 0 n word ++ drop n (drop at old)) w 0) back
+      ∙ get_or_append_left (bytes_low_first 0 n word) (drop n (drop at old)) 0 (k / 8) index
+      ∙ byte_of 0 n (k / 8) word (omega arith))
       ∙ bit_of_byte_at word (0 + k / 8) (k % 8) (omega arith)
       ∙ ap (bit_at word) whole
 
-  pub put_after : (k : ℕ) → 8 * at + 64 ≤ k → bit_of (put old at word) k ≡ bit_of old k
+  pub put_after : (k : ℕ) → 8 * at + 8 * n ≤ k → bit_of (put old at n word) k ≡ bit_of old k
   put_after k h =
-      let rest : at + (8 + (k / 8 - at - 8)) ≡ k / 8 = omega arith in
+      let rest : at + (n + (k / 8 - at - n)) ≡ k / 8 = omega arith in
       ap (λ (w : ℕ). bit_at w (k % 8))
       (behind_front (k / 8) (omega arith)
-      ∙ get_or-append_right (bytes_low_first 0 8 word) (drop 8 (drop at old)) 8 (k / 8 - at) 0 (length-bytes 0 8 word) (omega arith)
-      ∙ get_or-drop 8 (drop at old) (k / 8 - at - 8) 0
-      ∙ get_or-drop at old (8 + (k / 8 - at - 8)) 0
+      ∙ get_or-append_right (bytes_low_first 0 n word) (drop n (drop at old)) n (k / 8 - at) 0 (length-bytes 0 n word) (omega arith)
+      ∙ get_or-drop n (drop at old) (k / 8 - at - n) 0
+      ∙ get_or-drop at old (n + (k / 8 - at - n)) 0
       ∙ ap (λ (w : ℕ). get_or old w 0) rest)

@@ -1,5 +1,5 @@
 -- The bits of bytes, and of several blobs.
-use Rattle.std.specs.Prelude.{ℕ, ◌*◌, ◌/◌, ◌%◌, List, [], length, map, slice_index_or}
+use Rattle.std.specs.Prelude.{ℕ, ◌≡◌, ◌⊎◌, ◌*◌, ◌/◌, ◌%◌, List, [], length, map, slice_index_or}
 use Rattle.std.specs.Int.{bit_at}
 use Rattle.std.specs.List.{range_with_len}
 
@@ -14,3 +14,7 @@ bits_of bytes = map (bit_of bytes) (range_with_len 0 (8 * length bytes))
 -- bit `place` of blob `blob`; outside of the blobs it is 0
 abbrev pub bit_in : List (List ℕ) → ℕ → ℕ → ℕ
 bit_in blobs blob place = bit_of (slice_index_or blobs blob []) place
+
+-- a number of bits that is one, two, four or eight bytes
+abbrev pub IsWhole : ℕ → Type 0
+IsWhole n = (n ≡ 8) ⊎ ((n ≡ 16) ⊎ ((n ≡ 32) ⊎ (n ≡ 64)))

@@ -3,7 +3,8 @@ ghost use Rattle.std.specs.Int.{bit_at};
 ghost use Rattle.places.specs.Image.{number};
 ghost use Rattle.blobs.specs.Bits.{bit_of};
 
-use crate::word::{bits_in_word, read_word, with_bits, write_word};
+use crate::whole::{is_whole, read_bytes, read_whole, write_bytes, write_whole};
+use crate::word::{bits_in_word, with_bits};
 use std::alloc::{AllocError as NoMemory, Global};
 use std::marker::Model;
 
@@ -63,8 +64,11 @@ impl Blob {
     {
         let first = (at / 8) as usize;
         let low = (at % 8) as u32;
+        if low == 0 && is_whole(n) {
+            return read_whole(&self.bytes, first, n);
+        }
         if low + n <= 64 && self.bytes.len() - first >= 8 {
-            return bits_in_word(read_word(&self.bytes, first), low, n);
+            return bits_in_word(read_bytes(&self.bytes, first, 8), low, n);
         }
         self.bits_by_bytes(at, n)
     }
@@ -82,9 +86,13 @@ impl Blob {
     {
         let first = (at / 8) as usize;
         let low = (at % 8) as u32;
+        if low == 0 && is_whole(n) {
+            write_whole(&mut self.bytes, first, n, value);
+            return;
+        }
         if low + n <= 64 && self.bytes.len() - first >= 8 {
-            let word = with_bits(read_word(&self.bytes, first), low, n, value);
-            write_word(&mut self.bytes, first, word);
+            let word = with_bits(read_bytes(&self.bytes, first, 8), low, n, value);
+            write_bytes(&mut self.bytes, first, 8, word);
             return;
         }
         self.put_bits_by_bytes(at, n, value);

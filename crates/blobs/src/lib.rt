@@ -2,6 +2,7 @@
 #![tactic(auto)]
 
 mod blob;
+mod whole;
 mod word;
 
 pub use blob::Blob;
