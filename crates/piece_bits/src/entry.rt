@@ -7,7 +7,7 @@ ghost use Rattle.piece_bits.specs.Tables.{AreLaid, hold_at, table_in, with_entry
 use crate::pieces::{read_pieces, write_pieces};
 use crate::value::{decode, encode};
 use blobs::Blob;
-use places::{Mapping, Piece};
+use places::{Hold, Mapping, Piece};
 
 /// The value of a cell in a slot, read off blobs that the mapping lays out. The pieces come by value: where there is one, `read_piece`
 /// is shorter.
@@ -58,7 +58,12 @@ pub fn read_piece<M: Mapping>(
         ≡ entry (table_in (M.layout mapping.now) (M.slot_count mapping.now) (M.hold_list mapping.now) blobs.now) slot cell }
 {
     let hold = mapping.hold(cell);
-    decode(hold, blobs[piece.blob].bits(piece.bit, piece.bits))
+    // The piece has the bits of the hold, and their number is at hand.
+    let read = Hold {
+        signed: hold.signed,
+        width: piece.bits,
+    };
+    decode(read, blobs[piece.blob].bits(piece.bit, piece.bits))
 }
 
 /// Makes the value of a cell in a slot that lies in one piece this one. All other values stay, and padding stays 0.
@@ -81,5 +86,9 @@ pub fn write_piece<M: Mapping>(
     ensures still_laid { AreLaid (M.layout mapping.now) blobs.new.items }
 {
     let hold = mapping.hold(cell);
-    blobs[piece.blob].put_bits(piece.bit, piece.bits, encode(hold, value));
+    let written = Hold {
+        signed: hold.signed,
+        width: piece.bits,
+    };
+    blobs[piece.blob].put_bits(piece.bit, piece.bits, encode(written, value));
 }

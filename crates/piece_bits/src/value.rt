@@ -44,16 +44,22 @@ pub fn encode(hold: Hold, value: i128) -> u64
     }
 }
 
-/// The value that bits say under a hold (two's complement).
+/// The value that bits say under a hold (two's complement). The sign costs no branch: half of the range is added, and taken off again.
 pub fn decode(hold: Hold, bits: u64) -> i128
     requires some { 1 ≤ hold.width }
     requires narrow { hold.width ≤ 64 }
     requires fits { bits < 2 ^ hold.width }
     ensures { result ≡ decoded hold.signed hold.width bits }
 {
-    if hold.signed && bits >> (hold.width - 1) != 0 {
-        i128::from(bits) - i128::from(u64::MAX >> (64 - hold.width)) - 1
+    let half = if hold.signed {
+        1u64 << (hold.width - 1)
     } else {
-        i128::from(bits)
-    }
+        0
+    };
+    let moved = if bits < half {
+        bits + half
+    } else {
+        bits - half
+    };
+    i128::from(moved) - i128::from(half)
 }

@@ -32,22 +32,32 @@ at g c =
 held : (g : given.Over) (c : goal.After-hold-hold g) → IsIn c.hold-hold.result.signed c.hold-hold.result.width c.args.value
 held g c = subst (λ (h : Hold). IsIn h.signed h.width c.args.value) (hold_is (at g c)) c.requires.held
 
+-- the piece has the bits of the hold
+width : (g : given.Over) (c : goal.After-hold-hold g) → c.args.piece.bits ≡ c.hold-hold.result.width
+width g c = sym (one_count c.args.piece) ∙ bit_count (at g c)
+
 pub encode-requires-clause-some : goal.encode-requires-clause-some
-encode-requires-clause-some g c = some_bits (at g ((goal.at.encode-requires-clause-some g c).After-hold-hold))
+encode-requires-clause-some g c =
+    let d = (goal.at.encode-requires-clause-some g c).After-hold-hold in
+    omega (arith, some_bits (at g d), width g d)
 
 pub encode-requires-clause-narrow : goal.encode-requires-clause-narrow
-encode-requires-clause-narrow g c = few_bits (at g ((goal.at.encode-requires-clause-narrow g c).After-hold-hold))
+encode-requires-clause-narrow g c =
+    let d = (goal.at.encode-requires-clause-narrow g c).After-hold-hold in
+    omega (arith, few_bits (at g d), width g d)
 
 pub encode-requires-clause-fits : goal.encode-requires-clause-fits
 encode-requires-clause-fits g c =
+    let d = (goal.at.encode-requires-clause-fits g c).After-hold-hold in
     let fits : SFits w128 c.args.value = search rules in
-    subst (λ (v : ℤ). IsIn c.hold-hold.result.signed c.hold-hold.result.width v) (sym (to_z-of_z w128 c.args.value fits))
-    (held g ((goal.at.encode-requires-clause-fits g c).After-hold-hold))
+    subst (λ (v : ℤ). IsIn c.hold-hold.result.signed c.args.piece.bits v) (sym (to_z-of_z w128 c.args.value fits))
+    (subst (λ (n : ℕ). IsIn c.hold-hold.result.signed n c.args.value) (sym (width g d)) (held g d))
 
 code : (g : given.Over) (c : goal.After-encode g) → c.encode.result ≡ number (digit c.args.value) c.hold-hold.result.width
 code g c =
     let fits : SFits w128 c.args.value = search rules in
-    c.encode.ensures ∙ ap (λ (v : ℤ). number (digit v) c.hold-hold.result.width) (to_z-of_z w128 c.args.value fits)
+    c.encode.ensures ∙ ap (λ (v : ℤ). number (digit v) c.args.piece.bits) (to_z-of_z w128 c.args.value fits)
+    ∙ ap (number (digit c.args.value)) (width g ((goal.at.After-encode g c).After-hold-hold))
 
 small : (g : given.Over) (c : goal.After-encode g) → c.encode.result < 2 ^ c.args.piece.bits
 small g c =
