@@ -1,4 +1,4 @@
-ghost use Rattle.std.specs.Prelude.{ℕ, ◌≡◌, ◌*◌, ◌^◌, ◌<◌, ◌≤◌, ◌⊎◌, ◌↔◌, IfOk, IfErr, OnOk, IsErrOf, List, [], ◌∷◌, length, map, slice_index};
+ghost use Rattle.std.specs.Prelude.{ℕ, ◌≡◌, ◌*◌, ◌^◌, ◌<◌, ◌≤◌, ◌⊎◌, ◌↔◌, IfOk, IfErr, Some, OnOk, IsErrOf, List, [], ◌∷◌, length, map, slice_index};
 ghost use Rattle.places.specs.Holds.{widths_of, full_holds, IsTooBig};
 ghost use Rattle.places.specs.declared.piece.Cell.{Cell};
 ghost use Rattle.places.specs.declared.piece.Hold.{Hold};
@@ -8,7 +8,7 @@ ghost use Rattle.map_aosoa.specs.Aosoa.{IsStored, block_count};
 ghost use Rattle.map_aosoa.specs.AosoaLaws.{aosoa_laws};
 ghost use Rattle.places.proofs.CellWidths.{length-full};
 
-use crate::block::{count_blocks, lay_out};
+use crate::block::{block_of, count_blocks, lay_out, power_of};
 use places::{Cell, CellList, Hold, MAX_BLOB_BITS, MAX_SLOTS, Mapping, NewMapping, Piece, Pieces};
 use record_dim::LeafType;
 use std::alloc::Global;
@@ -20,6 +20,8 @@ const MAX_LANES: u32 = 64;
 #[derive(Debug, Drop)]
 pub struct Aosoa {
     lanes: u32,
+    /// The power of two that `lanes` is, where it is one.
+    power: Option<u32>,
     slots: u64,
     cells: Vec<Cell>,
     /// Where the lanes of each cell begin, in bits from the block's beginning on. Empty where there is no slot.
@@ -27,6 +29,8 @@ pub struct Aosoa {
     /// The bits of one block.
     stride: u64,
     ghost some: { 0 < lanes },
+    ghost shifted: { (p : ℕ) → power ≡ Some p → lanes ≡ 2 ^ p },
+    ghost few: { (p : ℕ) → power ≡ Some p → p ≤ 6 },
     ghost stored: { 0 < slots → IsStored lanes (widths_of cells.items) offsets.items stride },
     ghost bound: { block_count lanes slots * stride ≤ 2 ^ 31 },
 }
@@ -56,6 +60,7 @@ impl Aosoa {
         if slots == 0 {
             return Ok(Aosoa {
                 lanes,
+                power: power_of(lanes),
                 slots,
                 cells: kept,
                 offsets: Vec::new(alloc),
@@ -69,6 +74,7 @@ impl Aosoa {
         }
         Ok(Aosoa {
             lanes,
+            power: power_of(lanes),
             slots,
             cells: kept,
             offsets: block.offsets,
@@ -83,13 +89,12 @@ impl Aosoa {
         requires cell_in { cell < length (⟦<Aosoa as Mapping>⟧.cell_list self.now) }
         ensures { IsLocated (⟦<Aosoa as Mapping>⟧.layout self.now) slot cell (slice_index (map (λ h. h.width) (⟦<Aosoa as Mapping>⟧.hold_list self.now)) cell) (result ∷ []) }
     {
-        let lanes = u64::from(self.lanes);
+        let block = block_of(slot, self.lanes, self.power);
+        let lane = slot - block * u64::from(self.lanes);
         let width = self.cells[cell].kind.width();
-        let block = slot / lanes * self.stride;
-        let lane = slot % lanes * u64::from(width);
         Piece {
             blob: 0,
-            bit: block + self.offsets[cell] + lane,
+            bit: block * self.stride + self.offsets[cell] + lane * u64::from(width),
             bits: width,
         }
     }
