@@ -54,7 +54,7 @@ impl AnyMap {
     }
 
     /// The one piece of a leaf in a row, where it has one: the short way past `locate`. None where there may be several.
-    #[inline]
+    #[inline(always)]
     pub fn piece(&self, row: u64, leaf: usize) -> Option<Piece>
         requires slot_in { row < ⟦<AnyMap as Mapping>⟧.slot_count self.now }
         requires cell_in { leaf < length (⟦<AnyMap as Mapping>⟧.cell_list self.now) }

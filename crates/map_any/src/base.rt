@@ -43,7 +43,7 @@ impl Base {
     }
 
     /// The one piece of a cell in a row.
-    #[inline]
+    #[inline(always)]
     pub fn piece(&self, row: u64, cell: usize) -> Piece
         requires row_in { row < length (indices self.now.extents) }
         requires cell_in { cell < length (cells_of_base self.now.map) }

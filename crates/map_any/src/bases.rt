@@ -21,7 +21,7 @@ pub enum BaseMap {
 
 impl BaseMap {
     /// The one piece of a cell in a slot.
-    #[inline]
+    #[inline(always)]
     pub fn piece(&self, slot: u64, cell: usize) -> Piece
         requires slot_in { slot < slots_of_base self.now }
         requires cell_in { cell < length (cells_of_base self.now) }

@@ -71,7 +71,7 @@ impl Node {
     }
 
     /// The one piece of a cell in a row, None where there may be several.
-    #[inline]
+    #[inline(always)]
     pub fn piece(&self, row: u64, cell: usize) -> Option<Piece>
         requires row_in { row < rows_of_node self.now }
         requires cell_in { cell < length (cells_of_node self.now) }

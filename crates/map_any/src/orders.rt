@@ -64,8 +64,20 @@ fn slot_of_index(order: Order, extents: &Extents, index: &[u64]) -> u64
     }
 }
 
+// The slot of a row by its index. It is kept out of the way by rows, which needs no index.
+#[inline(never)]
+fn slot_by_index(order: Order, extents: &Extents, row: u64) -> u64
+    requires built { IsBuilt order }
+    requires few { slot_count order extents.now ≤ 2 ^ 24 }
+    requires row_in { row < length (indices extents.now) }
+    ensures slot { result ≡ slot_at order extents.now row }
+    ensures below { result < slot_count order extents.now }
+{
+    slot_of_index(order, extents, extents.index_of(row).as_slice())
+}
+
 /// The slot of a row. By rows it is the row, with no division.
-#[inline]
+#[inline(always)]
 pub fn slot_of_row(order: Order, extents: &Extents, row: u64) -> u64
     requires built { IsBuilt order }
     requires few { slot_count order extents.now ≤ 2 ^ 24 }
@@ -75,6 +87,6 @@ pub fn slot_of_row(order: Order, extents: &Extents, row: u64) -> u64
 {
     match order {
         Order::Row => row,
-        _ => slot_of_index(order, extents, extents.index_of(row).as_slice()),
+        _ => slot_by_index(order, extents, row),
     }
 }
