@@ -8,7 +8,6 @@ use Rattle.extents.specs.Indices.{indices}
 use Rattle.record_dim.specs.declared.schema.Schema.{Schema}
 use Rattle.record_dim.specs.declared.leaf_type.LeafType.{LeafType}
 use Rattle.record_dim.specs.Schemas.{schema_fields}
-use Rattle.record_dim.specs.LeafTypes.{IsIn}
 use Rattle.record_dim.specs.Leaves.{leaves, kinds_of}
 use Rattle.places.specs.Layout.{Owner}
 use Rattle.places.specs.Laws.{IsLaidOut}

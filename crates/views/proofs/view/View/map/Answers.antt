@@ -1,5 +1,4 @@
 use Rattle.std.proofs.Common.{◌∙◌, ap, length}
-use Rattle.record_dim.specs.declared.leaf_type.LeafType.{LeafType}
 use Rattle.extents.specs.Indices.{indices}
 use Rattle.map_any.specs.Mappings.{leaf_cells}
 use Rattle.views.specs.Seen.{Seen, leaf_types_of, seen_layout, seen_holds}

@@ -1,10 +1,9 @@
-use Rattle.std.proofs.Common.{◌≡◌, ◌∙◌, ℕ, length, ap}
+use Rattle.std.proofs.Common.{◌∙◌, length, ap}
 use Rattle.record_dim.specs.Schemas.{schema_fields}
 use Rattle.record_dim.specs.Leaves.{leaves, kinds_of}
 use Rattle.record_dim.specs.Trees.{Fields}
 use Rattle.extents.specs.Indices.{indices}
 use Rattle.map_expr.specs.Terms.{term_of}
-use Rattle.map_any.specs.Mappings.{holds_of}
 use Rattle.piece_bits.specs.Tables.{zeros}
 use Rattle.views.proofs.KeptLaws.{kind_count, kept_zeros, zero_table}
 use Rattle.views.proofs.Opened.{mapping_copied, within_copied, lawful_there, paired_there, laid_there}
