@@ -1,1 +1,4 @@
+pub mod Rounds
 pub mod Sums
+pub mod Views
+pub mod Words

@@ -1,41 +1,47 @@
--- Sums row by row: one row more, and a fault that stays.
-use Rattle.std.proofs.Common.{◌≡◌, ℕ, zero, suc, ◌+◌, ◌-◌, ◌<◌, ℤ, ◌+ℤ◌, [], Ok, Err, refl, ap, ◌∙◌, arith}
+-- Sums answer by answer: one more, a fault that stays, and sums of the same answers.
+use Rattle.std.proofs.Common.{◌≡◌, ℕ, zero, suc, ◌+◌, ◌-◌, ◌<◌, ℤ, ◌+ℤ◌, Ok, Err, refl, ap, ◌∙◌, arith}
+use Rattle.std.specs.Prelude.{Result}
 use Rattle.expr_lang.specs.declared.fault.EvalFault.{EvalFault}
-use Rattle.expr_lang.specs.Terms.{Term}
-use Rattle.expr_lang.specs.Values.{ranged, outcome_of}
-use Rattle.bench_layouts.specs.Samples.{sample}
-use Rattle.bench_layouts.specs.Totals.{added, total_of}
+use Rattle.expr_lang.specs.Values.{ranged}
+use Rattle.bench_layouts.specs.Totals.{added, summed}
 
--- the sum with one row more
-one_more : (term : Term ℕ) (row : ℕ) (total : ℤ) → total_of term row ≡ Ok total →
-    total_of term (row + 1) ≡ added (Ok total) (outcome_of (sample row) [] term).answer
-one_more term row total is =
-    let next : row + 1 ≡ suc row = omega arith in
-    ap (total_of term) next ∙ ap (λ sum. added sum (outcome_of (sample row) [] term).answer) is
+module _ (answers : ℕ → Result ℤ EvalFault) where
+  -- the sum with one answer more
+  one_more : (n : ℕ) (total : ℤ) → summed answers n ≡ Ok total → summed answers (n + 1) ≡ added (Ok total) (answers n)
+  one_more n total is =
+      let next : n + 1 ≡ suc n = omega arith in
+      ap (summed answers) next ∙ ap (λ sum. added sum (answers n)) is
 
-stays : (term : Term ℕ) (row more rows : ℕ) (fault : EvalFault) → rows ≡ more + row → total_of term row ≡ Err fault → total_of term rows ≡ Err fault
-stays term row zero rows fault is e = let same : rows ≡ row = omega (arith, is) in ap (total_of term) same ∙ e
-stays term row (suc more) rows fault is e =
-    let next : rows ≡ suc (more + row) = omega (arith, is) in
-    ap (total_of term) next ∙ ap (λ sum. added sum (outcome_of (sample (more + row)) [] term).answer) (stays term row more (more + row) fault refl e)
+  stays : (n more count : ℕ) (fault : EvalFault) → count ≡ more + n → summed answers n ≡ Err fault → summed answers count ≡ Err fault
+  stays n zero count fault is e = let same : count ≡ n = omega (arith, is) in ap (summed answers) same ∙ e
+  stays n (suc more) count fault is e =
+      let next : count ≡ suc (more + n) = omega (arith, is) in
+      ap (summed answers) next ∙ ap (λ sum. added sum (answers (more + n))) (stays n more (more + n) fault refl e)
 
-stays_behind : (term : Term ℕ) (row rows : ℕ) (total : ℤ) (fault : EvalFault) → total_of term row ≡ Ok total → row < rows →
-    added (Ok total) (outcome_of (sample row) [] term).answer ≡ Err fault → total_of term rows ≡ Err fault
-stays_behind term row rows total fault is below e = stays term (row + 1) (rows - (row + 1)) rows fault (omega (arith, below)) (one_more term row total is ∙ e)
+  stays_behind : (n count : ℕ) (total : ℤ) (fault : EvalFault) → summed answers n ≡ Ok total → n < count →
+      added (Ok total) (answers n) ≡ Err fault → summed answers count ≡ Err fault
+  stays_behind n count total fault is below e = stays (n + 1) (count - (n + 1)) count fault (omega (arith, below)) (one_more n total is ∙ e)
 
--- the fault of a row is the fault of all rows
-pub fault_of_row : (term : Term ℕ) (row rows : ℕ) (total : ℤ) (fault : EvalFault) → total_of term row ≡ Ok total → row < rows →
-    (outcome_of (sample row) [] term).answer ≡ Err fault → total_of term rows ≡ Err fault
-fault_of_row term row rows total fault is below e = stays_behind term row rows total fault is below (ap (added (Ok total)) e)
+  -- the fault of an answer is the fault of the whole
+  pub fault_of_answer : (n count : ℕ) (total : ℤ) (fault : EvalFault) → summed answers n ≡ Ok total → n < count →
+      answers n ≡ Err fault → summed answers count ≡ Err fault
+  fault_of_answer n count total fault is below e = stays_behind n count total fault is below (ap (added (Ok total)) e)
 
--- so is a sum that is too great
-pub fault_of_sum : (term : Term ℕ) (row rows : ℕ) (total value : ℤ) (fault : EvalFault) → total_of term row ≡ Ok total → row < rows →
-    (outcome_of (sample row) [] term).answer ≡ Ok value → ranged (total +ℤ value) ≡ Err fault → total_of term rows ≡ Err fault
-fault_of_sum term row rows total value fault is below e great = stays_behind term row rows total fault is below (ap (added (Ok total)) e ∙ great)
+  -- so is a sum that is too great
+  pub fault_of_sum : (n count : ℕ) (total value : ℤ) (fault : EvalFault) → summed answers n ≡ Ok total → n < count →
+      answers n ≡ Ok value → ranged (total +ℤ value) ≡ Err fault → summed answers count ≡ Err fault
+  fault_of_sum n count total value fault is below e great = stays_behind n count total fault is below (ap (added (Ok total)) e ∙ great)
 
--- else the sum goes on
-pub next_sum : (term : Term ℕ) (row : ℕ) (total value sum : ℤ) → total_of term row ≡ Ok total →
-    (outcome_of (sample row) [] term).answer ≡ Ok value → ranged (total +ℤ value) ≡ Ok sum → total_of term (row + 1) ≡ Ok sum
-next_sum term row total value sum is e fits = one_more term row total is ∙ ap (added (Ok total)) e ∙ fits
+  -- else the sum goes on
+  pub next_sum : (n : ℕ) (total value sum : ℤ) → summed answers n ≡ Ok total →
+      answers n ≡ Ok value → ranged (total +ℤ value) ≡ Ok sum → summed answers (n + 1) ≡ Ok sum
+  next_sum n total value sum is e fits = one_more n total is ∙ ap (added (Ok total)) e ∙ fits
 
-pub ruleset sums = (fault_of_row, fault_of_sum, next_sum)
+-- the same answers have the same sum
+pub same_sums : (one two : ℕ → Result ℤ EvalFault) (count : ℕ) → ((n : ℕ) → n < count → one n ≡ two n) → summed one count ≡ summed two count
+same_sums one two zero same = refl
+same_sums one two (suc count) same =
+    ap (λ sum. added sum (one count)) (same_sums one two count (λ n below. same n (omega (arith, below))))
+    ∙ ap (added (summed two count)) (same count (omega arith))
+
+pub ruleset sums = (fault_of_answer, fault_of_sum, next_sum)

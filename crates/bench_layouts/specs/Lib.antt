@@ -1,4 +1,8 @@
+pub mod Faults
 pub mod Formula
+pub mod Forms
 pub mod Modes
+pub mod Rounds
 pub mod Samples
+pub mod Tables
 pub mod Totals

@@ -1,9 +1,11 @@
-ghost use Rattle.std.specs.Prelude.{◌≡◌, ◌<◌, ◌+ℤ◌, IfOk, IfErr, Ok};
+ghost use Rattle.std.specs.Prelude.{◌≡◌, ◌<◌, IfOk, IfErr, Ok};
 ghost use Rattle.expr_lang.specs.Bounds.{bound_leaves, bound_rank, bound_term};
-ghost use Rattle.expr_lang.specs.Values.{ranged};
 ghost use Rattle.bench_layouts.specs.Formula.{formula_of};
-ghost use Rattle.bench_layouts.specs.Totals.{total_of, IsFaultOf};
+ghost use Rattle.bench_layouts.specs.Totals.{total_of};
+ghost use Rattle.bench_layouts.specs.Faults.{IsFaultOf};
+ghost use Rattle.bench_layouts.specs.declared.mode.Mode.TheVariants.{Eval};
 
+use crate::adding::add;
 use crate::fault::BenchFault;
 use crate::formula::formula;
 use crate::sample::Sample;
@@ -16,7 +18,7 @@ use steps::Steps;
 /// The sum of `(x * 2 + y) * z - w` over so many rows.
 pub fn total(alloc: Global, rows: u32) -> Result<i128, BenchFault>
     ensures sum { IfOk result (λ total. Ok total ≡ total_of (formula_of 0 1 2 3) rows) }
-    ensures fault { IfErr result (IsFaultOf (total_of (formula_of 0 1 2 3) rows)) }
+    ensures fault { IfErr result (IsFaultOf (Eval rows)) }
 {
     let formula = formula(alloc)?;
     Ok(sum_of::<Brand>(&formula, rows, Blank::new(1))?)
@@ -37,14 +39,7 @@ fn sum_of<L: Ledger>(expr: &Bound, rows: u32, blank: Blank) -> Result<i128, Eval
     let mut total = 0i128;
     for row in 0..rows {
         let value = eval(expr, &mut Sample::of_row(row), [].as_slice(), &mut steps)?;
-        total = sum(total, value)?;
+        total = add(total, value)?;
     }
     Ok(total)
-}
-
-#[inline]
-fn sum(total: i128, value: i128) -> Result<i128, EvalFault>
-    ensures { result ≡ ranged (total +ℤ value) }
-{
-    total.checked_add(value).ok_or(EvalFault::Overflow)
 }

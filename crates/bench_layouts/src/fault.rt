@@ -1,11 +1,16 @@
 use expr_lang::EvalFault;
 use std::alloc::AllocError;
+use views::{MakeView, StoreFault};
 
 /// Why a measurement has no checksum.
 #[derive(Clone, Copy, Debug, PartialEq, Eq)]
 pub enum BenchFault {
-    /// The expression has no value on some row, or the sum is too great.
+    /// An expression has no value on some row, or the sum is too great.
     Eval(EvalFault),
+    /// There is no view of so many rows.
+    View(MakeView),
+    /// A value was not stored.
+    Store(StoreFault),
     NoMemory,
 }
 
@@ -28,5 +33,27 @@ impl From<EvalFault> for BenchFault {
 
     fn from(fault: EvalFault) -> BenchFault {
         BenchFault::Eval(fault)
+    }
+}
+
+impl From<MakeView> for BenchFault {
+    ghost use Rattle.std.specs.Prelude.{◌≡◌};
+    ghost use Rattle.bench_layouts.specs.declared.fault.BenchFault.TheVariants.{View};
+
+    ghost from_gives = { λ fault e. e ≡ View fault };
+
+    fn from(fault: MakeView) -> BenchFault {
+        BenchFault::View(fault)
+    }
+}
+
+impl From<StoreFault> for BenchFault {
+    ghost use Rattle.std.specs.Prelude.{◌≡◌};
+    ghost use Rattle.bench_layouts.specs.declared.fault.BenchFault.TheVariants.{Store};
+
+    ghost from_gives = { λ fault e. e ≡ Store fault };
+
+    fn from(fault: StoreFault) -> BenchFault {
+        BenchFault::Store(fault)
     }
 }

@@ -1,20 +1,18 @@
 ghost use Rattle.std.specs.Prelude.{◌≡◌, IfOk, IsTrue};
 ghost use Rattle.record_dim.specs.Names.{is_name};
-ghost use Rattle.record_dim.specs.declared.leaf_type.LeafType.TheVariants.{I64};
-ghost use Rattle.record_dim.specs.Schemas.{schema_fields};
-ghost use Rattle.record_dim.specs.Trees.{Field as One, Single, fields_of};
 ghost use Rattle.expr_lang.specs.Terms.{Binary, Entry, term_of};
-ghost use Rattle.bench_layouts.specs.Formula.{IsFormula, sample_fields, top, written};
+ghost use Rattle.bench_layouts.specs.Formula.{IsFormula, top, written};
 
+use crate::record::sample_schema;
 use expr_lang::{BinOp, BindFault, Bound, Expr, bind};
-use record_dim::{Dim, Field, FieldList, LeafType, MakeSchema, Name, Path, Schema};
+use record_dim::{Name, Path};
 use std::alloc::{AllocError as NoMemory, Global};
 
 /// `(x * 2 + y) * z - w` over a record of the leaves x, y, z and w.
 pub fn formula(alloc: Global) -> Result<Bound, NoMemory>
     ensures { IfOk result IsFormula }
 {
-    let schema = schema(alloc)?;
+    let schema = sample_schema(alloc)?;
     let expr = expression(alloc)?;
     match bind(alloc, &expr, &schema, 0) {
         Ok(bound) => Ok(bound),
@@ -31,35 +29,6 @@ fn expression(alloc: Global) -> Result<Expr, NoMemory>
     let sum = binary(alloc, BinOp::Add, double, leaf(alloc, "y")?)?;
     let product = binary(alloc, BinOp::Mul, sum, leaf(alloc, "z")?)?;
     binary(alloc, BinOp::Sub, product, leaf(alloc, "w")?)
-}
-
-// The record of the leaves x, y, z and w.
-fn schema(alloc: Global) -> Result<Schema, NoMemory>
-    ensures { IfOk result (λ schema. schema_fields schema ≡ sample_fields) }
-{
-    let fields = field(alloc, "w", FieldList::End)?;
-    let fields = field(alloc, "z", fields)?;
-    let fields = field(alloc, "y", fields)?;
-    let fields = field(alloc, "x", fields)?;
-    match Schema::new(alloc, Dim::Fields(fields)) {
-        Ok(schema) => Ok(schema),
-        Err(MakeSchema::NoMemory) => Err(NoMemory),
-        Err(MakeSchema::Bad(_)) => unreachable!(),
-    }
-}
-
-// A leaf of this name, and then the other fields.
-fn field(alloc: Global, name: &str, rest: FieldList) -> Result<FieldList, NoMemory>
-    requires { IsTrue (is_name name.now) }
-    ensures { IfOk result (λ fields. fields_of fields ≡ One name.now (Single I64) (fields_of rest)) }
-{
-    let Some(name) = Name::new(name) else {
-        unreachable!()
-    };
-    let dim = Dim::Leaf(LeafType::I64);
-    let field = Box::new(alloc, Field { name, dim })?;
-    let rest = Box::new(alloc, rest)?;
-    Ok(FieldList::More { field, rest })
 }
 
 fn leaf(alloc: Global, name: &str) -> Result<Expr, NoMemory>

@@ -1,11 +1,17 @@
 // Measures what no script reaches: the words name what is done and how often, and its checksum is printed.
 #![tactic(auto)]
 
+mod adding;
+mod count;
 mod evaluation;
 mod fault;
+mod form;
 mod formula;
 mod mode;
+mod record;
 mod sample;
+mod table;
+mod work;
 
 use crate::mode::Mode;
 use std::process::ExitCode;
@@ -18,7 +24,7 @@ const FAULT: u8 = 1;
 fn main(rt: HostRuntime) -> io::Result<ExitCode> {
     let words: Vec<String> = env::args(&rt)?.skip(1).collect(rt.alloc())?;
     let Some(mode) = Mode::of(words.as_slice()) else {
-        println!(rt; "usage: bench_layouts eval ROWS")?;
+        println!(rt; "usage: bench_layouts eval ROWS | table aos|soa|aosoa ROWS SETS GETS")?;
         return Ok(ExitCode::from(USAGE));
     };
     match mode.checksum(rt.alloc()) {
@@ -30,3 +36,6 @@ fn main(rt: HostRuntime) -> io::Result<ExitCode> {
     }
     Ok(ExitCode::SUCCESS)
 }
+
+#[cfg(test)]
+mod tests;

@@ -1,9 +1,11 @@
-ghost use Rattle.std.specs.Prelude.{◌≡◌, ℕ, IfOk, IfErr, IfSome, Ok, Some, map, option_map, string_bytes};
-ghost use Rattle.bench_layouts.specs.Modes.{behind_eval, checksum_of, IsCount, NamesMode};
-ghost use Rattle.bench_layouts.specs.Totals.{IsFaultOf};
+ghost use Rattle.std.specs.Prelude.{◌≡◌, IfOk, IfErr, IfSome, Ok, Some, map, option_map, string_bytes};
+ghost use Rattle.bench_layouts.specs.Faults.{IsFaultOf};
+ghost use Rattle.bench_layouts.specs.Modes.{behind_eval, behind_table, checksum_of, NamesMode};
 
-use crate::evaluation;
+use crate::count::count_in;
 use crate::fault::BenchFault;
+use crate::work::Work;
+use crate::{evaluation, table};
 use std::alloc::Global;
 
 /// What is measured.
@@ -11,6 +13,8 @@ use std::alloc::Global;
 pub enum Mode {
     /// The value of an expression on so many rows.
     Eval { rows: u32 },
+    /// The entries of a table that is written and read.
+    Table(Work),
 }
 
 impl Mode {
@@ -19,17 +23,22 @@ impl Mode {
         ensures named { IfSome result (NamesMode (map string_bytes words.now)) }
         ensures only { (mode : Mode) → NamesMode (map string_bytes words.now) mode → result ≡ Some mode }
     {
-        let rows = count_in(behind_eval(words)?)?;
-        Some(Mode::Eval { rows })
+        if let Some(text) = behind_eval(words) {
+            let rows = count_in(text)?;
+            return Some(Mode::Eval { rows });
+        }
+        let work = Work::of(behind_table(words)?)?;
+        Some(Mode::Table(work))
     }
 
     /// A number that is right only where all of the work was done.
     pub fn checksum(self, alloc: Global) -> Result<i128, BenchFault>
         ensures sum { IfOk result (λ sum. Ok sum ≡ checksum_of self) }
-        ensures fault { IfErr result (IsFaultOf (checksum_of self)) }
+        ensures fault { IfErr result (IsFaultOf self) }
     {
         match self {
             Mode::Eval { rows } => evaluation::total(alloc, rows),
+            Mode::Table(work) => table::sum(alloc, work),
         }
     }
 }
@@ -44,9 +53,12 @@ fn behind_eval(words: &[String]) -> Option<&str>
     }
 }
 
-fn count_in(text: &str) -> Option<u32>
-    ensures named { IfSome result (IsCount text.now) }
-    ensures only { (count : ℕ) → IsCount text.now count → result ≡ Some count }
+// What stands behind the word `table`.
+fn behind_table(words: &[String]) -> Option<&[String]>
+    ensures { option_map (λ behind. map string_bytes behind.now) result ≡ behind_table (map string_bytes words.now) }
 {
-    text.parse().ok()
+    match words {
+        [name, behind @ ..] if name.as_str() == "table" => Some(behind),
+        _ => None,
+    }
 }

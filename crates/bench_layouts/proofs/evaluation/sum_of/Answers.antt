@@ -11,5 +11,6 @@ pub loop-row-preserved : goal.loop-row-preserved
 loop-row-preserved g c =
     let term = bound_term c.args.expr.now in
     let value : (outcome_of (sample c.loop-row.row) [] term).answer ≡ Ok c.in_ok-value.value = grind (arith, common_steps) in
-    let sum : total_of term (c.loop-row.row + 1) ≡ Ok c.in_ok-total.total = next_sum term _ _ _ _ c.loop-row.invariant value (grind arith) in
+    let sum : total_of term (c.loop-row.row + 1) ≡ Ok c.in_ok-total.total =
+    next_sum (λ row. (outcome_of (sample row) [] term).answer) _ _ _ _ c.loop-row.invariant value (grind arith) in
     search (rules, sum)

@@ -1,0 +1,93 @@
+-- A store more: what it leaves of a row, of a round and of rounds.
+use Rattle.std.proofs.Common.{◌≡◌, ℕ, ◌+◌, ◌<◌, ℤ, Ok, length, refl, sym, ap, ◌∙◌, subst, ⊎_elim, add-one, arith}
+use Rattle.std.proofs.lemmas.Bool.{cases_eq}
+use Rattle.places.specs.Image.{entry}
+use Rattle.piece_bits.specs.Tables.{HasShape, with_entry}
+use Rattle.piece_bits.proofs.TableLaws.{with_entry_shape, with_entry_same, with_entry_other}
+use Rattle.views.specs.declared.fault.StoreFault.{StoreFault}
+use Rattle.views.specs.Seen.{Seen, answer_of}
+use Rattle.bench_layouts.specs.Tables.{value, entry_after, row_sum, round_sum, sum_read}
+use Rattle.bench_layouts.specs.Rounds.{IsRewritten, HasEntries, HasValues, OthersStand, IsRefusedInRow}
+use Rattle.bench_layouts.proofs.Sums.{same_sums}
+
+-- the view that a store leaves
+abbrev pub stored : Seen → ℕ → ℕ → ℤ → Seen
+stored view row leaf number = record view { table = with_entry view.table row leaf number }
+
+module _ (old mid new : Seen) (row leaf : ℕ) (number : ℤ) (still : IsRewritten old mid) (row_in : row < length old.table) (leaf_in : leaf < 4)
+    (is : new ≡ stored mid row leaf number) where
+  row_mid : row < length mid.table
+  row_mid = omega (arith, still.rows)
+
+  shape_after : HasShape (length mid.table) 4 (with_entry mid.table row leaf number)
+  shape_after = with_entry_shape (length mid.table) 4 mid.table still.measured.shape row leaf number row_mid leaf_in
+
+  here : IsRewritten old (stored mid row leaf number)
+  here =
+      let after = shape_after in
+      record {
+        same = ap (λ (view : Seen). stored view row leaf number) still.same;
+        rows = after.row_count ∙ still.rows;
+        measured = record {
+          leaf_count = still.measured.leaf_count;
+          shape = record { row_count = refl; leaf_count = λ r l. after.leaf_count r (omega (arith, after.row_count)) };
+        };
+      }
+
+  pub rewritten_on : IsRewritten old new
+  rewritten_on = subst (λ (view : Seen). IsRewritten old view) (sym is) here
+
+  -- the entry that was stored, and all others
+  stored_there : entry new.table row leaf ≡ number
+  stored_there =
+      ap (λ (view : Seen). entry view.table row leaf) is
+      ∙ with_entry_same (length mid.table) 4 mid.table still.measured.shape row leaf number row_mid leaf_in
+
+  stands : (r l : ℕ) → ((r ≡ row) × (l ≡ leaf) → ⊥) → entry new.table r l ≡ entry mid.table r l
+  stands r l other =
+      ap (λ (view : Seen). entry view.table r l) is
+      ∙ with_entry_other (length mid.table) 4 mid.table still.measured.shape row leaf number row_mid leaf_in r l other
+
+  pub values_on : (round : ℕ) → number ≡ value round row leaf → HasValues leaf round row mid → HasValues (leaf + 1) round row new
+  values_on round named values l below =
+      ⊎_elim (λ (same : l ≡ leaf). ap (entry new.table row) same ∙ stored_there ∙ named ∙ ap (value round row) (sym same))
+      (λ (apart : l ≡ leaf → ⊥). stands row l (λ e. apart e.1) ∙ values l (omega (arith, apart)))
+      (cases_eq l leaf)
+
+  pub others_on : OthersStand row old mid → OthersStand row old new
+  others_on others r l apart = stands r l (λ e. apart e.0) ∙ others r l apart
+
+-- a rewriting after another
+pub rewritten_more : (old mid new : Seen) → IsRewritten old mid → IsRewritten mid new → IsRewritten old new
+rewritten_more old mid new one two = record {
+  same = two.same ∙ ap (λ (view : Seen). record view { table = new.table }) one.same;
+  rows = two.rows ∙ one.rows;
+  measured = two.measured;
+}
+
+-- it changes no answer to a store
+pub refused_before : (old mid : Seen) (round row : ℕ) (refusal : StoreFault) → IsRewritten old mid →
+    IsRefusedInRow (answer_of mid) round row refusal → IsRefusedInRow (answer_of old) round row refusal
+refused_before old mid round row refusal still (leaf, below, refused) =
+    (leaf, below, ap (λ (view : Seen). answer_of view leaf (value round row leaf)) (sym still.same) ∙ refused)
+
+-- a row more is written
+pub entries_on : (mid new : Seen) (round row : ℕ) → HasEntries row (value round) mid → HasValues 4 round row new → OthersStand row mid new →
+    HasEntries (row + 1) (value round) new
+entries_on mid new round row entries values others r l r_below l_below =
+    ⊎_elim (λ (same : r ≡ row). ap (λ (w : ℕ). entry new.table w l) same ∙ values l l_below ∙ ap (λ (w : ℕ). value round w l) (sym same))
+    (λ (apart : r ≡ row → ⊥). others r l apart ∙ entries r l (omega (arith, apart)) l_below)
+    (cases_eq r row)
+
+-- a round more is written
+pub round_on : (new : Seen) (rows round : ℕ) → HasEntries rows (value round) new → HasEntries rows (entry_after (round + 1)) new
+round_on new rows round entries r l r_below l_below = entries r l r_below l_below ∙ ap (λ (rounds : ℕ). entry_after rounds r l) (sym (add-one round))
+
+-- what is read of a table with these entries
+pub same_read : (view : Seen) (entries : ℕ → ℕ → ℤ) (rows gets : ℕ) → HasEntries rows entries view →
+    sum_read (entry view.table) rows gets ≡ sum_read entries rows gets
+same_read view entries rows gets same =
+    same_sums (λ _. round_sum (entry view.table) rows) (λ _. round_sum entries rows) gets
+    (λ _ _. same_sums (row_sum (entry view.table)) (row_sum entries) rows
+    (λ row row_in. same_sums (λ leaf. Ok (entry view.table row leaf)) (λ leaf. Ok (entries row leaf)) 4
+    (λ leaf leaf_in. ap Ok (same row leaf row_in leaf_in))))

@@ -1,0 +1,20 @@
+-- Views of the table: how many rows they have, and why there is none.
+use Rattle.std.proofs.Common.{◌≡◌, ℕ, ◌*◌, ◌^◌, ◌<◌, List, [], ◌∷◌, length, refl, ◌∙◌, inl, arith}
+use Rattle.extents.specs.Indices.{indices}
+use Rattle.extents.specs.IndicesLaws.{length-indices}
+use Rattle.record_dim.specs.declared.leaf_type.LeafType.{LeafType}
+use Rattle.views.specs.declared.fault.MakeView.TheVariants.{TooBig}
+use Rattle.views.specs.Refusals.{IsNoView}
+use Rattle.bench_layouts.specs.declared.form.Form.{Form}
+use Rattle.bench_layouts.specs.declared.form.Form.TheVariants.{Aos, Soa, Aosoa}
+use Rattle.bench_layouts.specs.Forms.{form_term}
+
+-- a flat array has as many rows as its extent says
+pub flat_rows : (rows : ℕ) → length (indices (rows ∷ [])) ≡ rows
+flat_rows rows = let once : rows * 1 ≡ rows = omega arith in length-indices (rows ∷ []) ∙ once
+
+-- past 2^24 rows there is no view of any form
+pub too_many : (form : Form) (rows : ℕ) (kinds : List LeafType) → 2 ^ 24 < rows → IsNoView (form_term form) (rows ∷ []) kinds TooBig
+too_many Aos rows kinds many = (refl, inl (omega (arith, flat_rows rows, many)))
+too_many Soa rows kinds many = (refl, inl (omega (arith, flat_rows rows, many)))
+too_many Aosoa rows kinds many = (refl, inl (omega (arith, flat_rows rows, many)))

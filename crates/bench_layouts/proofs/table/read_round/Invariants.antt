@@ -1,0 +1,8 @@
+-- the sum of the rows so far
+use Rattle.std.proofs.Common.{◌≡◌, Ok}
+use Rattle.places.specs.Image.{entry}
+use Rattle.bench_layouts.specs.Tables.{round_sum}
+use Rattle.bench_layouts.proofs.table.read_round.Given as goal
+
+abbrev pub invariant-loop-row : goal.invariant-loop-row
+invariant-loop-row g l = (round_sum (entry l.initial.view.table) l.row ≡ Ok l.total) × (l.view ≡ l.initial.view)

@@ -1,0 +1,32 @@
+-- What a fault says of a mode.
+use Rattle.std.specs.Prelude.{◌≡◌, ⊤, ℕ, ℤ, [], ◌∷◌, Result, Err}
+use Rattle.record_dim.specs.Leaves.{kinds_of}
+use Rattle.piece_bits.specs.Tables.{hold_at}
+use Rattle.map_any.specs.Mappings.{holds_of}
+use Rattle.views.specs.declared.fault.StoreFault.{StoreFault}
+use Rattle.views.specs.Stores.{kind_at, store_answer}
+use Rattle.views.specs.Refusals.{IsNoView}
+use Rattle.bench_layouts.specs.declared.fault.BenchFault.{BenchFault}
+use Rattle.bench_layouts.specs.declared.fault.BenchFault.TheVariants as fault
+use Rattle.bench_layouts.specs.declared.form.Form.{Form}
+use Rattle.bench_layouts.specs.declared.mode.Mode.{Mode}
+use Rattle.bench_layouts.specs.declared.mode.Mode.TheVariants.{Eval, Table}
+use Rattle.bench_layouts.specs.Forms.{form_term}
+use Rattle.bench_layouts.specs.Modes.{checksum_of}
+use Rattle.bench_layouts.specs.Rounds.{IsRefused}
+use Rattle.bench_layouts.specs.Tables.{measured_fields}
+
+-- the answer to a store in a leaf of the table
+abbrev pub answer_in : Form → ℕ → ℤ → Result Unit StoreFault
+answer_in form leaf number =
+    let kinds = kinds_of measured_fields in
+    store_answer (kind_at kinds leaf) (hold_at (holds_of (form_term form) kinds) leaf) number
+
+-- a sum's fault is the first of its terms or that it is too great; want of memory is free
+abbrev pub IsFaultOf : Mode → BenchFault → Type 0
+IsFaultOf mode (fault.Eval first) = checksum_of mode ≡ Err first
+IsFaultOf mode fault.NoMemory = ⊤
+IsFaultOf (Table work) (fault.View refusal) = IsNoView (form_term work.form) (work.rows ∷ []) (kinds_of measured_fields) refusal
+IsFaultOf (Table work) (fault.Store refusal) = IsRefused (answer_in work.form) work.sets work.rows refusal
+IsFaultOf (Eval rows) (fault.View refusal) = ⊥
+IsFaultOf (Eval rows) (fault.Store refusal) = ⊥

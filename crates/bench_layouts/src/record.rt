@@ -1,0 +1,53 @@
+ghost use Rattle.std.specs.Prelude.{◌≡◌, IfOk, IsTrue};
+ghost use Rattle.record_dim.specs.Names.{is_name};
+ghost use Rattle.record_dim.specs.Schemas.{schema_fields};
+ghost use Rattle.record_dim.specs.Trees.{Field as One, Single, fields_of};
+ghost use Rattle.bench_layouts.specs.Formula.{sample_fields};
+ghost use Rattle.bench_layouts.specs.Tables.{measured_fields};
+
+use record_dim::{Dim, Field, FieldList, LeafType, MakeSchema, Name, Schema};
+use std::alloc::{AllocError as NoMemory, Global};
+
+/// The record of the leaves x, y, z and w, over which the formula is bound.
+pub fn sample_schema(alloc: Global) -> Result<Schema, NoMemory>
+    ensures { IfOk result (λ schema. schema_fields schema ≡ sample_fields) }
+{
+    let fields = field(alloc, "w", LeafType::I64, FieldList::End)?;
+    let fields = field(alloc, "z", LeafType::I64, fields)?;
+    let fields = field(alloc, "y", LeafType::I64, fields)?;
+    let fields = field(alloc, "x", LeafType::I64, fields)?;
+    match Schema::new(alloc, Dim::Fields(fields)) {
+        Ok(schema) => Ok(schema),
+        Err(MakeSchema::NoMemory) => Err(NoMemory),
+        Err(MakeSchema::Bad(_)) => unreachable!(),
+    }
+}
+
+/// The record of the table that is written and read.
+pub fn measured_schema(alloc: Global) -> Result<Schema, NoMemory>
+    ensures { IfOk result (λ schema. schema_fields schema ≡ measured_fields) }
+{
+    let fields = field(alloc, "d", LeafType::I64, FieldList::End)?;
+    let fields = field(alloc, "c", LeafType::I32, fields)?;
+    let fields = field(alloc, "b", LeafType::I16, fields)?;
+    let fields = field(alloc, "a", LeafType::I8, fields)?;
+    match Schema::new(alloc, Dim::Fields(fields)) {
+        Ok(schema) => Ok(schema),
+        Err(MakeSchema::NoMemory) => Err(NoMemory),
+        Err(MakeSchema::Bad(_)) => unreachable!(),
+    }
+}
+
+// A leaf of this name and type, and then the other fields.
+fn field(alloc: Global, name: &str, kind: LeafType, rest: FieldList) -> Result<FieldList, NoMemory>
+    requires { IsTrue (is_name name.now) }
+    ensures { IfOk result (λ fields. fields_of fields ≡ One name.now (Single kind) (fields_of rest)) }
+{
+    let Some(name) = Name::new(name) else {
+        unreachable!()
+    };
+    let dim = Dim::Leaf(kind);
+    let field = Box::new(alloc, Field { name, dim })?;
+    let rest = Box::new(alloc, rest)?;
+    Ok(FieldList::More { field, rest })
+}

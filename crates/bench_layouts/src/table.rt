@@ -1,0 +1,204 @@
+ghost use Rattle.std.specs.Prelude.{◌≡◌, ◌^◌, ◌<◌, ◌≤◌, List, [], ◌∷◌, IfOk, IfErr, OnOk, Ok, length};
+ghost use Rattle.record_dim.specs.Leaves.{kinds_of};
+ghost use Rattle.record_dim.specs.Schemas.{schema_fields};
+ghost use Rattle.map_expr.specs.Terms.{term_of};
+ghost use Rattle.places.specs.Image.{entry};
+ghost use Rattle.piece_bits.specs.Tables.{zeros};
+ghost use Rattle.views.specs.Refusals.{IsNoView};
+ghost use Rattle.views.specs.Seen.{answer_of, leaf_count_of};
+ghost use Rattle.bench_layouts.specs.declared.mode.Mode.TheVariants.{Table};
+ghost use Rattle.bench_layouts.specs.Faults.{IsFaultOf};
+ghost use Rattle.bench_layouts.specs.Forms.{form_term};
+ghost use Rattle.bench_layouts.specs.Modes.{checksum_of};
+ghost use Rattle.bench_layouts.specs.Rounds.{HasEntries, IsMeasured, IsRewritten, IsRefused, IsRefusedInRound, IsRefusedInRow, OthersStand, HasValues};
+ghost use Rattle.bench_layouts.specs.Tables.{entry_after, measured_fields, round_sum, row_sum, sum_read, value};
+
+use crate::adding::add;
+use crate::fault::BenchFault;
+use crate::record::measured_schema;
+use crate::work::Work;
+use expr_lang::EvalFault;
+use extents::{ExtentWord, Extents, Shape};
+use std::alloc::Global;
+use std::marker::Brand;
+use std::sync::ledger::{Blank, Ledger};
+use steps::Steps;
+use views::{MakeView, StoreFault, View};
+
+const LEAVES: usize = 4;
+
+/// The sum of all that is read of a table after it was written.
+pub fn sum(alloc: Global, work: Work) -> Result<i128, BenchFault>
+    ensures sum { IfOk result (λ sum. Ok sum ≡ checksum_of (Table work)) }
+    ensures fault { IfErr result (IsFaultOf (Table work)) }
+{
+    let mut view = new_view(alloc, work)?;
+    written_and_read::<Brand>(&mut view, work, Blank::new(1))
+}
+
+// The view of zeros.
+fn new_view(alloc: Global, work: Work) -> Result<View, MakeView>
+    ensures schema { IfOk result (λ view. schema_fields view.schema ≡ measured_fields) }
+    ensures expr { IfOk result (λ view. term_of view.expr ≡ form_term work.form) }
+    ensures table { IfOk result (λ view. view.table ≡ zeros work.rows 4) }
+    ensures refused { IfErr result (IsNoView (form_term work.form) (work.rows ∷ []) (kinds_of measured_fields)) }
+{
+    let schema = measured_schema(alloc)?;
+    let extents = extents_of(work.rows)?;
+    View::new(alloc, &schema, extents, &work.form.expr())
+}
+
+// The extents of a flat array of so many rows. More than 2^24 are too many for every form.
+fn extents_of(rows: u32) -> Result<Extents, MakeView>
+    ensures extents { IfOk result (λ extents. extents ≡ rows ∷ []) }
+    ensures refused { IfErr result (λ refusal. (refusal ≡ MakeView.TooBig) × (2 ^ 24 < rows)) }
+{
+    let Ok(shape) = Shape::new(&[ExtentWord::Fixed(rows)]) else {
+        unreachable!()
+    };
+    shape.resolve(None).ok().ok_or(MakeView::TooBig)
+}
+
+// Does the work on a view of zeros.
+fn written_and_read<L: Ledger>(
+    view: &mut View,
+    work: Work,
+    blank: Blank,
+) -> Result<i128, BenchFault>
+    requires name { blank.name ≡ L.name }
+    requires parts { blank.parts ≡ L.parts }
+    requires some { 0 < blank.parts }
+    requires schema { schema_fields view.old.schema ≡ measured_fields }
+    requires expr { term_of view.old.expr ≡ form_term work.form }
+    requires table { view.old.table ≡ zeros work.rows 4 }
+    ensures sum { IfOk result (λ sum. Ok sum ≡ checksum_of (Table work)) }
+    ensures fault { IfErr result (IsFaultOf (Table work)) }
+{
+    let mut steps = Steps::<L>::new(blank);
+    write_rounds(view, work.rows, work.sets, &mut steps)?;
+    Ok(read_rounds(view, work.rows, work.gets, &mut steps)?)
+}
+
+// Writes the whole table so many times. It is what is measured.
+#[inline(never)]
+fn write_rounds<L: Ledger>(
+    view: &mut View,
+    rows: u32,
+    rounds: u32,
+    steps: &mut Steps<L>,
+) -> Result<(), StoreFault>
+    requires measured { IsMeasured view.old }
+    requires rows { length view.old.table ≡ rows }
+    requires zero { HasEntries rows (entry_after 0) view.old }
+    ensures rewritten { OnOk result (IsRewritten view.old view.new) }
+    ensures entries { OnOk result (HasEntries rows (entry_after rounds) view.new) }
+    ensures refused { IfErr result (IsRefused (answer_of view.old) rounds rows) }
+{
+    for round in 0..rounds {
+        write_round(view, round, rows, steps)?;
+    }
+    Ok(())
+}
+
+// Writes the whole table once.
+fn write_round<L: Ledger>(
+    view: &mut View,
+    round: u32,
+    rows: u32,
+    steps: &mut Steps<L>,
+) -> Result<(), StoreFault>
+    requires measured { IsMeasured view.old }
+    requires rows { length view.old.table ≡ rows }
+    ensures rewritten { OnOk result (IsRewritten view.old view.new) }
+    ensures entries { OnOk result (HasEntries rows (value round) view.new) }
+    ensures refused { IfErr result (IsRefusedInRound (answer_of view.old) round rows) }
+{
+    for row in 0..rows {
+        write_row(view, round, row, steps)?;
+    }
+    Ok(())
+}
+
+// Writes the leaves of a row.
+#[inline]
+fn write_row<L: Ledger>(
+    view: &mut View,
+    round: u32,
+    row: u32,
+    steps: &mut Steps<L>,
+) -> Result<(), StoreFault>
+    requires measured { IsMeasured view.old }
+    requires row_in { row < length view.old.table }
+    ensures rewritten { OnOk result (IsRewritten view.old view.new) }
+    ensures values { OnOk result (HasValues 4 round row view.new) }
+    ensures others { OnOk result (OthersStand row view.old view.new) }
+    ensures refused { IfErr result (IsRefusedInRow (answer_of view.old) round row) }
+{
+    for leaf in 0..LEAVES {
+        view.set(u64::from(row), leaf, value(round, row, leaf), steps)?;
+    }
+    Ok(())
+}
+
+// What a round writes in a row and a leaf.
+#[inline]
+fn value(round: u32, row: u32, leaf: usize) -> i128
+    requires { leaf < 4 }
+    ensures { result ≡ value round row leaf }
+{
+    let sum = u64::from(round) + u64::from(row) + leaf as u64;
+    i128::from(sum % 256) - 128
+}
+
+// The sum of all entries, read so many times. It is what is measured.
+#[inline(never)]
+fn read_rounds<L: Ledger>(
+    view: &mut View,
+    rows: u32,
+    rounds: u32,
+    steps: &mut Steps<L>,
+) -> Result<i128, EvalFault>
+    requires leaves { leaf_count_of view.old ≡ 4 }
+    requires rows { rows ≤ length view.old.table }
+    ensures sum { result ≡ sum_read (entry view.old.table) rows rounds }
+    ensures same { view.new ≡ view.old }
+{
+    let mut total = 0i128;
+    for _round in 0..rounds {
+        total = add(total, read_round(view, rows, steps)?)?;
+    }
+    Ok(total)
+}
+
+// The sum of all entries.
+fn read_round<L: Ledger>(
+    view: &mut View,
+    rows: u32,
+    steps: &mut Steps<L>,
+) -> Result<i128, EvalFault>
+    requires leaves { leaf_count_of view.old ≡ 4 }
+    requires rows { rows ≤ length view.old.table }
+    ensures sum { result ≡ round_sum (entry view.old.table) rows }
+    ensures same { view.new ≡ view.old }
+{
+    let mut total = 0i128;
+    for row in 0..rows {
+        total = add(total, read_row(view, row, steps)?)?;
+    }
+    Ok(total)
+}
+
+// The sum of the entries of a row.
+#[inline]
+fn read_row<L: Ledger>(view: &mut View, row: u32, steps: &mut Steps<L>) -> Result<i128, EvalFault>
+    requires leaves { leaf_count_of view.old ≡ 4 }
+    requires row_in { row < length view.old.table }
+    ensures sum { result ≡ row_sum (entry view.old.table) row }
+    ensures same { view.new ≡ view.old }
+{
+    let mut total = 0i128;
+    for leaf in 0..LEAVES {
+        total = add(total, view.get(u64::from(row), leaf, steps))?;
+    }
+    Ok(total)
+}
