@@ -1,5 +1,5 @@
 -- The tokens of a line as its grammar sees them, and what each stands for.
-use Rattle.std.specs.Prelude.{ℕ, ◌^◌, ◌+◌, ◌-◌, Bool, true, false, bytes_eq, nat_lt, if◌then◌else◌, List, [], ◌∷◌, map, Option, Some, None, MatchOption, codes, ℤ, pos, negsuc, slice_range}
+use Rattle.std.specs.Prelude.{ℕ, ◌^◌, ◌+◌, ◌-◌, Bool, false, bytes_eq, nat_lt, if◌then◌else◌, List, [], ◌∷◌, Option, Some, None, codes, ℤ, pos, slice_range}
 use Rattle.std.specs.List.{list_any}
 use Rattle.line_tokens.specs.Signs.{spelling}
 use Rattle.line_tokens.specs.declared.sign.Sign.{Sign}
