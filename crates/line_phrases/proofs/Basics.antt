@@ -1,13 +1,13 @@
 -- The tokens of phrases: the readers of one token, and which tokens may follow an expression.
-use Rattle.std.proofs.Common.{◌≡◌, ℕ, ◌<◌, ◌+◌, Bool, true, false, if◌then◌else◌, ◌⊎◌, inl, inr, List, [], ◌∷◌, ◌++◌, Option, Some, None, codes, bytes_eq, pos, refl, ap, sym, ◌∙◌, arith}
-use Rattle.phrases.specs.Phrases.{IsItem, Behind, Joined, IsNothing}
+use Rattle.std.proofs.Common.{◌≡◌, ℕ, ◌<◌, Bool, true, false, if◌then◌else◌, inl, inr, List, [], ◌∷◌, ◌++◌, Option, Some, None, codes, bytes_eq, pos, refl, ap, sym, ◌∙◌, arith}
+use Rattle.phrases.specs.Phrases.{IsItem, Behind, IsNothing}
 use Rattle.phrases.specs.Reading.{starts, item_at}
 use Rattle.phrases.proofs.Parses.{Always, Exact, Parses, item_parses, truth_cases}
 use Rattle.phrases.proofs.More.{behind_starts}
 use Rattle.line_tokens.specs.declared.sign.Sign.{Sign}
 use Rattle.line_tokens.specs.declared.sign.Sign.TheVariants.{OpenBracket, Dot, EqualEqual, NotEqual, LessThan, LessEqual, GreaterThan, GreaterEqual, Plus, Minus, Star, Slash, Percent}
 use Rattle.line_grammar.specs.declared.token.Token.{Token}
-use Rattle.line_grammar.specs.declared.token.Token.TheVariants.{Word, Number, Text, Sign as Signed, Bad}
+use Rattle.line_grammar.specs.declared.token.Token.TheVariants.{Word, Number, Sign as Signed}
 use Rattle.line_grammar.specs.Tokens.{is_sign, is_word, name_of, count_of, number_of}
 use Rattle.line_grammar.proofs.Signs.{sign_self, sign_only, word_self, word_only}
 

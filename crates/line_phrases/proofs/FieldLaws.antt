@@ -1,8 +1,7 @@
 -- How the fields of a record are read.
-use Rattle.std.proofs.Common.{◌≡◌, ℕ, zero, suc, Bool, true, false, List, [], ◌∷◌, ◌++◌, map, Result, Ok, Err, refl, sym, ap, ◌∙◌}
-use Rattle.phrases.specs.Phrases.{Behind, IsItem, Joined, IsNothing}
-use Rattle.phrases.specs.Reading.{starts, past, item_at, behind_at, steps_at, more_at}
-use Rattle.phrases.proofs.Parses.{Always, Parses, behind_parses, either_parses, give_parses, item_parses, parses_before, then_parses}
+use Rattle.std.proofs.Common.{◌≡◌, ℕ, zero, suc, true, false, List, [], ◌∷◌, ◌++◌, map, Result, Ok, Err, refl, sym, ap, ◌∙◌}
+use Rattle.phrases.specs.Reading.{starts, past, behind_at}
+use Rattle.phrases.proofs.Parses.{Always, Parses, behind_parses, either_parses, give_parses, item_parses, then_parses}
 use Rattle.phrases.proofs.More.{Listed, Takes, behind_bare, behind_starts, behind_stepped, behind_stop, joined_starts, listed_takes, more_end, more_parses, more_stepped, more_stop}
 use Rattle.line_tokens.specs.declared.sign.Sign.TheVariants.{OpenBrace, CloseBrace, OpenBracket, CloseBracket, Colon, Comma}
 use Rattle.record_dim.specs.declared.leaf_type.LeafType.TheVariants.{Bool as Truth}
@@ -14,7 +13,7 @@ use Rattle.line_grammar.specs.Tokens.{is_sign, type_of}
 use Rattle.line_grammar.specs.Grammar.{IsBraced, IsDim, IsDims, IsField, IsFields, IsNested, IsTyped, arrays, fields_of_list}
 use Rattle.line_phrases.specs.Lists.{rest_at}
 use Rattle.line_phrases.specs.Fields.{dim_at, more_dims_at, dims_at, typed_at, nested_at, braced_at, field_at, fields_at}
-use Rattle.line_phrases.proofs.Basics.{Not, anything, behind_not, count_parses, exact_sign, name_parses, nothing_after}
+use Rattle.line_phrases.proofs.Basics.{Not, anything, behind_not, count_parses, exact_sign, name_parses}
 use Rattle.line_phrases.proofs.ListLaws.{AfterList, comma_listed, listed_parses}
 use Rattle.std.specs.Prelude.{codes}
 

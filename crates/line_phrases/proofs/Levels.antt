@@ -1,14 +1,13 @@
 -- How an expression is read, level by level, and what may follow each level.
-use Rattle.std.proofs.Common.{◌≡◌, ℕ, zero, suc, ◌<◌, Bool, true, false, if◌then◌else◌, inl, inr, List, [], ◌∷◌, ◌++◌, Option, Some, None, is_some, bytes_eq, Result, codes, pos, refl, sym, ap, ◌∙◌, append_assoc, arith}
+use Rattle.std.proofs.Common.{◌≡◌, ℕ, zero, suc, Bool, true, false, if◌then◌else◌, inl, inr, List, [], ◌∷◌, ◌++◌, Option, Some, None, is_some, bytes_eq, Result, codes, refl, sym, ap, ◌∙◌, append_assoc, arith}
 use Rattle.std.specs.List.{list_any}
 use Rattle.std.proofs.lemmas.Slice.Eq.{bytes_eq-Decides}
-use Rattle.phrases.specs.Phrases.{Behind, IsEither, IsItem, IsNothing, Joined, Repeats, Chain}
-use Rattle.phrases.specs.Reading.{starts, item_at, behind_at, give_at, steps_at}
+use Rattle.phrases.specs.Phrases.{IsNothing, Joined, Chain}
+use Rattle.phrases.specs.Reading.{starts, behind_at, give_at}
 use Rattle.phrases.proofs.Parses.{Always, Exact, Parses, behind_parses, either_parses, give_parses, item_parses, parses_before, then_parses, truth_cases}
 use Rattle.phrases.proofs.Repeated.{Steps, chain_between, steps_parses}
 use Rattle.phrases.proofs.More.{behind_starts, item_starts, joined_starts}
 use Rattle.line_tokens.specs.declared.sign.Sign.TheVariants.{OpenBrace, CloseBrace, OpenBracket, CloseBracket, OpenParen, CloseParen, Colon, Comma, Dot, Equals, EqualEqual, NotEqual, LessThan, LessEqual, GreaterThan, GreaterEqual, Plus, Minus, Arrow, Star, Slash, Percent, Question}
-use Rattle.record_dim.specs.declared.path.PathStep.{PathStep}
 use Rattle.expr_lang.specs.declared.expr.BinOp.{BinOp}
 use Rattle.expr_lang.specs.declared.expr.BinOp.TheVariants.{Add, Mul, Min, Max, Eq, And, Or}
 use Rattle.expr_lang.specs.Terms.{Number as Constant, Entry, Index, Neg, Not as Negated, Binary}
@@ -16,9 +15,9 @@ use Rattle.line_grammar.specs.declared.token.Token.{Token}
 use Rattle.line_grammar.specs.declared.token.Token.TheVariants.{Word, Number, Text, Sign as Signed, Bad}
 use Rattle.line_grammar.specs.Tokens.{is_sign, is_word, listed, reserved, index_words, choices, name_of, number_of, index_of, choice_of, or_of, and_of, comparison_of, sum_of, product_of}
 use Rattle.line_grammar.specs.Sentences.{Value}
-use Rattle.line_grammar.specs.Grammar.{IsAtom, IsBracketed, IsChain, IsChoice, IsComparison, IsConjunction, IsExpr, IsExprOver, IsLeaf, IsLink, IsNegation, IsPath, IsPrefix, IsPrefixed, IsProduct, IsSum, IsUnary, wrapped}
+use Rattle.line_grammar.specs.Grammar.{IsAtom, IsBracketed, IsChain, IsChoice, IsComparison, IsConjunction, IsExpr, IsExprOver, IsLeaf, IsLink, IsNegation, IsPrefix, IsPrefixed, IsProduct, IsSum, IsUnary, wrapped}
 use Rattle.line_phrases.specs.Exprs.{means, link_at, links_at, chain_at, count_at, prefixed_at, unary_over, product_over, sum_over, comparison_over, negation_over, conjunction_over, expr_over, leaf_at, choice_at, bracketed_at, atom_at, expr_at}
-use Rattle.line_phrases.proofs.Basics.{AfterLevel, Not, anything, apart, behind_after, behind_not, count_parses, exact_sign, exact_word, first_level, level_of, name_parses, number_parses, starts_false, starts_level}
+use Rattle.line_phrases.proofs.Basics.{AfterLevel, anything, apart, behind_after, exact_sign, exact_word, first_level, level_of, number_parses, starts_false, starts_level}
 use Rattle.line_phrases.proofs.Paths.{path_parses}
 
 -- a token that has a meaning

@@ -1,7 +1,6 @@
 -- How the reading of a chain goes on, and of what stands in front of a value.
-use Rattle.std.proofs.Common.{◌≡◌, ℕ, zero, suc, ◌+◌, Bool, true, false, List, [], ◌∷◌, ◌++◌, Option, Result, Ok, Err, codes, refl, sym, ap, ◌∙◌, add-one}
-use Rattle.phrases.specs.Reading.{◌>>=◌, starts, past, item_at, behind_at, give_at, steps_at}
-use Rattle.phrases.proofs.Parses.{Exact, Parses}
+use Rattle.std.proofs.Common.{◌≡◌, ℕ, suc, ◌+◌, true, false, List, Option, Result, Ok, Err, codes, refl, ap, ◌∙◌, add-one}
+use Rattle.phrases.specs.Reading.{◌>>=◌, starts, past, item_at, give_at}
 use Rattle.phrases.proofs.Repeated.{Steps, steps_end, steps_shrink, steps_stepped, steps_stop}
 use Rattle.line_tokens.specs.declared.sign.Sign.TheVariants.{Minus}
 use Rattle.expr_lang.specs.declared.expr.BinOp.{BinOp}
@@ -11,7 +10,7 @@ use Rattle.line_grammar.specs.declared.token.Token.TheVariants.{Word, Sign as Si
 use Rattle.line_grammar.specs.Tokens.{is_sign, is_word, or_of, and_of, sum_of, product_of}
 use Rattle.line_grammar.specs.Sentences.{Value}
 use Rattle.line_grammar.specs.Grammar.{IsLink, wrapped}
-use Rattle.line_phrases.specs.Exprs.{means, link_at, links_at, count_at, unary_over, product_over, sum_over, negation_over, conjunction_over, expr_over, atom_at}
+use Rattle.line_phrases.specs.Exprs.{means, link_at, links_at, count_at, unary_over, product_over, negation_over, conjunction_over, atom_at}
 use Rattle.line_phrases.proofs.Basics.{exact_sign, exact_word}
 use Rattle.line_phrases.proofs.Levels.{and_operator, atoms, conjunction_parses, link_steps, negation_parses, or_operator, prefix_steps, product_operator, product_parses, sum_operator, unary_parses}
 

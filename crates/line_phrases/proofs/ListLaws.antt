@@ -1,7 +1,7 @@
 -- How lists are read, behind commas and in brackets.
-use Rattle.std.proofs.Common.{◌≡◌, ℕ, Bool, true, false, List, [], ◌∷◌, ◌++◌, Result, Ok, Err, refl}
-use Rattle.phrases.specs.Phrases.{Behind, IsItem}
-use Rattle.phrases.specs.Reading.{starts, past, item_at, behind_at, give_at}
+use Rattle.std.proofs.Common.{◌≡◌, ℕ, true, false, List, [], ◌∷◌, ◌++◌, Result, Ok, Err, refl}
+use Rattle.phrases.specs.Phrases.{Behind}
+use Rattle.phrases.specs.Reading.{starts, past, item_at, behind_at}
 use Rattle.phrases.proofs.Parses.{Always, Parses, behind_parses, either_parses, give_parses, then_parses}
 use Rattle.phrases.proofs.Repeated.{chain_between}
 use Rattle.phrases.proofs.More.{Listed, Takes, behind_bare, behind_starts, behind_stepped, behind_stop, item_starts, joined_starts, listed_takes, more_end, more_parses, more_steps}
@@ -11,9 +11,9 @@ use Rattle.extents.specs.declared.words.ExtentWord.TheVariants as extent
 use Rattle.line_grammar.specs.declared.token.Token.{Token}
 use Rattle.line_grammar.specs.declared.token.Token.TheVariants.{Sign as Signed}
 use Rattle.line_grammar.specs.Tokens.{is_sign, count_of}
-use Rattle.line_grammar.specs.Grammar.{IsBracketList, IsCount, IsExtent, IsFixed, IsListed}
+use Rattle.line_grammar.specs.Grammar.{IsBracketList, IsExtent, IsFixed, IsListed}
 use Rattle.line_phrases.specs.Lists.{rest_at, listed_at, bracket_list_at, fixed_at, extent_at}
-use Rattle.line_phrases.proofs.Basics.{Not, anything, apart, behind_not, count_parses, exact_sign, nothing_after, sign_next}
+use Rattle.line_phrases.proofs.Basics.{Not, anything, apart, behind_not, count_parses, exact_sign, sign_next}
 
 -- no comma stands next, and what may follow one of the list
 abbrev pub AfterList : (List Token → Type 0) → List Token → Type 0

@@ -1,12 +1,11 @@
 -- How a mapping is read.
-use Rattle.std.proofs.Common.{◌≡◌, ℕ, zero, suc, Bool, true, false, List, [], ◌∷◌, ◌++◌, Option, Some, None, Result, codes, refl, arith}
+use Rattle.std.proofs.Common.{ℕ, zero, suc, true, List, Option, Some, None, Result, codes, refl, arith}
 use Rattle.phrases.specs.Phrases.{Behind, IsItem, Joined, IsNothing}
-use Rattle.phrases.specs.Reading.{starts, item_at, behind_at, then_at, give_at}
+use Rattle.phrases.specs.Reading.{item_at, behind_at, then_at, give_at}
 use Rattle.phrases.proofs.Parses.{Always, Parses, behind_parses, either_parses, give_parses, item_parses, then_parses}
 use Rattle.phrases.proofs.More.{behind_starts}
 use Rattle.linearize.specs.declared.Order.{Order}
 use Rattle.line_tokens.specs.declared.sign.Sign.TheVariants.{OpenParen, CloseParen, Comma, Arrow}
-use Rattle.record_dim.specs.declared.leaf_type.LeafType.{LeafType}
 use Rattle.record_dim.specs.declared.leaf_type.LeafType.TheVariants.{Bool as Truth, U8}
 use Rattle.linearize.specs.declared.Order.TheVariants.{Row}
 use Rattle.map_aos.specs.declared.form.AosForm.TheVariants as aos
@@ -19,7 +18,7 @@ use Rattle.line_grammar.specs.declared.token.Token.TheVariants.{Word, Sign as Si
 use Rattle.line_grammar.specs.Tokens.{is_sign, type_of, integer_type_of, order_of, aos_form_of, soa_form_of, map_word}
 use Rattle.line_grammar.specs.Grammar.{IsForm, IsFormOrName, IsMap}
 use Rattle.line_phrases.specs.Maps.{aos_at, aosoa_at, bit_aos_at, bit_soa_at, form_at, form_or_name_at, map_at, soa_at}
-use Rattle.line_phrases.proofs.Basics.{AfterLevel, Not, anything, behind_after, behind_not, count_parses, exact_sign, name_parses, nothing_after}
+use Rattle.line_phrases.proofs.Basics.{AfterLevel, Not, anything, behind_after, behind_not, count_parses, exact_sign, name_parses}
 use Rattle.line_phrases.proofs.Paths.{path_parses}
 
 order_parses : Parses (IsItem order_of) (item_at order_of) Always

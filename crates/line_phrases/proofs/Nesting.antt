@@ -1,12 +1,12 @@
 -- Deeper brackets allow more phrases, and change nothing for tokens that are no more than the brackets.
-use Rattle.std.proofs.Common.{◌≡◌, ℕ, zero, suc, ◌≤◌, Bool, true, false, inl, inr, List, [], ◌∷◌, ◌++◌, length, Option, Some, None, Result, codes, refl, arith}
-use Rattle.phrases.specs.Phrases.{Behind, IsItem, IsNothing, Joined}
-use Rattle.phrases.specs.Reading.{item_at, behind_at, then_at, give_at, either_at, steps_at, more_at}
+use Rattle.std.proofs.Common.{ℕ, zero, suc, ◌≤◌, Bool, inl, inr, List, [], ◌∷◌, ◌++◌, Option, Some, None, Result, codes, refl, arith}
+use Rattle.phrases.specs.Phrases.{IsNothing}
+use Rattle.phrases.specs.Reading.{item_at, behind_at, give_at, more_at}
 use Rattle.phrases.proofs.Parses.{Always, Parses, behind_parses, item_parses}
-use Rattle.phrases.proofs.Repeated.{Steps, steps_parses}
+use Rattle.phrases.proofs.Repeated.{steps_parses}
 use Rattle.phrases.proofs.More.{more_steps}
 use Rattle.phrases.proofs.Wider.{Wider, behind_wider, either_wider, joined_wider, repeats_wider, same_wider}
-use Rattle.phrases.proofs.Alike.{Alike, NoLonger, alike_below, behind_alike, either_alike, no_longer, same_alike, steps_alike, then_alike}
+use Rattle.phrases.proofs.Alike.{Alike, alike_below, behind_alike, either_alike, no_longer, same_alike, steps_alike, then_alike}
 use Rattle.line_tokens.specs.declared.sign.Sign.TheVariants.{OpenBrace, OpenBracket, OpenParen, Comma, Minus}
 use Rattle.expr_lang.specs.declared.expr.BinOp.{BinOp}
 use Rattle.expr_lang.specs.declared.expr.BinOp.TheVariants.{Min}
@@ -18,8 +18,8 @@ use Rattle.line_grammar.specs.declared.line.MapWord.TheVariants as form
 use Rattle.line_grammar.specs.declared.token.Token.{Token}
 use Rattle.line_grammar.specs.declared.token.Token.TheVariants.{Word, Sign as Signed}
 use Rattle.line_grammar.specs.Sentences.{Value}
-use Rattle.line_grammar.specs.Tokens.{is_sign, is_word, name_of, map_word, choice_of, or_of, and_of, comparison_of, sum_of, product_of}
-use Rattle.line_grammar.specs.Grammar.{IsAtom, IsBraced, IsBracketed, IsChain, IsChoice, IsComparison, IsConjunction, IsExpr, IsExprOver, IsField, IsFields, IsForm, IsFormOrName, IsLink, IsListed, IsMap, IsNegation, IsNested, IsPrefixed, IsProduct, IsSum, IsUnary}
+use Rattle.line_grammar.specs.Tokens.{is_sign, is_word, name_of, map_word, choice_of, or_of, and_of, sum_of, product_of}
+use Rattle.line_grammar.specs.Grammar.{IsAtom, IsBraced, IsBracketed, IsChain, IsChoice, IsExpr, IsExprOver, IsField, IsFields, IsForm, IsFormOrName, IsListed, IsMap, IsPrefixed, IsSum}
 use Rattle.line_phrases.specs.Lists.{rest_at, listed_at}
 use Rattle.line_phrases.specs.Fields.{nested_at, braced_at, field_at, fields_at}
 use Rattle.line_phrases.specs.Maps.{form_at, form_or_name_at, map_at}

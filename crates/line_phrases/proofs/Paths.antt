@@ -1,8 +1,7 @@
 -- How a path is read, and how its reading goes on.
-use Rattle.std.proofs.Common.{◌≡◌, ℕ, ◌<◌, Bool, true, false, ◌||◌, ◌⊎◌, inl, inr, List, [], ◌∷◌, ◌++◌, Result, Ok, Err, refl, sym, ap, ◌∙◌, arith}
-use Rattle.phrases.specs.Phrases.{IsItem, Behind, Joined, IsEither, IsNothing, Repeats}
-use Rattle.phrases.specs.Reading.{starts, item_at, more_at, steps_at}
-use Rattle.phrases.proofs.Parses.{Always, Parses, behind_parses, either_parses, give_parses, then_parses, truth_cases}
+use Rattle.std.proofs.Common.{◌≡◌, ℕ, Bool, true, false, ◌||◌, ◌⊎◌, inl, inr, List, [], ◌∷◌, ◌++◌, Ok, Err, refl, sym, ap}
+use Rattle.phrases.specs.Reading.{starts}
+use Rattle.phrases.proofs.Parses.{Always, Parses, behind_parses, either_parses, give_parses, then_parses}
 use Rattle.phrases.proofs.More.{Listed, behind_starts, listed_takes, more_end, more_parses, more_stepped, more_stop}
 use Rattle.line_tokens.specs.declared.sign.Sign.TheVariants.{OpenBracket, CloseBracket, Dot}
 use Rattle.record_dim.specs.declared.path.PathStep.{PathStep}
@@ -10,7 +9,7 @@ use Rattle.record_dim.specs.declared.path.PathStep.TheVariants as step
 use Rattle.line_grammar.specs.declared.token.Token.{Token}
 use Rattle.line_grammar.specs.declared.token.Token.TheVariants.{Sign as Signed}
 use Rattle.line_grammar.specs.Tokens.{is_sign}
-use Rattle.line_grammar.specs.Grammar.{IsName, IsCount, IsPart, IsPath}
+use Rattle.line_grammar.specs.Grammar.{IsPart, IsPath}
 use Rattle.line_grammar.proofs.Signs.{sign_only}
 use Rattle.line_phrases.specs.Paths.{begins_part, part_at, parts_at, path_at}
 use Rattle.line_phrases.proofs.Basics.{AfterLevel, anything, count_parses, exact_sign, level_of, name_parses, starts_false}

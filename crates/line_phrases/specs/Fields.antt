@@ -1,5 +1,5 @@
 -- How the fields of a record are read.
-use Rattle.std.specs.Prelude.{ℕ, zero, suc, List, [], ◌∷◌, Result}
+use Rattle.std.specs.Prelude.{ℕ, zero, suc, List, [], Result}
 use Rattle.phrases.specs.Reading.{item_at, behind_at, then_at, give_at, either_at, steps_at, more_at}
 use Rattle.line_tokens.specs.declared.sign.Sign.TheVariants.{OpenBrace, CloseBrace, OpenBracket, CloseBracket, Colon}
 use Rattle.record_dim.specs.Trees.{Tree, Fields, Single, Record}

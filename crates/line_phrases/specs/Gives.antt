@@ -1,5 +1,5 @@
 -- What it says of a reader that it gives what reading tokens gives.
-use Rattle.std.specs.Prelude.{ℕ, ◌≡◌, Result, Ok, Err}
+use Rattle.std.specs.Prelude.{ℕ, ◌≡◌, ⊤, Result, Ok, Err}
 use Rattle.line_phrases.specs.declared.fault.ReadError.{ReadError}
 use Rattle.line_phrases.specs.declared.fault.ReadError.TheVariants as error
 
@@ -12,3 +12,8 @@ Fails (error.Syntax left) read = read ≡ Err left
 abbrev pub Gives : {A B : Type 0} → (A → B) → Result A ReadError → Result B ℕ → Type 0
 Gives view (Ok x) read = read ≡ Ok (view x)
 Gives view (Err error) read = Fails error read
+
+-- the tokens are at fault, and not the memory
+abbrev pub IsSyntax : ReadError → Type 0
+IsSyntax error.NoMemory = ⊥
+IsSyntax (error.Syntax left) = ⊤

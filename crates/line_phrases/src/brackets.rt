@@ -1,7 +1,7 @@
-ghost use Rattle.std.specs.Prelude.{◌≡◌, ◌<◌, length, OnOk};
+ghost use Rattle.std.specs.Prelude.{◌≡◌, ◌<◌, length, OnOk, IfErr};
 ghost use Rattle.phrases.specs.Reading.{item_at};
 ghost use Rattle.line_grammar.specs.Tokens.{count_of};
-ghost use Rattle.line_phrases.specs.Gives.{Gives};
+ghost use Rattle.line_phrases.specs.Gives.{Gives, IsSyntax};
 ghost use Rattle.line_phrases.specs.Lists.{listed_at, bracket_list_at, fixed_at, extent_at};
 
 use crate::{ReadError, Tokens};
@@ -66,6 +66,7 @@ fn read_fixed_list(alloc: Global, tokens: &mut Tokens) -> Result<ExtentWords, Re
 fn read_fixed(tokens: &mut Tokens) -> Result<ExtentWord, ReadError>
     ensures gives { Gives (λ x. (x, tokens.new)) result (fixed_at tokens.old) }
     ensures shorter { OnOk result (length tokens.new < length tokens.old) }
+    ensures fault { IfErr result IsSyntax }
 {
     let count = tokens.count()?;
     Ok(ExtentWord::Fixed(count))
@@ -101,6 +102,7 @@ fn read_extent_list(alloc: Global, tokens: &mut Tokens) -> Result<ExtentWords, R
 fn read_extent(tokens: &mut Tokens) -> Result<ExtentWord, ReadError>
     ensures gives { Gives (λ x. (x, tokens.new)) result (extent_at tokens.old) }
     ensures shorter { OnOk result (length tokens.new < length tokens.old) }
+    ensures fault { IfErr result IsSyntax }
 {
     if tokens.begins_sign(Sign::Question) {
         tokens.sign(Sign::Question)?;

@@ -1,5 +1,5 @@
-ghost use Rattle.std.specs.Prelude.{◌≡◌, ◌<◌, length, OnOk};
-ghost use Rattle.line_phrases.specs.Gives.{Gives};
+ghost use Rattle.std.specs.Prelude.{◌≡◌, ◌<◌, length, IfErr, OnOk};
+ghost use Rattle.line_phrases.specs.Gives.{Gives, IsSyntax};
 ghost use Rattle.line_phrases.specs.Constants.{const_at};
 
 use crate::{ReadError, Tokens};
@@ -10,6 +10,7 @@ use line_tokens::Sign;
 pub fn read_const(tokens: &mut Tokens) -> Result<i128, ReadError>
     ensures gives { Gives (λ x. (x, tokens.new)) result (const_at tokens.old) }
     ensures shorter { OnOk result (length tokens.new < length tokens.old) }
+    ensures fault { IfErr result IsSyntax }
 {
     if tokens.begins_sign(Sign::Minus) {
         tokens.sign(Sign::Minus)?;

@@ -1,9 +1,9 @@
-ghost use Rattle.std.specs.Prelude.{◌≡◌, ◌<◌, ◌≤◌, length, OnOk, IfOk};
+ghost use Rattle.std.specs.Prelude.{◌≡◌, ◌<◌, ◌≤◌, length, OnOk, IfOk, IfErr};
 ghost use Rattle.expr_lang.specs.Terms.{term_of, Binary, Neg, Not};
 ghost use Rattle.line_tokens.specs.declared.sign.Sign.TheVariants.{Minus};
 ghost use Rattle.line_grammar.specs.Tokens.{is_sign, is_word};
 ghost use Rattle.line_grammar.specs.Grammar.{wrapped};
-ghost use Rattle.line_phrases.specs.Gives.{Gives};
+ghost use Rattle.line_phrases.specs.Gives.{Gives, IsSyntax};
 ghost use Rattle.line_phrases.specs.Exprs.{leaf_at, atom_at, bracketed_at, choice_at, count_at, unary_over, product_over, sum_over, comparison_over, negation_over, conjunction_over, expr_over};
 ghost use Rattle.std.specs.Prelude.{codes, zero};
 
@@ -198,6 +198,7 @@ fn binary(alloc: Global, op: BinOp, left: Expr, right: Expr) -> Result<Expr, NoM
 fn count_words(tokens: &mut Tokens) -> Result<usize, ReadError>
     ensures gives { Gives (λ x. (x, tokens.new)) result (count_at (is_word (codes "not")) zero tokens.old) }
     ensures no_longer { OnOk result (length tokens.new ≤ length tokens.old) }
+    ensures fault { IfErr result IsSyntax }
 {
     let most = tokens.len();
     let mut count = 0;
@@ -214,6 +215,7 @@ fn count_words(tokens: &mut Tokens) -> Result<usize, ReadError>
 fn count_signs(tokens: &mut Tokens) -> Result<usize, ReadError>
     ensures gives { Gives (λ x. (x, tokens.new)) result (count_at (is_sign Minus) zero tokens.old) }
     ensures no_longer { OnOk result (length tokens.new ≤ length tokens.old) }
+    ensures fault { IfErr result IsSyntax }
 {
     let most = tokens.len();
     let mut count = 0;

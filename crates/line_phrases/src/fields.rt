@@ -1,7 +1,7 @@
-ghost use Rattle.std.specs.Prelude.{◌≡◌, ◌<◌, ◌≤◌, length, map, OnOk, IfOk};
+ghost use Rattle.std.specs.Prelude.{◌≡◌, ◌<◌, ◌≤◌, length, map, OnOk, IfOk, IfErr};
 ghost use Rattle.record_dim.specs.Trees.{fields_of, tree_of};
 ghost use Rattle.line_grammar.specs.Grammar.{arrays, fields_of_list};
-ghost use Rattle.line_phrases.specs.Gives.{Gives};
+ghost use Rattle.line_phrases.specs.Gives.{Gives, IsSyntax};
 ghost use Rattle.line_phrases.specs.Lists.{listed_at};
 ghost use Rattle.line_phrases.specs.Fields.{dim_at, dims_at, typed_at, field_at, fields_at};
 
@@ -88,6 +88,7 @@ fn read_dims(alloc: Global, tokens: &mut Tokens) -> Result<Vec<u32>, ReadError>
 fn read_dim(tokens: &mut Tokens) -> Result<u32, ReadError>
     ensures gives { Gives (λ x. (x, tokens.new)) result (dim_at tokens.old) }
     ensures shorter { OnOk result (length tokens.new < length tokens.old) }
+    ensures fault { IfErr result IsSyntax }
 {
     tokens.sign(Sign::OpenBracket)?;
     let count = tokens.count()?;

@@ -1,7 +1,7 @@
-ghost use Rattle.std.specs.Prelude.{◌≡◌, ◌<◌, length, OnOk};
+ghost use Rattle.std.specs.Prelude.{◌≡◌, ◌<◌, length, OnOk, IfErr};
 ghost use Rattle.map_expr.specs.Terms.{term_of};
 ghost use Rattle.line_grammar.specs.declared.line.MapWord.TheVariants as form;
-ghost use Rattle.line_phrases.specs.Gives.{Gives};
+ghost use Rattle.line_phrases.specs.Gives.{Gives, IsSyntax};
 ghost use Rattle.line_phrases.specs.Maps.{aos_at, aosoa_at, bit_aos_at, bit_soa_at, form_at, map_at, soa_at};
 
 use crate::{ReadError, Tokens, read_path};
@@ -119,6 +119,7 @@ fn read_heat(alloc: Global, room: usize, tokens: &mut Tokens) -> Result<MapExpr,
 fn read_aos(tokens: &mut Tokens) -> Result<MapExpr, ReadError>
     ensures gives { Gives (λ x. (term_of x, tokens.new)) result (aos_at tokens.old) }
     ensures shorter { OnOk result (length tokens.new < length tokens.old) }
+    ensures fault { IfErr result IsSyntax }
 {
     let form = tokens.aos_form()?;
     tokens.sign(Sign::Comma)?;
@@ -130,6 +131,7 @@ fn read_aos(tokens: &mut Tokens) -> Result<MapExpr, ReadError>
 fn read_soa(tokens: &mut Tokens) -> Result<MapExpr, ReadError>
     ensures gives { Gives (λ x. (term_of x, tokens.new)) result (soa_at tokens.old) }
     ensures shorter { OnOk result (length tokens.new < length tokens.old) }
+    ensures fault { IfErr result IsSyntax }
 {
     let form = tokens.soa_form()?;
     tokens.sign(Sign::Comma)?;
@@ -141,6 +143,7 @@ fn read_soa(tokens: &mut Tokens) -> Result<MapExpr, ReadError>
 fn read_aosoa(tokens: &mut Tokens) -> Result<MapExpr, ReadError>
     ensures gives { Gives (λ x. (term_of x, tokens.new)) result (aosoa_at tokens.old) }
     ensures shorter { OnOk result (length tokens.new < length tokens.old) }
+    ensures fault { IfErr result IsSyntax }
 {
     let lanes = tokens.count()?;
     tokens.sign(Sign::Comma)?;
@@ -152,6 +155,7 @@ fn read_aosoa(tokens: &mut Tokens) -> Result<MapExpr, ReadError>
 fn read_bit_aos(tokens: &mut Tokens) -> Result<MapExpr, ReadError>
     ensures gives { Gives (λ x. (term_of x, tokens.new)) result (bit_aos_at tokens.old) }
     ensures shorter { OnOk result (length tokens.new < length tokens.old) }
+    ensures fault { IfErr result IsSyntax }
 {
     let width = tokens.count()?;
     tokens.sign(Sign::Comma)?;
@@ -163,6 +167,7 @@ fn read_bit_aos(tokens: &mut Tokens) -> Result<MapExpr, ReadError>
 fn read_bit_soa(tokens: &mut Tokens) -> Result<MapExpr, ReadError>
     ensures gives { Gives (λ x. (term_of x, tokens.new)) result (bit_soa_at tokens.old) }
     ensures shorter { OnOk result (length tokens.new < length tokens.old) }
+    ensures fault { IfErr result IsSyntax }
 {
     let width = tokens.count()?;
     tokens.sign(Sign::Comma)?;

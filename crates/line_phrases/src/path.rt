@@ -1,6 +1,6 @@
-ghost use Rattle.std.specs.Prelude.{◌≡◌, ◌<◌, length, IfOk, OnOk};
+ghost use Rattle.std.specs.Prelude.{◌≡◌, ◌<◌, length, IfOk, OnOk, IfErr};
 ghost use Rattle.phrases.specs.Reading.{starts};
-ghost use Rattle.line_phrases.specs.Gives.{Gives};
+ghost use Rattle.line_phrases.specs.Gives.{Gives, IsSyntax};
 ghost use Rattle.line_phrases.specs.Paths.{begins_part, part_at, path_at};
 
 use crate::{ReadError, Tokens};
@@ -32,6 +32,7 @@ fn begins_part(tokens: &Tokens) -> bool
 fn read_part(tokens: &mut Tokens) -> Result<PathStep, ReadError>
     ensures gives { Gives (λ x. (x, tokens.new)) result (part_at tokens.old) }
     ensures shorter { OnOk result (length tokens.new < length tokens.old) }
+    ensures fault { IfErr result IsSyntax }
 {
     if tokens.begins_sign(Sign::Dot) {
         tokens.sign(Sign::Dot)?;

@@ -1,8 +1,8 @@
-ghost use Rattle.std.specs.Prelude.{◌≡◌, ◌<◌, ◌≤ℤ◌, length, pos, IfOk, OnOk};
+ghost use Rattle.std.specs.Prelude.{◌≡◌, ◌<◌, ◌≤ℤ◌, length, pos, IfOk, IfErr, OnOk};
 ghost use Rattle.phrases.specs.Reading.{past, starts, item_at};
 ghost use Rattle.line_grammar.specs.Tokens.{is_sign, is_word, name_of, number_of, count_of, string_of, type_of, integer_type_of, order_of, aos_form_of, soa_form_of, index_of, choice_of, comparison_of, sum_of, product_of, or_of, and_of, kernel_word_of, reduction_of, command_of};
 ghost use Rattle.line_phrases.specs.Exprs.{means};
-ghost use Rattle.line_phrases.specs.Gives.{Gives};
+ghost use Rattle.line_phrases.specs.Gives.{Gives, IsSyntax};
 
 use crate::ReadError;
 use expr_lang::BinOp;
@@ -149,6 +149,7 @@ impl Tokens<'_> {
     pub fn sign(&mut self, sign: Sign) -> Result<(), ReadError>
         ensures gives { Gives (λ _. self.new) result (past (is_sign sign) self.old) }
         ensures shorter { OnOk result (length self.new < length self.old) }
+        ensures fault { IfErr result IsSyntax }
     {
         match self.rest {
             [first, rest @ ..] if first.is_sign(sign) => {
@@ -163,6 +164,7 @@ impl Tokens<'_> {
     pub fn word(&mut self, word: &str) -> Result<(), ReadError>
         ensures gives { Gives (λ _. self.new) result (past (is_word word.now) self.old) }
         ensures shorter { OnOk result (length self.new < length self.old) }
+        ensures fault { IfErr result IsSyntax }
     {
         match self.rest {
             [first, rest @ ..] if first.is_word(word) => {
@@ -177,6 +179,7 @@ impl Tokens<'_> {
     pub fn name(&mut self) -> Result<Name, ReadError>
         ensures gives { Gives (λ x. (x, self.new)) result (item_at name_of self.old) }
         ensures shorter { OnOk result (length self.new < length self.old) }
+        ensures fault { IfErr result IsSyntax }
     {
         let (first, rest) = self.rest.split_first().ok_or(ReadError::Syntax(0))?;
         let value = first.name().ok_or(ReadError::Syntax(self.rest.len()))?;
@@ -189,6 +192,7 @@ impl Tokens<'_> {
         ensures positive { IfOk result (λ x. pos 0 ≤ℤ x) }
         ensures gives { Gives (λ x. (x, self.new)) result (item_at number_of self.old) }
         ensures shorter { OnOk result (length self.new < length self.old) }
+        ensures fault { IfErr result IsSyntax }
     {
         let (first, rest) = self.rest.split_first().ok_or(ReadError::Syntax(0))?;
         let value = first.number().ok_or(ReadError::Syntax(self.rest.len()))?;
@@ -200,6 +204,7 @@ impl Tokens<'_> {
     pub fn count(&mut self) -> Result<u32, ReadError>
         ensures gives { Gives (λ x. (x, self.new)) result (item_at count_of self.old) }
         ensures shorter { OnOk result (length self.new < length self.old) }
+        ensures fault { IfErr result IsSyntax }
     {
         let (first, rest) = self.rest.split_first().ok_or(ReadError::Syntax(0))?;
         let value = first.count().ok_or(ReadError::Syntax(self.rest.len()))?;
@@ -211,6 +216,7 @@ impl Tokens<'_> {
     pub fn file_name(&mut self) -> Result<FileName, ReadError>
         ensures gives { Gives (λ x. (x, self.new)) result (item_at string_of self.old) }
         ensures shorter { OnOk result (length self.new < length self.old) }
+        ensures fault { IfErr result IsSyntax }
     {
         let (first, rest) = self.rest.split_first().ok_or(ReadError::Syntax(0))?;
         let value = first.file_name().ok_or(ReadError::Syntax(self.rest.len()))?;
@@ -222,6 +228,7 @@ impl Tokens<'_> {
     pub fn leaf_type(&mut self) -> Result<LeafType, ReadError>
         ensures gives { Gives (λ x. (x, self.new)) result (item_at type_of self.old) }
         ensures shorter { OnOk result (length self.new < length self.old) }
+        ensures fault { IfErr result IsSyntax }
     {
         let (first, rest) = self.rest.split_first().ok_or(ReadError::Syntax(0))?;
         let value = first.leaf_type().ok_or(ReadError::Syntax(self.rest.len()))?;
@@ -233,6 +240,7 @@ impl Tokens<'_> {
     pub fn integer_type(&mut self) -> Result<LeafType, ReadError>
         ensures gives { Gives (λ x. (x, self.new)) result (item_at integer_type_of self.old) }
         ensures shorter { OnOk result (length self.new < length self.old) }
+        ensures fault { IfErr result IsSyntax }
     {
         let (first, rest) = self.rest.split_first().ok_or(ReadError::Syntax(0))?;
         let value = first
@@ -246,6 +254,7 @@ impl Tokens<'_> {
     pub fn order(&mut self) -> Result<Order, ReadError>
         ensures gives { Gives (λ x. (x, self.new)) result (item_at order_of self.old) }
         ensures shorter { OnOk result (length self.new < length self.old) }
+        ensures fault { IfErr result IsSyntax }
     {
         let (first, rest) = self.rest.split_first().ok_or(ReadError::Syntax(0))?;
         let value = first.order().ok_or(ReadError::Syntax(self.rest.len()))?;
@@ -257,6 +266,7 @@ impl Tokens<'_> {
     pub fn aos_form(&mut self) -> Result<AosForm, ReadError>
         ensures gives { Gives (λ x. (x, self.new)) result (item_at aos_form_of self.old) }
         ensures shorter { OnOk result (length self.new < length self.old) }
+        ensures fault { IfErr result IsSyntax }
     {
         let (first, rest) = self.rest.split_first().ok_or(ReadError::Syntax(0))?;
         let value = first.aos_form().ok_or(ReadError::Syntax(self.rest.len()))?;
@@ -268,6 +278,7 @@ impl Tokens<'_> {
     pub fn soa_form(&mut self) -> Result<SoaForm, ReadError>
         ensures gives { Gives (λ x. (x, self.new)) result (item_at soa_form_of self.old) }
         ensures shorter { OnOk result (length self.new < length self.old) }
+        ensures fault { IfErr result IsSyntax }
     {
         let (first, rest) = self.rest.split_first().ok_or(ReadError::Syntax(0))?;
         let value = first.soa_form().ok_or(ReadError::Syntax(self.rest.len()))?;
@@ -279,6 +290,7 @@ impl Tokens<'_> {
     pub fn index(&mut self) -> Result<u32, ReadError>
         ensures gives { Gives (λ x. (x, self.new)) result (item_at index_of self.old) }
         ensures shorter { OnOk result (length self.new < length self.old) }
+        ensures fault { IfErr result IsSyntax }
     {
         let (first, rest) = self.rest.split_first().ok_or(ReadError::Syntax(0))?;
         let value = first.index().ok_or(ReadError::Syntax(self.rest.len()))?;
@@ -290,6 +302,7 @@ impl Tokens<'_> {
     pub fn choice(&mut self) -> Result<BinOp, ReadError>
         ensures gives { Gives (λ x. (x, self.new)) result (item_at choice_of self.old) }
         ensures shorter { OnOk result (length self.new < length self.old) }
+        ensures fault { IfErr result IsSyntax }
     {
         let (first, rest) = self.rest.split_first().ok_or(ReadError::Syntax(0))?;
         let value = first.choice().ok_or(ReadError::Syntax(self.rest.len()))?;
@@ -301,6 +314,7 @@ impl Tokens<'_> {
     pub fn comparison(&mut self) -> Result<BinOp, ReadError>
         ensures gives { Gives (λ x. (x, self.new)) result (item_at comparison_of self.old) }
         ensures shorter { OnOk result (length self.new < length self.old) }
+        ensures fault { IfErr result IsSyntax }
     {
         let (first, rest) = self.rest.split_first().ok_or(ReadError::Syntax(0))?;
         let value = first
@@ -314,6 +328,7 @@ impl Tokens<'_> {
     pub fn sum(&mut self) -> Result<BinOp, ReadError>
         ensures gives { Gives (λ x. (x, self.new)) result (item_at sum_of self.old) }
         ensures shorter { OnOk result (length self.new < length self.old) }
+        ensures fault { IfErr result IsSyntax }
     {
         let (first, rest) = self.rest.split_first().ok_or(ReadError::Syntax(0))?;
         let value = first.sum().ok_or(ReadError::Syntax(self.rest.len()))?;
@@ -325,6 +340,7 @@ impl Tokens<'_> {
     pub fn product(&mut self) -> Result<BinOp, ReadError>
         ensures gives { Gives (λ x. (x, self.new)) result (item_at product_of self.old) }
         ensures shorter { OnOk result (length self.new < length self.old) }
+        ensures fault { IfErr result IsSyntax }
     {
         let (first, rest) = self.rest.split_first().ok_or(ReadError::Syntax(0))?;
         let value = first.product().ok_or(ReadError::Syntax(self.rest.len()))?;
@@ -336,6 +352,7 @@ impl Tokens<'_> {
     pub fn disjunction(&mut self) -> Result<BinOp, ReadError>
         ensures gives { Gives (λ x. (x, self.new)) result (item_at or_of self.old) }
         ensures shorter { OnOk result (length self.new < length self.old) }
+        ensures fault { IfErr result IsSyntax }
     {
         let (first, rest) = self.rest.split_first().ok_or(ReadError::Syntax(0))?;
         let value = first
@@ -349,6 +366,7 @@ impl Tokens<'_> {
     pub fn conjunction(&mut self) -> Result<BinOp, ReadError>
         ensures gives { Gives (λ x. (x, self.new)) result (item_at and_of self.old) }
         ensures shorter { OnOk result (length self.new < length self.old) }
+        ensures fault { IfErr result IsSyntax }
     {
         let (first, rest) = self.rest.split_first().ok_or(ReadError::Syntax(0))?;
         let value = first
@@ -362,6 +380,7 @@ impl Tokens<'_> {
     pub fn kernel_word(&mut self) -> Result<KernelWord, ReadError>
         ensures gives { Gives (λ x. (x, self.new)) result (item_at kernel_word_of self.old) }
         ensures shorter { OnOk result (length self.new < length self.old) }
+        ensures fault { IfErr result IsSyntax }
     {
         let (first, rest) = self.rest.split_first().ok_or(ReadError::Syntax(0))?;
         let value = first
@@ -375,6 +394,7 @@ impl Tokens<'_> {
     pub fn reduction(&mut self) -> Result<ReduceKind, ReadError>
         ensures gives { Gives (λ x. (x, self.new)) result (item_at reduction_of self.old) }
         ensures shorter { OnOk result (length self.new < length self.old) }
+        ensures fault { IfErr result IsSyntax }
     {
         let (first, rest) = self.rest.split_first().ok_or(ReadError::Syntax(0))?;
         let value = first.reduction().ok_or(ReadError::Syntax(self.rest.len()))?;
@@ -386,6 +406,7 @@ impl Tokens<'_> {
     pub fn command(&mut self) -> Result<Command, ReadError>
         ensures gives { Gives (λ x. (x, self.new)) result (item_at command_of self.old) }
         ensures shorter { OnOk result (length self.new < length self.old) }
+        ensures fault { IfErr result IsSyntax }
     {
         let (first, rest) = self.rest.split_first().ok_or(ReadError::Syntax(0))?;
         let value = first.command().ok_or(ReadError::Syntax(self.rest.len()))?;

@@ -1,7 +1,5 @@
 -- what is read on gives the whole list
 use Rattle.std.proofs.Common.{◌≡◌, ◌<◌, length}
-use Rattle.phrases.specs.Reading.{item_at}
-use Rattle.line_grammar.specs.Tokens.{count_of}
 use Rattle.line_phrases.specs.Lists.{rest_at, listed_at, fixed_at}
 use Rattle.line_phrases.proofs.brackets.read_fixed_list.Given as goal
 

@@ -1,5 +1,5 @@
 -- what is read on gives the whole list of fields; a field's braces have less room
-use Rattle.std.proofs.Common.{◌≡◌, ◌<◌, ◌+◌, ◌*◌, ℕ, map, length}
+use Rattle.std.proofs.Common.{◌≡◌, ◌<◌, ◌+◌, ◌*◌, map, length}
 use Rattle.record_dim.specs.Trees.{tree_of}
 use Rattle.line_phrases.specs.Lists.{rest_at, listed_at}
 use Rattle.line_phrases.specs.Fields.{field_at}
