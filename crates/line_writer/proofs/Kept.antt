@@ -1,9 +1,9 @@
 -- The phrases that may have other tokens than the canonical ones: lines with expressions and kernels. Their canonical tokens are
 -- read as the same line, and open few brackets at once.
-use Rattle.std.proofs.Common.{◌≡◌, ℕ, zero, suc, ◌+◌, ◌≤◌, max, List, [], ◌∷◌, ◌++◌, map, length, Option, Some, None, codes, ℤ, pos, negsuc, neg_ℤ, inl, inr, refl, sym, ap, ◌∙◌, add-one, append-nil, append_assoc, arith}
+use Rattle.std.proofs.Common.{◌≡◌, ℕ, zero, suc, ◌+◌, ◌≤◌, List, [], ◌∷◌, ◌++◌, map, length, Option, Some, None, codes, ℤ, pos, negsuc, neg_ℤ, inl, inr, refl, sym, add-one, append-nil, append_assoc, arith}
 use Rattle.std.specs.List.{flat_map}
-use Rattle.phrases.specs.Phrases.{IsItem, Behind, Joined, IsEither, IsNothing, Chain, Repeats}
-use Rattle.line_tokens.specs.declared.sign.Sign.TheVariants.{OpenBracket, CloseBracket, OpenParen, CloseParen, Comma, Dot, Equals, Minus, EqualEqual, NotEqual, LessThan, LessEqual, GreaterThan, GreaterEqual}
+use Rattle.phrases.specs.Phrases.{Behind, Joined, IsNothing, Chain}
+use Rattle.line_tokens.specs.declared.sign.Sign.TheVariants.{CloseBracket, OpenParen, CloseParen, Comma, Dot, Equals, Minus, EqualEqual, NotEqual, LessThan, LessEqual, GreaterThan, GreaterEqual}
 use Rattle.record_dim.specs.declared.path.PathStep.{PathStep}
 use Rattle.expr_lang.specs.declared.expr.BinOp.{BinOp}
 use Rattle.expr_lang.specs.declared.expr.BinOp.TheVariants.{Eq, Ne, Lt, Le, Gt, Ge}
@@ -20,10 +20,10 @@ use Rattle.line_grammar.specs.Tokens.{number_of, kernel_word_of, comparison_of, 
 use Rattle.line_grammar.specs.Sentences.{Assignment, Sentence, Value, Assign, Update, Kernel, Count, filter_depth, deepest_set, deepest}
 use Rattle.line_grammar.specs.Grammar.{Phrase, IsName, IsCount, IsNumber, IsPath, IsMore, IsListed, IsConst, IsExpr, IsBracketList, IsAssignment, IsFilter, IsKernelInside, IsKernel, IsBody, IsLine}
 use Rattle.line_writer.specs.Canonical.{operator, count_token, number_tokens, path_tokens, with_commas, bracket_list, form_tokens, value_tokens, assignment_tokens, filter_tokens, kernel_tokens, line_tokens}
-use Rattle.line_writer.proofs.Gives.{IsClean, IsSpelled, Each, each_append, each_front, each_back, Gives, nothing_gives, item_gives, behind_gives, joined_gives, either_gives, repeats_gives, gives_also}
-use Rattle.line_writer.proofs.Words.{kernel_word, name_gives, count_gives, kernel_word_gives}
-use Rattle.line_writer.proofs.Phrases.{IsWritten, sound, path_gives, bracket_list_gives}
-use Rattle.line_writer.proofs.Leaves.{IsGood, number_gives, expr_gives}
+use Rattle.line_writer.proofs.Gives.{IsSpelled, Each, each_front, each_back, Gives, nothing_gives, item_gives, behind_gives, joined_gives, either_gives, gives_also}
+use Rattle.line_writer.proofs.Words.{kernel_word}
+use Rattle.line_writer.proofs.Phrases.{IsWritten, sound, path_gives}
+use Rattle.line_writer.proofs.Leaves.{IsGood}
 use Rattle.line_writer.proofs.Levels.{value_read}
 use Rattle.line_writer.proofs.Rooms.{Fits, no_tokens_fit, fits_more, fits_append, fits_flat, fits_operator, one_fits, path_fits, number_fits, value_fits, commas_fit, form_fits, bracket_list_fits, word_spelled}
 

@@ -1,7 +1,5 @@
 -- The canonical tokens of an expression are read as this expression.
-use Rattle.std.proofs.Common.{◌≡◌, ℕ, zero, suc, ◌+◌, ◌≤◌, max, Bool, true, false, List, [], ◌∷◌, ◌++◌, Option, Some, None, codes, inl, inr, refl, sym, ap, ◌∙◌, append-nil, arith}
-use Rattle.std.proofs.Math.Nat.{le-max_left, le-max_right}
-use Rattle.phrases.specs.Phrases.{IsItem, Behind, Joined, IsEither, IsNothing, Repeats}
+use Rattle.std.proofs.Common.{◌≡◌, ℕ, zero, suc, ◌≤◌, true, false, List, [], ◌∷◌, ◌++◌, Option, Some, codes, inl, inr, refl, sym, append-nil, arith}
 use Rattle.line_tokens.specs.declared.sign.Sign.TheVariants.{OpenParen, CloseParen, Comma, Minus}
 use Rattle.expr_lang.specs.declared.expr.BinOp.{BinOp}
 use Rattle.expr_lang.specs.declared.expr.BinOp.TheVariants.{Add, Sub, Mul, Div, Rem, Min, Max, Eq, Ne, Lt, Le, Gt, Ge, And, Or}
@@ -12,7 +10,7 @@ use Rattle.line_grammar.specs.Tokens.{choice_of, or_of, and_of, comparison_of, s
 use Rattle.line_grammar.specs.Sentences.{Value}
 use Rattle.line_grammar.specs.Grammar.{Phrase, IsLink, IsChain, IsPrefixed, IsUnary, IsProduct, IsSum, IsComparison, IsNegation, IsConjunction, IsExprOver, IsLeaf, IsAtom, IsExpr}
 use Rattle.line_writer.specs.Canonical.{is_choice, operator, operand, value_tokens}
-use Rattle.line_writer.proofs.Leaves.{IsGood, IsGoodLeaf}
+use Rattle.line_writer.proofs.Leaves.{IsGood}
 
 -- each level has the phrases of the next one
 chain_one : (op : Token → Option BinOp) (Is : Phrase Value) (xs : List Token) (v : Value) → Is xs v → IsChain op Is xs v

@@ -1,25 +1,23 @@
 -- A line has its canonical tokens alone, or one with expressions or a kernel, and then its canonical tokens are kept.
-use Rattle.std.proofs.Common.{◌≡◌, ℕ, zero, suc, ◌≤◌, ◌⊎◌, List, [], ◌∷◌, ◌++◌, map, Option, Some, None, codes, inl, inr, refl, sym, ap, ◌∙◌, append-nil, append_assoc}
-use Rattle.phrases.specs.Phrases.{IsItem, Behind, Joined, IsEither, IsNothing, Chain, Repeats}
+use Rattle.std.proofs.Common.{◌≡◌, ℕ, ◌⊎◌, List, [], ◌∷◌, ◌++◌, map, Some, None, codes, inl, inr, refl, sym, ap, ◌∙◌, append-nil, append_assoc}
+use Rattle.phrases.specs.Phrases.{Behind, Joined, IsNothing}
 use Rattle.line_tokens.specs.declared.sign.Sign.TheVariants.{OpenParen, CloseParen, Colon, Comma, Dot, Equals}
 use Rattle.record_dim.specs.Trees.{Record}
 use Rattle.extents.specs.declared.words.ExtentWord.{ExtentWord}
-use Rattle.extents.specs.declared.words.ExtentWord.TheVariants as extent
 use Rattle.map_expr.specs.Terms.{Term as MapTerm}
 use Rattle.line_grammar.specs.declared.token.Token.{Token}
-use Rattle.line_grammar.specs.declared.token.Token.TheVariants.{Word, Number, Text, Sign, Bad}
+use Rattle.line_grammar.specs.declared.token.Token.TheVariants.{Word, Text, Sign}
 use Rattle.line_grammar.specs.declared.line.Command.{Command}
 use Rattle.line_grammar.specs.declared.line.Command.TheVariants as command
-use Rattle.line_grammar.specs.declared.line.KernelText.{KernelText}
 use Rattle.line_grammar.specs.declared.line.KernelWord.{KernelWord}
-use Rattle.line_grammar.specs.Sentences.{Assignment, Sentence, Value, Blank, Define, Mapping, View, Load, Assign, Update, Kernel, Reduce, Count, Copy, Relayout, Print, Counts, Heat, Layout, Drop, Bytes}
-use Rattle.line_grammar.specs.Grammar.{Phrase, IsName, IsCount, IsString, IsMore, IsListed, IsBracketList, IsExtent, IsAssignment, IsFilter, IsKernel, IsBody, IsCommand, IsLine}
-use Rattle.line_writer.specs.Canonical.{count_token, bracket_list, extent_tokens, map_tokens, path_tokens, held_tokens, view_tokens, reduction_word, line_tokens}
-use Rattle.line_writer.proofs.Gives.{IsClean, IsSpelled, Each, each_append, Gives, nothing_gives, behind_gives, joined_gives, either_gives, repeats_gives, gives_also}
+use Rattle.line_grammar.specs.Sentences.{Assignment, Sentence, Blank, Define, Mapping, View, Load, Assign, Update, Kernel, Reduce, Count, Copy, Relayout, Print, Counts, Heat, Layout, Drop, Bytes}
+use Rattle.line_grammar.specs.Grammar.{Phrase, IsName, IsMore, IsListed, IsAssignment, IsFilter, IsKernel, IsBody, IsLine}
+use Rattle.line_writer.specs.Canonical.{count_token, bracket_list, extent_tokens, map_tokens, path_tokens, view_tokens, reduction_word, line_tokens}
+use Rattle.line_writer.proofs.Gives.{Each, each_append, Gives, nothing_gives, behind_gives, joined_gives, either_gives, repeats_gives, gives_also}
 use Rattle.line_writer.proofs.Words.{command_word, name_gives, count_gives, string_gives, reduction_gives, command_gives, kernel_word_gives}
-use Rattle.line_writer.proofs.Phrases.{IsWritten, sound, path_gives, fields_give, map_gives, bracket_list_gives, fixed_gives, extent_gives}
-use Rattle.line_writer.proofs.Leaves.{IsGood, expr_gives}
-use Rattle.line_writer.proofs.Kept.{Kept, kept_from, kept_gives, KeptName, KeptCount, KeptPath, KeptKernel, kernel_inside_gives, IsGoodSet, IsGoodFilter, IsFull, index_tokens, IsKept, count_kept, kernel_kept, assign_kept, update_kept}
+use Rattle.line_writer.proofs.Phrases.{sound, path_gives, fields_give, map_gives, bracket_list_gives, fixed_gives, extent_gives}
+use Rattle.line_writer.proofs.Leaves.{expr_gives}
+use Rattle.line_writer.proofs.Kept.{kept_from, kept_gives, KeptKernel, kernel_inside_gives, IsGoodSet, IsGoodFilter, IsFull, index_tokens, IsKept, count_kept, kernel_kept, assign_kept, update_kept}
 
 -- the tokens are the canonical ones, or the line is kept
 abbrev pub IsDone : List Token → Sentence → Type 0

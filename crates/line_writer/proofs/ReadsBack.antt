@@ -1,5 +1,5 @@
 -- The canonical text of a line that is read has its canonical tokens, and is read as the same line.
-use Rattle.std.proofs.Common.{◌≡◌, ℕ, zero, suc, ◌+◌, ◌-◌, ◌^◌, ◌<◌, ◌≤◌, Bool, true, false, ◌&&◌, ◌⊎◌, List, [], ◌∷◌, ◌++◌, map, length, take, drop, slice_range, Option, Some, None, pos, inl, inr, refl, sym, ap, ◌∙◌, append_assoc, arith, subst}
+use Rattle.std.proofs.Common.{◌≡◌, ℕ, suc, ◌+◌, ◌-◌, ◌^◌, ◌<◌, ◌≤◌, true, List, [], ◌∷◌, ◌++◌, map, length, take, drop, slice_range, Option, Some, None, pos, inl, inr, refl, sym, ap, ◌∙◌, append_assoc, arith, subst}
 use Rattle.std.proofs.lemmas.Bool.Decides.{nat_tests}
 use Rattle.std.proofs.lemmas.Fmt.{decimal_is_IsNumeral_wide}
 use Rattle.std.proofs.lemmas.Str.Parse.{digit_from_value}
@@ -8,10 +8,10 @@ use Rattle.std.proofs.lemmas.List.Sums.{AllPass-from_list_all}
 use Rattle.std.specs.Char.{is_ascii_digit}
 use Rattle.std.specs.Fmt.{decimal}
 use Rattle.std.specs.List.{list_all, AllPass}
-use Rattle.std.specs.Str.Parse.{AllDigits, digits_value}
+use Rattle.std.specs.Str.Parse.{AllDigits}
 use Rattle.line_tokens.specs.Bytes.{is_text_byte}
 use Rattle.line_tokens.specs.Next.{next_of}
-use Rattle.line_tokens.specs.Spelled.{Written, Spells, HasRoom, AreSpelled, AreTokensOf, joined}
+use Rattle.line_tokens.specs.Spelled.{Spells, HasRoom, AreSpelled, joined}
 use Rattle.line_tokens.specs.Spots.{brackets_after, Spots}
 use Rattle.line_tokens.specs.Tokens.{Begins}
 use Rattle.line_tokens.specs.declared.spots.Spot.{Spot}
@@ -24,7 +24,7 @@ use Rattle.line_tokens.proofs.SpotLaws.{spot_at}
 use Rattle.record_dim.proofs.NameBytes.{both}
 use Rattle.line_grammar.specs.declared.token.Token.{Token}
 use Rattle.line_grammar.specs.declared.token.Token.TheVariants.{Word, Number, Text, Sign, Bad}
-use Rattle.line_grammar.specs.Tokens.{kind_token, token_of}
+use Rattle.line_grammar.specs.Tokens.{kind_token}
 use Rattle.line_grammar.specs.Sentences.{Sentence, deepest}
 use Rattle.line_grammar.specs.Grammar.{IsLine, IsSentence}
 use Rattle.line_grammar.specs.Reads.{tokens_of, Reads}

@@ -1,5 +1,5 @@
 -- The canonical tokens of expressions and kernels are spelled, and open few brackets at once.
-use Rattle.std.proofs.Common.{◌≡◌, ℕ, zero, suc, ◌+◌, ◌-◌, ◌<◌, ◌≤◌, max, Bool, true, false, not, ◌&&◌, if◌then◌else◌, List, [], ◌∷◌, ◌++◌, map, length, Option, Some, None, codes, ℤ, pos, negsuc, inl, inr, refl, sym, ap, ◌∙◌, append-nil, append_assoc, arith}
+use Rattle.std.proofs.Common.{◌≡◌, ℕ, ◌+◌, ◌-◌, ◌<◌, ◌≤◌, max, Bool, true, false, not, ◌&&◌, if◌then◌else◌, List, [], ◌∷◌, ◌++◌, map, length, codes, ℤ, pos, negsuc, refl, sym, ◌∙◌, append-nil, append_assoc, arith}
 use Rattle.std.proofs.lemmas.List.{map-append}
 use Rattle.std.proofs.lemmas.List.Sums.{AllPass-from_list_all}
 use Rattle.std.proofs.Math.Nat.{le-max_left, le-max_right}
@@ -22,7 +22,7 @@ use Rattle.line_grammar.specs.Sentences.{Value}
 use Rattle.line_writer.specs.Canonical.{is_choice, needs_brackets, operator, operand, number_tokens, bracketed_count, count_token, with_commas, bracket_list, first_tokens, step_tokens, path_tokens, form_tokens, value_tokens}
 use Rattle.line_writer.specs.Texts.{written}
 use Rattle.line_writer.proofs.Gives.{IsSpelled, Each, each_front, each_back}
-use Rattle.line_writer.proofs.Leaves.{IsGood, IsGoodLeaf}
+use Rattle.line_writer.proofs.Leaves.{IsGood}
 
 -- the tokens are spelled, close all brackets that they open, and have at most k of them open at once
 pub record Fits (k : ℕ) (tokens : List Token) : Type 0 where

@@ -2,13 +2,6 @@
 use Rattle.std.proofs.Common.{◌≡◌, ℕ, ◌^◌, Bool, true, false, if◌then◌else◌, List, [], ◌∷◌, Option, Some, None, map, codes, bytes_eq, nat_lt, pos, negsuc, refl, sym, ap, ◌∙◌}
 use Rattle.std.proofs.lemmas.Slice.Eq.{bytes_eq-Decides}
 use Rattle.std.specs.List.{list_any}
-use Rattle.line_tokens.specs.declared.sign.Sign.{Sign as SignName}
-use Rattle.line_tokens.specs.declared.sign.Sign.TheVariants as sign
-use Rattle.record_dim.specs.declared.leaf_type.LeafType.{LeafType}
-use Rattle.linearize.specs.declared.Order.{Order}
-use Rattle.map_aos.specs.declared.form.AosForm.{AosForm}
-use Rattle.map_soa.specs.declared.form.SoaForm.{SoaForm}
-use Rattle.expr_lang.specs.declared.expr.BinOp.{BinOp}
 use Rattle.line_grammar.specs.declared.token.Token.{Token}
 use Rattle.line_grammar.specs.declared.token.Token.TheVariants.{Word, Number, Text, Sign, Bad}
 use Rattle.line_grammar.specs.declared.line.Command.{Command}
@@ -17,11 +10,10 @@ use Rattle.line_grammar.specs.declared.line.KernelWord.{KernelWord}
 use Rattle.line_grammar.specs.declared.line.KernelWord.TheVariants as kernel
 use Rattle.line_grammar.specs.declared.line.MapWord.{MapWord}
 use Rattle.line_grammar.specs.declared.line.MapWord.TheVariants as form
-use Rattle.line_grammar.specs.declared.line.ReduceKind.{ReduceKind}
-use Rattle.line_grammar.specs.Tokens.{listed, meaning, reserved, name_of, number_of, count_of, string_of, type_of, integer_type_of, integer_types, leaf_types, orders, order_of, aos_forms, aos_form_of, soa_forms, soa_form_of, map_words, map_word, choice_of, choices, kernel_word_of, kernel_words, reduction_of, reductions, command_of, commands, comparison_of}
-use Rattle.line_grammar.specs.Grammar.{Phrase, IsName, IsCount, IsString}
+use Rattle.line_grammar.specs.Tokens.{listed, meaning, reserved, name_of, count_of, string_of, type_of, integer_type_of, integer_types, leaf_types, orders, order_of, aos_forms, aos_form_of, soa_forms, soa_form_of, map_words, map_word, kernel_word_of, kernel_words, reduction_of, reductions, command_of, commands}
+use Rattle.line_grammar.specs.Grammar.{IsName, IsCount, IsString}
 use Rattle.phrases.specs.Phrases.{IsItem}
-use Rattle.line_writer.specs.Canonical.{type_word, order_word, aos_word, soa_word, reduction_word, operator, count_token}
+use Rattle.line_writer.specs.Canonical.{type_word, order_word, aos_word, soa_word, reduction_word, count_token}
 use Rattle.line_writer.proofs.Gives.{Gives, item_gives}
 
 abbrev pub command_word : Command → List ℕ

@@ -1,10 +1,9 @@
 -- what is written so far, and the items that are left, are all
-use Rattle.std.proofs.Common.{◌≡◌, ◌∷◌, [], map, drop}
+use Rattle.std.proofs.Common.{◌≡◌, ◌∷◌, map, drop}
 use Rattle.std.specs.List.{flat_map}
 use Rattle.line_tokens.specs.declared.sign.Sign.TheVariants.{Comma}
 use Rattle.line_grammar.specs.declared.token.Token.TheVariants.{Sign}
-use Rattle.line_grammar.specs.Sentences.{assignment_of}
-use Rattle.line_writer.specs.Canonical.{count_token, extent_tokens, assignment_tokens, with_commas}
+use Rattle.line_writer.specs.Canonical.{extent_tokens, with_commas}
 use Rattle.line_writer.specs.Texts.{behind}
 use Rattle.line_writer.proofs.parts.write_words.Given as goal
 

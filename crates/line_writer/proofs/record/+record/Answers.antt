@@ -1,4 +1,4 @@
-use Rattle.std.proofs.Common.{◌≡◌, refl, rules, ◌∙◌, sym}
+use Rattle.std.proofs.Common.{◌≡◌, refl, rules, ◌∙◌}
 use Rattle.record_dim.specs.declared.dim.FieldList.{the_lemmas}
 use Rattle.record_dim.specs.Trees.{Field, tree_of, fields_of}
 use Rattle.line_writer.proofs.Behind.{fields_begun, fields_more}
