@@ -1,8 +1,7 @@
 -- How the assignments of an update are read, and how their reading goes on.
-use Rattle.std.proofs.Common.{◌≡◌, ℕ, Bool, true, false, List, [], ◌∷◌, ◌++◌, map, codes, Option, Some, None, Result, Ok, Err, refl, sym, ap, ◌∙◌, arith}
-use Rattle.phrases.specs.Phrases.{Behind, IsItem, IsNothing, Joined}
-use Rattle.phrases.specs.Reading.{starts, past, item_at, behind_at}
-use Rattle.phrases.proofs.Parses.{Always, Parses, behind_parses, either_parses, give_parses, then_parses}
+use Rattle.std.proofs.Common.{◌≡◌, ℕ, true, false, List, [], ◌∷◌, ◌++◌, map, codes, Some, None, Ok, Err, refl, sym, ap, ◌∙◌, arith}
+use Rattle.phrases.specs.Reading.{starts, past, behind_at}
+use Rattle.phrases.proofs.Parses.{Parses, behind_parses, either_parses, give_parses, then_parses}
 use Rattle.phrases.proofs.More.{Takes, behind_bare, behind_starts, behind_stepped, behind_stop, listed_takes, more_end}
 use Rattle.line_tokens.specs.declared.sign.Sign.TheVariants.{Comma, Equals}
 use Rattle.line_grammar.specs.declared.line.SetText.{SetText}
@@ -12,7 +11,7 @@ use Rattle.line_grammar.specs.Sentences.{Assignment, assignment_of}
 use Rattle.line_grammar.specs.Tokens.{is_sign, is_word}
 use Rattle.line_grammar.specs.Grammar.{IsAssignment, IsFilter}
 use Rattle.line_phrases.specs.Lists.{rest_at}
-use Rattle.line_phrases.proofs.Basics.{AfterLevel, Not, anything, behind_after, exact_sign, exact_word, nothing_after}
+use Rattle.line_phrases.proofs.Basics.{AfterLevel, behind_after, exact_sign, exact_word}
 use Rattle.line_phrases.proofs.Levels.{expr_parses}
 use Rattle.line_phrases.proofs.ListLaws.{comma_listed}
 use Rattle.line_phrases.proofs.Paths.{path_parses}

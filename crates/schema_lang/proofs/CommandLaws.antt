@@ -1,8 +1,7 @@
 -- How each command is read, and a whole line.
-use Rattle.std.proofs.Common.{◌≡◌, ℕ, zero, suc, ◌≤◌, Bool, true, false, inl, inr, List, [], ◌∷◌, ◌++◌, length, codes, Option, Some, None, is_some, Result, refl, sym, ap, ◌∙◌, neg_ℤ, arith}
-use Rattle.phrases.specs.Phrases.{Behind, IsEither, IsItem, IsNothing, Joined}
-use Rattle.phrases.specs.Reading.{starts, item_at, behind_at, then_at, give_at}
-use Rattle.phrases.specs.Ended.{ended_at}
+use Rattle.std.proofs.Common.{ℕ, ◌≤◌, true, false, inl, inr, List, [], ◌++◌, codes, None, is_some, refl, ap, neg_ℤ, arith}
+use Rattle.phrases.specs.Phrases.{Behind, IsItem, IsNothing}
+use Rattle.phrases.specs.Reading.{item_at, give_at}
 use Rattle.phrases.proofs.Parses.{Always, Parses, behind_parses, either_parses, give_parses, item_parses, said_otherwise, then_parses}
 use Rattle.phrases.proofs.More.{behind_starts, item_starts, joined_starts}
 use Rattle.phrases.proofs.Whole.{AtEnd}
@@ -15,18 +14,16 @@ use Rattle.record_dim.specs.Trees.{Record}
 use Rattle.expr_lang.specs.declared.expr.BinOp.TheVariants.{Eq}
 use Rattle.line_grammar.specs.declared.line.Command.{Command}
 use Rattle.line_grammar.specs.declared.line.Command.TheVariants as command
-use Rattle.line_grammar.specs.declared.line.KernelText.{KernelText}
 use Rattle.line_grammar.specs.declared.line.KernelText.TheVariants as kernel
 use Rattle.line_grammar.specs.declared.line.KernelWord.{KernelWord}
 use Rattle.line_grammar.specs.declared.line.KernelWord.TheVariants as word
 use Rattle.line_grammar.specs.declared.line.ReduceKind.TheVariants as reduce
 use Rattle.line_grammar.specs.declared.token.Token.{Token}
 use Rattle.line_grammar.specs.declared.token.Token.TheVariants.{Word, Text, Sign as Signed}
-use Rattle.line_grammar.specs.Sentences.{Sentence, Blank, Define, Mapping, View, Load, Assign, Update, Kernel, Reduce, Count, Copy, Relayout, Print, Counts, Heat, Layout, Drop, Bytes}
+use Rattle.line_grammar.specs.Sentences.{Blank, Define, Mapping, View, Load, Assign, Update, Kernel, Reduce, Count, Copy, Relayout, Print, Counts, Heat, Layout, Drop, Bytes}
 use Rattle.line_grammar.specs.Tokens.{is_sign, is_word, number_of, string_of, comparison_of, kernel_word_of, reduction_of, command_of}
-use Rattle.line_grammar.specs.Grammar.{IsAssignment, IsBody, IsCommand, IsConst, IsExpr, IsFilter, IsKernel, IsKernelInside, IsLine}
+use Rattle.line_grammar.specs.Grammar.{IsAssignment, IsBody, IsCommand, IsConst, IsFilter, IsKernel, IsKernelInside, IsLine}
 use Rattle.line_phrases.specs.Constants.{const_at}
-use Rattle.line_phrases.specs.Lists.{listed_at}
 use Rattle.line_phrases.proofs.Basics.{AfterLevel, Not, anything, apart, behind_after, behind_not, count_parses, exact_sign, exact_word, name_parses, number_parses, starts_level}
 use Rattle.line_phrases.proofs.FieldLaws.{fields_parses}
 use Rattle.line_phrases.proofs.Levels.{comparison_levels, expr_parses}

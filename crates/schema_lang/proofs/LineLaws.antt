@@ -1,5 +1,5 @@
 -- A text is one line at most, and reading its tokens tells which, or where they stop.
-use Rattle.std.proofs.Common.{◌≡◌, ℕ, ◌-◌, List, [], length, Result, Ok, Err, refl, sym, ap, ◌∙◌}
+use Rattle.std.proofs.Common.{◌≡◌, ℕ, ◌-◌, List, [], length, Ok, Err, refl, sym, ap, ◌∙◌}
 use Rattle.phrases.proofs.Parses.{ok_parts}
 use Rattle.phrases.proofs.Unbounded.{any_found, any_full, any_stop}
 use Rattle.line_tokens.specs.declared.spots.Spot.{Spot}

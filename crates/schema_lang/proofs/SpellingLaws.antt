@@ -1,25 +1,21 @@
 -- The spots of a text have the bytes of their kinds, and where the columns of spots are.
-use Rattle.std.proofs.Common.{◌≡◌, ℕ, zero, suc, ◌+◌, ◌-◌, ◌<◌, ◌≤◌, ◌^◌, Bool, true, false, ◌&&◌, nat_le, List, [], ◌∷◌, ◌++◌, length, take, drop, get_or, slice_range, map, All, MatchOption, Option, Some, None, refl, sym, ap, ◌∙◌, arith, length-append}
+use Rattle.std.proofs.Common.{◌≡◌, ℕ, zero, suc, ◌+◌, ◌-◌, ◌<◌, ◌≤◌, Bool, true, false, ◌&&◌, nat_le, List, [], ◌∷◌, ◌++◌, length, take, drop, get_or, slice_range, All, Option, Some, None, refl, sym, ap, ◌∙◌, arith, length-append}
 use Rattle.std.proofs.Math.Seq.{take-append_seam}
 use Rattle.std.proofs.lemmas.Bool.Decides.{nat_tests}
 use Rattle.std.proofs.lemmas.List.{length-take, length-drop, take-take, drop-drop}
 use Rattle.std.proofs.lemmas.List.Elements.{All-cons}
-use Rattle.std.proofs.lemmas.List.Sums.{AllPass-from_list_all, list_all-from_AllPass}
-use Rattle.std.specs.List.{AllPass, list_all}
+use Rattle.std.proofs.lemmas.List.Sums.{list_all-from_AllPass}
+use Rattle.std.specs.List.{list_all}
 use Rattle.std.specs.Str.{byte}
-use Rattle.record_dim.specs.Names.{begins_name, continues_name, is_name, is_word}
+use Rattle.record_dim.specs.Names.{begins_name, continues_name, is_name}
 use Rattle.line_tokens.specs.Bytes.{is_letter, is_word_byte, is_text_byte}
-use Rattle.line_tokens.specs.Next.{next_of}
 use Rattle.line_tokens.specs.Spelled.{Spells}
 use Rattle.line_tokens.specs.Spots.{brackets_after, Spots}
-use Rattle.line_tokens.specs.Tokens.{Begins}
 use Rattle.line_tokens.specs.declared.spots.Spot.{Spot}
-use Rattle.line_tokens.specs.declared.token.Next.TheVariants.{Bad, Token}
 use Rattle.line_tokens.specs.declared.token.TokenKind.{TokenKind}
 use Rattle.line_tokens.specs.declared.token.TokenKind.TheVariants.{Word, Number, Text, Sign as SignKind}
 use Rattle.line_tokens.proofs.NextToken.{next_inside}
 use Rattle.line_tokens.proofs.SpelledLaws.{next_spells}
-use Rattle.line_grammar.specs.FileNames.{is_file_name}
 use Rattle.line_grammar.specs.Reads.{column_behind}
 use Rattle.schema_lang.specs.Spelled.{IsSpelled, IsSpelledAs}
 

@@ -1,5 +1,5 @@
 -- What the bytes of a spot are: those of a name or of a string, where its kind says so.
-use Rattle.std.specs.Prelude.{ℕ, ◌≡◌, ◌+◌, ◌-◌, ◌≤◌, ◌<◌, true, IsTrue, List, length, slice_range, MatchOption}
+use Rattle.std.specs.Prelude.{ℕ, ◌≡◌, ◌+◌, ◌-◌, ◌≤◌, true, List, length, slice_range, MatchOption}
 use Rattle.line_tokens.specs.declared.spots.Spot.{Spot}
 use Rattle.line_tokens.specs.declared.token.TokenKind.{TokenKind}
 use Rattle.line_tokens.specs.declared.token.TokenKind.TheVariants.{Word, Number, Text, Sign as SignKind}

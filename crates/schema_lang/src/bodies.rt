@@ -1,6 +1,6 @@
-ghost use Rattle.std.specs.Prelude.{◌≡◌};
+ghost use Rattle.std.specs.Prelude.{◌≡◌, IfErr};
 ghost use Rattle.line_grammar.specs.Sentences.{sentence_of};
-ghost use Rattle.line_phrases.specs.Gives.{Gives};
+ghost use Rattle.line_phrases.specs.Gives.{Gives, IsSyntax};
 ghost use Rattle.schema_lang.specs.Bodies.{assign_at, body_at, bytes_at, command_at, copy_at, define_at, kernel_line_at, load_at, mapping_at, reduce_at, relayout_at, update_at, view_at};
 
 use crate::kernels::read_kernel;
@@ -180,7 +180,8 @@ fn read_reduce(alloc: Global, room: usize, tokens: &mut Tokens) -> Result<Line, 
 
 #[tactic(auto, unfolding(crate::specs::Bodies::copy_at))]
 fn read_copy(tokens: &mut Tokens) -> Result<Line, ReadError>
-    ensures { Gives (λ x. (sentence_of x, tokens.new)) result (copy_at tokens.old) }
+    ensures gives { Gives (λ x. (sentence_of x, tokens.new)) result (copy_at tokens.old) }
+    ensures fault { IfErr result IsSyntax }
 {
     let source = tokens.name()?;
     tokens.word("to")?;
@@ -200,7 +201,8 @@ fn read_relayout(alloc: Global, room: usize, tokens: &mut Tokens) -> Result<Line
 
 #[tactic(auto, unfolding(crate::specs::Bodies::bytes_at))]
 fn read_bytes(tokens: &mut Tokens) -> Result<Line, ReadError>
-    ensures { Gives (λ x. (sentence_of x, tokens.new)) result (bytes_at tokens.old) }
+    ensures gives { Gives (λ x. (sentence_of x, tokens.new)) result (bytes_at tokens.old) }
+    ensures fault { IfErr result IsSyntax }
 {
     let view = tokens.name()?;
     let blob = tokens.count()?;

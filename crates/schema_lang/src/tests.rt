@@ -1,18 +1,21 @@
 use super::*;
 use record_dim::Text;
 use std::alloc::{AllocError as NoMemory, Global};
+use std::process::Abort;
 use std::test::Fail;
 
-// The column of a syntax fault, 1,000 for another fault, and 0 for a line.
-fn column(alloc: Global, text: &[u8]) -> u64 {
-    if text.len() > 4096 {
-        return 1000;
-    }
+// Why a text is no line, None where it is one.
+fn fault(rt: &impl Abort, alloc: Global, text: &[u8]) -> Option<LineFault> {
+    assert!(rt; text.len() <= 4096);
     match parse_line(alloc, text) {
-        Ok(_) => 0,
-        Err(LineFault::Syntax { column }) => column,
-        Err(_) => 1000,
+        Ok(_) => None,
+        Err(fault) => Some(fault),
     }
+}
+
+// A syntax fault at a column.
+fn syntax(column: u64) -> Option<LineFault> {
+    Some(LineFault::Syntax { column })
 }
 
 // The canonical text of the line that a text is, None where it is none.
@@ -219,59 +222,209 @@ fn other_texts_stop_at_their_columns(rt: HostRuntime) {
         (b"print", 6),
     ];
     for (line, place) in cases {
-        assert_eq!(rt; column(rt.alloc(), line), place, "at {line:?}");
+        assert_eq!(rt; fault(&rt, rt.alloc(), line), syntax(place), "at {line:?}");
     }
 }
 
-// `set V[0].a = `, then so many `front`, `middle` and as many `back`.
-fn nested(alloc: Global, front: u8, middle: u8, back: u8, count: usize) -> Result<Vec<u8>, Fail> {
+// `head`, then so many `front`, `middle` and as many `back`.
+fn nested(
+    alloc: Global,
+    head: &[u8],
+    (front, middle, back): (&[u8], &[u8], &[u8]),
+    count: usize,
+) -> Result<Vec<u8>, Fail> {
     let mut text = Vec::new(alloc);
-    for byte in b"set V[0].a = " {
-        text.push(*byte)?;
-    }
+    text.extend_from_slice(head)?;
     for _ in 0..count {
-        text.push(front)?;
+        text.extend_from_slice(front)?;
     }
-    text.push(middle)?;
+    text.extend_from_slice(middle)?;
     for _ in 0..count {
-        text.push(back)?;
+        text.extend_from_slice(back)?;
     }
     Ok(text)
 }
 
+// How many `part` a line of 4,096 bytes has room for between `head` and `tail`.
+fn most(head: &[u8], part: &[u8], tail: &[u8]) -> usize {
+    let room = 4096usize
+        .saturating_sub(head.len())
+        .saturating_sub(tail.len());
+    room.checked_div(part.len()).unwrap_or(0)
+}
+
+// A line of 4,096 bytes: `head`, as many `part` as there is room for, `tail`, and spaces.
+fn chained(
+    rt: &impl Abort,
+    alloc: Global,
+    head: &[u8],
+    part: &[u8],
+    tail: &[u8],
+) -> Result<Vec<u8>, Fail> {
+    let count = most(head, part, tail);
+    let mut text = nested(alloc, head, (part, tail, b""), count)?;
+    for _ in text.len()..4096 {
+        text.push(b' ')?;
+    }
+    assert_eq!(rt; text.len(), 4096);
+    Ok(text)
+}
+
+// The brackets, and the column of the 65th.
 #[test]
 fn sixty_four_brackets_may_be_open(rt: HostRuntime) -> Result<(), Fail> {
-    assert_eq!(rt;
-        column(rt.alloc(), &nested(rt.alloc(), b'(', b'1', b')', 64)?),
-        0
-    );
-    assert_eq!(rt;
-        column(rt.alloc(), &nested(rt.alloc(), b'(', b'1', b')', 65)?),
-        78
-    );
+    let cases: [(&[u8], (&[u8], &[u8], &[u8]), u64); 4] = [
+        (b"set V[0].a = ", (b"(", b"1", b")"), 78),
+        (b"record P ", (b"{a", b":u8", b"}"), 138),
+        (b"mapping M = ", (b"byteswap(", b"N", b")"), 597),
+        (b"mapping M = ", (b"split(a,N,", b"N", b")"), 658),
+    ];
+    for (head, parts, column) in cases {
+        let most = nested(rt.alloc(), head, parts, 64)?;
+        assert_eq!(rt; fault(&rt, rt.alloc(), &most), None, "at {head:?}");
+        let more = nested(rt.alloc(), head, parts, 65)?;
+        assert_eq!(rt;
+            fault(&rt, rt.alloc(), &more),
+            syntax(column),
+            "at {head:?}"
+        );
+    }
     Ok(())
 }
 
-// Whether the text is a line with an expression that is too deep.
-fn is_too_deep(alloc: Global, text: &[u8]) -> bool {
-    if text.len() > 4096 {
-        return false;
-    }
-    matches!(parse_line(alloc, text), Err(LineFault::TooDeep))
-}
-
+// A leaf with 31 operators around it is 32 deep.
 #[test]
 fn expressions_may_be_thirty_two_deep(rt: HostRuntime) -> Result<(), Fail> {
-    assert_eq!(rt;
-        column(rt.alloc(), &nested(rt.alloc(), b'-', b'1', b' ', 31)?),
-        0
-    );
-    assert!(rt; is_too_deep(rt.alloc(), &nested(rt.alloc(), b'-', b'1', b' ', 32)?));
+    let cases: [(&[u8], (&[u8], &[u8], &[u8])); 10] = [
+        (b"set V[0].a = 1", (b" or 1", b"", b"")),
+        (b"set V[0].a = 1", (b" and 1", b"", b"")),
+        (b"set V[0].a = ", (b"not ", b"1", b"")),
+        (b"set V[0].a = 1", (b"+1", b"", b"")),
+        (b"set V[0].a = 1", (b"*1", b"", b"")),
+        (b"set V[0].a = ", (b"-", b"1", b"")),
+        (b"set V[0].a = ", (b"min(1,", b"1", b")")),
+        (b"update V where 1", (b"-1", b" set a = 1", b"")),
+        (b"update V set a = 1, a = 1", (b"/1", b", a = 1", b"")),
+        (b"reduce V count where 1", (b"%1", b"", b"")),
+    ];
+    for (head, parts) in cases {
+        let most = nested(rt.alloc(), head, parts, 31)?;
+        assert_eq!(rt;
+            fault(&rt, rt.alloc(), &most),
+            None,
+            "at {head:?} {parts:?}"
+        );
+        let more = nested(rt.alloc(), head, parts, 32)?;
+        assert_eq!(rt;
+            fault(&rt, rt.alloc(), &more),
+            Some(LineFault::TooDeep),
+            "at {head:?} {parts:?}"
+        );
+    }
     Ok(())
 }
 
+// Chains that are 4,096 bytes long: those of operators are too deep, and the others are lines. A fault stands at a second
+// comparison, at the 65th open bracket, at a token that is too long, or one past the last token.
 #[test]
 fn long_chains_are_read(rt: HostRuntime) -> Result<(), Fail> {
-    assert!(rt; is_too_deep(rt.alloc(), &nested(rt.alloc(), b'-', b'1', b' ', 2041)?));
+    let deep = Some(LineFault::TooDeep);
+    let cases: [(&[u8], &[u8], &[u8], Option<LineFault>); 45] = [
+        (b"set V[0].a = 1", b" or 1", b"", deep),
+        (b"set V[0].a = 1", b" and 1", b"", deep),
+        (b"set V[0].a = ", b"not ", b"1", deep),
+        (b"set V[0].a = 1", b"+1", b"", deep),
+        (b"set V[0].a = 1", b"-1", b"", deep),
+        (b"set V[0].a = 1", b"*1", b"", deep),
+        (b"set V[0].a = 1", b"/1", b"", deep),
+        (b"set V[0].a = 1", b"%1", b"", deep),
+        (b"set V[0].a = ", b"-", b"1", deep),
+        (b"set V[0].a = 1", b" or not 1<2*3+4", b"", deep),
+        (b"update V where 1", b" or 1", b" set a = 1", deep),
+        (b"update V set a = 1, a = 1", b"+1", b", a = 1", deep),
+        (b"reduce V count where 1", b" and 1", b"", deep),
+        (b"record P { a:u8", b",a:u8", b" }", None),
+        (b"record P { p { a:u8", b",a:u8", b" } }", None),
+        (b"record P { p { a:u8 }", b",p{a:u8}", b" }", None),
+        (b"record P { a:u8", b"[1]", b" }", None),
+        (b"record P { p { a:u8 }", b"[1]", b" }", None),
+        (b"view V : P [1", b",1", b"] as M", None),
+        (b"load V : P [?", b",?", b"] as M from \"d.csv\"", None),
+        (b"set V[0", b",0", b"].a = 1", None),
+        (b"set V[0].a", b".a", b" = 1", None),
+        (b"set V[0].a", b"[0]", b" = 1", None),
+        (b"set V[0].a = a", b".a[0]", b"", None),
+        (b"update V set a=1", b",a=1", b"", None),
+        (b"update V where 1 set a=1", b",a[0].a=-1*2", b"", None),
+        (b"reduce V max a", b"[0].a", b"", None),
+        (b"kernel V sum(a", b".a[0]", b") lanes 1", None),
+        (b"mapping M = split(a", b".a[0]", b", N, N)", None),
+        (b"bytes V 0", b"0", b"7", None),
+        (b"", b" \t", b"", None),
+        (b"print V #", b"({[\"#", b"", None),
+        (b"set V[0].a = 1", b"<1", b"", syntax(17)),
+        (b"set V[0].a = ", b"(", b"1", syntax(78)),
+        (b"set V[0].a = ", b"min(1,", b"1", syntax(401)),
+        (b"mapping M = ", b"byteswap(", b"N", syntax(597)),
+        (b"record P ", b"{a", b":u8", syntax(138)),
+        (b"print ", b"V", b"", syntax(7)),
+        (b"bytes V ", b"9", b"", syntax(9)),
+        (b"load V : P [1] as M from \"", b"d", b"\"", syntax(26)),
+        // The last token ends at 16 + 1019 * 4 + 1, at 14 + 2040 * 2 + 1, at 15 + 816 * 5, at 10 + 2042 * 2 + 2 and at
+        // 13 + 1020 * 4 - 1.
+        (b"update V set a=1", b",a=1", b",", syntax(4094)),
+        (b"set V[0].a = 1", b"+1", b"+", syntax(4096)),
+        (b"record P { a:u8", b",a:u8", b"", syntax(4096)),
+        (b"set V[0].a", b".a", b" =", syntax(4097)),
+        (b"set V[0].a = ", b"not ", b"", syntax(4093)),
+    ];
+    for (head, part, tail, answer) in cases {
+        let text = chained(&rt, rt.alloc(), head, part, tail)?;
+        assert_eq!(rt;
+            fault(&rt, rt.alloc(), &text),
+            answer,
+            "at {head:?} {part:?}"
+        );
+    }
+    Ok(())
+}
+
+// A line has at most 4,096 bytes, and its canonical text may have more.
+#[test]
+fn canonical_texts_may_be_longer(rt: HostRuntime) -> Result<(), Fail> {
+    type Parts = (&'static [u8], &'static [u8], &'static [u8]);
+    let cases: [(Parts, Parts); 5] = [
+        (
+            (b"record P { a:u8", b",a:u8", b" }"),
+            (b"record P { a : u8", b" , a : u8", b" }"),
+        ),
+        (
+            (b"record P { a:u8", b"[1]", b" }"),
+            (b"record P { a : u8", b" [ 1 ]", b" }"),
+        ),
+        (
+            (b"set V[0", b",0", b"].a = 1"),
+            (b"set V [ 0", b" , 0", b" ] . a = 1"),
+        ),
+        (
+            (b"set V[0].a", b".a", b" = 1"),
+            (b"set V [ 0 ] . a", b" . a", b" = 1"),
+        ),
+        (
+            (b"update V set a=1", b",a=1", b""),
+            (b"update V set a = 1", b" , a = 1", b""),
+        ),
+    ];
+    for ((head, part, tail), (first, next, last)) in cases {
+        let text = canonical(rt.alloc(), &chained(&rt, rt.alloc(), head, part, tail)?)?;
+        let count = most(head, part, tail);
+        let written = nested(rt.alloc(), first, (next, last, b""), count)?;
+        assert!(rt; written.len() > 4096);
+        assert_eq!(rt;
+            text.as_ref().map(|text| text.as_str().as_bytes()),
+            Some(written.as_slice()),
+            "at {head:?} {part:?}"
+        );
+    }
     Ok(())
 }
