@@ -1,4 +1,5 @@
 pub mod Rounds
 pub mod Sums
+pub mod TableSums
 pub mod Views
 pub mod Words

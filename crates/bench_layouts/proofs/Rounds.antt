@@ -1,14 +1,15 @@
 -- A store more: what it leaves of a row, of a round and of rounds.
-use Rattle.std.proofs.Common.{◌≡◌, ℕ, ◌+◌, ◌<◌, ℤ, Ok, length, refl, sym, ap, ◌∙◌, subst, ⊎_elim, add-one, arith}
+use Rattle.std.proofs.Common.{◌≡◌, ℕ, zero, suc, ◌+◌, ◌%◌, ◌<◌, ℤ, pos, ◌-ℤ◌, ◌≤ℤ◌, length, refl, sym, ap, ◌∙◌, subst, ⊎_elim, add-one, arith}
 use Rattle.std.proofs.lemmas.Bool.{cases_eq}
+use Rattle.std.proofs.lemmas.Int.{ints}
 use Rattle.places.specs.Image.{entry}
 use Rattle.piece_bits.specs.Tables.{HasShape, with_entry}
-use Rattle.piece_bits.proofs.TableLaws.{with_entry_shape, with_entry_same, with_entry_other}
+use Rattle.piece_bits.specs.TableLaws.{with_entry_shape, with_entry_same, with_entry_other}
 use Rattle.views.specs.declared.fault.StoreFault.{StoreFault}
 use Rattle.views.specs.Seen.{Seen, answer_of}
 use Rattle.bench_layouts.specs.Tables.{value, entry_after, row_sum, round_sum, sum_read}
-use Rattle.bench_layouts.specs.Rounds.{IsRewritten, HasEntries, HasValues, OthersStand, IsRefusedInRow}
-use Rattle.bench_layouts.proofs.Sums.{same_sums}
+use Rattle.bench_layouts.specs.Rounds.{IsRewritten, AreSmall, HasEntries, HasValues, OthersStand, IsRefusedInRow}
+use Rattle.bench_layouts.proofs.TableSums.{same_sums}
 
 -- the view that a store leaves
 abbrev pub stored : Seen → ℕ → ℕ → ℤ → Seen
@@ -89,5 +90,15 @@ pub same_read : (view : Seen) (entries : ℕ → ℕ → ℤ) (rows gets : ℕ) 
 same_read view entries rows gets same =
     same_sums (λ _. round_sum (entry view.table) rows) (λ _. round_sum entries rows) gets
     (λ _ _. same_sums (row_sum (entry view.table)) (row_sum entries) rows
-    (λ row row_in. same_sums (λ leaf. Ok (entry view.table row leaf)) (λ leaf. Ok (entries row leaf)) 4
-    (λ leaf leaf_in. ap Ok (same row leaf row_in leaf_in))))
+    (λ row row_in. same_sums (entry view.table row) (entries row) 4 (λ leaf leaf_in. same row leaf row_in leaf_in)))
+
+-- what rounds write is small
+small_after : (rounds row leaf : ℕ) → ((pos 0 -ℤ pos 128) ≤ℤ entry_after rounds row leaf) × (entry_after rounds row leaf ≤ℤ pos 128)
+small_after zero row leaf = (omega (arith, ints), omega (arith, ints))
+small_after (suc round) row leaf =
+    let below : (round + row + leaf) % 256 < 256 = omega arith in
+    (omega (arith, ints), omega (arith, ints))
+
+pub small_entries : (view : Seen) (rounds rows : ℕ) → HasEntries rows (entry_after rounds) view → length view.table ≡ rows → AreSmall view
+small_entries view rounds rows same count = λ row leaf row_in leaf_in.
+    subst (λ (v : ℤ). ((pos 0 -ℤ pos 128) ≤ℤ v) × (v ≤ℤ pos 128)) (sym (same row leaf (omega arith) leaf_in)) (small_after rounds row leaf)

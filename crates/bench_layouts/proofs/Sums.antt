@@ -1,4 +1,4 @@
--- Sums answer by answer: one more, a fault that stays, and sums of the same answers.
+-- Sums answer by answer: one more, and a fault that stays.
 use Rattle.std.proofs.Common.{◌≡◌, ℕ, zero, suc, ◌+◌, ◌-◌, ◌<◌, ℤ, ◌+ℤ◌, Ok, Err, refl, ap, ◌∙◌, arith}
 use Rattle.std.specs.Prelude.{Result}
 use Rattle.expr_lang.specs.declared.fault.EvalFault.{EvalFault}
@@ -36,12 +36,5 @@ module _ (answers : ℕ → Result ℤ EvalFault) where
   pub next_sum : (n : ℕ) (total value sum : ℤ) → summed answers n ≡ Ok total →
       answers n ≡ Ok value → ranged (total +ℤ value) ≡ Ok sum → summed answers (n + 1) ≡ Ok sum
   next_sum n total value sum is e fits = one_more n total is ∙ ap (added (Ok total)) e ∙ fits
-
--- the same answers have the same sum
-pub same_sums : (one two : ℕ → Result ℤ EvalFault) (count : ℕ) → ((n : ℕ) → n < count → one n ≡ two n) → summed one count ≡ summed two count
-same_sums one two zero same = refl
-same_sums one two (suc count) same =
-    ap (λ sum. added sum (one count)) (same_sums one two count (λ n below. same n (omega (arith, below))))
-    ∙ ap (added (summed two count)) (same count (omega arith))
 
 pub ruleset sums = (fault_of_answer, fault_of_sum, next_sum)

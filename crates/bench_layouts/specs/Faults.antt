@@ -2,7 +2,7 @@
 use Rattle.std.specs.Prelude.{◌≡◌, ⊤, ℕ, ℤ, [], ◌∷◌, Result, Err}
 use Rattle.record_dim.specs.Leaves.{kinds_of}
 use Rattle.piece_bits.specs.Tables.{hold_at}
-use Rattle.map_any.specs.Mappings.{holds_of}
+use Rattle.map_any.specs.Mappings.{holds_by}
 use Rattle.views.specs.declared.fault.StoreFault.{StoreFault}
 use Rattle.views.specs.Stores.{kind_at, store_answer}
 use Rattle.views.specs.Refusals.{IsNoView}
@@ -19,14 +19,13 @@ use Rattle.bench_layouts.specs.Tables.{measured_fields}
 -- the answer to a store in a leaf of the table
 abbrev pub answer_in : Form → ℕ → ℤ → Result Unit StoreFault
 answer_in form leaf number =
-    let kinds = kinds_of measured_fields in
-    store_answer (kind_at kinds leaf) (hold_at (holds_of (form_term form) kinds) leaf) number
+    store_answer (kind_at (kinds_of measured_fields) leaf) (hold_at (holds_by (form_term form) measured_fields) leaf) number
 
 -- a sum's fault is the first of its terms or that it is too great; want of memory is free
 abbrev pub IsFaultOf : Mode → BenchFault → Type 0
 IsFaultOf mode (fault.Eval first) = checksum_of mode ≡ Err first
 IsFaultOf mode fault.NoMemory = ⊤
-IsFaultOf (Table work) (fault.View refusal) = IsNoView (form_term work.form) (work.rows ∷ []) (kinds_of measured_fields) refusal
+IsFaultOf (Table work) (fault.View refusal) = IsNoView (form_term work.form) (work.rows ∷ []) measured_fields refusal
 IsFaultOf (Table work) (fault.Store refusal) = IsRefused (answer_in work.form) work.sets work.rows refusal
 IsFaultOf (Eval rows) (fault.View refusal) = ⊥
 IsFaultOf (Eval rows) (fault.Store refusal) = ⊥

@@ -1,8 +1,8 @@
 -- How the table lies in memory: each form's name and its expression.
 use Rattle.std.specs.Prelude.{ℕ, List, Option, Some, None, if◌then◌else◌, codes, bytes_eq}
-use Rattle.linearize.specs.declared.Order.TheVariants.{Row}
-use Rattle.map_aos.specs.declared.form.AosForm.TheVariants.{Packed}
-use Rattle.map_soa.specs.declared.form.SoaForm.TheVariants.{Aligned}
+use Rattle.extents.specs.declared.order.Order.TheVariants.{Row}
+use Rattle.places.specs.declared.forms.AosForm.TheVariants.{Packed}
+use Rattle.places.specs.declared.forms.SoaForm.TheVariants.{Aligned}
 use Rattle.map_expr.specs.Terms as terms
 use Rattle.bench_layouts.specs.declared.form.Form.{Form}
 use Rattle.bench_layouts.specs.declared.form.Form.TheVariants.{Aos, Soa, Aosoa}

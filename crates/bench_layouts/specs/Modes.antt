@@ -1,5 +1,5 @@
 -- Which words name a mode, and what each mode makes.
-use Rattle.std.specs.Prelude.{◌≡◌, ℕ, ◌^◌, ◌<◌, ℤ, if◌then◌else◌, List, [], ◌∷◌, Option, Some, None, Result, codes, bytes_eq}
+use Rattle.std.specs.Prelude.{◌≡◌, ℕ, ◌^◌, ◌<◌, ℤ, if◌then◌else◌, List, [], ◌∷◌, Option, Some, None, Result, Ok, codes, bytes_eq}
 use Rattle.std.specs.Str.Parse.{IsNumeral, digits_value, without_leading_plus}
 use Rattle.expr_lang.specs.declared.fault.EvalFault.{EvalFault}
 use Rattle.bench_layouts.specs.declared.mode.Mode.{Mode}
@@ -46,4 +46,4 @@ NamesMode words (Table work) = (behind : List (List ℕ)) × (behind_table words
 -- the number that a mode makes
 abbrev pub checksum_of : Mode → Result ℤ EvalFault
 checksum_of (Eval rows) = total_of (formula_of 0 1 2 3) rows
-checksum_of (Table work) = sum_read (entry_after work.sets) work.rows work.gets
+checksum_of (Table work) = Ok (sum_read (entry_after work.sets) work.rows work.gets)

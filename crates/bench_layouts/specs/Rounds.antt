@@ -1,5 +1,5 @@
 -- What rounds of writes leave of a view.
-use Rattle.std.specs.Prelude.{◌≡◌, ℕ, ◌<◌, ℤ, length, Result, Err}
+use Rattle.std.specs.Prelude.{◌≡◌, ℕ, ◌<◌, ℤ, pos, ◌-ℤ◌, ◌≤ℤ◌, length, Result, Err}
 use Rattle.places.specs.Image.{entry}
 use Rattle.piece_bits.specs.Tables.{HasShape}
 use Rattle.views.specs.declared.fault.StoreFault.{StoreFault}
@@ -20,6 +20,11 @@ pub record IsRewritten (old new : Seen) : Type 0 where
 -- the first rows have these entries
 abbrev pub HasEntries : ℕ → (ℕ → ℕ → ℤ) → Seen → Type 0
 HasEntries rows entries view = (row leaf : ℕ) → row < rows → leaf < 4 → entry view.table row leaf ≡ entries row leaf
+
+-- every entry lies between -128 and 128, so that no sum of them is too great
+abbrev pub AreSmall : Seen → Type 0
+AreSmall view =
+    (row leaf : ℕ) → row < length view.table → leaf < 4 → ((pos 0 -ℤ pos 128) ≤ℤ entry view.table row leaf) × (entry view.table row leaf ≤ℤ pos 128)
 
 -- the first leaves of a row hold the values of a round
 abbrev pub HasValues : ℕ → ℕ → ℕ → Seen → Type 0

@@ -1,9 +1,7 @@
 -- The table that is written and read: its record, what is written in it, and the sum of what is read.
-use Rattle.std.specs.Prelude.{ℕ, zero, suc, ◌+◌, ◌%◌, ℤ, pos, ◌-ℤ◌, Result, Ok, codes}
+use Rattle.std.specs.Prelude.{ℕ, zero, suc, ◌+◌, ◌%◌, ℤ, pos, ◌+ℤ◌, ◌-ℤ◌, codes}
 use Rattle.record_dim.specs.declared.leaf_type.LeafType.TheVariants.{I8, I16, I32, I64}
 use Rattle.record_dim.specs.Trees.{Fields, Single, End, Field}
-use Rattle.expr_lang.specs.declared.fault.EvalFault.{EvalFault}
-use Rattle.bench_layouts.specs.Totals.{summed}
 
 -- the record: 15 bytes in four leaves
 abbrev pub measured_fields : Fields
@@ -18,12 +16,17 @@ abbrev pub entry_after : ℕ → ℕ → ℕ → ℤ
 entry_after zero row leaf = pos 0
 entry_after (suc round) row leaf = value round row leaf
 
+-- the sum of the first numbers
+abbrev pub sum_to : (ℕ → ℤ) → ℕ → ℤ
+sum_to numbers zero = pos 0
+sum_to numbers (suc n) = sum_to numbers n +ℤ numbers n
+
 -- the sum of the entries of a row, of so many rows, and of so many rows that are read so many times
-abbrev pub row_sum : (ℕ → ℕ → ℤ) → ℕ → Result ℤ EvalFault
-row_sum entries row = summed (λ leaf. Ok (entries row leaf)) 4
+abbrev pub row_sum : (ℕ → ℕ → ℤ) → ℕ → ℤ
+row_sum entries row = sum_to (entries row) 4
 
-abbrev pub round_sum : (ℕ → ℕ → ℤ) → ℕ → Result ℤ EvalFault
-round_sum entries rows = summed (row_sum entries) rows
+abbrev pub round_sum : (ℕ → ℕ → ℤ) → ℕ → ℤ
+round_sum entries rows = sum_to (row_sum entries) rows
 
-abbrev pub sum_read : (ℕ → ℕ → ℤ) → ℕ → ℕ → Result ℤ EvalFault
-sum_read entries rows gets = summed (λ _. round_sum entries rows) gets
+abbrev pub sum_read : (ℕ → ℕ → ℤ) → ℕ → ℕ → ℤ
+sum_read entries rows gets = sum_to (λ _. round_sum entries rows) gets

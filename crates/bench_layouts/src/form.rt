@@ -3,10 +3,9 @@ ghost use Rattle.map_expr.specs.Terms.{term_of};
 ghost use Rattle.map_any.specs.Mappings.{IsBuiltTerm};
 ghost use Rattle.bench_layouts.specs.Forms.{form_named, form_term};
 
-use linearize::Order;
-use map_aos::AosForm;
+use extents::Order;
 use map_expr::MapExpr;
-use map_soa::SoaForm;
+use places::{AosForm, SoaForm};
 
 /// How the table lies in memory, row after row.
 #[derive(Clone, Copy, Debug, PartialEq, Eq)]

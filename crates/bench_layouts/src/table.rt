@@ -1,5 +1,4 @@
 ghost use Rattle.std.specs.Prelude.{◌≡◌, ◌^◌, ◌<◌, ◌≤◌, List, [], ◌∷◌, IfOk, IfErr, OnOk, Ok, length};
-ghost use Rattle.record_dim.specs.Leaves.{kinds_of};
 ghost use Rattle.record_dim.specs.Schemas.{schema_fields};
 ghost use Rattle.map_expr.specs.Terms.{term_of};
 ghost use Rattle.places.specs.Image.{entry};
@@ -10,14 +9,12 @@ ghost use Rattle.bench_layouts.specs.declared.mode.Mode.TheVariants.{Table};
 ghost use Rattle.bench_layouts.specs.Faults.{IsFaultOf};
 ghost use Rattle.bench_layouts.specs.Forms.{form_term};
 ghost use Rattle.bench_layouts.specs.Modes.{checksum_of};
-ghost use Rattle.bench_layouts.specs.Rounds.{HasEntries, IsMeasured, IsRewritten, IsRefused, IsRefusedInRound, IsRefusedInRow, OthersStand, HasValues};
+ghost use Rattle.bench_layouts.specs.Rounds.{AreSmall, HasEntries, IsMeasured, IsRewritten, IsRefused, IsRefusedInRound, IsRefusedInRow, OthersStand, HasValues};
 ghost use Rattle.bench_layouts.specs.Tables.{entry_after, measured_fields, round_sum, row_sum, sum_read, value};
 
-use crate::adding::add;
 use crate::fault::BenchFault;
 use crate::record::measured_schema;
 use crate::work::Work;
-use expr_lang::EvalFault;
 use extents::{ExtentWord, Extents, Shape};
 use std::alloc::Global;
 use std::marker::Brand;
@@ -41,7 +38,7 @@ fn new_view(alloc: Global, work: Work) -> Result<View, MakeView>
     ensures schema { IfOk result (λ view. schema_fields view.schema ≡ measured_fields) }
     ensures expr { IfOk result (λ view. term_of view.expr ≡ form_term work.form) }
     ensures table { IfOk result (λ view. view.table ≡ zeros work.rows 4) }
-    ensures refused { IfErr result (IsNoView (form_term work.form) (work.rows ∷ []) (kinds_of measured_fields)) }
+    ensures refused { IfErr result (IsNoView (form_term work.form) (work.rows ∷ []) measured_fields) }
 {
     let schema = measured_schema(alloc)?;
     let extents = extents_of(work.rows)?;
@@ -76,7 +73,7 @@ fn written_and_read<L: Ledger>(
 {
     let mut steps = Steps::<L>::new(blank);
     write_rounds(view, work.rows, work.sets, &mut steps)?;
-    Ok(read_rounds(view, work.rows, work.gets, &mut steps)?)
+    Ok(read_rounds(view, work.rows, work.gets, &mut steps))
 }
 
 // Writes the whole table so many times. It is what is measured.
@@ -152,53 +149,47 @@ fn value(round: u32, row: u32, leaf: usize) -> i128
 
 // The sum of all entries, read so many times. It is what is measured.
 #[inline(never)]
-fn read_rounds<L: Ledger>(
-    view: &mut View,
-    rows: u32,
-    rounds: u32,
-    steps: &mut Steps<L>,
-) -> Result<i128, EvalFault>
+fn read_rounds<L: Ledger>(view: &mut View, rows: u32, rounds: u32, steps: &mut Steps<L>) -> i128
     requires leaves { leaf_count_of view.old ≡ 4 }
     requires rows { rows ≤ length view.old.table }
+    requires small { AreSmall view.old }
     ensures sum { result ≡ sum_read (entry view.old.table) rows rounds }
     ensures same { view.new ≡ view.old }
 {
     let mut total = 0i128;
     for _round in 0..rounds {
-        total = add(total, read_round(view, rows, steps)?)?;
+        total += read_round(view, rows, steps);
     }
-    Ok(total)
+    total
 }
 
 // The sum of all entries.
-fn read_round<L: Ledger>(
-    view: &mut View,
-    rows: u32,
-    steps: &mut Steps<L>,
-) -> Result<i128, EvalFault>
+fn read_round<L: Ledger>(view: &mut View, rows: u32, steps: &mut Steps<L>) -> i128
     requires leaves { leaf_count_of view.old ≡ 4 }
     requires rows { rows ≤ length view.old.table }
+    requires small { AreSmall view.old }
     ensures sum { result ≡ round_sum (entry view.old.table) rows }
     ensures same { view.new ≡ view.old }
 {
     let mut total = 0i128;
     for row in 0..rows {
-        total = add(total, read_row(view, row, steps)?)?;
+        total += read_row(view, row, steps);
     }
-    Ok(total)
+    total
 }
 
 // The sum of the entries of a row.
 #[inline]
-fn read_row<L: Ledger>(view: &mut View, row: u32, steps: &mut Steps<L>) -> Result<i128, EvalFault>
+fn read_row<L: Ledger>(view: &mut View, row: u32, steps: &mut Steps<L>) -> i128
     requires leaves { leaf_count_of view.old ≡ 4 }
     requires row_in { row < length view.old.table }
+    requires small { AreSmall view.old }
     ensures sum { result ≡ row_sum (entry view.old.table) row }
     ensures same { view.new ≡ view.old }
 {
     let mut total = 0i128;
     for leaf in 0..LEAVES {
-        total = add(total, view.get(u64::from(row), leaf, steps))?;
+        total += view.get(u64::from(row), leaf, steps);
     }
-    Ok(total)
+    total
 }

@@ -4,9 +4,9 @@ use Rattle.std.specs.Int.{bit_at}
 use Rattle.std.proofs.lemmas.Nat.{shr-shr}
 use Rattle.std.proofs.lemmas.Bool.{cases_lt}
 use Rattle.places.specs.Image.{number}
-use Rattle.places.proofs.Numbers.{number_same, number_bits}
+use Rattle.places.specs.NumbersLaws.{number_same, number_bits}
 use Rattle.blobs.specs.Bits.{bit_of}
-use Rattle.blobs.proofs.Bytes.{IsPut}
+use Rattle.blobs.specs.BytesLaws.{IsPut}
 
 -- the field is read off the word
 pub field_read : (bytes : List ℕ) (at first low n word : ℕ) → at ≡ 8 * first + low → low + n ≤ 64

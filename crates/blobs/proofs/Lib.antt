@@ -1,4 +1,2 @@
-pub mod Words
-pub mod Bytes
 pub mod Tails
 pub mod Fields

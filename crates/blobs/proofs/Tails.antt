@@ -8,9 +8,9 @@ use Rattle.std.proofs.lemmas.Nat.Bits.{bit_at_cat_low, bit_at_cat_high}
 use Rattle.std.proofs.Math.Nat.{pow-suc, div-one}
 use Rattle.byteorder.specs.Endian.{little_from}
 use Rattle.places.specs.Image.{number}
-use Rattle.places.proofs.Numbers.{number_same, number_bits}
+use Rattle.places.specs.NumbersLaws.{number_same, number_bits}
 use Rattle.blobs.specs.Bits.{bit_of}
-use Rattle.blobs.proofs.Bytes.{bit_of_byte, bit_of_part}
+use Rattle.blobs.specs.BytesLaws.{bit_of_byte, bit_of_part}
 use borrow.Rule.Slice.PartMut.{put_mid}
 
 -- a bit of one byte and of the bytes behind it, given that the bytes behind have theirs

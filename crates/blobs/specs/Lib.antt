@@ -1,1 +1,3 @@
 pub mod Bits
+pub mod BytesLaws
+pub mod WordsLaws

@@ -1,7 +1,7 @@
 ghost use Rattle.std.specs.Prelude.{ℕ, ◌≡◌, ◌+◌, ◌*◌, ◌^◌, ◌<◌, ◌≤◌, IfOk, length, replicate, slice_index, slice_set};
 ghost use Rattle.std.specs.Int.{bit_at};
 ghost use Rattle.places.specs.Image.{number};
-ghost use Rattle.blobs.specs.Bits.{bit_of};
+ghost use Rattle.blobs.specs.Bits.{bit_of, IsWhole};
 
 use crate::whole::{is_whole, read_bytes, read_whole, write_bytes, write_whole};
 use crate::word::{bits_in_word, with_bits};
@@ -55,8 +55,47 @@ impl Blob {
         self.bytes[at] = byte;
     }
 
-    /// The `n` bits from bit `at` on as a number, least significant first.
+    /// The `n` bits from byte `first` on as a number, least significant first, which are one, two, four or eight bytes: one load.
+    #[inline(always)]
+    pub fn whole(&self, first: u64, n: u32) -> u64
+        requires whole { IsWhole n }
+        requires within { 8 * first + n ≤ 8 * length self.now }
+        ensures { result ≡ number (λ k. bit_of self.now (8 * first + k)) n }
+    {
+        read_whole(&self.bytes, first as usize, n)
+    }
+
+    /// Makes the `n` bits from byte `first` on those of `value`, least significant first: one store. All other bits stay.
+    #[inline(always)]
+    pub fn put_whole(&mut self, first: u64, n: u32, value: u64)
+        requires whole { IsWhole n }
+        requires within { 8 * first + n ≤ 8 * length self.old }
+        requires fits { value < 2 ^ n }
+        ensures inside { (k : ℕ) → k < n → bit_of self.new (8 * first + k) ≡ bit_at value k }
+        ensures before { (k : ℕ) → k < 8 * first → bit_of self.new k ≡ bit_of self.old k }
+        ensures after { (k : ℕ) → 8 * first + n ≤ k → bit_of self.new k ≡ bit_of self.old k }
+        ensures len { length self.new ≡ length self.old }
+    {
+        write_whole(&mut self.bytes, first as usize, n, value);
+    }
+
+    /// The `n` bits from bit `at` on as a number, least significant first. One, two, four or eight whole bytes are one load.
+    #[inline(always)]
     pub fn bits(&self, at: u64, n: u32) -> u64
+        requires some { 0 < n }
+        requires few { n ≤ 64 }
+        requires within { at + n ≤ 8 * length self.now }
+        ensures { result ≡ number (λ k. bit_of self.now (at + k)) n }
+    {
+        if at % 8 == 0 && is_whole(n) {
+            return self.whole(at / 8, n);
+        }
+        self.bits_by_words(at, n)
+    }
+
+    /// The bits of a word, where they lie in one, and else byte after byte.
+    #[inline(never)]
+    fn bits_by_words(&self, at: u64, n: u32) -> u64
         requires some { 0 < n }
         requires few { n ≤ 64 }
         requires within { at + n ≤ 8 * length self.now }
@@ -64,9 +103,6 @@ impl Blob {
     {
         let first = (at / 8) as usize;
         let low = (at % 8) as u32;
-        if low == 0 && is_whole(n) {
-            return read_whole(&self.bytes, first, n);
-        }
         if low + n <= 64 && self.bytes.len() - first >= 8 {
             return bits_in_word(read_bytes(&self.bytes, first, 8), low, n);
         }
@@ -74,7 +110,27 @@ impl Blob {
     }
 
     /// Makes the `n` bits from bit `at` on those of `value`, least significant first. All other bits stay.
+    #[inline(always)]
     pub fn put_bits(&mut self, at: u64, n: u32, value: u64)
+        requires some { 0 < n }
+        requires few { n ≤ 64 }
+        requires within { at + n ≤ 8 * length self.old }
+        requires fits { value < 2 ^ n }
+        ensures inside { (k : ℕ) → k < n → bit_of self.new (at + k) ≡ bit_at value k }
+        ensures before { (k : ℕ) → k < at → bit_of self.new k ≡ bit_of self.old k }
+        ensures after { (k : ℕ) → at + n ≤ k → bit_of self.new k ≡ bit_of self.old k }
+        ensures len { length self.new ≡ length self.old }
+    {
+        if at % 8 == 0 && is_whole(n) {
+            self.put_whole(at / 8, n, value);
+            return;
+        }
+        self.put_bits_by_words(at, n, value);
+    }
+
+    /// Writes the bits of a word, where they lie in one, and else byte after byte.
+    #[inline(never)]
+    fn put_bits_by_words(&mut self, at: u64, n: u32, value: u64)
         requires some { 0 < n }
         requires few { n ≤ 64 }
         requires within { at + n ≤ 8 * length self.old }
@@ -86,10 +142,6 @@ impl Blob {
     {
         let first = (at / 8) as usize;
         let low = (at % 8) as u32;
-        if low == 0 && is_whole(n) {
-            write_whole(&mut self.bytes, first, n, value);
-            return;
-        }
         if low + n <= 64 && self.bytes.len() - first >= 8 {
             let word = with_bits(read_bytes(&self.bytes, first, 8), low, n, value);
             write_bytes(&mut self.bytes, first, 8, word);

@@ -41,7 +41,7 @@ pub fn is_whole(n: u32) -> bool
     if n <= 16 { n % 8 == 0 } else { n % 32 == 0 }
 }
 
-/// The `n` bits from byte `first` on, which are whole bytes. Two comparisons lead to a load of that size: a table of jumps takes longer.
+/// The `n` bits from byte `first` on, which are whole bytes. Few comparisons lead to a load of that size: a table of jumps takes longer.
 #[inline(always)]
 pub fn read_whole(bytes: &[u8], first: usize, n: u32) -> u64
     requires whole { IsWhole n }

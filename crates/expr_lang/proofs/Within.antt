@@ -6,7 +6,7 @@ use Rattle.record_dim.specs.declared.path.PathStep.{PathStep}
 use Rattle.expr_lang.specs.declared.fault.BindFault.TheVariants as fault
 use Rattle.expr_lang.specs.Terms.{Term, Number, Entry, Index, Neg, Not, Binary, IsWithin}
 use Rattle.expr_lang.specs.Binding.{leaf_number, numbered, unknowns}
-use Rattle.expr_lang.proofs.Unknown.{IsAbsent, IsAt, found}
+use Rattle.expr_lang.specs.BindingLaws.{IsAbsent, IsAt, found}
 
 both_empty : {A : Type 0} (xs ys : List A) → xs ++ ys ≡ [] → (xs ≡ []) × (ys ≡ [])
 both_empty [] ys h = (refl, h)

@@ -4,3 +4,4 @@ pub mod Chains
 pub mod Terms
 pub mod Unknowns
 pub mod Values
+pub mod BindingLaws

@@ -11,7 +11,7 @@ ghost use Rattle.expr_lang.specs.Unknowns.{told};
 
 use crate::bound::{Bound, Chain, Link, Links, Operand, Step};
 use crate::{BindFault, Expr};
-use record_dim::{Path, PathStep, Schema};
+use record_dim::{Path, Schema};
 use std::alloc::{AllocError as NoMemory, Global};
 
 /// The expression with the number of its leaf in place of each path, or the first path or index from left to right that
@@ -23,7 +23,7 @@ pub fn bind(alloc: Global, expr: &Expr, schema: &Schema, rank: usize) -> Result<
     ensures fault { IfErr result (IsFirst (unknowns (paths_of (schema_fields schema.now)) rank (term_of expr.now))) }
 {
     match first_unknown(expr, schema, rank) {
-        Some(Unknown::Path(path)) => return Err(BindFault::UnknownPath(copied(alloc, path)?)),
+        Some(Unknown::Path(path)) => return Err(BindFault::UnknownPath(path.copy(alloc)?)),
         Some(Unknown::Index(dimension)) => return Err(BindFault::UnknownIndex(dimension)),
         None => {}
     }
@@ -139,17 +139,4 @@ fn with_step(alloc: Global, step: Step, rest: Links) -> Result<Links, NoMemory>
     ensures { IfOk result (λ links. (term : Term ℕ) → links_term term links ≡ links_term (step_term term step) rest) }
 {
     Ok(Links::More(Box::new(alloc, Link { step, rest })?))
-}
-
-fn copied(alloc: Global, path: &Path) -> Result<Path, NoMemory>
-    ensures { IfOk result (λ copy. copy ≡ path.now) }
-{
-    let [PathStep::Name(first), rest @ ..] = path.as_slice() else {
-        unreachable!()
-    };
-    let mut copy = Path::new(alloc, *first)?;
-    for step in rest {
-        copy.push(*step)?;
-    }
-    Ok(copy)
 }

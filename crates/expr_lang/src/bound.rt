@@ -4,7 +4,7 @@ ghost use Rattle.expr_lang.specs.Terms.{IsWithin, IsWithin-prop};
 use crate::BinOp;
 
 /// What has a value at once: a number, the entry of a leaf, or the index in a dimension.
-#[derive(Clone, Copy, Debug)]
+#[derive(Clone, Copy)]
 pub enum Operand {
     Number(i128),
     Leaf(usize),
@@ -14,7 +14,7 @@ pub enum Operand {
 /// An expression as it is evaluated: its first operand from the left, and what is done with its value, link by link. So a
 /// chain of operators is walked by a loop.
 #[cycle(chain)]
-#[derive(Debug, Drop)]
+#[derive(Drop)]
 pub struct Chain {
     pub first: Operand,
     pub links: Links,
@@ -22,7 +22,6 @@ pub struct Chain {
 
 /// What is done with a value: nothing more, or a step and then the rest.
 #[cycle(chain)]
-#[derive(Debug)]
 pub enum Links {
     End,
     More(Box<Link>),
@@ -30,7 +29,7 @@ pub enum Links {
 
 /// One step, and the links behind it.
 #[cycle(chain)]
-#[derive(Debug, Drop)]
+#[derive(Drop)]
 pub struct Link {
     pub step: Step,
     pub rest: Links,
@@ -38,7 +37,7 @@ pub struct Link {
 
 /// An operator with its operands but for the first, which is the value so far.
 #[cycle(chain)]
-#[derive(Debug, Drop)]
+#[derive(Drop)]
 pub enum Step {
     Neg,
     Not,
@@ -63,7 +62,7 @@ impl Drop for Links {
 }
 
 /// An expression whose paths are numbers of leaves. They lie below its number of leaves, and its indices below its rank.
-#[derive(Debug, Drop)]
+#[derive(Drop)]
 pub struct Bound {
     pub(crate) chain: Chain,
     pub(crate) leaves: usize,

@@ -4,7 +4,7 @@ ghost use Rattle.expr_lang.specs.Terms.{term_of, depth_of};
 use record_dim::Path;
 
 /// An operator with a left and a right operand.
-#[derive(Clone, Copy, Debug, PartialEq, Eq)]
+#[derive(Clone, Copy)]
 pub enum BinOp {
     Add,
     Sub,
@@ -24,7 +24,6 @@ pub enum BinOp {
 }
 
 /// An expression over the leaves of a row and the index of the row, in whole numbers.
-#[derive(Debug)]
 pub enum Expr {
     Number(i128),
     /// The entry of the leaf that has this path.

@@ -1,13 +1,18 @@
 use record_dim::Path;
 use std::alloc::{AllocError, AllocFailed};
+use thiserror::Error;
 
 /// Why an expression is not bound to a schema.
-#[derive(Debug, Drop)]
+#[derive(Debug, Drop, Error)]
 pub enum BindFault {
     /// No leaf has this path.
+    #[error("no leaf has this path")]
     UnknownPath(Path),
     /// This is no number of a dimension.
+    #[error("there is no dimension i{0}")]
     UnknownIndex(u32),
+    /// Memory ran out.
+    #[error("memory ran out")]
     NoMemory,
 }
 
@@ -34,10 +39,12 @@ impl<T: Drop> From<AllocFailed<T>> for BindFault {
 }
 
 /// Why an expression has no value on a row.
-#[derive(Clone, Copy, Debug, PartialEq, Eq)]
+#[derive(Clone, Copy, Debug, PartialEq, Eq, Error)]
 pub enum EvalFault {
     /// An exact result lies outside `-2^127` to `2^127 - 1`.
+    #[error("a result is out of range")]
     Overflow,
     /// A divisor is 0.
+    #[error("a divisor is 0")]
     DivideByZero,
 }

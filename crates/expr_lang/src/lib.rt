@@ -15,6 +15,3 @@ pub use evaluation::eval;
 pub use expr::{BinOp, Expr};
 pub use fault::{BindFault, EvalFault};
 pub use row::Row;
-
-#[cfg(test)]
-mod tests;

@@ -29,7 +29,8 @@ length-blocks f w each a (suc n) =
     omega (arith, length-append (f a) (flat_map f (range_with_len (a + 1) n)), each a, length-blocks f w each (a + 1) n)
 
 -- element j of block i stands after i whole blocks
-slice_get-blocks : {X : Type 0} (f : ℕ → List X) (w : ℕ) → ((i : ℕ) → length (f i) ≡ w) → (a n i j p : ℕ) → i < n → j < w → p ≡ i * w + j → slice_get (flat_map f (range_with_len a n)) p ≡ slice_get (f (a + i)) j
+slice_get-blocks : {X : Type 0} (f : ℕ → List X) (w : ℕ) → ((i : ℕ) → length (f i) ≡ w) → (a n i j p : ℕ) → i < n → j < w → p ≡ i * w + j
+    → slice_get (flat_map f (range_with_len a n)) p ≡ slice_get (f (a + i)) j
 slice_get-blocks f w each a zero i j p hi hj e = absurd (omega arith)
 slice_get-blocks f w each a (suc n) zero j p hi hj e =
     let pj : p ≡ j = omega arith in

@@ -2,3 +2,5 @@ pub mod Indices
 pub mod IndicesLaws
 pub mod Shapes
 pub mod Stored
+pub mod RowLaws
+pub mod ShapeLaws

@@ -1,6 +1,9 @@
 -- What the words of a shape mean.
-use Rattle.std.specs.Prelude.{◌≢◌, ℕ, ◌==◌, ◌/◌, ◌%◌, ◌<◌, ◌≤◌, ◌^◌, Bool, true, false, List, map, length, count_by, IsTrue, IsSomeAnd, Option, unwrap_or}
+use Rattle.std.specs.Prelude.{◌≢◌, ℕ, ◌==◌, ◌/◌, ◌%◌, ◌<◌, ◌≤◌, ◌^◌, Bool, true, false, not, ◌&&◌, ◌||◌, nat_lt, if◌then◌else◌, List, map, length, count_by, IsTrue, IsSomeAnd, Option, Some, None, unwrap_or}
 use Rattle.std.specs.List.{list_any}
+use Rattle.std.specs.Option.{option_map_or}
+use Rattle.extents.specs.declared.words.BadExtents.{BadExtents}
+use Rattle.extents.specs.declared.words.BadExtents.TheVariants as bad
 use Rattle.extents.specs.declared.words.ExtentWord.{ExtentWord}
 use Rattle.extents.specs.declared.words.ExtentWord.TheVariants.{Fixed, Rows}
 use Rattle.extents.specs.Indices.{product}
@@ -59,3 +62,19 @@ IsUnequal words rows = (¬ HasRows words) × IsSomeAnd rows (λ n. n ≢ fixed_p
 -- more than 2 ^ 24 rows
 abbrev pub IsTooMany : List ExtentWord → Option ℕ → Type 0
 IsTooMany words rows = 2 ^ 24 < product (extents_for words rows)
+
+-- the first cause for which words are no shape
+abbrev pub bad_shape : List ExtentWord → Option BadExtents
+bad_shape words =
+    if (length words == 0) || nat_lt 4 (length words) then Some bad.Rank
+    else (if nat_lt 1 (count_by is_rows words) then Some bad.TwoRows
+    else (if nat_lt 0 (count_by is_rows words) && list_any is_zero words then Some bad.RowsBesideZero
+    else None))
+
+-- the first cause for which the words of a shape give no extents for this number of rows
+abbrev pub bad_extents : List ExtentWord → Option ℕ → Option BadExtents
+bad_extents words rows =
+    if nat_lt 0 (count_by is_rows words) && not (unwrap_or rows 0 % fixed_product words == 0) then Some bad.NotDivisible
+    else (if (count_by is_rows words == 0) && option_map_or (λ n. not (n == fixed_product words)) rows false then Some bad.NotEqual
+    else (if nat_lt (2 ^ 24) (product (extents_for words rows)) then Some bad.TooMany
+    else None))

@@ -4,8 +4,10 @@
 //! indices. Nothing here takes memory.
 #![tactic(auto)]
 
+mod order;
 mod rows;
 mod words;
 
+pub use order::Order;
 pub use rows::Extents;
 pub use words::{BadExtents, ExtentWord, Shape};

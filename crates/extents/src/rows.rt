@@ -10,7 +10,7 @@ use arrayvec::ArrayVec;
 use std::marker::Model;
 
 /// The extents of an array: 1 to 4, each below 2^32, with at most 2^24 rows.
-#[derive(Clone, Copy, Debug)]
+#[derive(Clone, Copy)]
 pub struct Extents {
     sizes: [u32; 4],
     rank: usize,

@@ -1,7 +1,7 @@
-ghost use Rattle.std.specs.Prelude.{◌≡◌, ◌≢◌, ◌*◌, ◌↔◌, ◌<◌, ◌≤◌, ◌^◌, length, map, count_by, IsOk, IfOk, IfErr, IsSome, IsSomeAnd, IsTrue, Err};
+ghost use Rattle.std.specs.Prelude.{◌≡◌, ◌≢◌, ◌*◌, ◌↔◌, ◌<◌, ◌≤◌, ◌^◌, length, map, count_by, IsOk, IfOk, IfErr, IsSome, IsSomeAnd, IsTrue, MatchResult, Some, None, Err};
 ghost use Rattle.std.specs.List.{list_any};
 ghost use Rattle.extents.specs.Indices.{product};
-ghost use Rattle.extents.specs.Shapes.{extent_of, extents_for, fixed_product, is_rows, is_zero, HasRows, HasTwoRows, HasZero, IsRanked, IsShape, IsTooMany, IsUnequal, IsUneven};
+ghost use Rattle.extents.specs.Shapes.{bad_shape, bad_extents, extent_of, extents_for, fixed_product, is_rows, is_zero, HasRows, HasTwoRows, HasZero, IsRanked, IsShape, IsTooMany, IsUnequal, IsUneven};
 
 use crate::rows::Extents;
 use arrayvec::ArrayVec;
@@ -15,7 +15,7 @@ const MAX_RANK: usize = 4;
 const MAX_ROWS: u128 = 1 << 24;
 
 /// One extent as it is written: a number, or `?` for what the number of rows leaves.
-#[derive(Clone, Copy, Debug, PartialEq, Eq)]
+#[derive(Clone, Copy, PartialEq, Eq)]
 pub enum ExtentWord {
     Fixed(u32),
     Rows,
@@ -25,22 +25,22 @@ pub enum ExtentWord {
 #[derive(Clone, Copy, Debug, PartialEq, Eq, Error)]
 pub enum BadExtents {
     /// There are not 1 to 4 words.
-    #[error("Rank")]
+    #[error("there are not 1 to 4 extents")]
     Rank,
     /// Two words are `Rows`.
-    #[error("TwoRows")]
+    #[error("two extents are written `?`")]
     TwoRows,
     /// One word is `Rows`, and another is 0.
-    #[error("RowsBesideZero")]
+    #[error("an extent is 0 beside one that is written `?`")]
     RowsBesideZero,
     /// The fixed extents do not divide the number of rows.
-    #[error("NotDivisible")]
+    #[error("the other extents do not divide the number of rows")]
     NotDivisible,
     /// All extents are fixed, and another number of rows is given.
-    #[error("NotEqual")]
+    #[error("the extents have another number of rows than is given")]
     NotEqual,
     /// There are more than 2^24 rows.
-    #[error("TooMany")]
+    #[error("there are more than 2^24 rows")]
     TooMany,
 }
 
@@ -82,7 +82,7 @@ impl Default for ExtentWord {
 
 /// The written extents of an array: 1 to 4 words, of which at most one is `Rows`, and none is 0
 /// beside it.
-#[derive(Debug, Drop)]
+#[derive(Drop)]
 pub struct Shape {
     words: ArrayVec<ExtentWord, 4>,
 }
@@ -106,6 +106,7 @@ impl Shape {
     pub fn new(words: &[ExtentWord]) -> Result<Shape, BadExtents>
         ensures ok { IsOk result ↔ IsShape words.now }
         ensures words { IfOk result (λ shape. shape ≡ words.now) }
+        ensures first { MatchResult result (λ _. bad_shape words.now ≡ None) (λ bad. bad_shape words.now ≡ Some bad) }
 
         ensures rank { (result ≡ Err BadExtents.Rank) ↔ ¬ IsRanked words.now }
         ensures two_rows { (result ≡ Err BadExtents.TwoRows) ↔ (IsRanked words.now × HasTwoRows words.now) }
@@ -126,6 +127,7 @@ impl Shape {
         requires { HasRows self.now → IsSome rows }
         ensures ok { IsOk result ↔ ((¬ IsUneven self.now rows) × (¬ IsUnequal self.now rows) × (¬ IsTooMany self.now rows)) }
         ensures extents { IfOk result (λ extents. extents ≡ extents_for self.now rows) }
+        ensures first { MatchResult result (λ _. bad_extents self.now rows ≡ None) (λ bad. bad_extents self.now rows ≡ Some bad) }
 
         ensures not_divisible { (result ≡ Err BadExtents.NotDivisible) ↔ IsUneven self.now rows }
         ensures not_equal { (result ≡ Err BadExtents.NotEqual) ↔ IsUnequal self.now rows }
@@ -151,6 +153,7 @@ impl Shape {
 /// The first cause for which words are no shape.
 fn check(words: &[ExtentWord]) -> Result<(), BadExtents>
     ensures ok { IsOk result ↔ IsShape words.now }
+    ensures first { MatchResult result (λ _. bad_shape words.now ≡ None) (λ bad. bad_shape words.now ≡ Some bad) }
     ensures rank { (result ≡ Err BadExtents.Rank) ↔ ¬ IsRanked words.now }
     ensures two_rows { (result ≡ Err BadExtents.TwoRows) ↔ (IsRanked words.now × HasTwoRows words.now) }
     ensures rows_beside_zero { (result ≡ Err BadExtents.RowsBesideZero)
@@ -219,6 +222,3 @@ fn bounded(words: &[ExtentWord], size: u128, count: u128) -> Result<Extents, Bad
     }
     Ok(Extents::of_words(words, size as u32, count as u64))
 }
-
-#[cfg(test)]
-mod tests;

@@ -1,11 +1,3 @@
-pub mod Ends
-pub mod Words
-pub mod Cuts
-pub mod Rows
-pub mod Table
-pub mod Commas
-pub mod Stored
-pub mod Loaded
-pub mod Reading
-pub mod Headers
-pub mod Resolved
+pub mod Runs
+pub mod Texts
+pub mod Loads

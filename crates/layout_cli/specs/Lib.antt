@@ -1,6 +1,2 @@
-pub mod Outcome
-pub mod Answers
-pub mod Texts
-pub mod FirstScript
-pub mod FirstDataset
+pub mod Steps
 pub mod Run

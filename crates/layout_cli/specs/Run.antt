@@ -1,22 +1,23 @@
 -- The run of the program on a list of words: what it writes and how it ends, over the files of its shelf.
-use Rattle.std.specs.Prelude.{ℕ, ◌^◌, ◌==◌, Bool, false, List, [], ◌∷◌, length, map, ℤ, Option, None, Some, codes, bytes_eq, nat_lt, if◌then◌else◌}
+use Rattle.std.specs.Prelude.{ℕ, ◌^◌, List, ◌∷◌, [], length, Option, None, Some, codes, bytes_eq, nat_lt, if◌then◌else◌}
+use Rattle.csv.specs.Reading.{strip_bom}
 use Rattle.layout_io.specs.Files.{File, file_of}
-use Rattle.layout_cli.specs.Outcome.{Output, Finished, Faulted, Misused, Unread}
-use Rattle.layout_cli.specs.FirstScript.{FieldText, FirstScript, script_of}
-use Rattle.layout_cli.specs.FirstDataset.{table_in, print_text}
-use Rattle.layout_cli.specs.Texts.{usage_text, fault_text, unread_text}
-use Rattle.layout_cli.specs.declared.fault.CommandFault.{CommandFault}
-use Rattle.layout_cli.specs.declared.fault.CommandFault.TheVariants.{ScriptTooLong, NotBuilt}
+use Rattle.worlds.specs.Worlds.{empty}
+use Rattle.worlds.specs.FaultTexts.{fault_text, unread_text}
+use Rattle.worlds.specs.declared.fault.CommandFault.{CommandFault}
+use Rattle.worlds.specs.declared.fault.CommandFault.TheVariants.{ScriptTooLong}
+use Rattle.script_runs.specs.Outcome.{Output, Faulted, Misused, Unread}
+use Rattle.script_runs.specs.Lines.{lines_in}
+use Rattle.script_runs.specs.Fold.{fails_at, run_from}
+use Rattle.layout_cli.specs.Steps.{step_text}
+
+abbrev pub usage_text : List ℕ
+usage_text = codes "usage: llama run FILE | llama gen N\n"
 
 -- the script that words of the form `run FILE` name
 abbrev pub script_name : List (List ℕ) → Option (List ℕ)
 script_name (verb ∷ file ∷ []) = if bytes_eq verb (codes "run") then Some file else None
 script_name words = None
-
--- whether reading fails at this line
-abbrev pub fails_at : Option ℕ → ℕ → Bool
-fails_at None line = false
-fails_at (Some other) line = other == line
 
 -- what reading a file at a line gives
 abbrev pub read_at_line : List File → Option ℕ → ℕ → List ℕ → Option (List ℕ)
@@ -30,28 +31,15 @@ faulted line fault = record { bytes = fault_text line fault; end = Faulted }
 abbrev pub unread_at : ℕ → List ℕ → Output
 unread_at line name = record { bytes = unread_text line name; end = Unread line }
 
--- the print of a table that was read
-abbrev pub print_output : List FieldText → List (List ℤ) → Output
-print_output fields table = record { bytes = print_text (map (λ field. field.0) fields) table; end = Finished }
+-- the lines of a script; a byte order mark at its start is none of their bytes
+abbrev pub script_lines : List ℕ → List (List ℕ)
+script_lines script = lines_in (strip_bom script)
 
--- a dataset of the first form, or another
-abbrev pub run_table : List FieldText → Option (List (List ℤ)) → Output
-run_table fields None = faulted 2 NotBuilt
-run_table fields (Some table) = print_output fields table
-
--- a dataset that was read, or not
-abbrev pub run_dataset : FirstScript → Option (List ℕ) → Output
-run_dataset script None = unread_at 2 script.file
-run_dataset script (Some bytes) = run_table script.fields (table_in script.fields bytes)
-
--- a script of the first form, or another
-abbrev pub run_lines : Option FirstScript → List File → Option ℕ → Output
-run_lines None files unread = faulted 0 NotBuilt
-run_lines (Some script) files unread = run_dataset script (read_at_line files unread 2 script.file)
-
--- a script that was read
+-- a script that was read, of at most 65,536 lines
 unfoldable pub run_form : List ℕ → List File → Option ℕ → Output
-run_form script files unread = run_lines (script_of script) files unread
+run_form script files unread =
+    if nat_lt 65536 (length (script_lines script)) then faulted 0 ScriptTooLong
+    else run_from (step_text files) 1 empty (script_lines script) unread
 
 -- a script of at most 2^20 bytes, or one that was not read
 abbrev pub run_script : List ℕ → Option (List ℕ) → List File → Option ℕ → Output

@@ -26,16 +26,19 @@ digits_text-digit zero small = digits_text-zero
 digits_text-digit (suc n) small =
     let high : suc n / 10 ≡ 0 = omega arith in
     let low : suc n % 10 ≡ suc n = omega arith in
-    digits_text-pos (suc n) (omega arith) ∙ ap (map (λ digit. 48 + digit)) (digits_of_step 10 (suc n) (omega arith) (omega arith) ∙ ap (λ front. digits_of 10 front ++ suc n % 10 ∷ []) high ∙ ap (λ digit. digit ∷ []) low)
+    digits_text-pos (suc n) (omega arith) ∙ ap (map (λ digit. 48 + digit))
+    (digits_of_step 10 (suc n) (omega arith) (omega arith) ∙ ap (λ front. digits_of 10 front ++ suc n % 10 ∷ []) high ∙ ap (λ digit. digit ∷ []) low)
 
 -- a longer number is written as the number without its last digit, and then that digit
 pub digits_text-step : (n : ℕ) → 10 ≤ n → digits_text n ≡ digits_text (n / 10) ++ (48 + n % 10) ∷ []
 digits_text-step n long =
-    digits_text-pos n (omega arith) ∙ ap (map (λ digit. 48 + digit)) (digits_of_step 10 n (omega arith) (omega arith)) ∙ map-append (λ digit. 48 + digit) (digits_of 10 (n / 10)) (n % 10 ∷ []) ∙ ap (λ front. front ++ (48 + n % 10) ∷ []) (sym (digits_text-pos (n / 10) (omega arith)))
+    digits_text-pos n (omega arith) ∙ ap (map (λ digit. 48 + digit)) (digits_of_step 10 n (omega arith) (omega arith)) ∙ map-append (λ digit. 48 + digit) (digits_of 10 (n / 10)) (n % 10 ∷ [])
+    ∙ ap (λ front. front ++ (48 + n % 10) ∷ []) (sym (digits_text-pos (n / 10) (omega arith)))
 
 -- std prints the digits
 pub decimal-digits_text : (n : ℕ) → n < 10 ^ 64 → decimal n ≡ digits_text n
-decimal-digits_text = decimal_by_steps_wide (λ n text. text ≡ digits_text n) (λ n small. sym (digits_text-digit n small)) (λ n text long front. ap (λ front. front ++ (48 + n % 10) ∷ []) front ∙ sym (digits_text-step n long))
+decimal-digits_text = decimal_by_steps_wide (λ n text. text ≡ digits_text n) (λ n small. sym (digits_text-digit n small))
+    (λ n text long front. ap (λ front. front ++ (48 + n % 10) ∷ []) front ∙ sym (digits_text-step n long))
 
 -- std prints the decimal text
 pub signed_decimal-decimal_text : (z : ℤ) → mag z + 1 < 10 ^ 64 → signed_decimal z ≡ decimal_text z

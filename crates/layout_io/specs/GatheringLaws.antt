@@ -16,7 +16,8 @@ Gathers-start taken faults first held = record {
 }
 
 -- more in the buffer is more of the text
-pub Gathers-append : {K : Type 0} {taken : K → Option (List ℕ)} {faults : K → ℕ} {first now : K} {held text : List ℕ} (more : List ℕ) → Gathers taken faults first now held text → Gathers taken faults first now (held ++ more) (text ++ more)
+pub Gathers-append : {K : Type 0} {taken : K → Option (List ℕ)} {faults : K → ℕ} {first now : K} {held text : List ℕ} (more : List ℕ) → Gathers taken faults first now held text
+    → Gathers taken faults first now (held ++ more) (text ++ more)
 Gathers-append {held} more gathers = record {
   sent = gathers.sent;
   bytes = gathers.bytes;
@@ -25,12 +26,16 @@ Gathers-append {held} more gathers = record {
 }
 
 -- the sink took what the buffer held
-pub Wrote-gathered : {K : Type 0} {taken : K → Option (List ℕ)} {faults : K → ℕ} {first now new : K} {held text : List ℕ} → Gathers taken faults first now held text → Wrote taken faults now new held → Wrote taken faults first new text
-Wrote-gathered {taken} {faults} {first} {new} gathers wrote = subst (λ t. Wrote taken faults first new t) gathers.whole (Wrote-append (record { bytes = gathers.bytes; unfailed = gathers.unfailed }) wrote)
+pub Wrote-gathered : {K : Type 0} {taken : K → Option (List ℕ)} {faults : K → ℕ} {first now new : K} {held text : List ℕ} → Gathers taken faults first now held text
+    → Wrote taken faults now new held → Wrote taken faults first new text
+Wrote-gathered {taken} {faults} {first} {new} gathers wrote =
+    subst (λ t. Wrote taken faults first new t) gathers.whole (Wrote-append (record { bytes = gathers.bytes; unfailed = gathers.unfailed }) wrote)
 
 -- the sink stopped within what the buffer held
-pub Stopped-gathered : {K : Type 0} {taken : K → Option (List ℕ)} {faults : K → ℕ} {first now new : K} {held text : List ℕ} → Gathers taken faults first now held text → Stopped taken faults now new held → Stopped taken faults first new text
-Stopped-gathered {taken} {faults} {first} {new} gathers stop = subst (λ t. Stopped taken faults first new t) gathers.whole (Stopped-second (record { bytes = gathers.bytes; unfailed = gathers.unfailed }) stop)
+pub Stopped-gathered : {K : Type 0} {taken : K → Option (List ℕ)} {faults : K → ℕ} {first now new : K} {held text : List ℕ} → Gathers taken faults first now held text
+    → Stopped taken faults now new held → Stopped taken faults first new text
+Stopped-gathered {taken} {faults} {first} {new} gathers stop =
+    subst (λ t. Stopped taken faults first new t) gathers.whole (Stopped-second (record { bytes = gathers.bytes; unfailed = gathers.unfailed }) stop)
 
 -- a text that was written is gathered by an empty buffer
 pub Gathers-written : {K : Type 0} {taken : K → Option (List ℕ)} {faults : K → ℕ} {first now : K} {text : List ℕ} → Wrote taken faults first now text → Gathers taken faults first now [] text
@@ -42,7 +47,8 @@ Gathers-written {text} wrote = record {
 }
 
 -- a text that was gathered into a text that was gathered
-pub Gathers-trans : {K : Type 0} {taken : K → Option (List ℕ)} {faults : K → ℕ} {first mid now : K} {held whole text : List ℕ} → Gathers taken faults first mid whole text → Gathers taken faults mid now held whole → Gathers taken faults first now held text
+pub Gathers-trans : {K : Type 0} {taken : K → Option (List ℕ)} {faults : K → ℕ} {first mid now : K} {held whole text : List ℕ} → Gathers taken faults first mid whole text
+    → Gathers taken faults mid now held whole → Gathers taken faults first now held text
 Gathers-trans {taken} {first} {held} before after = record {
   sent = before.sent ++ after.sent;
   bytes = after.bytes ∙ ap (λ had. with_bytes had after.sent) before.bytes ∙ with_bytes-append (taken first) before.sent after.sent;
@@ -51,17 +57,20 @@ Gathers-trans {taken} {first} {held} before after = record {
 }
 
 -- a buffer that was handed to the sink, or stopped within it
-pub Writes-gathered : {K T E : Type 0} {taken : K → Option (List ℕ)} {faults : K → ℕ} {first now : K} {held text : List ℕ} (new : K) (result : Result T E) → Gathers taken faults first now held text → Writes taken faults now new result held → Writes taken faults first new result text
+pub Writes-gathered : {K T E : Type 0} {taken : K → Option (List ℕ)} {faults : K → ℕ} {first now : K} {held text : List ℕ} (new : K) (result : Result T E)
+    → Gathers taken faults first now held text → Writes taken faults now new result held → Writes taken faults first new result text
 Writes-gathered new (Ok value) gathers wrote = Wrote-gathered gathers wrote
 Writes-gathered new (Err error) gathers stop = Stopped-gathered gathers stop
 
 -- more of a text, gathered from what the buffer held before
-pub Gathers-more : {K T E : Type 0} {taken : K → Option (List ℕ)} {faults : K → ℕ} {first now : K} {held text : List ℕ} (new : K) (result : Result T E) (kept more : List ℕ) → Gathers taken faults first now held text → GathersOrStops taken faults now new result kept (held ++ more) → GathersOrStops taken faults first new result kept (text ++ more)
+pub Gathers-more : {K T E : Type 0} {taken : K → Option (List ℕ)} {faults : K → ℕ} {first now : K} {held text : List ℕ} (new : K) (result : Result T E) (kept more : List ℕ)
+    → Gathers taken faults first now held text → GathersOrStops taken faults now new result kept (held ++ more) → GathersOrStops taken faults first new result kept (text ++ more)
 Gathers-more new (Ok value) kept more gathers after = Gathers-trans (Gathers-append more gathers) after
 Gathers-more new (Err error) kept more gathers stop = Stopped-gathered (Gathers-append more gathers) stop
 
 -- what is left where a function gives up
-pub GathersOrStops-err : {K T E : Type 0} {taken : K → Option (List ℕ)} {faults : K → ℕ} {first now : K} {text : List ℕ} (result : Result T E) (held : List ℕ) → IsErr result → Stopped taken faults first now text → GathersOrStops taken faults first now result held text
+pub GathersOrStops-err : {K T E : Type 0} {taken : K → Option (List ℕ)} {faults : K → ℕ} {first now : K} {text : List ℕ} (result : Result T E) (held : List ℕ) → IsErr result
+    → Stopped taken faults first now text → GathersOrStops taken faults first now result held text
 GathersOrStops-err (Ok value) held err stop = absurd (cc)
 GathersOrStops-err (Err error) held err stop = stop
 
@@ -75,7 +84,8 @@ Puts-nil taken faults old held value = record {
 }
 
 -- one piece after another
-pub Puts-append : {K T S E D : Type 0} {taken : K → Option (List ℕ)} {faults : K → ℕ} {old mid new : K} {was kept held a b : List ℕ} {value : S} {result : Result T E} → Puts {E = D} taken faults old mid was kept (Ok value) a → Puts taken faults mid new kept held result b → Puts taken faults old new was held result (a ++ b)
+pub Puts-append : {K T S E D : Type 0} {taken : K → Option (List ℕ)} {faults : K → ℕ} {old mid new : K} {was kept held a b : List ℕ} {value : S} {result : Result T E}
+    → Puts {E = D} taken faults old mid was kept (Ok value) a → Puts taken faults mid new kept held result b → Puts taken faults old new was held result (a ++ b)
 Puts-append {was} {kept} {a} {b} before after = record {
   gathers = λ first text gathers. rw (← append_assoc text a b) (after.gathers first (text ++ a) (before.gathers first text gathers));
   bound = λ bound. after.bound (before.bound bound);
@@ -87,7 +97,8 @@ Puts-append {was} {kept} {a} {b} before after = record {
 }
 
 -- a call that stopped in a front of a piece, where the function then gives up
-pub Puts-stop : {K T S E F : Type 0} {taken : K → Option (List ℕ)} {faults : K → ℕ} {old new : K} {was held a : List ℕ} {error : F} (result : Result T E) (b : List ℕ) → IsErr result → Puts {T = S} taken faults old new was held (Err error) a → Puts taken faults old new was held result (a ++ b)
+pub Puts-stop : {K T S E F : Type 0} {taken : K → Option (List ℕ)} {faults : K → ℕ} {old new : K} {was held a : List ℕ} {error : F} (result : Result T E) (b : List ℕ) → IsErr result
+    → Puts {T = S} taken faults old new was held (Err error) a → Puts taken faults old new was held result (a ++ b)
 Puts-stop (Ok value) b err puts = absurd (cc)
 Puts-stop {a} (Err error) b err puts = record {
   gathers = λ first text gathers. rw (← append_assoc text a b) (Stopped-first b (puts.gathers first text gathers));
@@ -97,31 +108,41 @@ Puts-stop {a} (Err error) b err puts = record {
 }
 
 -- what follows a stop
-pub Puts-stopped : {K T E : Type 0} {taken : K → Option (List ℕ)} {faults : K → ℕ} {old new : K} {was held a : List ℕ} (result : Result T E) (b : List ℕ) → IsErr result → Puts taken faults old new was held result a → Puts taken faults old new was held result (a ++ b)
+pub Puts-stopped : {K T E : Type 0} {taken : K → Option (List ℕ)} {faults : K → ℕ} {old new : K} {was held a : List ℕ} (result : Result T E) (b : List ℕ) → IsErr result
+    → Puts taken faults old new was held result a → Puts taken faults old new was held result (a ++ b)
 Puts-stopped (Ok value) b err puts = absurd (cc)
 Puts-stopped (Err error) b err puts = Puts-stop (Err error) b err puts
 
 -- the same in a second piece, after a first one
-pub Puts-second : {K T R S E F D : Type 0} {taken : K → Option (List ℕ)} {faults : K → ℕ} {old mid new : K} {was kept held a b : List ℕ} {value : R} {error : F} (result : Result T E) (c : List ℕ) → IsErr result → Puts {E = D} taken faults old mid was kept (Ok value) a → Puts {T = S} taken faults mid new kept held (Err error) b → Puts taken faults old new was held result ((a ++ b) ++ c)
+pub Puts-second : {K T R S E F D : Type 0} {taken : K → Option (List ℕ)} {faults : K → ℕ} {old mid new : K} {was kept held a b : List ℕ} {value : R} {error : F} (result : Result T E) (c : List ℕ)
+    → IsErr result → Puts {E = D} taken faults old mid was kept (Ok value) a → Puts {T = S} taken faults mid new kept held (Err error) b → Puts taken faults old new was held result ((a ++ b) ++ c)
 Puts-second result c err before stop = Puts-stop result c err (Puts-append before stop)
 
 -- a loop that put f of the first items, and then stopped within f of the item at i
-pub Puts-loop_err : {K X T R S E F D : Type 0} {taken : K → Option (List ℕ)} {faults : K → ℕ} {old mid new : K} {was kept held : List ℕ} {value : R} {error : F} (result : Result T E) (f : X → List ℕ) (xs : List X) (i : ℕ) (d : X) → i < length xs → IsErr result → Puts {E = D} taken faults old mid was kept (Ok value) (flat_map f (take i xs)) → Puts {T = S} taken faults mid new kept held (Err error) (f (get_or xs i d)) → Puts taken faults old new was held result (flat_map f xs)
-Puts-loop_err {taken} {faults} {old} {new} {was} {held} result f xs i d small err before stop = subst (λ piece. Puts taken faults old new was held result piece) (flat_map_split f xs i d small) (Puts-second result (flat_map f (drop (i + 1) xs)) err before stop)
+pub Puts-loop_err : {K X T R S E F D : Type 0} {taken : K → Option (List ℕ)} {faults : K → ℕ} {old mid new : K} {was kept held : List ℕ} {value : R} {error : F} (result : Result T E)
+    (f : X → List ℕ) (xs : List X) (i : ℕ) (d : X) → i < length xs → IsErr result → Puts {E = D} taken faults old mid was kept (Ok value) (flat_map f (take i xs))
+    → Puts {T = S} taken faults mid new kept held (Err error) (f (get_or xs i d)) → Puts taken faults old new was held result (flat_map f xs)
+Puts-loop_err {taken} {faults} {old} {new} {was} {held} result f xs i d small err before stop =
+    subst (λ piece. Puts taken faults old new was held result piece) (flat_map_split f xs i d small) (Puts-second result (flat_map f (drop (i + 1) xs)) err before stop)
 
 -- a piece, and then nothing: what the last call of a function puts, where its text is `joined`
-pub Puts-last : {K T E : Type 0} {taken : K → Option (List ℕ)} {faults : K → ℕ} {old new : K} {was held a : List ℕ} {result : Result T E} → Puts taken faults old new was held result a → Puts taken faults old new was held result (a ++ [])
+pub Puts-last : {K T E : Type 0} {taken : K → Option (List ℕ)} {faults : K → ℕ} {old new : K} {was held a : List ℕ} {result : Result T E} → Puts taken faults old new was held result a
+    → Puts taken faults old new was held result (a ++ [])
 Puts-last {taken} {faults} {old} {new} {was} {held} {a} {result} puts = rw (append-nil a) puts
 
 -- a loop that put f of all items
-pub Puts-loop_ok : {K X T E : Type 0} {taken : K → Option (List ℕ)} {faults : K → ℕ} {old new : K} {was held : List ℕ} {result : Result T E} (f : X → List ℕ) (xs : List X) (i : ℕ) → length xs ≤ i → Puts taken faults old new was held result (flat_map f (take i xs)) → Puts taken faults old new was held result (flat_map f xs)
+pub Puts-loop_ok : {K X T E : Type 0} {taken : K → Option (List ℕ)} {faults : K → ℕ} {old new : K} {was held : List ℕ} {result : Result T E} (f : X → List ℕ) (xs : List X) (i : ℕ) → length xs ≤ i
+    → Puts taken faults old new was held result (flat_map f (take i xs)) → Puts taken faults old new was held result (flat_map f xs)
 Puts-loop_ok f xs i all puts = rw (← take_all i xs all) puts
 
 -- a new buffer, a text put into it, and the buffer handed to the sink
-pub Writes-puts : {K T S E D : Type 0} {taken : K → Option (List ℕ)} {faults : K → ℕ} {old mid : K} {was held text : List ℕ} {value : S} (new : K) (result : Result T E) → was ≡ [] → Puts {E = D} taken faults old mid was held (Ok value) text → ((first : K) (text : List ℕ) → Gathers taken faults first mid held text → Writes taken faults first new result text) → Writes taken faults old new result text
+pub Writes-puts : {K T S E D : Type 0} {taken : K → Option (List ℕ)} {faults : K → ℕ} {old mid : K} {was held text : List ℕ} {value : S} (new : K) (result : Result T E) → was ≡ []
+    → Puts {E = D} taken faults old mid was held (Ok value) text → ((first : K) (text : List ℕ) → Gathers taken faults first mid held text → Writes taken faults first new result text)
+    → Writes taken faults old new result text
 Writes-puts {taken} {faults} {old} {was} {text} new result empty puts flushed = flushed old text (puts.gathers old [] (rw empty (Gathers-start taken faults old [])))
 
 -- a new buffer, and a stop in the text put into it
-pub Writes-puts_err : {K T E : Type 0} {taken : K → Option (List ℕ)} {faults : K → ℕ} {old new : K} {was held text : List ℕ} (result : Result T E) → was ≡ [] → IsErr result → Puts taken faults old new was held result text → Writes taken faults old new result text
+pub Writes-puts_err : {K T E : Type 0} {taken : K → Option (List ℕ)} {faults : K → ℕ} {old new : K} {was held text : List ℕ} (result : Result T E) → was ≡ [] → IsErr result
+    → Puts taken faults old new was held result text → Writes taken faults old new result text
 Writes-puts_err (Ok value) empty err puts = absurd (cc)
 Writes-puts_err {taken} {faults} {old} (Err error) empty err puts = puts.gathers old [] (rw empty (Gathers-start taken faults old []))

@@ -35,7 +35,8 @@ pub Wrote-nil : {K : Type 0} (taken : K → Option (List ℕ)) (faults : K → �
 Wrote-nil taken faults old = record { bytes = sym (with_bytes-nil (taken old)); unfailed = refl }
 
 -- one text after another
-pub Wrote-append : {K : Type 0} {taken : K → Option (List ℕ)} {faults : K → ℕ} {old mid new : K} {a b : List ℕ} → Wrote taken faults old mid a → Wrote taken faults mid new b → Wrote taken faults old new (a ++ b)
+pub Wrote-append : {K : Type 0} {taken : K → Option (List ℕ)} {faults : K → ℕ} {old mid new : K} {a b : List ℕ} → Wrote taken faults old mid a → Wrote taken faults mid new b
+    → Wrote taken faults old new (a ++ b)
 Wrote-append {taken} {old} {a} {b} first second = record {
   bytes = second.bytes ∙ ap (λ held. with_bytes held b) first.bytes ∙ with_bytes-append (taken old) a b;
   unfailed = second.unfailed ∙ first.unfailed;
@@ -53,41 +54,50 @@ Stopped-first {taken} {old} {a} b stop =
     }
 
 -- a stop in the second of two texts, after the first was written, is a stop in both together
-pub Stopped-second : {K : Type 0} {taken : K → Option (List ℕ)} {faults : K → ℕ} {old mid new : K} {a b : List ℕ} → Wrote taken faults old mid a → Stopped taken faults mid new b → Stopped taken faults old new (a ++ b)
+pub Stopped-second : {K : Type 0} {taken : K → Option (List ℕ)} {faults : K → ℕ} {old mid new : K} {a b : List ℕ} → Wrote taken faults old mid a → Stopped taken faults mid new b
+    → Stopped taken faults old new (a ++ b)
 Stopped-second {taken} {old} {a} {b} first stop = record {
   count = length a + stop.count;
   proper = omega (arith, length-append a b);
-  bytes = stop.bytes ∙ ap (λ held. with_bytes held (take stop.count b)) first.bytes ∙ with_bytes-append (taken old) a (take stop.count b) ∙ ap (λ text. with_bytes (taken old) text) (sym (take_past a b stop.count));
+  bytes = stop.bytes ∙ ap (λ held. with_bytes held (take stop.count b)) first.bytes ∙ with_bytes-append (taken old) a (take stop.count b)
+      ∙ ap (λ text. with_bytes (taken old) text) (sym (take_past a b stop.count));
   rose = rw first.unfailed at stop.rose;
 }
 
 -- a stop in a front of a text is a stop in the text
-pub Stopped-front : {K : Type 0} {taken : K → Option (List ℕ)} {faults : K → ℕ} {old new : K} {a : List ℕ} (b text : List ℕ) → a ++ b ≡ text → Stopped taken faults old new a → Stopped taken faults old new text
+pub Stopped-front : {K : Type 0} {taken : K → Option (List ℕ)} {faults : K → ℕ} {old new : K} {a : List ℕ} (b text : List ℕ) → a ++ b ≡ text → Stopped taken faults old new a
+    → Stopped taken faults old new text
 Stopped-front {taken} {faults} {old} {new} b text whole stop = subst (λ t. Stopped taken faults old new t) whole (Stopped-first b stop)
 
 -- a text that was written, and then the last one
-pub Writes-last : {K T E : Type 0} {taken : K → Option (List ℕ)} {faults : K → ℕ} {old mid : K} {a : List ℕ} (new : K) (result : Result T E) (b : List ℕ) → Wrote taken faults old mid a → Writes taken faults mid new result b → Writes taken faults old new result (a ++ b)
+pub Writes-last : {K T E : Type 0} {taken : K → Option (List ℕ)} {faults : K → ℕ} {old mid : K} {a : List ℕ} (new : K) (result : Result T E) (b : List ℕ) → Wrote taken faults old mid a
+    → Writes taken faults mid new result b → Writes taken faults old new result (a ++ b)
 Writes-last new (Ok value) b first last = Wrote-append first last
 Writes-last new (Err error) b first last = Stopped-second first last
 
 -- what is left where a function ends well
-pub Writes-ok : {K T E : Type 0} {taken : K → Option (List ℕ)} {faults : K → ℕ} {old new : K} {text : List ℕ} (result : Result T E) → IsOk result → Wrote taken faults old new text → Writes taken faults old new result text
+pub Writes-ok : {K T E : Type 0} {taken : K → Option (List ℕ)} {faults : K → ℕ} {old new : K} {text : List ℕ} (result : Result T E) → IsOk result → Wrote taken faults old new text
+    → Writes taken faults old new result text
 Writes-ok (Ok value) ok wrote = wrote
 Writes-ok (Err error) ok wrote = absurd (cc)
 
 -- what is left where a function gives up
-pub Writes-err : {K T E : Type 0} {taken : K → Option (List ℕ)} {faults : K → ℕ} {old new : K} {text : List ℕ} (result : Result T E) → IsErr result → Stopped taken faults old new text → Writes taken faults old new result text
+pub Writes-err : {K T E : Type 0} {taken : K → Option (List ℕ)} {faults : K → ℕ} {old new : K} {text : List ℕ} (result : Result T E) → IsErr result → Stopped taken faults old new text
+    → Writes taken faults old new result text
 Writes-err (Ok value) err stop = absurd (cc)
 Writes-err (Err error) err stop = stop
 
 -- a stop in the text of the first items and of one more is a stop in the text of all items
-pub Stopped-flat_map : {K X : Type 0} {taken : K → Option (List ℕ)} {faults : K → ℕ} {first new : K} (f : X → List ℕ) (xs : List X) (i : ℕ) (d : X) → i < length xs → Stopped taken faults first new (flat_map f (take i xs) ++ f (get_or xs i d)) → Stopped taken faults first new (flat_map f xs)
+pub Stopped-flat_map : {K X : Type 0} {taken : K → Option (List ℕ)} {faults : K → ℕ} {first new : K} (f : X → List ℕ) (xs : List X) (i : ℕ) (d : X) → i < length xs
+    → Stopped taken faults first new (flat_map f (take i xs) ++ f (get_or xs i d)) → Stopped taken faults first new (flat_map f xs)
 Stopped-flat_map f xs i d small stop = Stopped-front (flat_map f (drop (i + 1) xs)) _ (flat_map_split f xs i d small) stop
 
 -- a loop that wrote f of the first items, and then stopped within f of the item at i; where the item has a name x of its own, `rw` by `x ≡ get_or xs i x` first
-pub Stopped-loop : {K X : Type 0} {taken : K → Option (List ℕ)} {faults : K → ℕ} {first mid new : K} (f : X → List ℕ) (xs : List X) (i : ℕ) (d : X) → i < length xs → Wrote taken faults first mid (flat_map f (take i xs)) → Stopped taken faults mid new (f (get_or xs i d)) → Stopped taken faults first new (flat_map f xs)
+pub Stopped-loop : {K X : Type 0} {taken : K → Option (List ℕ)} {faults : K → ℕ} {first mid new : K} (f : X → List ℕ) (xs : List X) (i : ℕ) (d : X) → i < length xs
+    → Wrote taken faults first mid (flat_map f (take i xs)) → Stopped taken faults mid new (f (get_or xs i d)) → Stopped taken faults first new (flat_map f xs)
 Stopped-loop f xs i d small before stop = Stopped-flat_map f xs i d small (Stopped-second before stop)
 
 -- the same where the function then gives up
-pub Writes-loop_err : {K X T E : Type 0} {taken : K → Option (List ℕ)} {faults : K → ℕ} {first mid new : K} (result : Result T E) (f : X → List ℕ) (xs : List X) (i : ℕ) (d : X) → i < length xs → IsErr result → Wrote taken faults first mid (flat_map f (take i xs)) → Stopped taken faults mid new (f (get_or xs i d)) → Writes taken faults first new result (flat_map f xs)
+pub Writes-loop_err : {K X T E : Type 0} {taken : K → Option (List ℕ)} {faults : K → ℕ} {first mid new : K} (result : Result T E) (f : X → List ℕ) (xs : List X) (i : ℕ) (d : X) → i < length xs
+    → IsErr result → Wrote taken faults first mid (flat_map f (take i xs)) → Stopped taken faults mid new (f (get_or xs i d)) → Writes taken faults first new result (flat_map f xs)
 Writes-loop_err result f xs i d small err before stop = Writes-err result err (Stopped-loop f xs i d small before stop)

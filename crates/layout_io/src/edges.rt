@@ -1,15 +1,47 @@
 // The real edges: files of the system, and a writer such as standard output. They count faults and
 // tell nothing else.
-ghost use Rattle.std.specs.Prelude.{◌≡◌, ◌≤◌, None, length, IfOk};
+ghost use Rattle.std.specs.Prelude.{◌≡◌, ◌≤◌, ◌<◌, None, length, IfOk};
+ghost use Rattle.std.specs.Io.{ReadsAtMost, WritesAtMost};
+ghost use Rattle.std.specs.Io.KnownBytes.{ReadConsumes, WriteAppends};
 
 use crate::ends::{Failed, Shelf, Sink};
 use std::fs::File;
-use std::io;
-use std::io::{Read, Seek, SeekFrom, Write};
+use std::io::{ErrorKind, Read, Seek, SeekFrom, Write};
 use std::rt::Files;
 
 // The longest name, in bytes, of a file that stays open between two reads: it is kept whole.
 const NAME_BYTES: usize = 128;
+
+// One read, tried again where a signal interrupted it.
+fn read_some<F: Read>(file: &mut F, into: &mut [u8]) -> Result<usize, Failed>
+    ensures bound { ReadsAtMost result into.new }
+    ensures bytes { ReadConsumes (F.remaining file.old) (F.remaining file.new) result into.new }
+{
+    for _ in 0..u64::MAX {
+        match file.read(into) {
+            Ok(count) => return Ok(count),
+            Err(error) if error.kind() == ErrorKind::Interrupted => {}
+            Err(_) => return Err(Failed),
+        }
+    }
+    Err(Failed)
+}
+
+// One write, tried again where a signal interrupted it. One of a byte or more takes at least one.
+fn write_some<W: Write>(writer: &mut W, bytes: &[u8]) -> Result<usize, Failed>
+    ensures bound { WritesAtMost result bytes.now }
+    ensures moves { IfOk result (λ count. 0 < length bytes.now → 0 < count) }
+    ensures bytes { WriteAppends (W.contents writer.old) (W.contents writer.new) result bytes.now }
+{
+    for _ in 0..u64::MAX {
+        match writer.write(bytes) {
+            Ok(count) if count > 0 || bytes.is_empty() => return Ok(count),
+            Err(error) if error.kind() == ErrorKind::Interrupted => {}
+            _ => return Err(Failed),
+        }
+    }
+    Err(Failed)
+}
 
 /// The files of a runtime. Each error that it meets is counted. The file of the last read stays
 /// open, so that the next piece of it costs neither an open nor a seek.
@@ -48,13 +80,24 @@ impl<F: Read> Opened<F> {
         self.at == at && &self.name[..self.length] == name.as_bytes()
     }
 
-    fn read(&mut self, into: &mut [u8]) -> io::Result<usize>
-        ensures { IfOk result (λ count. count ≤ length into.new) }
+    fn read(&mut self, into: &mut [u8]) -> Result<usize, Failed>
+        ensures { ReadsAtMost result into.new }
     {
-        let count = self.file.read(into)?;
+        let count = read_some(&mut self.file, into)?;
         self.at = self.at.saturating_add(count as u64);
         Ok(count)
     }
+}
+
+// Opens a file for a read from this place.
+fn open_anew<R: Files>(files: &R, name: &str, at: u64) -> Result<Opened<R::File>, Failed> {
+    let Ok(mut file) = File::open(files, name) else {
+        return Err(Failed);
+    };
+    if at > 0 && file.seek(SeekFrom::Start(at)).is_err() {
+        return Err(Failed);
+    }
+    Ok(Opened::new(file, name, at))
 }
 
 impl<R: Files + Drop> FileShelf<R> {
@@ -69,23 +112,18 @@ impl<R: Files + Drop> FileShelf<R> {
         }
     }
 
-    fn open_at(&mut self, name: &str, at: u64) -> io::Result<Opened<R::File>>
+    // The file at this place: the open one, where its next read is this one.
+    fn open_at(&mut self, name: &str, at: u64) -> Result<Opened<R::File>, Failed>
         ensures { self.new.faults ≡ self.old.faults }
     {
-        if let Some(opened) = self.opened.take() {
-            if opened.goes_on(name, at) {
-                return Ok(opened);
-            }
+        match self.opened.take() {
+            Some(opened) if opened.goes_on(name, at) => Ok(opened),
+            _ => open_anew(&self.files, name, at),
         }
-        let mut file = File::open(&self.files, name)?;
-        if at > 0 {
-            file.seek(SeekFrom::Start(at))?;
-        }
-        Ok(Opened::new(file, name, at))
     }
 
-    fn read_piece(&mut self, name: &str, at: u64, into: &mut [u8]) -> io::Result<usize>
-        ensures bound { IfOk result (λ count. count ≤ length into.new) }
+    fn read_piece(&mut self, name: &str, at: u64, into: &mut [u8]) -> Result<usize, Failed>
+        ensures bound { ReadsAtMost result into.new }
         ensures faults { self.new.faults ≡ self.old.faults }
     {
         let mut opened = self.open_at(name, at)?;
@@ -105,7 +143,7 @@ impl<R: Files + Drop> Shelf for FileShelf<R> {
     fn read_at(&mut self, name: &str, at: u64, into: &mut [u8]) -> Result<usize, Failed> {
         match self.read_piece(name, at, into) {
             Ok(count) => Ok(count),
-            Err(_) => {
+            Err(Failed) => {
                 self.faults = self.faults.saturating_add(1);
                 Err(Failed)
             }
@@ -136,9 +174,9 @@ impl<W: Write + Drop> Sink for OutSink<W> {
     ghost faults = { λ s. s.faults };
 
     fn write(&mut self, bytes: &[u8]) -> Result<usize, Failed> {
-        match self.writer.write(bytes) {
-            Ok(count) if count > 0 || bytes.is_empty() => Ok(count),
-            _ => {
+        match write_some(&mut self.writer, bytes) {
+            Ok(count) => Ok(count),
+            Err(Failed) => {
                 self.faults = self.faults.saturating_add(1);
                 Err(Failed)
             }

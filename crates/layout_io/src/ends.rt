@@ -5,8 +5,11 @@ ghost use Rattle.layout_io.specs.Faults.{Rose};
 ghost use Rattle.layout_io.specs.Files.{File, IsMissing, HasFile, Reads};
 ghost use Rattle.layout_io.specs.Writing.{with_bytes};
 
+use thiserror::Error;
+
 /// A read or a write that was not done.
-#[derive(Clone, Copy, Debug, PartialEq, Eq)]
+#[derive(Clone, Copy, Debug, PartialEq, Eq, Error)]
+#[error("a read or a write was not done")]
 pub struct Failed;
 
 /// Files that are read by name and place. Ghost `files` are the files where they are told, and

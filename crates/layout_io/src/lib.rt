@@ -17,6 +17,3 @@ pub use memory_shelf::MemoryShelf;
 pub use memory_sink::MemorySink;
 pub use text_buffer::{BUFFER_BYTES, Part, TextBuffer, write_parts};
 pub use whole::{Bytes, ReadEnd, read_all, write_all};
-
-#[cfg(test)]
-mod tests;

@@ -12,7 +12,7 @@ use std::marker::Model;
 pub const BUFFER_BYTES: usize = 4096;
 
 /// A part of a text.
-#[derive(Clone, Copy, Debug)]
+#[derive(Clone, Copy)]
 pub enum Part<'a> {
     /// These bytes.
     Text(&'a [u8]),

@@ -7,6 +7,7 @@ ghost use Rattle.layout_io.specs.Reading.{ReadsWhole};
 use crate::ends::{Failed, Shelf, Sink};
 use std::alloc::Global;
 use std::marker::Model;
+use thiserror::Error;
 
 // How many bytes one read asks for.
 const PIECE_BYTES: usize = 65_536;
@@ -35,13 +36,16 @@ impl Bytes {
 }
 
 /// Why a file was not read.
-#[derive(Clone, Copy, Debug, PartialEq, Eq)]
+#[derive(Clone, Copy, Debug, PartialEq, Eq, Error)]
 pub enum ReadEnd {
     /// A read failed, or the file is not there.
+    #[error("a read failed, or the file is not there")]
     Failed,
     /// The file has more bytes than the limit.
+    #[error("the file has more bytes than the limit")]
     TooLong,
     /// There was no memory for the bytes.
+    #[error("there was no memory for the bytes")]
     NoMemory,
 }
 

@@ -117,7 +117,8 @@ IsForm IsMap form.Split = Joined IsPath (λ path. Behind (Sign Comma) (Joined Is
 IsForm IsMap form.Byteswap = Joined IsMap (λ inner. IsNothing (Byteswap inner))
 IsForm IsMap form.Bytesplit = Joined IsMap (λ inner. IsNothing (Bytesplit inner))
 -- TYPE "->" INTTYPE "," map
-IsForm IsMap form.Change = Joined (IsItem type_of) (λ from. Behind (Sign Arrow) (Joined (IsItem integer_type_of) (λ to. Behind (Sign Comma) (Joined IsMap (λ inner. IsNothing (Change from to inner))))))
+IsForm IsMap form.Change = Joined (IsItem type_of) (λ from. Behind (Sign Arrow)
+    (Joined (IsItem integer_type_of) (λ to. Behind (Sign Comma) (Joined IsMap (λ inner. IsNothing (Change from to inner))))))
 -- map
 IsForm IsMap form.Count = Joined IsMap (λ inner. IsNothing (Counted inner))
 -- COUNT "," map
@@ -190,7 +191,8 @@ IsLeaf = IsEither (Joined IsNumber (λ number. IsNothing (Constant number)))
 
 -- ("min" | "max") "(" expr "," expr ")"
 abbrev pub IsChoice : Phrase Value → Phrase Value
-IsChoice IsExpr = Joined (IsItem choice_of) (λ op. Behind (Sign OpenParen) (Joined IsExpr (λ left. Behind (Sign Comma) (Joined IsExpr (λ right. Behind (Sign CloseParen) (IsNothing (Binary op left right)))))))
+IsChoice IsExpr = Joined (IsItem choice_of) (λ op. Behind (Sign OpenParen)
+    (Joined IsExpr (λ left. Behind (Sign Comma) (Joined IsExpr (λ right. Behind (Sign CloseParen) (IsNothing (Binary op left right)))))))
 
 -- "(" expr ")", which gives no node
 abbrev pub IsBracketed : Phrase Value → Phrase Value
@@ -253,7 +255,8 @@ IsBody n command.View = Joined IsName (λ name. Behind (Sign Colon) (Joined IsNa
 IsBody n command.Load = Joined IsName (λ name. Behind (Sign Colon) (Joined IsName (λ schema. Joined (IsBracketList IsExtent) (λ words.
     Behind (Word (codes "as")) (Joined (IsMap n) (λ map. Behind (Word (codes "from")) (Joined IsString (λ file. IsNothing (Load name schema words map file)))))))))
 -- "set" NAME "[" COUNT ("," COUNT)* "]" "." path "=" expr
-IsBody n command.Set = Joined IsName (λ view. Joined (IsBracketList IsCount) (λ index. Behind (Sign Dot) (Joined IsPath (λ path. Behind (Sign Equals) (Joined (IsExpr n) (λ value. IsNothing (Assign view index path value)))))))
+IsBody n command.Set = Joined IsName (λ view. Joined (IsBracketList IsCount)
+    (λ index. Behind (Sign Dot) (Joined IsPath (λ path. Behind (Sign Equals) (Joined (IsExpr n) (λ value. IsNothing (Assign view index path value)))))))
 -- "update" NAME ("where" expr)? "set" path "=" expr ("," path "=" expr)*
 IsBody n command.Update = Joined IsName (λ view. Joined (IsFilter n) (λ filter. Behind (Word (codes "set")) (Joined (IsListed (IsAssignment n)) (λ sets. IsNothing (Update view filter sets)))))
 -- "kernel" NAME kern "lanes" COUNT

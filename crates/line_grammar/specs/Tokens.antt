@@ -3,7 +3,6 @@ use Rattle.std.specs.Prelude.{ℕ, ◌^◌, ◌+◌, ◌-◌, Bool, false, bytes
 use Rattle.std.specs.List.{list_any}
 use Rattle.line_tokens.specs.Signs.{spelling}
 use Rattle.line_tokens.specs.declared.sign.Sign.{Sign}
-use Rattle.line_tokens.specs.declared.sign.Sign.TheVariants.{EqualEqual, NotEqual, LessThan, LessEqual, GreaterThan, GreaterEqual, Plus, Minus, Star, Slash, Percent}
 use Rattle.line_tokens.specs.declared.spots.Spot.{Spot}
 use Rattle.line_tokens.specs.declared.token.TokenKind.{TokenKind}
 use Rattle.line_tokens.specs.declared.token.TokenKind.TheVariants as kind
@@ -11,12 +10,15 @@ use Rattle.record_dim.specs.declared.leaf_type.LeafType.{LeafType}
 use Rattle.record_dim.specs.declared.leaf_type.LeafType.TheVariants.{Bool as Truth, U8, U16, U32, U64, I8, I16, I32, I64}
 use Rattle.expr_lang.specs.declared.expr.BinOp.{BinOp}
 use Rattle.expr_lang.specs.declared.expr.BinOp.TheVariants.{Add, Sub, Mul, Div, Rem, Min, Max, Eq, Ne, Lt, Le, Gt, Ge, And, Or}
-use Rattle.linearize.specs.declared.Order.{Order}
-use Rattle.linearize.specs.declared.Order.TheVariants.{Row, Col, Morton}
-use Rattle.map_aos.specs.declared.form.AosForm.{AosForm}
-use Rattle.map_aos.specs.declared.form.AosForm.TheVariants as aos
-use Rattle.map_soa.specs.declared.form.SoaForm.{SoaForm}
-use Rattle.map_soa.specs.declared.form.SoaForm.TheVariants as soa
+use Rattle.extents.specs.declared.order.Order.{Order}
+use Rattle.extents.specs.declared.order.Order.TheVariants.{Row, Col, Morton}
+use Rattle.places.specs.declared.forms.AosForm.{AosForm}
+use Rattle.places.specs.declared.forms.AosForm.TheVariants as aos
+use Rattle.places.specs.declared.forms.SoaForm.{SoaForm}
+use Rattle.places.specs.declared.forms.SoaForm.TheVariants as soa
+use Rattle.line_grammar.specs.Words.{type_word, order_word, aos_word, soa_word, form_word, kernel_word, reduction_word, command_word, index_word, operator}
+use Rattle.line_grammar.specs.declared.items.Symbol.{Symbol}
+use Rattle.line_grammar.specs.declared.items.Symbol.TheVariants as symbol
 use Rattle.line_grammar.specs.declared.token.Token.{Token}
 use Rattle.line_grammar.specs.declared.token.Token.TheVariants.{Word, Number, Text, Sign as Signed, Bad}
 use Rattle.line_grammar.specs.declared.line.Command.{Command}
@@ -49,14 +51,25 @@ abbrev pub is_sign : Sign → Token → Bool
 is_sign sign (Signed other) = bytes_eq (spelling other) (spelling sign)
 is_sign sign _ = false
 
--- what a list of words with their meanings gives for a word
-abbrev pub listed : {A : Type 0} → List (List ℕ × A) → List ℕ → Option A
-listed [] word = None
-listed (entry ∷ entries) word = if bytes_eq word entry.0 then Some entry.1 else listed entries word
+-- whether a token is this one, which is a word or a sign
+abbrev pub is_same : Token → Token → Bool
+is_same (Word word) token = is_word word token
+is_same (Signed sign) token = is_sign sign token
+is_same _ token = false
 
-abbrev pub meaning : {A : Type 0} → List (List ℕ × A) → Token → Option A
-meaning entries (Word word) = listed entries word
-meaning entries _ = None
+-- the first of these values that a word spells, and that a token does
+abbrev pub listed : {A : Type 0} → (A → List ℕ) → List A → List ℕ → Option A
+listed word_of [] word = None
+listed word_of (value ∷ values) word = if bytes_eq word (word_of value) then Some value else listed word_of values word
+
+abbrev pub meaning : {A : Type 0} → (A → List ℕ) → List A → Token → Option A
+meaning word_of values (Word word) = listed word_of values word
+meaning word_of values _ = None
+
+-- the first of these operators that a token is
+abbrev pub operator_in : List BinOp → Token → Option BinOp
+operator_in [] token = None
+operator_in (op ∷ ops) token = if is_same (operator op) token then Some op else operator_in ops token
 
 -- the words that are no names
 abbrev pub reserved : List (List ℕ)
@@ -80,108 +93,95 @@ string_of (Text text) = Some text
 string_of _ = None
 
 -- TYPE, and INTTYPE, which is any but `bool`
-abbrev pub integer_types : List (List ℕ × LeafType)
-integer_types = (codes "u8", U8) ∷ (codes "u16", U16) ∷ (codes "u32", U32) ∷ (codes "u64", U64)
-    ∷ (codes "i8", I8) ∷ (codes "i16", I16) ∷ (codes "i32", I32) ∷ (codes "i64", I64) ∷ []
+abbrev pub integer_types : List LeafType
+integer_types = U8 ∷ U16 ∷ U32 ∷ U64 ∷ I8 ∷ I16 ∷ I32 ∷ I64 ∷ []
 
-abbrev pub leaf_types : List (List ℕ × LeafType)
-leaf_types = (codes "bool", Truth) ∷ integer_types
+abbrev pub leaf_types : List LeafType
+leaf_types = Truth ∷ integer_types
 
 abbrev pub type_of : Token → Option LeafType
-type_of = meaning leaf_types
+type_of = meaning type_word leaf_types
 
 abbrev pub integer_type_of : Token → Option LeafType
-integer_type_of = meaning integer_types
+integer_type_of = meaning type_word integer_types
 
 -- the words of mappings
-abbrev pub orders : List (List ℕ × Order)
-orders = (codes "row", Row) ∷ (codes "col", Col) ∷ (codes "morton", Morton) ∷ []
+abbrev pub orders : List Order
+orders = Row ∷ Col ∷ Morton ∷ []
 
 abbrev pub order_of : Token → Option Order
-order_of = meaning orders
+order_of = meaning order_word orders
 
-abbrev pub aos_forms : List (List ℕ × AosForm)
-aos_forms = (codes "packed", aos.Packed) ∷ (codes "aligned", aos.Aligned) ∷ (codes "min", aos.Min) ∷ []
+abbrev pub aos_forms : List AosForm
+aos_forms = aos.Packed ∷ aos.Aligned ∷ aos.Min ∷ []
 
 abbrev pub aos_form_of : Token → Option AosForm
-aos_form_of = meaning aos_forms
+aos_form_of = meaning aos_word aos_forms
 
-abbrev pub soa_forms : List (List ℕ × SoaForm)
-soa_forms = (codes "single", soa.Single) ∷ (codes "aligned", soa.Aligned) ∷ (codes "multi", soa.Multi) ∷ []
+abbrev pub soa_forms : List SoaForm
+soa_forms = soa.Single ∷ soa.Aligned ∷ soa.Multi ∷ []
 
 abbrev pub soa_form_of : Token → Option SoaForm
-soa_form_of = meaning soa_forms
+soa_form_of = meaning soa_word soa_forms
 
 -- the word that begins a form of a mapping
-abbrev pub map_words : List (List ℕ × MapWord)
-map_words = (codes "aos", form.Aos) ∷ (codes "soa", form.Soa) ∷ (codes "aosoa", form.Aosoa)
-    ∷ (codes "bitaos", form.BitAos) ∷ (codes "bitsoa", form.BitSoa) ∷ (codes "split", form.Split)
-    ∷ (codes "byteswap", form.Byteswap) ∷ (codes "bytesplit", form.Bytesplit) ∷ (codes "change", form.Change)
-    ∷ (codes "count", form.Count) ∷ (codes "heat", form.Heat) ∷ []
+abbrev pub map_words : List MapWord
+map_words = form.Aos ∷ form.Soa ∷ form.Aosoa ∷ form.BitAos ∷ form.BitSoa ∷ form.Split ∷ form.Byteswap ∷ form.Bytesplit ∷ form.Change
+    ∷ form.Count ∷ form.Heat ∷ []
 
 abbrev pub map_word : List ℕ → Option MapWord
-map_word = listed map_words
+map_word = listed form_word map_words
 
 -- the words and signs of expressions
-abbrev pub index_words : List (List ℕ × ℕ)
-index_words = (codes "i0", 0) ∷ (codes "i1", 1) ∷ (codes "i2", 2) ∷ (codes "i3", 3) ∷ []
+abbrev pub dimensions : List ℕ
+dimensions = 0 ∷ 1 ∷ 2 ∷ 3 ∷ []
+
+abbrev pub index_named : List ℕ → Option ℕ
+index_named = listed index_word dimensions
 
 abbrev pub index_of : Token → Option ℕ
-index_of = meaning index_words
-
-abbrev pub choices : List (List ℕ × BinOp)
-choices = (codes "min", Min) ∷ (codes "max", Max) ∷ []
+index_of = meaning index_word dimensions
 
 abbrev pub choice_of : Token → Option BinOp
-choice_of = meaning choices
+choice_of = operator_in (Min ∷ Max ∷ [])
 
 abbrev pub or_of : Token → Option BinOp
-or_of token = if is_word (codes "or") token then Some Or else None
+or_of = operator_in (Or ∷ [])
 
 abbrev pub and_of : Token → Option BinOp
-and_of token = if is_word (codes "and") token then Some And else None
+and_of = operator_in (And ∷ [])
 
 abbrev pub comparison_of : Token → Option BinOp
-comparison_of (Signed EqualEqual) = Some Eq
-comparison_of (Signed NotEqual) = Some Ne
-comparison_of (Signed LessThan) = Some Lt
-comparison_of (Signed LessEqual) = Some Le
-comparison_of (Signed GreaterThan) = Some Gt
-comparison_of (Signed GreaterEqual) = Some Ge
-comparison_of _ = None
+comparison_of = operator_in (Eq ∷ Ne ∷ Lt ∷ Le ∷ Gt ∷ Ge ∷ [])
 
 abbrev pub sum_of : Token → Option BinOp
-sum_of (Signed Plus) = Some Add
-sum_of (Signed Minus) = Some Sub
-sum_of _ = None
+sum_of = operator_in (Add ∷ Sub ∷ [])
 
 abbrev pub product_of : Token → Option BinOp
-product_of (Signed Star) = Some Mul
-product_of (Signed Slash) = Some Div
-product_of (Signed Percent) = Some Rem
-product_of _ = None
+product_of = operator_in (Mul ∷ Div ∷ Rem ∷ [])
+
+-- what an operator of the code is written as
+abbrev pub symbol_token : Symbol → Token
+symbol_token (symbol.Word word) = Word word.now
+symbol_token (symbol.Sign sign) = Signed sign
 
 -- the words of commands
-abbrev pub kernel_words : List (List ℕ × KernelWord)
-kernel_words = (codes "axpy", kernel.Axpy) ∷ (codes "clamp", kernel.Clamp) ∷ (codes "sum", kernel.Sum)
-    ∷ (codes "least", kernel.Least) ∷ (codes "greatest", kernel.Greatest) ∷ (codes "count_where", kernel.CountWhere) ∷ []
+abbrev pub kernel_words : List KernelWord
+kernel_words = kernel.Axpy ∷ kernel.Clamp ∷ kernel.Sum ∷ kernel.Least ∷ kernel.Greatest ∷ kernel.CountWhere ∷ []
 
 abbrev pub kernel_word_of : Token → Option KernelWord
-kernel_word_of = meaning kernel_words
+kernel_word_of = meaning kernel_word kernel_words
 
-abbrev pub reductions : List (List ℕ × ReduceKind)
-reductions = (codes "sum", reduce.Sum) ∷ (codes "min", reduce.Min) ∷ (codes "max", reduce.Max) ∷ []
+abbrev pub reductions : List ReduceKind
+reductions = reduce.Sum ∷ reduce.Min ∷ reduce.Max ∷ []
 
 abbrev pub reduction_of : Token → Option ReduceKind
-reduction_of = meaning reductions
+reduction_of = meaning reduction_word reductions
 
-abbrev pub commands : List (List ℕ × Command)
-commands = (codes "record", command.Record) ∷ (codes "mapping", command.Mapping) ∷ (codes "view", command.View)
-    ∷ (codes "load", command.Load) ∷ (codes "set", command.Set) ∷ (codes "update", command.Update)
-    ∷ (codes "kernel", command.Kernel) ∷ (codes "reduce", command.Reduce) ∷ (codes "copy", command.Copy)
-    ∷ (codes "relayout", command.Relayout) ∷ (codes "print", command.Print) ∷ (codes "counts", command.Counts)
-    ∷ (codes "heat", command.Heat) ∷ (codes "layout", command.Layout) ∷ (codes "drop", command.Drop)
-    ∷ (codes "bytes", command.Bytes) ∷ []
+abbrev pub commands : List Command
+commands = command.Record ∷ command.Mapping ∷ command.View ∷ command.Load ∷ command.Set ∷ command.Update ∷ command.Kernel
+    ∷ command.Reduce ∷ command.Copy ∷ command.Relayout ∷ command.Print ∷ command.Counts ∷ command.Heat ∷ command.Layout
+    ∷ command.Drop ∷ command.Bytes ∷ []
 
 abbrev pub command_of : Token → Option Command
-command_of = meaning commands
+command_of = meaning command_word commands

@@ -3,7 +3,6 @@ ghost use Rattle.std.specs.List.{list_all};
 ghost use Rattle.line_tokens.specs.Bytes.{is_text_byte};
 ghost use Rattle.line_grammar.specs.FileNames.{is_file_name};
 
-use std::fmt;
 use std::marker::Model;
 
 const MOST_BYTES: usize = 200;
@@ -31,12 +30,12 @@ impl Model for FileName {
 
 impl FileName {
     /// The name with this text, or None where the text has not the form.
-    #[tactic(auto, using(crate::proofs::FileBytes::stored))]
+    #[tactic(auto, using(crate::specs::FileBytesLaws::stored))]
     pub fn new(text: &str) -> Option<FileName>
         ensures { result ≡ (if is_file_name text.now then Some text.now else None) }
     {
         let text = text.as_bytes();
-        if text.is_empty() || text.len() > MOST_BYTES || !are_text_bytes(text) {
+        if !is_file_name(text) {
             return None;
         }
         let mut bytes = [0; MOST_BYTES];
@@ -59,10 +58,11 @@ impl FileName {
     }
 }
 
-impl fmt::Debug for FileName {
-    fn fmt<W: fmt::Write>(&self, f: &mut fmt::Formatter<W>) -> fmt::Result {
-        f.write_str(self.as_str())
-    }
+// Whether the bytes have the form of a name.
+pub(crate) fn is_file_name(text: &[u8]) -> bool
+    ensures { result ≡ is_file_name text.now }
+{
+    !text.is_empty() && text.len() <= MOST_BYTES && are_text_bytes(text)
 }
 
 fn are_text_bytes(text: &[u8]) -> bool

@@ -2,13 +2,21 @@
 #![tactic(auto)]
 
 mod file_name;
+mod items;
 mod line;
+mod quoted;
 mod token;
 mod words;
 
 pub use file_name::FileName;
+pub use items::{
+    Choice, Comparison, Conjunction, Count, Disjunction, Index, IntegerType, Item, Number, Product,
+    Sum, Symbol, map_word, operator,
+};
 pub use line::{
     Command, ExtentWords, IndexWords, KernelText, KernelWord, Line, MapWord, ReduceKind, SetList,
     SetText,
 };
-pub use token::{Token, map_word};
+pub use quoted::Quoted;
+pub use token::Token;
+pub use words::Spelled;

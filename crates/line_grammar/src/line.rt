@@ -15,7 +15,7 @@ pub type IndexWords = Sequence<u32>;
 pub type SetList = Sequence<SetText>;
 
 /// One line of a script.
-#[derive(Debug, Drop)]
+#[derive(Drop)]
 pub enum Line {
     /// A line without tokens, which does nothing.
     Blank,
@@ -97,14 +97,14 @@ pub enum Line {
 }
 
 /// The path of a leaf, and the value that it gets.
-#[derive(Debug, Drop)]
+#[derive(Drop)]
 pub struct SetText {
     pub path: Path,
     pub value: Expr,
 }
 
 /// What a reduction gives.
-#[derive(Clone, Copy, Debug, PartialEq, Eq)]
+#[derive(Clone, Copy)]
 pub enum ReduceKind {
     Sum,
     Min,
@@ -112,7 +112,7 @@ pub enum ReduceKind {
 }
 
 /// A kernel with its leaves and numbers.
-#[derive(Debug, Drop)]
+#[derive(Drop)]
 pub enum KernelText {
     /// `y + a * x` becomes `y`.
     Axpy { a: i128, x: Path, y: Path },
@@ -126,7 +126,7 @@ pub enum KernelText {
 }
 
 /// The word that begins a line.
-#[derive(Clone, Copy, Debug, PartialEq, Eq)]
+#[derive(Clone, Copy)]
 pub enum Command {
     Record,
     Mapping,
@@ -147,7 +147,7 @@ pub enum Command {
 }
 
 /// The word that begins a form of a mapping.
-#[derive(Clone, Copy, Debug, PartialEq, Eq)]
+#[derive(Clone, Copy)]
 pub enum MapWord {
     Aos,
     Soa,
@@ -163,7 +163,7 @@ pub enum MapWord {
 }
 
 /// The word that begins a kernel.
-#[derive(Clone, Copy, Debug, PartialEq, Eq)]
+#[derive(Clone, Copy)]
 pub enum KernelWord {
     Axpy,
     Clamp,

@@ -59,7 +59,8 @@ leaf_at = either_at (means number_of) (then_at (item_at number_of) (λ number. g
     (then_at path_at (λ path. give_at (Entry path))))
 
 unfoldable pub choice_at : (List Token → Result (Value × List Token) ℕ) → List Token → Result (Value × List Token) ℕ
-choice_at read = then_at (item_at choice_of) (λ op. behind_at (is_sign OpenParen) (then_at read (λ left. behind_at (is_sign Comma) (then_at read (λ right. behind_at (is_sign CloseParen) (give_at (Binary op left right)))))))
+choice_at read = then_at (item_at choice_of) (λ op. behind_at (is_sign OpenParen)
+    (then_at read (λ left. behind_at (is_sign Comma) (then_at read (λ right. behind_at (is_sign CloseParen) (give_at (Binary op left right)))))))
 
 unfoldable pub bracketed_at : (List Token → Result (Value × List Token) ℕ) → List Token → Result (Value × List Token) ℕ
 bracketed_at read = behind_at (is_sign OpenParen) (then_at read (λ value. behind_at (is_sign CloseParen) (give_at value)))

@@ -5,3 +5,10 @@ pub mod Fields
 pub mod Maps
 pub mod Constants
 pub mod Exprs
+pub mod BasicsLaws
+pub mod FieldLaws
+pub mod LevelsLaws
+pub mod ListLaws
+pub mod MapLaws
+pub mod NestingLaws
+pub mod PathsLaws

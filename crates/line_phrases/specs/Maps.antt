@@ -35,7 +35,8 @@ form_at read form.BitSoa = bit_soa_at
 form_at read form.Split = then_at path_at (λ path. behind_at (is_sign Comma) (then_at read (λ first. behind_at (is_sign Comma) (then_at read (λ rest. give_at (Split path first rest))))))
 form_at read form.Byteswap = then_at read (λ inner. give_at (Byteswap inner))
 form_at read form.Bytesplit = then_at read (λ inner. give_at (Bytesplit inner))
-form_at read form.Change = then_at (item_at type_of) (λ from. behind_at (is_sign Arrow) (then_at (item_at integer_type_of) (λ to. behind_at (is_sign Comma) (then_at read (λ inner. give_at (Change from to inner))))))
+form_at read form.Change = then_at (item_at type_of) (λ from. behind_at (is_sign Arrow)
+    (then_at (item_at integer_type_of) (λ to. behind_at (is_sign Comma) (then_at read (λ inner. give_at (Change from to inner))))))
 form_at read form.Count = then_at read (λ inner. give_at (Count inner))
 form_at read form.Heat = then_at (item_at count_of) (λ granule. behind_at (is_sign Comma) (then_at read (λ inner. give_at (Heat granule inner))))
 

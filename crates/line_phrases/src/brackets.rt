@@ -6,7 +6,7 @@ ghost use Rattle.line_phrases.specs.Lists.{listed_at, bracket_list_at, fixed_at,
 
 use crate::{ReadError, Tokens};
 use extents::ExtentWord;
-use line_grammar::{ExtentWords, IndexWords};
+use line_grammar::{Count, ExtentWords, IndexWords};
 use line_tokens::Sign;
 use std::alloc::Global;
 
@@ -22,16 +22,16 @@ pub fn read_index(alloc: Global, tokens: &mut Tokens) -> Result<IndexWords, Read
     Ok(index)
 }
 
-#[tactic(auto, unfolding(crate::specs::Lists::listed_at), using(crate::proofs::ListLaws::count_steps))]
+#[tactic(auto, unfolding(crate::specs::Lists::listed_at), using(crate::specs::ListLaws::count_steps))]
 fn read_counts(alloc: Global, tokens: &mut Tokens) -> Result<IndexWords, ReadError>
     ensures gives { Gives (λ x. (x, tokens.new)) result (listed_at (item_at count_of) tokens.old) }
     ensures shorter { OnOk result (length tokens.new < length tokens.old) }
 {
     let mut counts = IndexWords::new(alloc);
-    counts.push(tokens.count()?)?;
+    counts.push(tokens.item::<Count>()?)?;
     while tokens.begins_sign(Sign::Comma) {
         tokens.sign(Sign::Comma)?;
-        counts.push(tokens.count()?)?;
+        counts.push(tokens.item::<Count>()?)?;
     }
     Ok(counts)
 }
@@ -48,7 +48,7 @@ pub fn read_fixed_extents(alloc: Global, tokens: &mut Tokens) -> Result<ExtentWo
     Ok(words)
 }
 
-#[tactic(auto, unfolding(crate::specs::Lists::listed_at), using(crate::proofs::ListLaws::fixed_steps))]
+#[tactic(auto, unfolding(crate::specs::Lists::listed_at), using(crate::specs::ListLaws::fixed_steps))]
 fn read_fixed_list(alloc: Global, tokens: &mut Tokens) -> Result<ExtentWords, ReadError>
     ensures gives { Gives (λ x. (x, tokens.new)) result (listed_at fixed_at tokens.old) }
     ensures shorter { OnOk result (length tokens.new < length tokens.old) }
@@ -68,7 +68,7 @@ fn read_fixed(tokens: &mut Tokens) -> Result<ExtentWord, ReadError>
     ensures shorter { OnOk result (length tokens.new < length tokens.old) }
     ensures fault { IfErr result IsSyntax }
 {
-    let count = tokens.count()?;
+    let count = tokens.item::<Count>()?;
     Ok(ExtentWord::Fixed(count))
 }
 
@@ -84,7 +84,7 @@ pub fn read_extents(alloc: Global, tokens: &mut Tokens) -> Result<ExtentWords, R
     Ok(words)
 }
 
-#[tactic(auto, unfolding(crate::specs::Lists::listed_at), using(crate::proofs::ListLaws::extent_steps))]
+#[tactic(auto, unfolding(crate::specs::Lists::listed_at), using(crate::specs::ListLaws::extent_steps))]
 fn read_extent_list(alloc: Global, tokens: &mut Tokens) -> Result<ExtentWords, ReadError>
     ensures gives { Gives (λ x. (x, tokens.new)) result (listed_at extent_at tokens.old) }
     ensures shorter { OnOk result (length tokens.new < length tokens.old) }

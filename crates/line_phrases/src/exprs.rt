@@ -9,6 +9,7 @@ ghost use Rattle.std.specs.Prelude.{codes, zero};
 
 use crate::{ReadError, Tokens, read_path};
 use expr_lang::{BinOp, Expr};
+use line_grammar::{Choice, Comparison, Conjunction, Disjunction, Index, Number, Product, Sum};
 use line_tokens::Sign;
 use std::alloc::{AllocError as NoMemory, Global};
 
@@ -20,8 +21,8 @@ pub fn read_expr(alloc: Global, room: usize, tokens: &mut Tokens) -> Result<Expr
     ensures shorter { OnOk result (length tokens.new < length tokens.old) }
 {
     let mut left = read_conjunction(alloc, room, tokens)?;
-    while tokens.begins_disjunction() {
-        let op = tokens.disjunction()?;
+    while tokens.begins::<Disjunction>() {
+        let op = tokens.item::<Disjunction>()?;
         let right = read_conjunction(alloc, room, tokens)?;
         left = binary(alloc, op, left, right)?;
     }
@@ -36,8 +37,8 @@ fn read_conjunction(alloc: Global, room: usize, tokens: &mut Tokens) -> Result<E
     ensures shorter { OnOk result (length tokens.new < length tokens.old) }
 {
     let mut left = read_negation(alloc, room, tokens)?;
-    while tokens.begins_conjunction() {
-        let op = tokens.conjunction()?;
+    while tokens.begins::<Conjunction>() {
+        let op = tokens.item::<Conjunction>()?;
         let right = read_negation(alloc, room, tokens)?;
         left = binary(alloc, op, left, right)?;
     }
@@ -65,10 +66,10 @@ fn read_comparison(alloc: Global, room: usize, tokens: &mut Tokens) -> Result<Ex
     ensures shorter { OnOk result (length tokens.new < length tokens.old) }
 {
     let left = read_sum(alloc, room, tokens)?;
-    if !tokens.begins_comparison() {
+    if !tokens.begins::<Comparison>() {
         return Ok(left);
     }
-    let op = tokens.comparison()?;
+    let op = tokens.item::<Comparison>()?;
     let right = read_sum(alloc, room, tokens)?;
     let value = binary(alloc, op, left, right)?;
     Ok(value)
@@ -82,8 +83,8 @@ fn read_sum(alloc: Global, room: usize, tokens: &mut Tokens) -> Result<Expr, Rea
     ensures shorter { OnOk result (length tokens.new < length tokens.old) }
 {
     let mut left = read_product(alloc, room, tokens)?;
-    while tokens.begins_sum() {
-        let op = tokens.sum()?;
+    while tokens.begins::<Sum>() {
+        let op = tokens.item::<Sum>()?;
         let right = read_product(alloc, room, tokens)?;
         left = binary(alloc, op, left, right)?;
     }
@@ -98,8 +99,8 @@ fn read_product(alloc: Global, room: usize, tokens: &mut Tokens) -> Result<Expr,
     ensures shorter { OnOk result (length tokens.new < length tokens.old) }
 {
     let mut left = read_unary(alloc, room, tokens)?;
-    while tokens.begins_product() {
-        let op = tokens.product()?;
+    while tokens.begins::<Product>() {
+        let op = tokens.item::<Product>()?;
         let right = read_unary(alloc, room, tokens)?;
         left = binary(alloc, op, left, right)?;
     }
@@ -132,7 +133,7 @@ fn read_atom(alloc: Global, room: usize, tokens: &mut Tokens) -> Result<Expr, Re
     if tokens.begins_sign(Sign::OpenParen) {
         return read_bracketed(alloc, room - 1, tokens);
     }
-    if tokens.begins_choice() {
+    if tokens.begins::<Choice>() {
         return read_choice(alloc, room - 1, tokens);
     }
     read_leaf(alloc, tokens)
@@ -157,7 +158,7 @@ fn read_choice(alloc: Global, room: usize, tokens: &mut Tokens) -> Result<Expr, 
     ensures gives { Gives (λ x. (term_of x, tokens.new)) result (choice_at (expr_over (atom_at room)) tokens.old) }
     ensures shorter { OnOk result (length tokens.new < length tokens.old) }
 {
-    let op = tokens.choice()?;
+    let op = tokens.item::<Choice>()?;
     tokens.sign(Sign::OpenParen)?;
     let left = read_expr(alloc, room, tokens)?;
     tokens.sign(Sign::Comma)?;
@@ -173,12 +174,12 @@ fn read_leaf(alloc: Global, tokens: &mut Tokens) -> Result<Expr, ReadError>
     ensures gives { Gives (λ x. (term_of x, tokens.new)) result (leaf_at tokens.old) }
     ensures shorter { OnOk result (length tokens.new < length tokens.old) }
 {
-    if tokens.begins_number() {
+    if tokens.begins::<Number>() {
         let number = tokens.number()?;
         return Ok(Expr::Number(number));
     }
-    if tokens.begins_index() {
-        let dimension = tokens.index()?;
+    if tokens.begins::<Index>() {
+        let dimension = tokens.item::<Index>()?;
         return Ok(Expr::Index(dimension));
     }
     let path = read_path(alloc, tokens)?;

@@ -1,13 +1,16 @@
 ghost use Rattle.std.specs.Prelude.{◌≡◌};
 
 use std::alloc::{AllocError as NoMemory, AllocFailed};
+use thiserror::Error;
 
 /// Why no phrase was read.
-#[derive(Clone, Copy, Debug, PartialEq, Eq)]
+#[derive(Clone, Copy, Debug, Error)]
 pub enum ReadError {
     /// Memory ran out.
+    #[error("memory ran out")]
     NoMemory,
     /// So many tokens are left where they stop being the beginning of a phrase.
+    #[error("the tokens are no phrase where {0} are left")]
     Syntax(usize),
 }
 

@@ -6,8 +6,9 @@ ghost use Rattle.line_phrases.specs.Lists.{listed_at};
 ghost use Rattle.line_phrases.specs.Fields.{dim_at, dims_at, typed_at, field_at, fields_at};
 
 use crate::{ReadError, Tokens};
+use line_grammar::Count;
 use line_tokens::Sign;
-use record_dim::{Dim, Field, FieldList, Name};
+use record_dim::{Dim, Field, FieldList, LeafType, Name};
 use std::alloc::{AllocError as NoMemory, Global};
 
 /// The fields of a record, in braces. Braces nest at most `room` deep in them.
@@ -25,7 +26,7 @@ pub fn read_fields(alloc: Global, room: usize, tokens: &mut Tokens) -> Result<Fi
 }
 
 #[cycle(fields)]
-#[tactic(auto, unfolding(crate::specs::Lists::listed_at), using(crate::proofs::FieldLaws::field_steps))]
+#[tactic(auto, unfolding(crate::specs::Lists::listed_at), using(crate::specs::FieldLaws::field_steps))]
 fn read_field_list(alloc: Global, room: usize, tokens: &mut Tokens) -> Result<Vec<Field>, ReadError>
     ensures gives { Gives (λ x. (map (λ field. (field.name, tree_of field.dim)) x.items, tokens.new)) result (listed_at (field_at room) tokens.old) }
     ensures shorter { OnOk result (length tokens.new < length tokens.old) }
@@ -45,7 +46,7 @@ fn read_field(alloc: Global, room: usize, tokens: &mut Tokens) -> Result<Field, 
     ensures gives { Gives (λ x. ((x.name, tree_of x.dim), tokens.new)) result (field_at room tokens.old) }
     ensures shorter { OnOk result (length tokens.new < length tokens.old) }
 {
-    let name = tokens.name()?;
+    let name = tokens.item::<Name>()?;
     if room == 0 {
         return read_typed(alloc, name, tokens);
     }
@@ -65,14 +66,14 @@ fn read_typed(alloc: Global, name: Name, tokens: &mut Tokens) -> Result<Field, R
     ensures shorter { OnOk result (length tokens.new < length tokens.old) }
 {
     tokens.sign(Sign::Colon)?;
-    let kind = tokens.leaf_type()?;
+    let kind = tokens.item::<LeafType>()?;
     let counts = read_dims(alloc, tokens)?;
     let dim = array_of(alloc, counts, Dim::Leaf(kind))?;
     Ok(Field { name, dim })
 }
 
 // The counts in brackets, the outermost first.
-#[tactic(auto, unfolding(crate::specs::Fields::dims_at), using(crate::proofs::FieldLaws::dim_steps))]
+#[tactic(auto, unfolding(crate::specs::Fields::dims_at), using(crate::specs::FieldLaws::dim_steps))]
 fn read_dims(alloc: Global, tokens: &mut Tokens) -> Result<Vec<u32>, ReadError>
     ensures gives { Gives (λ x. (x.items, tokens.new)) result (dims_at tokens.old) }
     ensures no_longer { OnOk result (length tokens.new ≤ length tokens.old) }
@@ -91,13 +92,13 @@ fn read_dim(tokens: &mut Tokens) -> Result<u32, ReadError>
     ensures fault { IfErr result IsSyntax }
 {
     tokens.sign(Sign::OpenBracket)?;
-    let count = tokens.count()?;
+    let count = tokens.item::<Count>()?;
     tokens.sign(Sign::CloseBracket)?;
     Ok(count)
 }
 
 // Arrays of so many elements, the first count the outermost.
-#[tactic(auto, using(crate::proofs::FieldLaws::arrays_last))]
+#[tactic(auto, using(crate::specs::FieldLaws::arrays_last))]
 fn array_of(alloc: Global, mut counts: Vec<u32>, element: Dim) -> Result<Dim, NoMemory>
     ensures { IfOk result (λ dim. tree_of dim ≡ arrays counts.items (tree_of element)) }
 {
@@ -110,7 +111,7 @@ fn array_of(alloc: Global, mut counts: Vec<u32>, element: Dim) -> Result<Dim, No
 }
 
 // The fields as a list of the record's own.
-#[tactic(auto, using(crate::proofs::FieldLaws::fields_last))]
+#[tactic(auto, using(crate::specs::FieldLaws::fields_last))]
 fn field_list(alloc: Global, mut fields: Vec<Field>) -> Result<FieldList, NoMemory>
     ensures { IfOk result (λ list. fields_of list ≡ fields_of_list (map (λ field. (field.name, tree_of field.dim)) fields.items)) }
 {

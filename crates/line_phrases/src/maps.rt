@@ -5,9 +5,12 @@ ghost use Rattle.line_phrases.specs.Gives.{Gives, IsSyntax};
 ghost use Rattle.line_phrases.specs.Maps.{aos_at, aosoa_at, bit_aos_at, bit_soa_at, form_at, map_at, soa_at};
 
 use crate::{ReadError, Tokens, read_path};
-use line_grammar::{MapWord, map_word};
+use extents::Order;
+use line_grammar::{Count, IntegerType, MapWord, map_word};
 use line_tokens::Sign;
 use map_expr::MapExpr;
+use places::{AosForm, SoaForm};
+use record_dim::{LeafType, Name};
 use std::alloc::Global;
 
 /// The mapping at the front. Its brackets nest at most `room` deep.
@@ -17,7 +20,7 @@ pub fn read_map(alloc: Global, room: usize, tokens: &mut Tokens) -> Result<MapEx
     ensures gives { Gives (λ x. (term_of x, tokens.new)) result (map_at room tokens.old) }
     ensures shorter { OnOk result (length tokens.new < length tokens.old) }
 {
-    let word = tokens.name()?;
+    let word = tokens.item::<Name>()?;
     if room == 0 {
         return Ok(MapExpr::Named(word));
     }
@@ -93,9 +96,9 @@ fn read_change(alloc: Global, room: usize, tokens: &mut Tokens) -> Result<MapExp
     ensures gives { Gives (λ x. (term_of x, tokens.new)) result (form_at (map_at room) form.Change tokens.old) }
     ensures shorter { OnOk result (length tokens.new < length tokens.old) }
 {
-    let from = tokens.leaf_type()?;
+    let from = tokens.item::<LeafType>()?;
     tokens.sign(Sign::Arrow)?;
-    let to = tokens.integer_type()?;
+    let to = tokens.item::<IntegerType>()?;
     tokens.sign(Sign::Comma)?;
     let map = read_map(alloc, room, tokens)?;
     let inner = Box::new(alloc, map)?;
@@ -108,7 +111,7 @@ fn read_heat(alloc: Global, room: usize, tokens: &mut Tokens) -> Result<MapExpr,
     ensures gives { Gives (λ x. (term_of x, tokens.new)) result (form_at (map_at room) form.Heat tokens.old) }
     ensures shorter { OnOk result (length tokens.new < length tokens.old) }
 {
-    let granule = tokens.count()?;
+    let granule = tokens.item::<Count>()?;
     tokens.sign(Sign::Comma)?;
     let map = read_map(alloc, room, tokens)?;
     let inner = Box::new(alloc, map)?;
@@ -121,9 +124,9 @@ fn read_aos(tokens: &mut Tokens) -> Result<MapExpr, ReadError>
     ensures shorter { OnOk result (length tokens.new < length tokens.old) }
     ensures fault { IfErr result IsSyntax }
 {
-    let form = tokens.aos_form()?;
+    let form = tokens.item::<AosForm>()?;
     tokens.sign(Sign::Comma)?;
-    let order = tokens.order()?;
+    let order = tokens.item::<Order>()?;
     Ok(MapExpr::Aos { form, order })
 }
 
@@ -133,9 +136,9 @@ fn read_soa(tokens: &mut Tokens) -> Result<MapExpr, ReadError>
     ensures shorter { OnOk result (length tokens.new < length tokens.old) }
     ensures fault { IfErr result IsSyntax }
 {
-    let form = tokens.soa_form()?;
+    let form = tokens.item::<SoaForm>()?;
     tokens.sign(Sign::Comma)?;
-    let order = tokens.order()?;
+    let order = tokens.item::<Order>()?;
     Ok(MapExpr::Soa { form, order })
 }
 
@@ -145,9 +148,9 @@ fn read_aosoa(tokens: &mut Tokens) -> Result<MapExpr, ReadError>
     ensures shorter { OnOk result (length tokens.new < length tokens.old) }
     ensures fault { IfErr result IsSyntax }
 {
-    let lanes = tokens.count()?;
+    let lanes = tokens.item::<Count>()?;
     tokens.sign(Sign::Comma)?;
-    let order = tokens.order()?;
+    let order = tokens.item::<Order>()?;
     Ok(MapExpr::Aosoa { lanes, order })
 }
 
@@ -157,9 +160,9 @@ fn read_bit_aos(tokens: &mut Tokens) -> Result<MapExpr, ReadError>
     ensures shorter { OnOk result (length tokens.new < length tokens.old) }
     ensures fault { IfErr result IsSyntax }
 {
-    let width = tokens.count()?;
+    let width = tokens.item::<Count>()?;
     tokens.sign(Sign::Comma)?;
-    let order = tokens.order()?;
+    let order = tokens.item::<Order>()?;
     Ok(MapExpr::BitAos { width, order })
 }
 
@@ -169,8 +172,8 @@ fn read_bit_soa(tokens: &mut Tokens) -> Result<MapExpr, ReadError>
     ensures shorter { OnOk result (length tokens.new < length tokens.old) }
     ensures fault { IfErr result IsSyntax }
 {
-    let width = tokens.count()?;
+    let width = tokens.item::<Count>()?;
     tokens.sign(Sign::Comma)?;
-    let order = tokens.order()?;
+    let order = tokens.item::<Order>()?;
     Ok(MapExpr::BitSoa { width, order })
 }

@@ -4,17 +4,18 @@ ghost use Rattle.line_phrases.specs.Gives.{Gives, IsSyntax};
 ghost use Rattle.line_phrases.specs.Paths.{begins_part, part_at, path_at};
 
 use crate::{ReadError, Tokens};
+use line_grammar::Count;
 use line_tokens::Sign;
-use record_dim::{Path, PathStep};
+use record_dim::{Name, Path, PathStep};
 use std::alloc::Global;
 
 /// The path at the front.
-#[tactic(auto, unfolding(crate::specs::Paths::path_at), using(crate::proofs::Paths::path_steps))]
+#[tactic(auto, unfolding(crate::specs::Paths::path_at), using(crate::specs::PathsLaws::path_steps))]
 pub fn read_path(alloc: Global, tokens: &mut Tokens) -> Result<Path, ReadError>
     ensures gives { Gives (λ x. (x, tokens.new)) result (path_at tokens.old) }
     ensures shorter { OnOk result (length tokens.new < length tokens.old) }
 {
-    let name = tokens.name()?;
+    let name = tokens.item::<Name>()?;
     let mut path = Path::new(alloc, name)?;
     while begins_part(tokens) {
         path.push(read_part(tokens)?)?;
@@ -36,11 +37,11 @@ fn read_part(tokens: &mut Tokens) -> Result<PathStep, ReadError>
 {
     if tokens.begins_sign(Sign::Dot) {
         tokens.sign(Sign::Dot)?;
-        let name = tokens.name()?;
+        let name = tokens.item::<Name>()?;
         return Ok(PathStep::Name(name));
     }
     tokens.sign(Sign::OpenBracket)?;
-    let number = tokens.count()?;
+    let number = tokens.item::<Count>()?;
     tokens.sign(Sign::CloseBracket)?;
     Ok(PathStep::At(number))
 }

@@ -4,3 +4,10 @@ pub mod Tokens
 pub mod Next
 pub mod Spots
 pub mod Spelled
+pub mod DecimalLaws
+pub mod NextTokenLaws
+pub mod SignsLaws
+pub mod SpelledLaws
+pub mod SpotLaws
+pub mod StandingLaws
+pub mod StringsLaws

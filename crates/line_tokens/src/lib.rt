@@ -8,6 +8,3 @@ mod token;
 pub use sign::Sign;
 pub use spots::{Spot, SpotList, spots_of};
 pub use token::{Next, TokenKind, next_token};
-
-#[cfg(test)]
-mod tests;

@@ -1,11 +1,11 @@
 //! The signs of the language, from its brackets to its operators.
 
 ghost use Rattle.std.specs.Prelude.{◌≡◌};
-ghost use Rattle.line_tokens.specs.Signs.{closes, opens};
+ghost use Rattle.line_tokens.specs.Signs.{closes, opens, spelling};
 ghost use Rattle.line_tokens.specs.Next.{double_sign, single_sign};
 
 /// A sign, of one byte or of two.
-#[derive(Clone, Copy, Debug, PartialEq, Eq)]
+#[derive(Clone, Copy, PartialEq, Eq)]
 pub enum Sign {
     /// `{`
     OpenBrace,
@@ -56,6 +56,37 @@ pub enum Sign {
 }
 
 impl Sign {
+    /// How the sign is spelled.
+    pub fn text(self) -> &'static str
+        ensures { result.now ≡ spelling self }
+    {
+        match self {
+            Sign::OpenBrace => "{",
+            Sign::CloseBrace => "}",
+            Sign::OpenBracket => "[",
+            Sign::CloseBracket => "]",
+            Sign::OpenParen => "(",
+            Sign::CloseParen => ")",
+            Sign::Colon => ":",
+            Sign::Comma => ",",
+            Sign::Dot => ".",
+            Sign::Equals => "=",
+            Sign::EqualEqual => "==",
+            Sign::NotEqual => "!=",
+            Sign::LessThan => "<",
+            Sign::LessEqual => "<=",
+            Sign::GreaterThan => ">",
+            Sign::GreaterEqual => ">=",
+            Sign::Plus => "+",
+            Sign::Minus => "-",
+            Sign::Arrow => "->",
+            Sign::Star => "*",
+            Sign::Slash => "/",
+            Sign::Percent => "%",
+            Sign::Question => "?",
+        }
+    }
+
     // An opening bracket.
     pub(crate) fn opens(self) -> bool
         ensures { result ≡ opens self }

@@ -8,7 +8,7 @@ use lists::Sequence;
 use std::alloc::{AllocError as NoMemory, Global};
 
 /// A token with its place in the line: the bytes from `from` up to, and without, `end`.
-#[derive(Clone, Copy, Debug, PartialEq, Eq)]
+#[derive(Clone, Copy)]
 pub struct Spot {
     /// The offset of the first byte.
     pub from: usize,

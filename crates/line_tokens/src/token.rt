@@ -19,7 +19,7 @@ const MAX_NUMBER: u128 = (1 << 127) - 1;
 const MAX_BRACKETS: u32 = 64;
 
 /// What stands next in a line's text. Places are byte offsets from the start of the text.
-#[derive(Clone, Copy, Debug, PartialEq, Eq)]
+#[derive(Clone, Copy)]
 pub enum Next {
     /// Only spaces, tabs and a comment are left.
     End,
@@ -36,7 +36,7 @@ pub enum Next {
 }
 
 /// The kind of a token, with its value or sign.
-#[derive(Clone, Copy, Debug, PartialEq, Eq)]
+#[derive(Clone, Copy)]
 pub enum TokenKind {
     /// A letter or `_`, then letters, digits and `_`: at most 32 bytes.
     Word,

@@ -19,9 +19,9 @@ use Rattle.line_grammar.specs.declared.line.KernelWord.TheVariants as word
 use Rattle.line_grammar.specs.Tokens.{number_of, kernel_word_of, comparison_of, command_of}
 use Rattle.line_grammar.specs.Sentences.{Assignment, Sentence, Value, Assign, Update, Kernel, Count, filter_depth, deepest_set, deepest}
 use Rattle.line_grammar.specs.Grammar.{Phrase, IsName, IsCount, IsNumber, IsPath, IsMore, IsListed, IsConst, IsExpr, IsBracketList, IsAssignment, IsFilter, IsKernelInside, IsKernel, IsBody, IsLine}
-use Rattle.line_writer.specs.Canonical.{operator, count_token, number_tokens, path_tokens, with_commas, bracket_list, form_tokens, value_tokens, assignment_tokens, filter_tokens, kernel_tokens, line_tokens}
+use Rattle.line_grammar.specs.Words.{operator, kernel_word}
+use Rattle.line_writer.specs.Canonical.{count_token, number_tokens, path_tokens, with_commas, bracket_list, form_tokens, value_tokens, assignment_tokens, filter_tokens, kernel_tokens, line_tokens}
 use Rattle.line_writer.proofs.Gives.{IsSpelled, Each, each_front, each_back, Gives, nothing_gives, item_gives, behind_gives, joined_gives, either_gives, gives_also}
-use Rattle.line_writer.proofs.Words.{kernel_word}
 use Rattle.line_writer.proofs.Phrases.{IsWritten, sound, path_gives}
 use Rattle.line_writer.proofs.Leaves.{IsGood}
 use Rattle.line_writer.proofs.Levels.{value_read}

@@ -7,12 +7,13 @@ use Rattle.expr_lang.specs.declared.expr.BinOp.{BinOp}
 use Rattle.expr_lang.specs.Terms.{Number as Constant, Entry, Index, Neg, Not, Binary}
 use Rattle.line_grammar.specs.declared.token.Token.{Token}
 use Rattle.line_grammar.specs.declared.token.Token.TheVariants.{Word, Number, Text, Sign, Bad}
-use Rattle.line_grammar.specs.Tokens.{number_of, index_words, index_of, choice_of, or_of, and_of, comparison_of, sum_of, product_of}
+use Rattle.line_grammar.specs.Tokens.{number_of, dimensions, index_of, choice_of, or_of, and_of, comparison_of, sum_of, product_of}
+use Rattle.line_grammar.specs.Words.{index_word}
 use Rattle.line_grammar.specs.Sentences.{Value}
 use Rattle.line_grammar.specs.Grammar.{Phrase, IsNumber, IsLink, IsChain, wrapped, IsPrefix, IsPrefixed, IsSum, IsComparison, IsExprOver, IsLeaf, IsChoice, IsBracketed, IsAtom, IsExpr}
 use Rattle.line_writer.specs.Canonical.{number_tokens, value_tokens}
 use Rattle.line_writer.proofs.Gives.{IsClean, IsSpelled, Each, Gives, nothing_gives, item_gives, behind_gives, joined_gives, either_gives, repeats_gives, gives_also}
-use Rattle.line_writer.proofs.Words.{listed_word}
+use Rattle.line_writer.proofs.Words.{listed_as}
 use Rattle.line_writer.proofs.Phrases.{path_gives, sound}
 
 -- the canonical tokens of a leaf are spelled, and are read as this leaf
@@ -49,7 +50,7 @@ number_gives = item_gives {Q = λ xs v. number_tokens v ≡ xs} number_of refl n
 
 -- an index has one token
 index_is : (token : Token) (v : ℕ) → index_of token ≡ Some v → IsSpelled token → Word (codes "i" ++ decimal v) ∷ [] ≡ token ∷ []
-index_is (Word word) v h spelled = ap (λ k. Word k ∷ []) (sym (listed_word (λ dimension. codes "i" ++ decimal dimension) index_words
+index_is (Word word) v h spelled = ap (λ k. Word k ∷ []) (sym (listed_as index_word (λ dimension. codes "i" ++ decimal dimension) dimensions
     (rw (decimal_digit 0 (omega arith), decimal_digit 1 (omega arith), decimal_digit 2 (omega arith), decimal_digit 3 (omega arith)) refl) word v h))
 index_is (Number value) v h spelled = absurd cc
 index_is (Text text) v h spelled = absurd cc

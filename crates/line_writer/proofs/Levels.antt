@@ -9,7 +9,8 @@ use Rattle.line_grammar.specs.declared.token.Token.TheVariants.{Word, Sign}
 use Rattle.line_grammar.specs.Tokens.{choice_of, or_of, and_of, comparison_of, sum_of, product_of}
 use Rattle.line_grammar.specs.Sentences.{Value}
 use Rattle.line_grammar.specs.Grammar.{Phrase, IsLink, IsChain, IsPrefixed, IsUnary, IsProduct, IsSum, IsComparison, IsNegation, IsConjunction, IsExprOver, IsLeaf, IsAtom, IsExpr}
-use Rattle.line_writer.specs.Canonical.{is_choice, operator, operand, value_tokens}
+use Rattle.line_grammar.specs.Words.{operator}
+use Rattle.line_writer.specs.Canonical.{is_choice, operand, value_tokens}
 use Rattle.line_writer.proofs.Leaves.{IsGood}
 
 -- each level has the phrases of the next one

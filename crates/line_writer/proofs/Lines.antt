@@ -12,9 +12,10 @@ use Rattle.line_grammar.specs.declared.line.Command.TheVariants as command
 use Rattle.line_grammar.specs.declared.line.KernelWord.{KernelWord}
 use Rattle.line_grammar.specs.Sentences.{Assignment, Sentence, Blank, Define, Mapping, View, Load, Assign, Update, Kernel, Reduce, Count, Copy, Relayout, Print, Counts, Heat, Layout, Drop, Bytes}
 use Rattle.line_grammar.specs.Grammar.{Phrase, IsName, IsMore, IsListed, IsAssignment, IsFilter, IsKernel, IsBody, IsLine}
-use Rattle.line_writer.specs.Canonical.{count_token, bracket_list, extent_tokens, map_tokens, path_tokens, view_tokens, reduction_word, line_tokens}
+use Rattle.line_grammar.specs.Words.{reduction_word, command_word}
+use Rattle.line_writer.specs.Canonical.{count_token, bracket_list, extent_tokens, map_tokens, path_tokens, view_tokens, line_tokens}
 use Rattle.line_writer.proofs.Gives.{Each, each_append, Gives, nothing_gives, behind_gives, joined_gives, either_gives, repeats_gives, gives_also}
-use Rattle.line_writer.proofs.Words.{command_word, name_gives, count_gives, string_gives, reduction_gives, command_gives, kernel_word_gives}
+use Rattle.line_writer.proofs.Words.{name_gives, count_gives, string_gives, reduction_gives, command_gives, kernel_word_gives}
 use Rattle.line_writer.proofs.Phrases.{sound, path_gives, fields_give, map_gives, bracket_list_gives, fixed_gives, extent_gives}
 use Rattle.line_writer.proofs.Leaves.{expr_gives}
 use Rattle.line_writer.proofs.Kept.{kept_from, kept_gives, KeptKernel, kernel_inside_gives, IsGoodSet, IsGoodFilter, IsFull, index_tokens, IsKept, count_kept, kernel_kept, assign_kept, update_kept}

@@ -7,7 +7,7 @@ use Rattle.line_tokens.specs.declared.sign.Sign.TheVariants.{OpenBrace, CloseBra
 use Rattle.record_dim.specs.declared.path.PathStep.TheVariants as step
 use Rattle.record_dim.specs.Trees.{Tree, Single, Record, Fields}
 use Rattle.extents.specs.declared.words.ExtentWord.TheVariants as extent
-use Rattle.linearize.specs.declared.Order.{Order}
+use Rattle.extents.specs.declared.order.Order.{Order}
 use Rattle.map_expr.specs.Terms.{Term as MapTerm, Aos, Soa, Aosoa, BitAos, BitSoa, Split, Byteswap, Bytesplit, Change, Count as Counted, Heat as Heated, Named}
 use Rattle.line_grammar.specs.declared.token.Token.{Token}
 use Rattle.line_grammar.specs.declared.token.Token.TheVariants.{Word, Sign}
@@ -15,9 +15,10 @@ use Rattle.line_grammar.specs.declared.line.MapWord.{MapWord}
 use Rattle.line_grammar.specs.declared.line.MapWord.TheVariants as form
 use Rattle.line_grammar.specs.Tokens.{map_word, order_of}
 use Rattle.line_grammar.specs.Grammar.{Phrase, IsName, IsCount, IsMore, IsListed, IsPart, IsPath, IsDims, arrays, fields_of_list, IsTyped, IsNested, IsBraced, IsField, IsFields, IsForm, IsFormOrName, IsMap, IsExtent, IsBracketList}
-use Rattle.line_writer.specs.Canonical.{count_token, bracketed_count, with_commas, bracket_list, step_tokens, path_tokens, dims_tokens, core_tokens, fields_tokens, later_tokens, held_tokens, form_tokens, ordered_tokens, map_tokens, extent_tokens, type_word, order_word, aos_word, soa_word}
+use Rattle.line_grammar.specs.Words.{type_word, order_word, aos_word, soa_word, form_word}
+use Rattle.line_writer.specs.Canonical.{count_token, bracketed_count, with_commas, bracket_list, step_tokens, path_tokens, dims_tokens, core_tokens, fields_tokens, later_tokens, held_tokens, form_tokens, ordered_tokens, map_tokens, extent_tokens}
 use Rattle.line_writer.proofs.Gives.{Gives, nothing_gives, behind_gives, joined_gives, either_gives, repeats_gives, gives_also}
-use Rattle.line_writer.proofs.Words.{name_gives, count_gives, type_gives, integer_type_gives, order_gives, aos_form_gives, soa_form_gives, form_word, map_word_is}
+use Rattle.line_writer.proofs.Words.{name_gives, count_gives, type_gives, integer_type_gives, order_gives, aos_form_gives, soa_form_gives, map_word_is}
 
 -- the tokens are the canonical ones
 abbrev pub IsWritten : {A : Type 0} → (A → List Token) → List Token → A → Type 0

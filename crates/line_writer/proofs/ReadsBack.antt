@@ -18,10 +18,10 @@ use Rattle.line_tokens.specs.declared.spots.Spot.{Spot}
 use Rattle.line_tokens.specs.declared.token.Next.TheVariants.{Token as Found}
 use Rattle.line_tokens.specs.declared.token.TokenKind.{TokenKind}
 use Rattle.line_tokens.specs.declared.token.TokenKind.TheVariants as kind
-use Rattle.line_tokens.proofs.NextToken.{token_exactly}
-use Rattle.line_tokens.proofs.SpelledLaws.{next_spells, joined_read}
-use Rattle.line_tokens.proofs.SpotLaws.{spot_at}
-use Rattle.record_dim.proofs.NameBytes.{both}
+use Rattle.line_tokens.specs.NextTokenLaws.{token_exactly}
+use Rattle.line_tokens.specs.SpelledLaws.{next_spells, joined_read}
+use Rattle.line_tokens.specs.SpotLaws.{spot_at}
+use Rattle.record_dim.specs.NameBytesLaws.{both}
 use Rattle.line_grammar.specs.declared.token.Token.{Token}
 use Rattle.line_grammar.specs.declared.token.Token.TheVariants.{Word, Number, Text, Sign, Bad}
 use Rattle.line_grammar.specs.Tokens.{kind_token}

@@ -19,7 +19,8 @@ use Rattle.expr_lang.specs.Terms.{Number as Constant, Entry, Index, Neg, Not, Bi
 use Rattle.line_grammar.specs.declared.token.Token.{Token}
 use Rattle.line_grammar.specs.declared.token.Token.TheVariants.{Word, Number, Text, Sign, Bad}
 use Rattle.line_grammar.specs.Sentences.{Value}
-use Rattle.line_writer.specs.Canonical.{is_choice, needs_brackets, operator, operand, number_tokens, bracketed_count, count_token, with_commas, bracket_list, first_tokens, step_tokens, path_tokens, form_tokens, value_tokens}
+use Rattle.line_grammar.specs.Words.{operator}
+use Rattle.line_writer.specs.Canonical.{is_choice, needs_brackets, operand, number_tokens, bracketed_count, count_token, with_commas, bracket_list, first_tokens, step_tokens, path_tokens, form_tokens, value_tokens}
 use Rattle.line_writer.specs.Texts.{written}
 use Rattle.line_writer.proofs.Gives.{IsSpelled, Each, each_front, each_back}
 use Rattle.line_writer.proofs.Leaves.{IsGood}

@@ -2,81 +2,26 @@
 use Rattle.std.specs.Prelude.{ℕ, ◌+◌, Bool, true, false, not, if◌then◌else◌, List, [], ◌∷◌, ◌++◌, map, Option, Some, None, codes, ℤ, pos, negsuc}
 use Rattle.std.specs.Fmt.{decimal}
 use Rattle.std.specs.List.{flat_map}
-use Rattle.line_tokens.specs.declared.sign.Sign.TheVariants.{OpenBrace, CloseBrace, OpenBracket, CloseBracket, OpenParen, CloseParen, Colon, Comma, Dot, Equals, EqualEqual, NotEqual, LessThan, LessEqual, GreaterThan, GreaterEqual, Plus, Minus, Arrow, Star, Slash, Percent, Question}
-use Rattle.record_dim.specs.declared.leaf_type.LeafType.{LeafType}
-use Rattle.record_dim.specs.declared.leaf_type.LeafType.TheVariants.{Bool as Truth, U8, U16, U32, U64, I8, I16, I32, I64}
+use Rattle.line_tokens.specs.declared.sign.Sign.TheVariants.{OpenBrace, CloseBrace, OpenBracket, CloseBracket, OpenParen, CloseParen, Colon, Comma, Dot, Equals, Minus, Arrow, Question}
 use Rattle.record_dim.specs.declared.path.PathStep.{PathStep}
 use Rattle.record_dim.specs.declared.path.PathStep.TheVariants as step
 use Rattle.record_dim.specs.Trees.{Tree, Single, Record, Array, Fields, End, Field}
 use Rattle.extents.specs.declared.words.ExtentWord.{ExtentWord}
 use Rattle.extents.specs.declared.words.ExtentWord.TheVariants as extent
-use Rattle.linearize.specs.declared.Order.{Order}
-use Rattle.linearize.specs.declared.Order.TheVariants.{Row, Col, Morton}
-use Rattle.map_aos.specs.declared.form.AosForm.{AosForm}
-use Rattle.map_aos.specs.declared.form.AosForm.TheVariants as aos
-use Rattle.map_soa.specs.declared.form.SoaForm.{SoaForm}
-use Rattle.map_soa.specs.declared.form.SoaForm.TheVariants as soa
+use Rattle.extents.specs.declared.order.Order.{Order}
 use Rattle.expr_lang.specs.declared.expr.BinOp.{BinOp}
-use Rattle.expr_lang.specs.declared.expr.BinOp.TheVariants.{Add, Sub, Mul, Div, Rem, Min, Max, Eq, Ne, Lt, Le, Gt, Ge, And, Or}
+use Rattle.expr_lang.specs.declared.expr.BinOp.TheVariants.{Min, Max}
 use Rattle.expr_lang.specs.Terms.{Number as Constant, Entry, Index, Neg, Not, Binary}
 use Rattle.map_expr.specs.Terms.{Term as MapTerm, Aos, Soa, Aosoa, BitAos, BitSoa, Split, Byteswap, Bytesplit, Change, Count as Counted, Heat as Heated, Named}
 use Rattle.line_grammar.specs.declared.token.Token.{Token}
 use Rattle.line_grammar.specs.declared.token.Token.TheVariants.{Word, Number, Text, Sign}
+use Rattle.line_grammar.specs.declared.line.Command.TheVariants as command
 use Rattle.line_grammar.specs.declared.line.KernelText.{KernelText}
 use Rattle.line_grammar.specs.declared.line.KernelText.TheVariants as kernel
-use Rattle.line_grammar.specs.declared.line.ReduceKind.{ReduceKind}
-use Rattle.line_grammar.specs.declared.line.ReduceKind.TheVariants as reduce
+use Rattle.line_grammar.specs.declared.line.KernelWord.TheVariants as worded
+use Rattle.line_grammar.specs.declared.line.MapWord.TheVariants as map_form
+use Rattle.line_grammar.specs.Words.{type_word, order_word, aos_word, soa_word, form_word, kernel_word, reduction_word, command_word, operator}
 use Rattle.line_grammar.specs.Sentences.{Assignment, Sentence, Value, Blank, Define, Mapping, View, Load, Assign, Update, Kernel, Reduce, Count, Copy, Relayout, Print, Counts, Heat, Layout, Drop, Bytes}
-
--- the words of types, orders, forms and reductions
-abbrev pub type_word : LeafType → List ℕ
-type_word Truth = codes "bool"
-type_word U8 = codes "u8"
-type_word U16 = codes "u16"
-type_word U32 = codes "u32"
-type_word U64 = codes "u64"
-type_word I8 = codes "i8"
-type_word I16 = codes "i16"
-type_word I32 = codes "i32"
-type_word I64 = codes "i64"
-
-abbrev pub order_word : Order → List ℕ
-order_word Row = codes "row"
-order_word Col = codes "col"
-order_word Morton = codes "morton"
-
-abbrev pub aos_word : AosForm → List ℕ
-aos_word aos.Packed = codes "packed"
-aos_word aos.Aligned = codes "aligned"
-aos_word aos.Min = codes "min"
-
-abbrev pub soa_word : SoaForm → List ℕ
-soa_word soa.Single = codes "single"
-soa_word soa.Aligned = codes "aligned"
-soa_word soa.Multi = codes "multi"
-
-abbrev pub reduction_word : ReduceKind → List ℕ
-reduction_word reduce.Sum = codes "sum"
-reduction_word reduce.Min = codes "min"
-reduction_word reduce.Max = codes "max"
-
--- the sign or the word of an operator
-abbrev pub operator : BinOp → Token
-operator Add = Sign Plus
-operator Sub = Sign Minus
-operator Mul = Sign Star
-operator Div = Sign Slash
-operator Rem = Sign Percent
-operator Min = Word (codes "min")
-operator Max = Word (codes "max")
-operator Eq = Sign EqualEqual
-operator Ne = Sign NotEqual
-operator Lt = Sign LessThan
-operator Le = Sign LessEqual
-operator Gt = Sign GreaterThan
-operator Ge = Sign GreaterEqual
-operator And = Word (codes "and")
-operator Or = Word (codes "or")
 
 -- a number; the minus of a negative one is a token of its own
 abbrev pub number_tokens : ℤ → List Token
@@ -147,17 +92,17 @@ ordered_tokens token order = token ∷ Sign Comma ∷ Word (order_word order) �
 
 -- a mapping
 abbrev pub map_tokens : MapTerm → List Token
-map_tokens (Aos form order) = form_tokens (codes "aos") (ordered_tokens (Word (aos_word form)) order)
-map_tokens (Soa form order) = form_tokens (codes "soa") (ordered_tokens (Word (soa_word form)) order)
-map_tokens (Aosoa lanes order) = form_tokens (codes "aosoa") (ordered_tokens (count_token lanes) order)
-map_tokens (BitAos width order) = form_tokens (codes "bitaos") (ordered_tokens (count_token width) order)
-map_tokens (BitSoa width order) = form_tokens (codes "bitsoa") (ordered_tokens (count_token width) order)
-map_tokens (Split path first rest) = form_tokens (codes "split") (path_tokens path ++ Sign Comma ∷ (map_tokens first ++ Sign Comma ∷ map_tokens rest))
-map_tokens (Byteswap inner) = form_tokens (codes "byteswap") (map_tokens inner)
-map_tokens (Bytesplit inner) = form_tokens (codes "bytesplit") (map_tokens inner)
-map_tokens (Change from to inner) = form_tokens (codes "change") (Word (type_word from) ∷ Sign Arrow ∷ Word (type_word to) ∷ Sign Comma ∷ map_tokens inner)
-map_tokens (Counted inner) = form_tokens (codes "count") (map_tokens inner)
-map_tokens (Heated granule inner) = form_tokens (codes "heat") (count_token granule ∷ Sign Comma ∷ map_tokens inner)
+map_tokens (Aos form order) = form_tokens (form_word map_form.Aos) (ordered_tokens (Word (aos_word form)) order)
+map_tokens (Soa form order) = form_tokens (form_word map_form.Soa) (ordered_tokens (Word (soa_word form)) order)
+map_tokens (Aosoa lanes order) = form_tokens (form_word map_form.Aosoa) (ordered_tokens (count_token lanes) order)
+map_tokens (BitAos width order) = form_tokens (form_word map_form.BitAos) (ordered_tokens (count_token width) order)
+map_tokens (BitSoa width order) = form_tokens (form_word map_form.BitSoa) (ordered_tokens (count_token width) order)
+map_tokens (Split path first rest) = form_tokens (form_word map_form.Split) (path_tokens path ++ Sign Comma ∷ (map_tokens first ++ Sign Comma ∷ map_tokens rest))
+map_tokens (Byteswap inner) = form_tokens (form_word map_form.Byteswap) (map_tokens inner)
+map_tokens (Bytesplit inner) = form_tokens (form_word map_form.Bytesplit) (map_tokens inner)
+map_tokens (Change from to inner) = form_tokens (form_word map_form.Change) (Word (type_word from) ∷ Sign Arrow ∷ Word (type_word to) ∷ Sign Comma ∷ map_tokens inner)
+map_tokens (Counted inner) = form_tokens (form_word map_form.Count) (map_tokens inner)
+map_tokens (Heated granule inner) = form_tokens (form_word map_form.Heat) (count_token granule ∷ Sign Comma ∷ map_tokens inner)
 map_tokens (Named name) = Word name ∷ []
 
 -- the operators that stand before their operands
@@ -206,31 +151,31 @@ filter_tokens (Some filter) = Word (codes "where") ∷ value_tokens filter
 
 -- a kernel
 abbrev pub kernel_tokens : KernelText → List Token
-kernel_tokens (kernel.Axpy a x y) = form_tokens (codes "axpy") (number_tokens a ++ Sign Comma ∷ (path_tokens x ++ Sign Comma ∷ path_tokens y))
-kernel_tokens (kernel.Clamp x lo hi) = form_tokens (codes "clamp") (path_tokens x ++ Sign Comma ∷ (number_tokens lo ++ Sign Comma ∷ number_tokens hi))
-kernel_tokens (kernel.Sum x) = form_tokens (codes "sum") (path_tokens x)
-kernel_tokens (kernel.Least x) = form_tokens (codes "least") (path_tokens x)
-kernel_tokens (kernel.Greatest x) = form_tokens (codes "greatest") (path_tokens x)
-kernel_tokens (kernel.CountWhere x op c) = form_tokens (codes "count_where") (path_tokens x ++ operator op ∷ number_tokens c)
+kernel_tokens (kernel.Axpy a x y) = form_tokens (kernel_word worded.Axpy) (number_tokens a ++ Sign Comma ∷ (path_tokens x ++ Sign Comma ∷ path_tokens y))
+kernel_tokens (kernel.Clamp x lo hi) = form_tokens (kernel_word worded.Clamp) (path_tokens x ++ Sign Comma ∷ (number_tokens lo ++ Sign Comma ∷ number_tokens hi))
+kernel_tokens (kernel.Sum x) = form_tokens (kernel_word worded.Sum) (path_tokens x)
+kernel_tokens (kernel.Least x) = form_tokens (kernel_word worded.Least) (path_tokens x)
+kernel_tokens (kernel.Greatest x) = form_tokens (kernel_word worded.Greatest) (path_tokens x)
+kernel_tokens (kernel.CountWhere x op c) = form_tokens (kernel_word worded.CountWhere) (path_tokens x ++ operator op ∷ number_tokens c)
 
 -- a line
 abbrev pub line_tokens : Sentence → List Token
 line_tokens Blank = []
-line_tokens (Define name tree) = Word (codes "record") ∷ Word name ∷ held_tokens tree
-line_tokens (Mapping name expr) = Word (codes "mapping") ∷ Word name ∷ Sign Equals ∷ map_tokens expr
-line_tokens (View name schema words expr) = Word (codes "view") ∷ view_tokens name schema words expr
-line_tokens (Load name schema words expr file) = Word (codes "load") ∷ (view_tokens name schema words expr ++ Word (codes "from") ∷ Text file ∷ [])
-line_tokens (Assign view index path value) = Word (codes "set") ∷ Word view ∷
+line_tokens (Define name tree) = Word (command_word command.Record) ∷ Word name ∷ held_tokens tree
+line_tokens (Mapping name expr) = Word (command_word command.Mapping) ∷ Word name ∷ Sign Equals ∷ map_tokens expr
+line_tokens (View name schema words expr) = Word (command_word command.View) ∷ view_tokens name schema words expr
+line_tokens (Load name schema words expr file) = Word (command_word command.Load) ∷ (view_tokens name schema words expr ++ Word (codes "from") ∷ Text file ∷ [])
+line_tokens (Assign view index path value) = Word (command_word command.Set) ∷ Word view ∷
     (bracket_list (map (λ count. count_token count ∷ []) index) ++ Sign Dot ∷ (path_tokens path ++ Sign Equals ∷ value_tokens value))
-line_tokens (Update view filter sets) = Word (codes "update") ∷ Word view ∷ (filter_tokens filter ++ Word (codes "set") ∷ with_commas (map assignment_tokens sets))
-line_tokens (Kernel view text lanes) = Word (codes "kernel") ∷ Word view ∷ (kernel_tokens text ++ Word (codes "lanes") ∷ count_token lanes ∷ [])
-line_tokens (Reduce view kind path) = Word (codes "reduce") ∷ Word view ∷ Word (reduction_word kind) ∷ path_tokens path
-line_tokens (Count view filter) = Word (codes "reduce") ∷ Word view ∷ Word (codes "count") ∷ Word (codes "where") ∷ value_tokens filter
-line_tokens (Copy source target) = Word (codes "copy") ∷ Word source ∷ Word (codes "to") ∷ Word target ∷ []
-line_tokens (Relayout view expr) = Word (codes "relayout") ∷ Word view ∷ Word (codes "as") ∷ map_tokens expr
-line_tokens (Print view) = Word (codes "print") ∷ Word view ∷ []
-line_tokens (Counts view) = Word (codes "counts") ∷ Word view ∷ []
-line_tokens (Heat view) = Word (codes "heat") ∷ Word view ∷ []
-line_tokens (Layout view) = Word (codes "layout") ∷ Word view ∷ []
-line_tokens (Drop view) = Word (codes "drop") ∷ Word view ∷ []
-line_tokens (Bytes view blob) = Word (codes "bytes") ∷ Word view ∷ count_token blob ∷ []
+line_tokens (Update view filter sets) = Word (command_word command.Update) ∷ Word view ∷ (filter_tokens filter ++ Word (codes "set") ∷ with_commas (map assignment_tokens sets))
+line_tokens (Kernel view text lanes) = Word (command_word command.Kernel) ∷ Word view ∷ (kernel_tokens text ++ Word (codes "lanes") ∷ count_token lanes ∷ [])
+line_tokens (Reduce view kind path) = Word (command_word command.Reduce) ∷ Word view ∷ Word (reduction_word kind) ∷ path_tokens path
+line_tokens (Count view filter) = Word (command_word command.Reduce) ∷ Word view ∷ Word (codes "count") ∷ Word (codes "where") ∷ value_tokens filter
+line_tokens (Copy source target) = Word (command_word command.Copy) ∷ Word source ∷ Word (codes "to") ∷ Word target ∷ []
+line_tokens (Relayout view expr) = Word (command_word command.Relayout) ∷ Word view ∷ Word (codes "as") ∷ map_tokens expr
+line_tokens (Print view) = Word (command_word command.Print) ∷ Word view ∷ []
+line_tokens (Counts view) = Word (command_word command.Counts) ∷ Word view ∷ []
+line_tokens (Heat view) = Word (command_word command.Heat) ∷ Word view ∷ []
+line_tokens (Layout view) = Word (command_word command.Layout) ∷ Word view ∷ []
+line_tokens (Drop view) = Word (command_word command.Drop) ∷ Word view ∷ []
+line_tokens (Bytes view blob) = Word (command_word command.Bytes) ∷ Word view ∷ count_token blob ∷ []

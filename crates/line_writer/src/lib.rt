@@ -10,6 +10,3 @@ mod tokens;
 mod value;
 
 pub use line::write_line;
-
-#[cfg(test)]
-mod tests;

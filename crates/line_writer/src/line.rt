@@ -7,7 +7,7 @@ use crate::commands::{
     write_assign, write_bytes, write_copy, write_count, write_define, write_kernel_line,
     write_load, write_mapping, write_named, write_reduce, write_relayout, write_update, write_view,
 };
-use line_grammar::Line;
+use line_grammar::{Command, Line};
 use record_dim::Text;
 use std::alloc::{AllocError as NoMemory, Global};
 
@@ -41,7 +41,7 @@ fn write_command(text: &mut Text, line: &Line) -> Result<(), NoMemory>
             schema,
             words,
             expr,
-        } => write_view(text, "view", name, schema, words, expr),
+        } => write_view(text, Command::View, name, schema, words, expr),
         Line::Load {
             name,
             schema,
@@ -65,11 +65,11 @@ fn write_command(text: &mut Text, line: &Line) -> Result<(), NoMemory>
         Line::Count { view, filter } => write_count(text, view, filter),
         Line::Copy { source, target } => write_copy(text, source, target),
         Line::Relayout { view, expr } => write_relayout(text, view, expr),
-        Line::Print(view) => write_named(text, "print", view),
-        Line::Counts(view) => write_named(text, "counts", view),
-        Line::Heat(view) => write_named(text, "heat", view),
-        Line::Layout(view) => write_named(text, "layout", view),
-        Line::Drop(view) => write_named(text, "drop", view),
+        Line::Print(view) => write_named(text, Command::Print, view),
+        Line::Counts(view) => write_named(text, Command::Counts, view),
+        Line::Heat(view) => write_named(text, Command::Heat, view),
+        Line::Layout(view) => write_named(text, Command::Layout, view),
+        Line::Drop(view) => write_named(text, Command::Drop, view),
         Line::Bytes { view, blob } => write_bytes(text, view, *blob),
     }
 }

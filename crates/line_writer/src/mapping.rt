@@ -3,15 +3,13 @@ ghost use Rattle.std.specs.Prelude.{◌≡◌, ◌∷◌, [], OnOk};
 ghost use Rattle.line_tokens.specs.declared.sign.Sign.TheVariants.{OpenParen};
 ghost use Rattle.map_expr.specs.Terms.{term_of};
 ghost use Rattle.line_grammar.specs.declared.token.Token.TheVariants.{Word, Sign};
-ghost use Rattle.line_writer.specs.Canonical.{order_word, aos_word, soa_word, count_token, form_tokens, ordered_tokens, map_tokens};
+ghost use Rattle.line_writer.specs.Canonical.{count_token, form_tokens, ordered_tokens, map_tokens};
 ghost use Rattle.line_writer.specs.Texts.{behind};
 
-use crate::record::type_word;
 use crate::tokens::{push, push_count, write_path};
-use linearize::Order;
-use map_aos::AosForm;
+use extents::Order;
+use line_grammar::{MapWord, Spelled};
 use map_expr::MapExpr;
-use map_soa::SoaForm;
 use record_dim::Text;
 use std::alloc::AllocError as NoMemory;
 
@@ -22,13 +20,38 @@ pub(crate) fn write_map(text: &mut Text, expr: &MapExpr) -> Result<(), NoMemory>
     ensures { OnOk result (text.new ≡ behind text.old (map_tokens (term_of expr.now))) }
 {
     match expr {
-        MapExpr::Aos { form, order } => write_worded(text, "aos", aos_word(*form), *order),
-        MapExpr::Soa { form, order } => write_worded(text, "soa", soa_word(*form), *order),
-        MapExpr::Aosoa { lanes, order } => write_counted(text, "aosoa", *lanes, *order),
-        MapExpr::BitAos { width, order } => write_counted(text, "bitaos", *width, *order),
-        MapExpr::BitSoa { width, order } => write_counted(text, "bitsoa", *width, *order),
+        MapExpr::Aos { form, order } => write_worded(
+            text,
+            MapWord::Aos.word(),
+            form.word(),
+            *order,
+        ),
+        MapExpr::Soa { form, order } => write_worded(
+            text,
+            MapWord::Soa.word(),
+            form.word(),
+            *order,
+        ),
+        MapExpr::Aosoa { lanes, order } => write_counted(
+            text,
+            MapWord::Aosoa.word(),
+            *lanes,
+            *order,
+        ),
+        MapExpr::BitAos { width, order } => write_counted(
+            text,
+            MapWord::BitAos.word(),
+            *width,
+            *order,
+        ),
+        MapExpr::BitSoa { width, order } => write_counted(
+            text,
+            MapWord::BitSoa.word(),
+            *width,
+            *order,
+        ),
         MapExpr::Split { path, first, rest } => {
-            open(text, "split")?;
+            open(text, MapWord::Split.word())?;
             write_path(text, path)?;
             push(text, ",")?;
             write_map(text, first)?;
@@ -36,20 +59,20 @@ pub(crate) fn write_map(text: &mut Text, expr: &MapExpr) -> Result<(), NoMemory>
             write_map(text, rest)?;
             push(text, ")")
         }
-        MapExpr::Byteswap(inner) => write_inner(text, "byteswap", inner),
-        MapExpr::Bytesplit(inner) => write_inner(text, "bytesplit", inner),
+        MapExpr::Byteswap(inner) => write_inner(text, MapWord::Byteswap.word(), inner),
+        MapExpr::Bytesplit(inner) => write_inner(text, MapWord::Bytesplit.word(), inner),
         MapExpr::Change { from, to, inner } => {
-            open(text, "change")?;
-            push(text, type_word(*from))?;
+            open(text, MapWord::Change.word())?;
+            push(text, from.word())?;
             push(text, "->")?;
-            push(text, type_word(*to))?;
+            push(text, to.word())?;
             push(text, ",")?;
             write_map(text, inner)?;
             push(text, ")")
         }
-        MapExpr::Count(inner) => write_inner(text, "count", inner),
+        MapExpr::Count(inner) => write_inner(text, MapWord::Count.word(), inner),
         MapExpr::Heat { granule, inner } => {
-            open(text, "heat")?;
+            open(text, MapWord::Heat.word())?;
             push_count(text, *granule)?;
             push(text, ",")?;
             write_map(text, inner)?;
@@ -83,7 +106,7 @@ fn write_worded(text: &mut Text, form: &str, word: &str, order: Order) -> Result
     open(text, form)?;
     push(text, word)?;
     push(text, ",")?;
-    push(text, order_word(order))?;
+    push(text, order.word())?;
     push(text, ")")
 }
 
@@ -93,36 +116,6 @@ fn write_counted(text: &mut Text, form: &str, count: u32, order: Order) -> Resul
     open(text, form)?;
     push_count(text, count)?;
     push(text, ",")?;
-    push(text, order_word(order))?;
+    push(text, order.word())?;
     push(text, ")")
-}
-
-fn order_word(order: Order) -> &'static str
-    ensures { result.now ≡ order_word order }
-{
-    match order {
-        Order::Row => "row",
-        Order::Col => "col",
-        Order::Morton => "morton",
-    }
-}
-
-fn aos_word(form: AosForm) -> &'static str
-    ensures { result.now ≡ aos_word form }
-{
-    match form {
-        AosForm::Packed => "packed",
-        AosForm::Aligned => "aligned",
-        AosForm::Min => "min",
-    }
-}
-
-fn soa_word(form: SoaForm) -> &'static str
-    ensures { result.now ≡ soa_word form }
-{
-    match form {
-        SoaForm::Single => "single",
-        SoaForm::Aligned => "aligned",
-        SoaForm::Multi => "multi",
-    }
 }

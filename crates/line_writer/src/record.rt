@@ -3,11 +3,12 @@ ghost use Rattle.std.specs.Prelude.{◌≡◌, ◌++◌, ◌∷◌, [], OnOk};
 ghost use Rattle.record_dim.specs.Trees.{tree_of, fields_of};
 ghost use Rattle.line_tokens.specs.declared.sign.Sign.TheVariants.{OpenBrace, CloseBrace};
 ghost use Rattle.line_grammar.specs.declared.token.Token.TheVariants.{Word, Sign};
-ghost use Rattle.line_writer.specs.Canonical.{type_word, dims_tokens, core_tokens, fields_tokens, held_tokens};
+ghost use Rattle.line_writer.specs.Canonical.{dims_tokens, core_tokens, fields_tokens, held_tokens};
 ghost use Rattle.line_writer.specs.Texts.{behind};
 
 use crate::tokens::{push, write_bracketed};
-use record_dim::{Dim, Field, FieldList, LeafType, Text};
+use line_grammar::Spelled;
+use record_dim::{Dim, Field, FieldList, Text};
 use std::alloc::AllocError as NoMemory;
 
 // What a field holds.
@@ -31,7 +32,7 @@ fn write_core(text: &mut Text, dim: &Dim) -> Result<(), NoMemory>
         match node {
             Dim::Leaf(kind) => {
                 push(text, ":")?;
-                return push(text, type_word(*kind));
+                return push(text, kind.word());
             }
             Dim::Fields(fields) => return write_fields(text, fields),
             Dim::Array { len: _, element } => node = element,
@@ -77,20 +78,4 @@ fn write_dims(text: &mut Text, dim: &Dim) -> Result<(), NoMemory>
         node = element;
     }
     Ok(())
-}
-
-pub(crate) fn type_word(kind: LeafType) -> &'static str
-    ensures { result.now ≡ type_word kind }
-{
-    match kind {
-        LeafType::Bool => "bool",
-        LeafType::U8 => "u8",
-        LeafType::U16 => "u16",
-        LeafType::U32 => "u32",
-        LeafType::U64 => "u64",
-        LeafType::I8 => "i8",
-        LeafType::I16 => "i16",
-        LeafType::I32 => "i32",
-        LeafType::I64 => "i64",
-    }
 }

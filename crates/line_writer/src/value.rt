@@ -1,11 +1,13 @@
 // An expression.
 ghost use Rattle.std.specs.Prelude.{◌≡◌, OnOk};
 ghost use Rattle.expr_lang.specs.Terms.{term_of};
-ghost use Rattle.line_writer.specs.Canonical.{is_choice, needs_brackets, operator, operand, value_tokens};
+ghost use Rattle.line_grammar.specs.Words.{operator};
+ghost use Rattle.line_writer.specs.Canonical.{is_choice, needs_brackets, operand, value_tokens};
 ghost use Rattle.line_writer.specs.Texts.{behind, written};
 
 use crate::tokens::{push, push_index, push_number, write_path};
 use expr_lang::{BinOp, Expr};
+use line_grammar::{Symbol, operator};
 use record_dim::Text;
 use std::alloc::AllocError as NoMemory;
 
@@ -28,7 +30,7 @@ pub(crate) fn write_value(text: &mut Text, value: &Expr) -> Result<(), NoMemory>
             write_operand(text, inner)
         }
         Expr::Binary { op, left, right } if is_choice(*op) => {
-            push(text, operator(*op))?;
+            push(text, operator_text(*op))?;
             push(text, "(")?;
             write_value(text, left)?;
             push(text, ",")?;
@@ -37,7 +39,7 @@ pub(crate) fn write_value(text: &mut Text, value: &Expr) -> Result<(), NoMemory>
         }
         Expr::Binary { op, left, right } => {
             write_operand(text, left)?;
-            push(text, operator(*op))?;
+            push(text, operator_text(*op))?;
             write_operand(text, right)
         }
     }
@@ -77,24 +79,11 @@ fn is_choice(op: BinOp) -> bool
     matches!(op, BinOp::Min | BinOp::Max)
 }
 
-pub(crate) fn operator(op: BinOp) -> &'static str
+pub(crate) fn operator_text(op: BinOp) -> &'static str
     ensures { result.now ≡ (written (operator op)).bytes }
 {
-    match op {
-        BinOp::Add => "+",
-        BinOp::Sub => "-",
-        BinOp::Mul => "*",
-        BinOp::Div => "/",
-        BinOp::Rem => "%",
-        BinOp::Min => "min",
-        BinOp::Max => "max",
-        BinOp::Eq => "==",
-        BinOp::Ne => "!=",
-        BinOp::Lt => "<",
-        BinOp::Le => "<=",
-        BinOp::Gt => ">",
-        BinOp::Ge => ">=",
-        BinOp::And => "and",
-        BinOp::Or => "or",
+    match operator(op) {
+        Symbol::Sign(sign) => sign.text(),
+        Symbol::Word(word) => word,
     }
 }

@@ -2,18 +2,18 @@
 use Rattle.std.proofs.Common.{◌≡◌, ℕ, zero, suc, ◌+◌, ◌*◌, ◌^◌, ◌<◌, ◌≤◌, min, List, [], ◌∷◌, length, get_or, take, Option, refl, sym, ap, subst, ◌∙◌, ⊎_elim, arith}
 use Rattle.std.specs.Prelude.{reverse, IsSomeAnd, Some, slice_get}
 use Rattle.std.proofs.lemmas.List.Elements.{length_all_zip}
-use Rattle.extents.proofs.RowLemmas.{IsRowSoFar, row_turn}
+use Rattle.extents.specs.RowLaws.{IsRowSoFar, row_turn}
 use Rattle.std.proofs.lemmas.List.{take_more, reverse-append}
 use Rattle.std.proofs.lemmas.Bool.{cases_lt}
 use Rattle.std.proofs.lemmas.Grind.{reverse_onto}
 use Rattle.std.proofs.lemmas.Nat.{mul-le}
 use Rattle.extents.specs.Indices.{indices, product, IsInside}
 use Rattle.extents.specs.IndicesLaws.{place, place_below, slice_get-place, length-indices, row_of_inside}
-use Rattle.extents.proofs.ShapeLemmas.{product-push}
+use Rattle.extents.specs.ShapeLaws.{product-push}
 use Rattle.linearize.specs.Slots.{place_in, slot_count, slot_of, row_at, IsBuilt}
 use Rattle.linearize.specs.SlotsLaws.{place_in_is, row_at-slot_of}
-use Rattle.linearize.specs.declared.Order.{Order}
-use Rattle.linearize.specs.declared.Order.TheVariants.{Row, Col, Morton}
+use Rattle.extents.specs.declared.order.Order.{Order}
+use Rattle.extents.specs.declared.order.Order.TheVariants.{Row, Col, Morton}
 
 -- an index inside stands where its components lead
 pub place_is : (e i : List ℕ) → IsInside e i → place e i ≡ place_in (indices e) i

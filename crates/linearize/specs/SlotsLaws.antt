@@ -11,8 +11,8 @@ use Rattle.std.proofs.lemmas.List.Sums.{position_or_len_is, passes_at_first}
 use Rattle.std.proofs.lemmas.Option.{slice_get_within, get_or_from_slice_get, slice_get-get_or, same_Some, cond_some}
 use Rattle.std.proofs.lemmas.Slice.Eq.{bytes_eq-Decides}
 use Rattle.std.proofs.lemmas.Grind.{reverse_onto}
-use Rattle.linearize.specs.declared.Order.{Order}
-use Rattle.linearize.specs.declared.Order.TheVariants.{Row, Col, Morton}
+use Rattle.extents.specs.declared.order.Order.{Order}
+use Rattle.extents.specs.declared.order.Order.TheVariants.{Row, Col, Morton}
 use Rattle.extents.specs.Indices.{indices, IsInside}
 use Rattle.extents.specs.IndicesLaws.{same_row, row_of_inside, inside_of_entry}
 use Rattle.linearize.specs.Slots.{place_in, slot_of, slot_count, index_at, slot_at, row_at, IsBuilt}
@@ -108,7 +108,8 @@ unfolding row_at
 slot_at-row_at o e s r at =
     let p = position_or_len (λ i. eqb (slot_of o e i) s) (indices e) in
     let parts = cond_some (ltb (position_or_len (λ i. eqb (slot_of o e i) s) (indices e)) (length (indices e))) (position_or_len (λ i. eqb (slot_of o e i) s) (indices e)) r at in
-    let within : position_or_len (λ i. eqb (slot_of o e i) s) (indices e) < length (indices e) = (Decides-ltb (position_or_len (λ i. eqb (slot_of o e i) s) (indices e)) (length (indices e))).0 parts.0 in
+    let within : position_or_len (λ i. eqb (slot_of o e i) s) (indices e) < length (indices e) =
+    (Decides-ltb (position_or_len (λ i. eqb (slot_of o e i) s) (indices e)) (length (indices e))).0 parts.0 in
     let passes = passes_at_first (λ i. eqb (slot_of o e i) s) (indices e) [] within in
     let same : slot_at o e (position_or_len (λ i. eqb (slot_of o e i) s) (indices e)) ≡ s = (Decides-eqb (slot_at o e (position_or_len (λ i. eqb (slot_of o e i) s) (indices e))) s).0 passes in
     subst (λ k. (k < length (indices e)) × (slot_at o e k ≡ s)) parts.1 (within, same)

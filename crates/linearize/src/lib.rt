@@ -5,20 +5,10 @@ ghost use Rattle.std.specs.Prelude.{◌≡◌, ◌-◌, ◌^◌, ◌<◌, ◌≤
 ghost use Rattle.extents.specs.Indices.{indices, product, IsInside};
 ghost use Rattle.linearize.specs.Slots.{place_in, row_at, slot_count, slot_of, IsBuilt};
 
+pub use extents::Order;
+
 /// The greatest number of slots.
 const MAX_SLOTS: u64 = 1 << 24;
-
-/// In which order slots follow the indices of an array.
-#[derive(Clone, Copy, Debug, PartialEq, Eq)]
-pub enum Order {
-    /// The last component of an index is the fastest.
-    Row,
-    /// The first component of an index is the fastest.
-    Col,
-    /// The binary digits of the components interleaved, the last component the lowest (the Z order). It is written and
-    /// read in scripts, and its slots are not computed yet.
-    Morton,
-}
 
 /// The number of slots over these extents, None where there are more than 2^24.
 pub fn slots<const R: usize>(order: Order, extents: &[u64; R]) -> Option<u64>
@@ -98,6 +88,3 @@ fn place_by_columns(extents: &[u64], index: &[u64]) -> u64
     }
     place
 }
-
-#[cfg(test)]
-mod tests;

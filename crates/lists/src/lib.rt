@@ -7,7 +7,7 @@ use std::alloc::{AllocError as NoMemory, Global};
 use std::marker::Model;
 
 /// A list that grows at its end. Contracts see it as the list of its items.
-#[derive(Debug, Drop)]
+#[derive(Drop)]
 pub struct Sequence<T> {
     items: Vec<T>,
 }
@@ -62,6 +62,3 @@ impl<T> Sequence<T> {
         self.items.is_empty()
     }
 }
-
-#[cfg(test)]
-mod tests;

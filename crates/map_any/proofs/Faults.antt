@@ -1,10 +1,10 @@
 -- What the answers of the constructors say of an expression.
 use Rattle.std.proofs.Common.{◌≡◌, ◌⊎◌, ⊎_elim, ℕ, List, Result, Ok, Err, refl, sym, ap, subst}
 use Rattle.std.specs.Result.{IsErrAnd, IsErrOf, IfErr}
-use Rattle.record_dim.specs.declared.leaf_type.LeafType.{LeafType}
 use Rattle.map_expr.specs.Terms.{Term}
-use Rattle.map_expr.specs.Checks.{checked}
-use Rattle.map_any.specs.Mappings.{IsTooBigFor, IsRefusal}
+use Rattle.record_dim.specs.Trees.{Fields}
+use Rattle.places.specs.declared.piece.Cell.{Cell}
+use Rattle.map_any.specs.Mappings.{accepted, IsTooBigFor, IsRefusal}
 use Rattle.places.specs.declared.mapping.NewMapping.{NewMapping}
 use Rattle.places.specs.declared.mapping.NewMapping.TheVariants as new
 use Rattle.map_any.specs.declared.fault.MakeMap.{MakeMap}
@@ -25,18 +25,25 @@ too_big_of {T} answer why h is =
     let e : TooBig ≡ fault_of why = subst (λ (r : Result T MakeMap). IsErrAnd r (λ (e : MakeMap). e ≡ fault_of why)) is h in
     too_big_is why (sym e)
 
+-- a fault that is handed on
+pub handed_on : {T S : Type 0} (answer : Result T MakeMap) (why : MakeMap) → IsErrAnd answer (λ e. e ≡ why) → answer ≡ Err TooBig → IsErrOf {T = S} (Err why) TooBig
+handed_on {T} {S} answer why h is =
+    let e : TooBig ≡ why = subst (λ (r : Result T MakeMap). IsErrAnd r (λ (e : MakeMap). e ≡ why)) is h in
+    ap (λ (e : MakeMap). let r : Result S MakeMap = Err e in r) (sym e)
+
 -- an accepted expression is refused for its size or for want of memory
-module _ (term : Term) (extents : List ℕ) (kinds : List LeafType) (accepted : checked term ≡ Ok tt) where
-  refusal : (why : MakeMap) → (why ≡ TooBig → IsTooBigFor term extents kinds) → (why ≡ TooBig) ⊎ (why ≡ NoMemory) → IsRefusal term extents kinds why
+module _ (term : Term) (extents : List ℕ) (fields : Fields) (cells : List Cell) (is_accepted : accepted term fields cells ≡ Ok tt) where
+  refusal : (why : MakeMap) → (why ≡ TooBig → IsTooBigFor term extents fields cells) → (why ≡ TooBig) ⊎ (why ≡ NoMemory) → IsRefusal term extents fields cells why
   refusal why big only =
       ⊎_elim
-      (λ (e : why ≡ TooBig). subst (IsRefusal term extents kinds) (sym e) (accepted, big e))
-      (λ (e : why ≡ NoMemory). subst (IsRefusal term extents kinds) (sym e) tt)
+      (λ (e : why ≡ TooBig). subst (IsRefusal term extents fields cells) (sym e) (is_accepted, big e))
+      (λ (e : why ≡ NoMemory). subst (IsRefusal term extents fields cells) (sym e) tt)
       only
 
-pub refused : {T S : Type 0} (answer : Result T MakeMap) (why : MakeMap) (term : Term) (extents : List ℕ) (kinds : List LeafType)
-    → IsErrAnd answer (λ e. e ≡ why) → checked term ≡ Ok tt → (IsErrOf {T = S} (Err why) TooBig → IsTooBigFor term extents kinds)
-    → (why ≡ TooBig) ⊎ (why ≡ NoMemory) → IfErr answer (IsRefusal term extents kinds)
-refused (Ok x) why term extents kinds h accepted big only = absurd h
-refused {T} {S} (Err e) why term extents kinds h accepted big only =
-    subst (IsRefusal term extents kinds) (sym h) (refusal term extents kinds accepted why (λ is. big (ap (λ (e : MakeMap). let r : Result S MakeMap = Err e in r) is)) only)
+pub refused : {T S : Type 0} (answer : Result T MakeMap) (why : MakeMap) (term : Term) (extents : List ℕ) (fields : Fields) (cells : List Cell)
+    → IsErrAnd answer (λ e. e ≡ why) → accepted term fields cells ≡ Ok tt → (IsErrOf {T = S} (Err why) TooBig → IsTooBigFor term extents fields cells)
+    → (why ≡ TooBig) ⊎ (why ≡ NoMemory) → IfErr answer (IsRefusal term extents fields cells)
+refused (Ok x) why term extents fields cells h is_accepted big only = absurd h
+refused {T} {S} (Err e) why term extents fields cells h is_accepted big only =
+    subst (IsRefusal term extents fields cells) (sym h)
+    (refusal term extents fields cells is_accepted why (λ is. big (ap (λ (e : MakeMap). let r : Result S MakeMap = Err e in r) is)) only)

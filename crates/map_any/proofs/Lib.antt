@@ -1,4 +1,10 @@
-pub mod LeafCells
 pub mod Faults
-pub mod Limits
 pub mod Built
+pub mod RuleLaws
+pub mod Limits
+pub mod AnyFacts
+pub mod SplitRules
+pub mod ShortLaws
+pub mod LeafLaws
+pub mod PlanLaws
+pub mod SidesMore

@@ -5,15 +5,15 @@ use Rattle.std.proofs.lemmas.List.{get_or-map, length-map}
 use Rattle.std.proofs.lemmas.List.Sums.{sum_by-cons}
 use Rattle.std.proofs.lemmas.List.Elements.{All-map}
 use Rattle.extents.specs.Indices.{indices}
-use Rattle.linearize.specs.declared.Order.{Order}
+use Rattle.extents.specs.declared.order.Order.{Order}
 use Rattle.linearize.specs.Slots.{slot_at, slot_count, row_at, IsBuilt}
 use Rattle.linearize.specs.SlotsLaws.{row_at-slot_at, slot_at-row_at, slot_at_below}
 use Rattle.places.specs.Layout.{Owner, Bit}
 use Rattle.places.specs.Rules.{renamed, in_rows, bit_in_row}
 use Rattle.places.specs.Laws.{IsBitOf, IsLaidOut, IsLocated}
 use Rattle.places.specs.declared.piece.Piece.{Piece}
-use Rattle.places.proofs.Compose.{Back, relabel_lays_out, laid_out, lays_out}
-use Rattle.places.proofs.Places.{relabel_located}
+use Rattle.places.specs.ComposeLaws.{Back, relabel_lays_out, laid_out, lays_out}
+use Rattle.places.specs.PlacesLaws.{relabel_located}
 
 -- the name that a bit of a slot has by rows
 abbrev by_row : Order → List ℕ → ℕ → ℕ → ℕ → Owner
@@ -90,3 +90,10 @@ row_located order extents layout row cell width pieces built inside h =
     relabel_located (by_row order extents) layout (slot_at order extents row) cell row cell width pieces
     (λ k l. ap (λ (r : Option ℕ). bit_in_row r cell k) (row_at-slot_at order extents row built inside))
     h
+
+pub lengths-rows : (row : ℕ → Option ℕ) (layout : List (List Owner)) → map length (in_rows row layout) ≡ map length layout
+lengths-rows row [] = refl
+lengths-rows row (blob ∷ blobs) =
+    let name : Owner → Owner = renamed (λ slot cell bit. bit_in_row (row slot) cell bit) in
+    ap (λ (n : ℕ). n ∷ map length (in_rows row blobs)) (length-map blob name)
+    ∙ ap (λ (ns : List ℕ). length blob ∷ ns) (lengths-rows row blobs)

@@ -5,14 +5,18 @@ ghost use Rattle.map_any.specs.declared.fault.MakeMap.TheVariants.{NoMemory};
 use map_expr::BadMapping;
 use places::NewMapping;
 use std::alloc::{AllocError, AllocFailed};
+use thiserror::Error;
 
 /// Why an expression was not made a mapping.
-#[derive(Clone, Copy, Debug, PartialEq, Eq)]
+#[derive(Clone, Copy, Debug, PartialEq, Eq, Error)]
 pub enum MakeMap {
     /// The expression is no mapping of these cells.
+    #[error("BadMapping {0:?}")]
     Bad(BadMapping),
     /// A base mapping has more than 2^24 slots, or all blobs have more than 2^28 bytes.
+    #[error("TooBig")]
     TooBig,
+    #[error("NoMemory")]
     NoMemory,
 }
 

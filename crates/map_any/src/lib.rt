@@ -2,17 +2,31 @@
 #![tactic(auto)]
 
 mod any;
-mod base;
-mod bases;
+mod any_map;
+mod bad_side;
+mod base_plan;
 mod cells;
 mod fault;
+mod leaf_rule;
+mod leaf_rules;
 mod make;
-mod node;
+mod one_piece;
 mod orders;
+mod plan;
+mod rule;
+mod short;
+mod shorten;
+mod sides;
+mod split_plan;
+mod split_rules;
 
 pub use any::AnyMap;
 pub use fault::MakeMap;
+pub use leaf_rule::{LeafRule, RuleList};
 pub use map_expr::{BadMapping, MapExpr};
+pub use plan::{HoldList, LengthList};
+pub use rule::Rule;
+pub use short::ShortRule;
 
 #[cfg(test)]
 mod tests;

@@ -11,13 +11,14 @@ use Rattle.places.specs.Holds.{widths_of, full_holds, IsTooBig}
 use Rattle.places.specs.declared.piece.Cell.{Cell}
 use Rattle.places.specs.declared.piece.Hold.{Hold}
 use Rattle.places.specs.declared.piece.Piece.{Piece}
-use Rattle.places.proofs.Exact.{within}
-use Rattle.places.proofs.Slots.{length-parts, slot_at}
-use Rattle.places.proofs.Places.{one_piece}
-use Rattle.places.proofs.CellWidths.{cell_width}
-use Rattle.map_aos.specs.Aos.{IsStored, aos_layout, part_of}
+use Rattle.places.specs.ExactLaws.{within}
+use Rattle.places.specs.SlotsLaws.{length-parts, slot_at}
+use Rattle.places.specs.PlacesLaws.{one_piece}
+use Rattle.places.specs.CellWidthsLaws.{cell_width}
+use Rattle.places.specs.Forms.{aos_layout}
+use Rattle.map_aos.specs.Aos.{IsStored, part_of}
 use Rattle.map_aos.specs.AosLaws.{aos_laws, layout_parts}
-use Rattle.map_aos.specs.declared.form.AosForm.{AosForm}
+use Rattle.places.specs.declared.forms.AosForm.{AosForm}
 
 abbrev blob_of : AosForm → ℕ → List ℕ → List Owner
 blob_of form slots widths = flat_map (part_of form widths) (range_with_len 0 slots)
@@ -146,14 +147,14 @@ offset_read form cells offsets stride cell offset h inside read =
     let size : length (widths_of cells) ≡ length cells = length-map cells (λ (c : Cell). width_of c.kind) in
     get_or_read offsets cell offset (omega arith) read 0
 
--- a place fits its type
-pub place_fits : (form : AosForm) (slots : ℕ) (cells : List Cell) (offsets : List ℕ) (stride slot cell offset : ℕ)
-    → (0 < slots → IsStored form (widths_of cells) offsets stride) → slots * stride ≤ 2 ^ 31 → slot < slots → cell < length cells
-    → offset ≡ get_or offsets cell offset → slot * stride + offset ≤ 2 ^ 31
-place_fits form slots cells offsets stride slot cell offset h bound slot_in cell_in read =
-    let stored : IsStored form (widths_of cells) offsets stride = h (omega arith) in
+-- an offset fits its type
+pub offset_fits : (form : AosForm) (slots : ℕ) (cells : List Cell) (offsets : List ℕ) (stride cell offset : ℕ)
+    → (0 < slots → IsStored form (widths_of cells) offsets stride) → slots * stride ≤ 2 ^ 31 → 0 < slots → cell < length cells
+    → offset ≡ get_or offsets cell offset → offset ≤ 2 ^ 31
+offset_fits form slots cells offsets stride cell offset h bound some cell_in read =
+    let stored : IsStored form (widths_of cells) offsets stride = h some in
     let same : offset ≡ slice_index offsets cell = offset_read form cells offsets stride cell offset stored cell_in read in
     let width = cell_width cells cell (slice_index (widths_of cells) cell) cell_in refl in
-    let end : slot * stride + slice_index offsets cell + slice_index (widths_of cells) cell ≤ slots * stride =
-    cell_end form slots (widths_of cells) offsets stride slot cell stored slot_in width.inside width.some in
+    let end : 0 * stride + slice_index offsets cell + slice_index (widths_of cells) cell ≤ slots * stride =
+    cell_end form slots (widths_of cells) offsets stride 0 cell stored some width.inside width.some in
     omega arith

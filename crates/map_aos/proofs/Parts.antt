@@ -6,15 +6,15 @@ use Rattle.record_dim.specs.LeafTypes.{width_of}
 use Rattle.places.specs.Layout.{Owner, Pad, Bit, cells_of, field, falling}
 use Rattle.places.specs.Holds.{widths_of}
 use Rattle.places.specs.declared.piece.Cell.{Cell}
-use Rattle.places.proofs.Exact.{Member, length-field, field_at, within}
-use Rattle.places.proofs.CellWidths.{member_width}
-use Rattle.places.proofs.Cells.{member_at, member_cells, cells_member, fresh_at}
-use Rattle.places.proofs.Stacked.{stacked, up, IsFilled, filled_more, length-padded, stacked_take}
-use Rattle.places.proofs.Widths.{IsWidth, by_width, widths_are}
+use Rattle.places.specs.ExactLaws.{Member, length-field, field_at, within}
+use Rattle.places.specs.CellWidthsLaws.{member_width}
+use Rattle.places.specs.CellsLaws.{member_at, member_cells, cells_member, fresh_at}
+use Rattle.places.specs.StackedLaws.{stacked, up, IsFilled, filled_more, length-padded, stacked_take}
+use Rattle.places.specs.WidthsLaws.{IsWidth, by_width, widths_are}
 use Rattle.map_aos.specs.Aos.{IsStored, part_of, order_of, alignment}
 use Rattle.map_aos.specs.AosLaws.{laid_fields, widest, part_is, apart_order, order_member, member_order}
-use Rattle.map_aos.specs.declared.form.AosForm.{AosForm}
-use Rattle.map_aos.specs.declared.form.AosForm.TheVariants.{Packed, Aligned, Min}
+use Rattle.places.specs.declared.forms.AosForm.{AosForm}
+use Rattle.places.specs.declared.forms.AosForm.TheVariants.{Packed, Aligned, Min}
 
 -- the numbered cells, one by one
 pub length-cells : (cells : List Cell) → length (cells_of (widths_of cells)) ≡ length cells

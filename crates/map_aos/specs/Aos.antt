@@ -1,14 +1,8 @@
 -- The layout of each form, and what a mapping keeps of it.
 use Rattle.std.specs.Prelude.{ℕ, ◌≡◌, ◌+◌, ◌<◌, List, length, slice_index, slice_index_or}
-use Rattle.places.specs.Layout.{Owner, Pad, Bit, cells_of, fields, falling, aligned_part, packed_aos, aligned_aos, min_aos}
-use Rattle.map_aos.specs.declared.form.AosForm.{AosForm}
-use Rattle.map_aos.specs.declared.form.AosForm.TheVariants.{Packed, Aligned, Min}
-
--- the layout of slots of cells of these widths
-abbrev pub aos_layout : AosForm → ℕ → List ℕ → List (List Owner)
-aos_layout Packed slots widths = packed_aos slots widths
-aos_layout Aligned slots widths = aligned_aos slots widths
-aos_layout Min slots widths = min_aos slots widths
+use Rattle.places.specs.Layout.{Owner, Pad, Bit, cells_of, fields, falling, aligned_part}
+use Rattle.places.specs.declared.forms.AosForm.{AosForm}
+use Rattle.places.specs.declared.forms.AosForm.TheVariants.{Packed, Aligned, Min}
 
 -- the part of one slot
 abbrev pub part_of : AosForm → List ℕ → ℕ → List Owner

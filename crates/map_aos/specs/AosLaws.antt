@@ -7,17 +7,18 @@ use Rattle.places.specs.Laws.{IsBitOf, IsLaidOut}
 use Rattle.places.specs.Holds.{widths_of, full_holds}
 use Rattle.places.specs.declared.piece.Cell.{Cell}
 use Rattle.places.specs.declared.piece.Hold.{Hold}
-use Rattle.places.proofs.Exact.{Has, has_same, has_range, has_padded, has_field, length-field, Member, Apart}
-use Rattle.places.proofs.Falling.{apart_falling, member_falling, falling_member}
-use Rattle.places.proofs.Compose.{LaysOut, has_blob, laid_out}
-use Rattle.places.proofs.CellWidths.{member_width}
-use Rattle.places.proofs.Cells.{apart_enumerate, bit_of_cells, cells_of_bit}
-use Rattle.places.proofs.Slots.{parts_bytes}
-use Rattle.places.proofs.Stacked.{stacked, flat_stacked, fields_stacked, length-padded, padded_one, has_all_stacked, stacked_bytes, KeepsBytes}
-use Rattle.places.proofs.Widths.{IsWidth, by_width, widths_are, widths_narrow, widths_wide, widths_full, keeps_one, keeps_width, keeps_greater}
-use Rattle.map_aos.specs.Aos.{aos_layout, part_of, order_of, alignment}
-use Rattle.map_aos.specs.declared.form.AosForm.{AosForm}
-use Rattle.map_aos.specs.declared.form.AosForm.TheVariants.{Packed, Aligned, Min}
+use Rattle.places.specs.ExactLaws.{Has, has_same, has_range, has_padded, has_field, length-field, Member, Apart}
+use Rattle.places.specs.FallingLaws.{apart_falling, member_falling, falling_member}
+use Rattle.places.specs.ComposeLaws.{LaysOut, has_blob, laid_out}
+use Rattle.places.specs.CellWidthsLaws.{member_width}
+use Rattle.places.specs.CellsLaws.{apart_enumerate, bit_of_cells, cells_of_bit}
+use Rattle.places.specs.SlotsLaws.{parts_bytes}
+use Rattle.places.specs.StackedLaws.{stacked, flat_stacked, fields_stacked, length-padded, padded_one, has_all_stacked, stacked_bytes, KeepsBytes}
+use Rattle.places.specs.WidthsLaws.{IsWidth, by_width, widths_are, widths_narrow, widths_wide, widths_full, keeps_one, keeps_width, keeps_greater}
+use Rattle.places.specs.Forms.{aos_layout}
+use Rattle.map_aos.specs.Aos.{part_of, order_of, alignment}
+use Rattle.places.specs.declared.forms.AosForm.{AosForm}
+use Rattle.places.specs.declared.forms.AosForm.TheVariants.{Packed, Aligned, Min}
 
 -- slot after slot
 pub layout_parts : (form : AosForm) (slots : ℕ) (widths : List ℕ) → aos_layout form slots widths ≡ flat_map (part_of form widths) (range_with_len 0 slots) ∷ []

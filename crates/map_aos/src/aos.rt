@@ -1,21 +1,23 @@
-ghost use Rattle.std.specs.Prelude.{ℕ, ◌≡◌, ◌*◌, ◌^◌, ◌<◌, ◌≤◌, ◌⊎◌, IfOk, IfErr, OnOk, IsErrOf, List, [], ◌∷◌, length, map, slice_index};
+ghost use Rattle.std.specs.Prelude.{ℕ, ◌≡◌, ◌*◌, ◌^◌, ◌<◌, ◌≤◌, ◌⊎◌, IfOk, IfErr, OnOk, IsErrOf, List, length, slice_index};
 ghost use Rattle.places.specs.Holds.{widths_of, full_holds, IsTooBig};
 ghost use Rattle.places.specs.declared.piece.Cell.{Cell};
 ghost use Rattle.places.specs.declared.piece.Hold.{Hold};
 ghost use Rattle.places.specs.Layout.{Owner};
-ghost use Rattle.places.specs.Laws.{IsLocated};
-ghost use Rattle.map_aos.specs.Aos.{IsStored, aos_layout};
+ghost use Rattle.places.specs.Forms.{aos_layout};
+ghost use Rattle.map_aos.specs.Aos.{IsStored};
 ghost use Rattle.map_aos.specs.AosLaws.{aos_laws};
-ghost use Rattle.places.proofs.CellWidths.{length-full};
+ghost use Rattle.places.specs.CellWidthsLaws.{length-full};
 
-use crate::form::AosForm;
 use crate::part::lay_out;
-use places::{Cell, CellList, Hold, MAX_BLOB_BITS, MAX_SLOTS, Mapping, NewMapping, Piece, Pieces};
+use piece_rules::{PieceRule, Ruled};
+use places::{
+    AosForm, Cell, CellList, Hold, MAX_BLOB_BITS, MAX_SLOTS, Mapping, NewMapping, Pieces,
+};
 use record_dim::LeafType;
 use std::alloc::Global;
 
 /// An array of structs: one blob, slot after slot.
-#[derive(Debug, Drop)]
+#[derive(Drop)]
 pub struct Aos {
     form: AosForm,
     slots: u64,
@@ -72,16 +74,27 @@ impl Aos {
         })
     }
 
-    /// The one piece of a cell in a slot, by the stored stride and offset.
-    #[inline]
-    pub fn piece(&self, slot: u64, cell: usize) -> Piece
-        requires slot_in { slot < ⟦<Aos as Mapping>⟧.slot_count self.now }
-        requires cell_in { cell < length (⟦<Aos as Mapping>⟧.cell_list self.now) }
-        ensures { IsLocated (⟦<Aos as Mapping>⟧.layout self.now) slot cell (slice_index (map (λ h. h.width) (⟦<Aos as Mapping>⟧.hold_list self.now)) cell) (result ∷ []) }
+    /// Where a cell begins in its slot; 0 where there is no slot.
+    fn offset(&self, cell: usize) -> u64
+        requires { cell < length self.now.cells.items }
+        ensures place { 0 < self.now.slots → result ≡ slice_index self.now.offsets.items cell }
+        ensures low { result ≤ 2 ^ 31 }
     {
-        Piece {
+        if self.slots == 0 {
+            return 0;
+        }
+        self.offsets[cell]
+    }
+}
+
+impl Ruled for Aos {
+    fn rule(&self, cell: usize) -> PieceRule {
+        PieceRule {
             blob: 0,
-            bit: slot * self.stride + self.offsets[cell],
+            base: self.offset(cell),
+            lanes: 1,
+            block: self.stride,
+            lane: 0,
             bits: self.cells[cell].kind.width(),
         }
     }
@@ -109,11 +122,7 @@ impl Mapping for Aos {
     }
 
     fn hold(&self, cell: usize) -> Hold {
-        let kind = self.cells[cell].kind;
-        Hold {
-            signed: kind.signed(),
-            width: kind.width(),
-        }
+        Hold::of(self.cells[cell].kind)
     }
 
     fn blob_count(&self) -> usize {
@@ -125,9 +134,7 @@ impl Mapping for Aos {
     }
 
     fn locate(&self, slot: u64, cell: usize) -> Pieces {
-        let mut pieces = Pieces::new();
-        pieces.push(self.piece(slot, cell));
-        pieces
+        self.rule(cell).pieces(slot)
     }
 
     ghost laws = { λ m. aos_laws m.form m.slots m.cells.items };

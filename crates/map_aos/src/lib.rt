@@ -2,11 +2,6 @@
 #![tactic(auto)]
 
 mod aos;
-mod form;
 mod part;
 
 pub use aos::Aos;
-pub use form::AosForm;
-
-#[cfg(test)]
-mod tests;

@@ -1,10 +1,9 @@
-ghost use Rattle.std.specs.Prelude.{ℕ, ◌≡◌, ◌+◌, ◌-◌, ◌*◌, ◌%◌, ◌^◌, ◌<◌, ◌≤◌, ◌⊎◌, ◌++◌, ◌==◌, IfOk, IfErr, OnOk, IsErrOf, filter, length};
+ghost use Rattle.std.specs.Prelude.{ℕ, ◌≡◌, ◌+◌, ◌*◌, ◌^◌, ◌<◌, ◌≤◌, ◌⊎◌, ◌++◌, ◌==◌, IfOk, IfErr, OnOk, IsErrOf, filter, length};
 ghost use Rattle.places.specs.Layout.{cells_of, falling};
 ghost use Rattle.places.specs.Holds.{widths_of};
 ghost use Rattle.map_aos.specs.Aos.{IsStored, alignment, order_of, part_of};
 
-use crate::form::AosForm;
-use places::{Cell, MAX_BLOB_BITS, NewMapping};
+use places::{AosForm, Cell, MAX_BLOB_BITS, NewMapping, up};
 use std::alloc::{AllocError as NoMemory, Global};
 
 /// Where the cells of one slot lie, in bits from the slot's beginning on, and how many bits the slot takes.
@@ -72,15 +71,6 @@ fn align_of(form: AosForm, width: u32) -> u64
         AosForm::Packed => 1,
         AosForm::Aligned | AosForm::Min => u64::from(width),
     }
-}
-
-/// The next multiple of `align`.
-fn up(at: u64, align: u64) -> u64
-    requires some { 0 < align }
-    requires room { at + align < 2 ^ 64 }
-    ensures { result ≡ at + (align - at % align) % align }
-{
-    at + (align - at % align) % align
 }
 
 /// Lays out the part of one slot. `TooBig` comes exactly where it has more bits than all blobs may have.

@@ -11,10 +11,10 @@ use Rattle.places.specs.Holds.{widths_of, full_holds, IsTooBig}
 use Rattle.places.specs.declared.piece.Cell.{Cell}
 use Rattle.places.specs.declared.piece.Hold.{Hold}
 use Rattle.places.specs.declared.piece.Piece.{Piece}
-use Rattle.places.proofs.Exact.{within, field_at}
-use Rattle.places.proofs.Slots.{length-parts, slot_at}
-use Rattle.places.proofs.Places.{one_piece}
-use Rattle.places.proofs.CellWidths.{cell_width, length-widths}
+use Rattle.places.specs.ExactLaws.{within, field_at}
+use Rattle.places.specs.SlotsLaws.{length-parts, slot_at}
+use Rattle.places.specs.PlacesLaws.{one_piece}
+use Rattle.places.specs.CellWidthsLaws.{cell_width, length-widths}
 use Rattle.map_aosoa.specs.Aosoa.{IsStored, block_count}
 use Rattle.map_aosoa.specs.AosoaLaws.{lanes_of, lane_is, length-lane, in_blocks, aosoa_laws}
 
@@ -176,19 +176,16 @@ offset_read lanes cells offsets stride cell offset h inside read =
     let size : length (widths_of cells) ≡ length cells = length-widths cells in
     get_or_read offsets cell offset (omega arith) read 0
 
--- a cell ends at a place that fits its type
-pub place_fits : (lanes slots : ℕ) (cells : List Cell) (offsets : List ℕ) (stride slot cell offset width : ℕ) → 0 < lanes
-    → (0 < slots → IsStored lanes (widths_of cells) offsets stride) → block_count lanes slots * stride ≤ 2 ^ 31 → slot < slots → cell < length cells
-    → offset ≡ get_or offsets cell offset → width ≡ slice_index (widths_of cells) cell
-    → slot / lanes * stride + offset + slot % lanes * width + width ≤ 2 ^ 31
-place_fits lanes slots cells offsets stride slot cell offset width some h bound slot_in cell_in read w =
-    let stored : IsStored lanes (widths_of cells) offsets stride = h (omega arith) in
+-- an offset fits its type
+pub offset_fits : (lanes slots : ℕ) (cells : List Cell) (offsets : List ℕ) (stride cell offset : ℕ) → 0 < lanes
+    → (0 < slots → IsStored lanes (widths_of cells) offsets stride) → block_count lanes slots * stride ≤ 2 ^ 31 → 0 < slots → cell < length cells
+    → offset ≡ get_or offsets cell offset → offset ≤ 2 ^ 31
+offset_fits lanes slots cells offsets stride cell offset some h bound filled cell_in read =
+    let stored : IsStored lanes (widths_of cells) offsets stride = h filled in
     let same : offset ≡ slice_index offsets cell = offset_read lanes cells offsets stride cell offset stored cell_in read in
-    let here = cell_width cells cell width cell_in w in
-    let full : 1 ≤ slice_index (widths_of cells) cell = let one : 1 ≤ width = here.some in omega arith in
-    let end : begin_of lanes (widths_of cells) offsets stride slot cell + slice_index (widths_of cells) cell ≤ block_count lanes slots * stride =
-    cell_end lanes slots (widths_of cells) offsets stride slot cell some stored slot_in here.inside full in
-    let product : slot % lanes * width ≡ slot % lanes * slice_index (widths_of cells) cell = ap (λ (n : ℕ). slot % lanes * n) w in
+    let width = cell_width cells cell (slice_index (widths_of cells) cell) cell_in refl in
+    let end : begin_of lanes (widths_of cells) offsets stride 0 cell + slice_index (widths_of cells) cell ≤ block_count lanes slots * stride =
+    cell_end lanes slots (widths_of cells) offsets stride 0 cell some stored filled width.inside width.some in
     omega arith
 
 pub located_is : (lanes slots : ℕ) (cells : List Cell) (offsets : List ℕ) (stride slot cell offset : ℕ) (piece : Piece) → 0 < lanes

@@ -9,7 +9,7 @@ use Rattle.std.proofs.lemmas.List.Sums.{sum_by_more, sum_by-take-le}
 use Rattle.record_dim.specs.LeafTypes.{width_of}
 use Rattle.places.specs.Holds.{widths_of}
 use Rattle.places.specs.declared.piece.Cell.{Cell}
-use Rattle.places.proofs.CellWidths.{length-widths}
+use Rattle.places.specs.CellWidthsLaws.{length-widths}
 use Rattle.map_aosoa.specs.Aosoa.{block_count}
 
 -- a quotient that is rounded up

@@ -10,12 +10,12 @@ use Rattle.places.specs.Laws.{IsBitOf, IsLaidOut}
 use Rattle.places.specs.Holds.{widths_of, full_holds}
 use Rattle.places.specs.declared.piece.Cell.{Cell}
 use Rattle.places.specs.declared.piece.Hold.{Hold}
-use Rattle.places.proofs.Exact.{Has, has_same, has_pads, has_field, has_range, has_cells, length-field, Member}
-use Rattle.places.proofs.Compose.{LaysOut, has_blob, laid_out}
-use Rattle.places.proofs.Cells.{apart_enumerate, member_cells, bit_of_cells, cells_of_bit}
-use Rattle.places.proofs.Slots.{parts_bytes}
-use Rattle.places.proofs.Stacked.{stacked, flat_stacked, stacked_bytes}
-use Rattle.places.proofs.Widths.{widths_whole, widths_narrow, widths_wide, widths_full, keeps_one}
+use Rattle.places.specs.ExactLaws.{Has, has_same, has_pads, has_field, has_range, has_cells, length-field, Member}
+use Rattle.places.specs.ComposeLaws.{LaysOut, has_blob, laid_out}
+use Rattle.places.specs.CellsLaws.{apart_enumerate, member_cells, bit_of_cells, cells_of_bit}
+use Rattle.places.specs.SlotsLaws.{parts_bytes}
+use Rattle.places.specs.StackedLaws.{stacked, flat_stacked, stacked_bytes}
+use Rattle.places.specs.WidthsLaws.{widths_whole, widths_narrow, widths_wide, widths_full, keeps_one}
 use Rattle.map_aosoa.specs.Aosoa.{block_count}
 
 -- the lanes of one cell in one block

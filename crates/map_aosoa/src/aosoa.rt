@@ -1,15 +1,15 @@
-ghost use Rattle.std.specs.Prelude.{ℕ, ◌≡◌, ◌*◌, ◌^◌, ◌<◌, ◌≤◌, ◌⊎◌, ◌↔◌, IfOk, IfErr, Some, OnOk, IsErrOf, List, [], ◌∷◌, length, map, slice_index};
+ghost use Rattle.std.specs.Prelude.{ℕ, ◌≡◌, ◌*◌, ◌^◌, ◌<◌, ◌≤◌, ◌⊎◌, ◌↔◌, IfOk, IfErr, OnOk, IsErrOf, List, length, slice_index};
 ghost use Rattle.places.specs.Holds.{widths_of, full_holds, IsTooBig};
 ghost use Rattle.places.specs.declared.piece.Cell.{Cell};
 ghost use Rattle.places.specs.declared.piece.Hold.{Hold};
 ghost use Rattle.places.specs.Layout.{Owner, aosoa};
-ghost use Rattle.places.specs.Laws.{IsLocated};
 ghost use Rattle.map_aosoa.specs.Aosoa.{IsStored, block_count};
 ghost use Rattle.map_aosoa.specs.AosoaLaws.{aosoa_laws};
-ghost use Rattle.places.proofs.CellWidths.{length-full};
+ghost use Rattle.places.specs.CellWidthsLaws.{length-full};
 
-use crate::block::{block_of, count_blocks, lay_out, power_of};
-use places::{Cell, CellList, Hold, MAX_BLOB_BITS, MAX_SLOTS, Mapping, NewMapping, Piece, Pieces};
+use crate::block::{count_blocks, lay_out};
+use piece_rules::{PieceRule, Ruled};
+use places::{Cell, CellList, Hold, MAX_BLOB_BITS, MAX_SLOTS, Mapping, NewMapping, Pieces};
 use record_dim::LeafType;
 use std::alloc::Global;
 
@@ -17,11 +17,9 @@ use std::alloc::Global;
 const MAX_LANES: u32 = 64;
 
 /// An array of structs of arrays: one blob of whole blocks. A block has `lanes` slots, cell after cell, and in a cell lane after lane.
-#[derive(Debug, Drop)]
+#[derive(Drop)]
 pub struct Aosoa {
     lanes: u32,
-    /// The power of two that `lanes` is, where it is one.
-    power: Option<u32>,
     slots: u64,
     cells: Vec<Cell>,
     /// Where the lanes of each cell begin, in bits from the block's beginning on. Empty where there is no slot.
@@ -29,8 +27,6 @@ pub struct Aosoa {
     /// The bits of one block.
     stride: u64,
     ghost some: { 0 < lanes },
-    ghost shifted: { (p : ℕ) → power ≡ Some p → lanes ≡ 2 ^ p },
-    ghost few: { (p : ℕ) → power ≡ Some p → p ≤ 6 },
     ghost stored: { 0 < slots → IsStored lanes (widths_of cells.items) offsets.items stride },
     ghost bound: { block_count lanes slots * stride ≤ 2 ^ 31 },
 }
@@ -60,7 +56,6 @@ impl Aosoa {
         if slots == 0 {
             return Ok(Aosoa {
                 lanes,
-                power: power_of(lanes),
                 slots,
                 cells: kept,
                 offsets: Vec::new(alloc),
@@ -74,7 +69,6 @@ impl Aosoa {
         }
         Ok(Aosoa {
             lanes,
-            power: power_of(lanes),
             slots,
             cells: kept,
             offsets: block.offsets,
@@ -82,19 +76,28 @@ impl Aosoa {
         })
     }
 
-    /// The one piece of a cell in a slot, by the stored stride and offset.
-    #[inline]
-    pub fn piece(&self, slot: u64, cell: usize) -> Piece
-        requires slot_in { slot < ⟦<Aosoa as Mapping>⟧.slot_count self.now }
-        requires cell_in { cell < length (⟦<Aosoa as Mapping>⟧.cell_list self.now) }
-        ensures { IsLocated (⟦<Aosoa as Mapping>⟧.layout self.now) slot cell (slice_index (map (λ h. h.width) (⟦<Aosoa as Mapping>⟧.hold_list self.now)) cell) (result ∷ []) }
+    /// Where the lanes of a cell begin in their block; 0 where there is no slot.
+    fn offset(&self, cell: usize) -> u64
+        requires { cell < length self.now.cells.items }
+        ensures place { 0 < self.now.slots → result ≡ slice_index self.now.offsets.items cell }
+        ensures low { result ≤ 2 ^ 31 }
     {
-        let block = block_of(slot, self.lanes, self.power);
-        let lane = slot - block * u64::from(self.lanes);
+        if self.slots == 0 {
+            return 0;
+        }
+        self.offsets[cell]
+    }
+}
+
+impl Ruled for Aosoa {
+    fn rule(&self, cell: usize) -> PieceRule {
         let width = self.cells[cell].kind.width();
-        Piece {
+        PieceRule {
             blob: 0,
-            bit: block * self.stride + self.offsets[cell] + lane * u64::from(width),
+            base: self.offset(cell),
+            lanes: u64::from(self.lanes),
+            block: self.stride,
+            lane: u64::from(width),
             bits: width,
         }
     }
@@ -122,11 +125,7 @@ impl Mapping for Aosoa {
     }
 
     fn hold(&self, cell: usize) -> Hold {
-        let kind = self.cells[cell].kind;
-        Hold {
-            signed: kind.signed(),
-            width: kind.width(),
-        }
+        Hold::of(self.cells[cell].kind)
     }
 
     fn blob_count(&self) -> usize {
@@ -139,9 +138,7 @@ impl Mapping for Aosoa {
     }
 
     fn locate(&self, slot: u64, cell: usize) -> Pieces {
-        let mut pieces = Pieces::new();
-        pieces.push(self.piece(slot, cell));
-        pieces
+        self.rule(cell).pieces(slot)
     }
 
     ghost laws = { λ m. aosoa_laws m.lanes m.slots m.cells.items m.some };

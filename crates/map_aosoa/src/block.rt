@@ -1,4 +1,4 @@
-ghost use Rattle.std.specs.Prelude.{ℕ, ◌≡◌, ◌+◌, ◌-◌, ◌*◌, ◌/◌, ◌^◌, ◌<◌, ◌≤◌, ◌⊎◌, IfOk, IfErr, Some, IsErrOf};
+ghost use Rattle.std.specs.Prelude.{◌≡◌, ◌*◌, ◌^◌, ◌<◌, ◌≤◌, ◌⊎◌, IfOk, IfErr, IsErrOf};
 ghost use Rattle.std.specs.List.{sum};
 ghost use Rattle.places.specs.Holds.{widths_of};
 ghost use Rattle.map_aosoa.specs.Aosoa.{IsStored, block_count};
@@ -19,37 +19,6 @@ pub fn count_blocks(slots: u64, lanes: u32) -> u64
     ensures { result ≡ block_count lanes slots }
 {
     slots.div_ceil(u64::from(lanes))
-}
-
-/// The power of two that a number of lanes is, where it is one.
-pub fn power_of(lanes: u32) -> Option<u32>
-    ensures power { (p : ℕ) → result ≡ Some p → lanes ≡ 2 ^ p }
-    ensures few { (p : ℕ) → result ≡ Some p → p ≤ 6 }
-{
-    match lanes {
-        1 => Some(0),
-        2 => Some(1),
-        4 => Some(2),
-        8 => Some(3),
-        16 => Some(4),
-        32 => Some(5),
-        64 => Some(6),
-        _ => None,
-    }
-}
-
-/// The block of a slot. By a power of two the division is a shift.
-#[inline(always)]
-pub fn block_of(slot: u64, lanes: u32, power: Option<u32>) -> u64
-    requires some { 0 < lanes }
-    requires power { (p : ℕ) → power ≡ Some p → lanes ≡ 2 ^ p }
-    requires few { (p : ℕ) → power ≡ Some p → p ≤ 6 }
-    ensures { result ≡ slot / lanes }
-{
-    match power {
-        Some(power) => slot >> power,
-        None => slot / u64::from(lanes),
-    }
 }
 
 /// Lays out one block. `TooBig` comes exactly where it has more bits than all blobs may have.

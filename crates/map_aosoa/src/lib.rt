@@ -5,6 +5,3 @@ mod aosoa;
 mod block;
 
 pub use aosoa::Aosoa;
-
-#[cfg(test)]
-mod tests;

@@ -1,8 +1,8 @@
 -- Mapping expressions as terms without pointers, and the terms of the code's values.
 use Rattle.std.specs.Prelude.{ℕ, ◌+◌, max, List}
-use Rattle.linearize.specs.declared.Order.{Order}
-use Rattle.map_aos.specs.declared.form.AosForm.{AosForm}
-use Rattle.map_soa.specs.declared.form.SoaForm.{SoaForm}
+use Rattle.extents.specs.declared.order.Order.{Order}
+use Rattle.places.specs.declared.forms.AosForm.{AosForm}
+use Rattle.places.specs.declared.forms.SoaForm.{SoaForm}
 use Rattle.record_dim.specs.declared.leaf_type.LeafType.{LeafType}
 use Rattle.record_dim.specs.declared.path.PathStep.{PathStep}
 use Rattle.map_expr.specs.declared.expr.MapExpr.{MapExpr}

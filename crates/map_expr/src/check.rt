@@ -3,23 +3,31 @@ ghost use Rattle.map_expr.specs.Terms.{term_of, depth_of};
 ghost use Rattle.map_expr.specs.Checks.{IsNameless, has_counter, counts_once, bad_number, bad_lanes, bad_width, bad_granule, checked};
 
 use crate::MapExpr;
+use thiserror::Error;
 
 /// Why an expression is no mapping, in the order in which the causes are looked for.
-#[derive(Clone, Copy, Debug, PartialEq, Eq)]
+#[derive(Clone, Copy, Debug, PartialEq, Eq, Error)]
 pub enum BadMapping {
     /// The expression nests more than 8 deep, counters left out.
+    #[error("the mapping nests more than 8 deep")]
     TooDeep,
     /// A counter stands below a node that is none, or twice.
+    #[error("a counter stands below a node that is none, or twice")]
     Counter,
     /// The lanes are not 1 to 64.
+    #[error("the lanes are not 1 to 64")]
     Lanes,
     /// The width is not 1 to 64.
+    #[error("the width is not 1 to 64")]
     Width,
     /// The granule is no power of two from 1 to 4,096.
+    #[error("the granule is no power of two from 1 to 4096")]
     Granule,
     /// All cells or none go to the first side of a split.
+    #[error("one side of a split has no cell")]
     Side,
     /// A cell under byteswap or bytesplit is stored with another sign or width than its type has.
+    #[error("a cell below byteswap or bytesplit is not stored as its type is")]
     NotFull,
 }
 
@@ -28,7 +36,8 @@ const MOST_DEPTH: u32 = 8;
 
 impl MapExpr {
     /// Whether the expression can be a mapping, whatever its cells are: `TooDeep`, then `Counter`, then the first number in the
-    /// order of the text that is out of its range. It takes stack for at most 8 levels.
+    /// order of the text that is out of its range. It takes stack for at most 8 levels that are no counters, and for each counter above
+    /// these, however many there are.
     pub fn check(&self) -> Result<(), BadMapping>
         requires nameless { IsNameless (term_of self.now) }
         ensures { result ≡ checked (term_of self.now) }

@@ -2,7 +2,6 @@ ghost use Rattle.std.specs.Prelude.{◌≡◌, IfOk};
 ghost use Rattle.map_expr.specs.Terms.{term_of};
 
 use crate::MapExpr;
-use record_dim::{Path, PathStep};
 use std::alloc::{AllocError as NoMemory, Global};
 
 impl MapExpr {
@@ -32,7 +31,7 @@ impl MapExpr {
                 order: *order,
             }),
             MapExpr::Split { path, first, rest } => {
-                let path = copy_path(alloc, path)?;
+                let path = path.copy(alloc)?;
                 let first = Box::new(alloc, first.copy(alloc)?)?;
                 let rest = Box::new(alloc, rest.copy(alloc)?)?;
                 Ok(MapExpr::Split { path, first, rest })
@@ -62,17 +61,4 @@ impl MapExpr {
             MapExpr::Named(name) => Ok(MapExpr::Named(*name)),
         }
     }
-}
-
-fn copy_path(alloc: Global, path: &Path) -> Result<Path, NoMemory>
-    ensures { IfOk result (λ copy. copy ≡ path.now) }
-{
-    let [PathStep::Name(first), rest @ ..] = path.as_slice() else {
-        unreachable!()
-    };
-    let mut copy = Path::new(alloc, *first)?;
-    for step in rest {
-        copy.push(*step)?;
-    }
-    Ok(copy)
 }

@@ -1,10 +1,9 @@
-use linearize::Order;
-use map_aos::AosForm;
-use map_soa::SoaForm;
+use extents::Order;
+use places::{AosForm, SoaForm};
 use record_dim::{LeafType, Name, Path};
 
 /// How the cells of an array's records are to lie in blobs.
-#[derive(Debug, Drop)]
+#[derive(Drop)]
 pub enum MapExpr {
     /// Slot after slot.
     Aos {

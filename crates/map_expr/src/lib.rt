@@ -7,6 +7,3 @@ mod expr;
 
 pub use check::BadMapping;
 pub use expr::MapExpr;
-
-#[cfg(test)]
-mod tests;

@@ -9,14 +9,14 @@ use Rattle.places.specs.Holds.{widths_of, full_holds}
 use Rattle.places.specs.declared.piece.Cell.{Cell}
 use Rattle.places.specs.declared.piece.Hold.{Hold}
 use Rattle.places.specs.declared.piece.Piece.{Piece}
-use Rattle.places.proofs.CellWidths.{width_read}
-use Rattle.places.proofs.Compose.{within_blobs, within_blob}
-use Rattle.places.proofs.Places.{one_piece}
-use Rattle.places.proofs.Widths.{widths_full, widths_wide}
-use Rattle.map_soa.specs.Soa.{IsStored, soa_layout, blob_of}
+use Rattle.places.specs.CellWidthsLaws.{cell_width, width_read}
+use Rattle.places.specs.ComposeLaws.{within_blobs, within_blob}
+use Rattle.places.specs.PlacesLaws.{one_piece}
+use Rattle.places.specs.Forms.{soa_layout}
+use Rattle.map_soa.specs.Soa.{IsStored, blob_of}
 use Rattle.map_soa.specs.SoaLaws.{soa_laws}
-use Rattle.map_soa.specs.declared.form.SoaForm.{SoaForm}
-use Rattle.map_soa.specs.declared.form.SoaForm.TheVariants.{Single, Aligned, Multi}
+use Rattle.places.specs.declared.forms.SoaForm.{SoaForm}
+use Rattle.places.specs.declared.forms.SoaForm.TheVariants.{Single, Aligned, Multi}
 use Rattle.map_soa.proofs.Placed.{length-array, cell_at, length-cells}
 
 -- a blob has no more bits than all blobs
@@ -42,62 +42,37 @@ cell_end form slots widths offsets size slot cell h slot_in cell_in some =
     let all : length (get_or layout blob []) ≤ size = blob_le form slots widths offsets size blob h inside in
     omega arith
 
--- what is known of a cell that the code reads
-pub record IsRead (cells : List Cell) (offsets : List ℕ) (cell width offset : ℕ) : Type 0 where
-  pub inside : cell < length (widths_of cells)
-  pub hold : slice_index (map (λ (h : Hold). h.width) (full_holds cells)) cell ≡ width
-  pub width_is : width ≡ slice_index (widths_of cells) cell
-  pub offset_is : offset ≡ slice_index offsets cell
-  pub some : 1 ≤ width
-
-pub cell_read : (form : SoaForm) (slots : ℕ) (cells : List Cell) (offsets : List ℕ) (size cell : ℕ) (found : Cell) (width offset : ℕ)
-    → IsStored form slots (widths_of cells) offsets size → cell < length cells
-    → found ≡ get_or cells cell found → width ≡ width_of found.kind → offset ≡ get_or offsets cell offset
-    → IsRead cells offsets cell width offset
-cell_read form slots cells offsets size cell found width offset h inside read w o =
-    let count : length (widths_of cells) ≡ length cells = length-map cells (λ (c : Cell). width_of c.kind) in
+-- an offset fits its type
+pub offset_fits : (form : SoaForm) (slots : ℕ) (cells : List Cell) (offsets : List ℕ) (size cell offset : ℕ)
+    → IsStored form slots (widths_of cells) offsets size → size ≤ 2 ^ 31 → 0 < slots → cell < length cells → offset ≡ get_or offsets cell offset → offset ≤ 2 ^ 31
+offset_fits form slots cells offsets size cell offset h bound some cell_in read =
+    let width = cell_width cells cell (slice_index (widths_of cells) cell) cell_in refl in
+    let inside : cell < length (widths_of cells) = width.inside in
     let each : length offsets ≡ length (widths_of cells) = h.each in
-    let same : width ≡ slice_index (widths_of cells) cell = width_read cells cell found width inside read w in
-    let in_widths : cell < length (widths_of cells) = omega arith in
-    let wide : 1 ≤ slice_index (widths_of cells) cell = widths_wide cells cell 0 in_widths in
-    record {
-      inside = in_widths;
-      hold = ap (λ (ws : List ℕ). slice_index ws cell) (widths_full cells) ∙ sym same;
-      width_is = same;
-      offset_is = get_or_read offsets cell offset (omega arith) o 0;
-      some = omega arith;
-    }
-
--- a place fits its type
-pub place_fits : (form : SoaForm) (slots : ℕ) (cells : List Cell) (offsets : List ℕ) (size slot cell width offset : ℕ)
-    → IsStored form slots (widths_of cells) offsets size → slot < slots → IsRead cells offsets cell width offset → offset + slot * width + width ≤ size
-place_fits form slots cells offsets size slot cell width offset h slot_in r =
-    let widths : List ℕ = widths_of cells in
-    let some : 1 ≤ width = r.some in
-    let Fits : ℕ → ℕ → Type 0 = λ w o. 1 ≤ w → o + slot * w + w ≤ size in
-    let end : Fits (slice_index widths cell) (slice_index offsets cell) = λ some. cell_end form slots widths offsets size slot cell h slot_in r.inside some in
-    subst (λ (w : ℕ). Fits w offset) (sym r.width_is) (subst (λ (o : ℕ). Fits (slice_index widths cell) o) (sym r.offset_is) end) some
+    let same : offset ≡ slice_index offsets cell = get_or_read offsets cell offset (omega arith) read 0 in
+    let end : slice_index offsets cell + 0 * slice_index (widths_of cells) cell + slice_index (widths_of cells) cell ≤ size =
+    cell_end form slots (widths_of cells) offsets size 0 cell h some inside width.some in
+    omega arith
 
 -- the places of a cell are one piece
-pub located_is : (form : SoaForm) (slots : ℕ) (cells : List Cell) (offsets : List ℕ) (size slot cell width offset : ℕ) (piece : Piece)
-    → IsStored form slots (widths_of cells) offsets size → size ≤ 2 ^ 31 → slot < slots → IsRead cells offsets cell width offset
-    → piece.blob ≡ blob_of form cell → piece.bit ≡ offset + slot * width → piece.bits ≡ width
+pub located_is : (form : SoaForm) (slots : ℕ) (cells : List Cell) (offsets : List ℕ) (size slot cell : ℕ) (piece : Piece)
+    → IsStored form slots (widths_of cells) offsets size → size ≤ 2 ^ 31 → slot < slots → cell < length cells
+    → piece.blob ≡ blob_of form cell → piece.bit ≡ slice_index offsets cell + slot * slice_index (widths_of cells) cell → piece.bits ≡ slice_index (widths_of cells) cell
     → IsLocated (soa_layout form slots (widths_of cells)) slot cell (slice_index (map (λ (h : Hold). h.width) (full_holds cells)) cell) (piece ∷ [])
-located_is form slots cells offsets size slot cell width offset piece h bound slot_in r blob bit bits =
+located_is form slots cells offsets size slot cell piece h bound slot_in cell_in blob bit bits =
     let widths : List ℕ = widths_of cells in
     let layout : List (List Owner) = soa_layout form slots widths in
     let w : ℕ = slice_index widths cell in
-    let some : 1 ≤ width = r.some in
-    let same : width ≡ w = r.width_is in
-    let end : offset + slot * width + width ≤ size = place_fits form slots cells offsets size slot cell width offset h slot_in r in
-    let begin : piece.bit ≡ slice_index offsets cell + slot * w = bit ∙ ap (λ (o : ℕ). o + slot * width) r.offset_is ∙ ap (λ (v : ℕ). slice_index offsets cell + slot * v) same in
+    let width = cell_width cells cell w cell_in refl in
+    let some : 1 ≤ w = width.some in
+    let end : slice_index offsets cell + slot * w + w ≤ size = cell_end form slots widths offsets size slot cell h slot_in width.inside some in
     let one : IsLocated layout slot cell w (piece ∷ []) =
-    one_piece layout slot cell w piece (bits ∙ same) (omega arith) (omega arith)
+    one_piece layout slot cell w piece bits (omega arith) (omega arith)
     (λ k l.
     ap (λ (b : ℕ). owner_at layout b (piece.bit + k)) blob
-    ∙ ap (λ (p : ℕ). owner_at layout (blob_of form cell) (p + k)) begin
-    ∙ h.here slot cell k slot_in r.inside l) in
-    subst (λ (n : ℕ). IsLocated layout slot cell n (piece ∷ [])) (sym (r.hold ∙ same)) one
+    ∙ ap (λ (p : ℕ). owner_at layout (blob_of form cell) (p + k)) bit
+    ∙ h.here slot cell k slot_in width.inside l) in
+    subst (λ (n : ℕ). IsLocated layout slot cell n (piece ∷ [])) (sym width.hold) one
 
 -- how many blobs there are
 pub one_blob : (form : SoaForm) (slots : ℕ) (widths : List ℕ) → (form ≡ Single) ⊎ (form ≡ Aligned) → length (soa_layout form slots widths) ≡ 1

@@ -9,13 +9,14 @@ use Rattle.record_dim.specs.LeafTypes.{width_of}
 use Rattle.places.specs.Layout.{Owner, Pad, Bit, owner_at, cells_of, field, array, padded_to}
 use Rattle.places.specs.Holds.{widths_of}
 use Rattle.places.specs.declared.piece.Cell.{Cell}
-use Rattle.places.proofs.Exact.{length-field, field_at, within}
-use Rattle.places.proofs.Slots.{length-parts, slot_at}
-use Rattle.places.proofs.Stacked.{stacked, up, stacked_push, stacked_append, stacked_take, length-padded, flat_stacked}
-use Rattle.map_soa.specs.Soa.{IsStored, soa_layout, blob_of, alignment, in_blob}
+use Rattle.places.specs.ExactLaws.{length-field, field_at, within}
+use Rattle.places.specs.SlotsLaws.{length-parts, slot_at}
+use Rattle.places.specs.StackedLaws.{stacked, up, stacked_push, stacked_append, stacked_take, length-padded, flat_stacked}
+use Rattle.places.specs.Forms.{soa_layout}
+use Rattle.map_soa.specs.Soa.{IsStored, blob_of, alignment, in_blob}
 use Rattle.map_soa.specs.SoaLaws.{laid_arrays, single_blob, aligned_blob}
-use Rattle.map_soa.specs.declared.form.SoaForm.{SoaForm}
-use Rattle.map_soa.specs.declared.form.SoaForm.TheVariants.{Single, Aligned, Multi}
+use Rattle.places.specs.declared.forms.SoaForm.{SoaForm}
+use Rattle.places.specs.declared.forms.SoaForm.TheVariants.{Single, Aligned, Multi}
 
 -- the array of one cell: its length, and its places
 pub length-array : (slots c w : ℕ) → length (array slots (c, w)) ≡ slots * w

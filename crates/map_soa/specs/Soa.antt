@@ -1,14 +1,9 @@
 -- The layout of each form, and what a mapping keeps of it.
 use Rattle.std.specs.Prelude.{ℕ, ◌≡◌, ◌+◌, ◌*◌, ◌<◌, List, length, sum_by, slice_index}
-use Rattle.places.specs.Layout.{Owner, Bit, owner_at, single_soa, aligned_soa, multi_soa}
-use Rattle.map_soa.specs.declared.form.SoaForm.{SoaForm}
-use Rattle.map_soa.specs.declared.form.SoaForm.TheVariants.{Single, Aligned, Multi}
-
--- the layout of slots of cells of these widths
-abbrev pub soa_layout : SoaForm → ℕ → List ℕ → List (List Owner)
-soa_layout Single slots widths = single_soa slots widths
-soa_layout Aligned slots widths = aligned_soa slots widths
-soa_layout Multi slots widths = multi_soa slots widths
+use Rattle.places.specs.Forms.{soa_layout}
+use Rattle.places.specs.Layout.{Bit, owner_at}
+use Rattle.places.specs.declared.forms.SoaForm.{SoaForm}
+use Rattle.places.specs.declared.forms.SoaForm.TheVariants.{Single, Aligned, Multi}
 
 -- the blob in which a cell's array lies
 abbrev pub blob_of : SoaForm → ℕ → ℕ

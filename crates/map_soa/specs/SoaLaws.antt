@@ -6,16 +6,17 @@ use Rattle.places.specs.Laws.{IsBitOf, IsLaidOut}
 use Rattle.places.specs.Holds.{widths_of, full_holds}
 use Rattle.places.specs.declared.piece.Cell.{Cell}
 use Rattle.places.specs.declared.piece.Hold.{Hold}
-use Rattle.places.proofs.Exact.{Has, has_same, has_range, has_field, length-field, Member}
-use Rattle.places.proofs.Compose.{LaysOut, lays_out_same, has_blob, blobs_of_cells, laid_out}
-use Rattle.places.proofs.CellWidths.{member_width}
-use Rattle.places.proofs.Cells.{apart_enumerate, member_at, bit_of_cells, cells_of_bit}
-use Rattle.places.proofs.Slots.{parts_bytes}
-use Rattle.places.proofs.Stacked.{stacked, flat_stacked, arrays_stacked, has_all_stacked, stacked_bytes, KeepsBytes}
-use Rattle.places.proofs.Widths.{IsWidth, by_width, widths_are, widths_narrow, widths_wide, widths_full, keeps_one, keeps_width}
-use Rattle.map_soa.specs.Soa.{soa_layout, alignment}
-use Rattle.map_soa.specs.declared.form.SoaForm.{SoaForm}
-use Rattle.map_soa.specs.declared.form.SoaForm.TheVariants.{Single, Aligned, Multi}
+use Rattle.places.specs.ExactLaws.{Has, has_same, has_range, has_field, length-field, Member}
+use Rattle.places.specs.ComposeLaws.{LaysOut, lays_out_same, has_blob, blobs_of_cells, laid_out}
+use Rattle.places.specs.CellWidthsLaws.{member_width}
+use Rattle.places.specs.CellsLaws.{apart_enumerate, member_at, bit_of_cells, cells_of_bit}
+use Rattle.places.specs.SlotsLaws.{parts_bytes}
+use Rattle.places.specs.StackedLaws.{stacked, flat_stacked, arrays_stacked, has_all_stacked, stacked_bytes, KeepsBytes}
+use Rattle.places.specs.WidthsLaws.{IsWidth, by_width, widths_are, widths_narrow, widths_wide, widths_full, keeps_one, keeps_width}
+use Rattle.places.specs.Forms.{soa_layout}
+use Rattle.map_soa.specs.Soa.{alignment}
+use Rattle.places.specs.declared.forms.SoaForm.{SoaForm}
+use Rattle.places.specs.declared.forms.SoaForm.TheVariants.{Single, Aligned, Multi}
 
 -- all arrays behind one another, as they lie in the one blob of the forms that have one
 abbrev pub laid_arrays : SoaForm → ℕ → List (ℕ × ℕ) → List Owner

@@ -1,9 +1,9 @@
-ghost use Rattle.std.specs.Prelude.{ℕ, ◌≡◌, ◌+◌, ◌-◌, ◌*◌, ◌%◌, ◌^◌, ◌<◌, ◌≤◌, ◌⊎◌, IfOk, IfErr, IsErrOf, length, sum_by};
+ghost use Rattle.std.specs.Prelude.{ℕ, ◌≡◌, ◌+◌, ◌*◌, ◌^◌, ◌<◌, ◌≤◌, ◌⊎◌, IfOk, IfErr, IsErrOf, length, sum_by};
 ghost use Rattle.places.specs.Holds.{widths_of};
-ghost use Rattle.map_soa.specs.Soa.{IsStored, alignment, in_blob, soa_layout};
+ghost use Rattle.places.specs.Forms.{soa_layout};
+ghost use Rattle.map_soa.specs.Soa.{IsStored, alignment, in_blob};
 
-use crate::form::SoaForm;
-use places::{Cell, MAX_BLOB_BITS, NewMapping};
+use places::{Cell, MAX_BLOB_BITS, NewMapping, SoaForm, up};
 use std::alloc::Global;
 
 /// Where the array of each cell begins, in bits from its blob's beginning on, and how many bits all blobs have.
@@ -21,15 +21,6 @@ fn align_of(form: SoaForm, width: u32) -> u64
         SoaForm::Single | SoaForm::Multi => 1,
         SoaForm::Aligned => u64::from(width),
     }
-}
-
-/// The next multiple of `align`.
-fn up(at: u64, align: u64) -> u64
-    requires some { 0 < align }
-    requires room { at + align < 2 ^ 64 }
-    ensures { result ≡ at + (align - at % align) % align }
-{
-    at + (align - at % align) % align
 }
 
 /// Where an array begins in its blob, if it begins at `begin` with all arrays behind one another.

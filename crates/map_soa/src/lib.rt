@@ -2,11 +2,6 @@
 #![tactic(auto)]
 
 mod arrays;
-mod form;
 mod soa;
 
-pub use form::SoaForm;
 pub use soa::Soa;
-
-#[cfg(test)]
-mod tests;

@@ -1,21 +1,21 @@
-ghost use Rattle.std.specs.Prelude.{ℕ, ◌≡◌, ◌^◌, ◌<◌, ◌≤◌, ◌⊎◌, IfOk, IfErr, OnOk, IsErrOf, List, [], ◌∷◌, length, map, slice_index};
+ghost use Rattle.std.specs.Prelude.{ℕ, ◌≡◌, ◌^◌, ◌<◌, ◌≤◌, ◌⊎◌, IfOk, IfErr, OnOk, IsErrOf, List, length, slice_index};
 ghost use Rattle.places.specs.Holds.{widths_of, full_holds, IsTooBig};
 ghost use Rattle.places.specs.declared.piece.Cell.{Cell};
 ghost use Rattle.places.specs.declared.piece.Hold.{Hold};
 ghost use Rattle.places.specs.Layout.{Owner};
-ghost use Rattle.places.specs.Laws.{IsLocated};
-ghost use Rattle.map_soa.specs.Soa.{IsStored, blob_of, soa_layout};
+ghost use Rattle.places.specs.Forms.{soa_layout};
+ghost use Rattle.map_soa.specs.Soa.{IsStored, blob_of};
 ghost use Rattle.map_soa.specs.SoaLaws.{soa_laws};
-ghost use Rattle.places.proofs.CellWidths.{length-full};
+ghost use Rattle.places.specs.CellWidthsLaws.{length-full};
 
 use crate::arrays::lay_out;
-use crate::form::SoaForm;
-use places::{Cell, CellList, Hold, MAX_SLOTS, Mapping, NewMapping, Piece, Pieces};
+use piece_rules::{PieceRule, Ruled};
+use places::{Cell, CellList, Hold, MAX_SLOTS, Mapping, NewMapping, Pieces, SoaForm};
 use record_dim::LeafType;
 use std::alloc::Global;
 
 /// A struct of arrays: for each cell its array, slot after slot.
-#[derive(Debug, Drop)]
+#[derive(Drop)]
 pub struct Soa {
     form: SoaForm,
     slots: u64,
@@ -60,19 +60,16 @@ impl Soa {
         })
     }
 
-    /// The one piece in which a cell of a slot lies: what `locate` answers, alone.
-    #[inline]
-    pub fn piece(&self, slot: u64, cell: usize) -> Piece
-        requires slot_in { slot < ⟦<Soa as Mapping>⟧.slot_count self.now }
-        requires cell_in { cell < length (⟦<Soa as Mapping>⟧.cell_list self.now) }
-        ensures { IsLocated (⟦<Soa as Mapping>⟧.layout self.now) slot cell (slice_index (map (λ h. h.width) (⟦<Soa as Mapping>⟧.hold_list self.now)) cell) (result ∷ []) }
+    /// Where the array of a cell begins in its blob; 0 where there is no slot.
+    fn offset(&self, cell: usize) -> u64
+        requires { cell < length self.now.cells.items }
+        ensures place { 0 < self.now.slots → result ≡ slice_index self.now.offsets.items cell }
+        ensures low { result ≤ 2 ^ 31 }
     {
-        let bits = self.cells[cell].kind.width();
-        Piece {
-            blob: self.blob(cell),
-            bit: self.offsets[cell] + slot * u64::from(bits),
-            bits,
+        if self.slots == 0 {
+            return 0;
         }
+        self.offsets[cell]
     }
 
     /// The blob in which the array of a cell lies.
@@ -82,6 +79,20 @@ impl Soa {
         match self.form {
             SoaForm::Single | SoaForm::Aligned => 0,
             SoaForm::Multi => cell,
+        }
+    }
+}
+
+impl Ruled for Soa {
+    fn rule(&self, cell: usize) -> PieceRule {
+        let bits = self.cells[cell].kind.width();
+        PieceRule {
+            blob: self.blob(cell),
+            base: self.offset(cell),
+            lanes: 1,
+            block: u64::from(bits),
+            lane: 0,
+            bits,
         }
     }
 }
@@ -108,11 +119,7 @@ impl Mapping for Soa {
     }
 
     fn hold(&self, cell: usize) -> Hold {
-        let kind = self.cells[cell].kind;
-        Hold {
-            signed: kind.signed(),
-            width: kind.width(),
-        }
+        Hold::of(self.cells[cell].kind)
     }
 
     fn blob_count(&self) -> usize {
@@ -129,11 +136,8 @@ impl Mapping for Soa {
         }
     }
 
-    /// One piece, by the stored offset.
     fn locate(&self, slot: u64, cell: usize) -> Pieces {
-        let mut pieces = Pieces::new();
-        pieces.push(self.piece(slot, cell));
-        pieces
+        self.rule(cell).pieces(slot)
     }
 
     ghost laws = { λ m. soa_laws m.form m.slots m.cells.items };

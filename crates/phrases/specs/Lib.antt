@@ -2,3 +2,11 @@ pub mod Phrases
 pub mod Reading
 pub mod Column
 pub mod Ended
+pub mod AlikeLaws
+pub mod EndedLaws
+pub mod MoreLaws
+pub mod ParsesLaws
+pub mod RepeatedLaws
+pub mod UnboundedLaws
+pub mod WholeLaws
+pub mod WiderLaws

@@ -6,7 +6,7 @@ use Rattle.std.proofs.lemmas.Int.{ints}
 use Rattle.std.proofs.Math.Nat.{div-eq_of_lt}
 use Rattle.record_dim.specs.LeafTypes.{IsIn}
 use Rattle.places.specs.Image.{number, digit, decoded}
-use Rattle.places.proofs.Numbers.{half_of, decoded_high, number_pos, number_negsuc}
+use Rattle.places.specs.NumbersLaws.{half_of, decoded_high, number_pos, number_negsuc}
 
 -- what bits say where the top bit is 1
 pub decoded_top : (width n : ℕ) → n / 2 ^ (width - 1) ≢ 0 → decoded true width n ≡ pos n -ℤ pos (2 ^ width)

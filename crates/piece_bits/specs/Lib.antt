@@ -1,2 +1,9 @@
 pub mod Spots
 pub mod Tables
+pub mod CellsLaws
+pub mod EntriesLaws
+pub mod LocatedLaws
+pub mod SpotsOfLaws
+pub mod TableLaws
+pub mod WritesLaws
+pub mod OnePieceLaws

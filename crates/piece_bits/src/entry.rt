@@ -42,7 +42,7 @@ pub fn write_entry<M: Mapping>(map: &M, blobs: &mut Vec<Blob>, slot: u64, cell: 
 }
 
 /// The value of a cell in a slot that lies in one piece.
-#[inline]
+#[inline(always)]
 pub fn read_piece<M: Mapping>(
     mapping: &M,
     blobs: &[Blob],
@@ -67,7 +67,7 @@ pub fn read_piece<M: Mapping>(
 }
 
 /// Makes the value of a cell in a slot that lies in one piece this one. All other values stay, and padding stays 0.
-#[inline]
+#[inline(always)]
 pub fn write_piece<M: Mapping>(
     mapping: &M,
     blobs: &mut Vec<Blob>,

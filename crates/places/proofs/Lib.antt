@@ -1,12 +1,1 @@
-pub mod Numbers
-pub mod Owned
-pub mod Exact
-pub mod Compose
-pub mod Cells
-pub mod Places
-pub mod Slots
-pub mod Stacked
-pub mod Widths
-pub mod Falling
-pub mod CellWidths
 pub mod Memory

@@ -8,8 +8,8 @@ use Rattle.places.specs.Image.{digit, number, decoded, bit_owned, reading}
 use Rattle.places.specs.Laws.{IsBitOf, IsLaidOut}
 use Rattle.places.specs.Writes.{written, WritesKeepOthers, WritesReadBack}
 use Rattle.places.specs.declared.piece.Hold.{Hold}
-use Rattle.places.proofs.Numbers.{number_same, decoded_digits}
-use Rattle.places.proofs.Owned.{found_owned, owned_is}
+use Rattle.places.specs.NumbersLaws.{number_same, decoded_digits}
+use Rattle.places.specs.OwnedLaws.{found_owned, owned_is}
 
 -- bits that agree wherever an owner stands give it the same bit
 pub owned_same : (layout : List (List Owner)) (slots : ℕ) (widths : List ℕ) (s c k : ℕ) (old new : ℕ → ℕ → ℕ) → IsLaidOut layout slots widths

@@ -1,9 +1,15 @@
 ghost use Rattle.std.specs.Prelude.{ℕ, ◌≡◌, ◌≤◌, ◌<◌, length, map, slice_index, sum_by, All};
-ghost use Rattle.places.specs.Laws.{IsLocated, IsPiece};
+ghost use Rattle.places.specs.Laws.{IsLaidOut, IsLocated, IsPiece};
 ghost use Rattle.places.specs.Writes.{WritesKeepOthers, WritesReadBack};
 
 use crate::mapping::Mapping;
 use crate::piece::Pieces;
+
+/// Any mapping keeps the laws of a layout, and has a hold for each cell. It does nothing: its contract is the law.
+pub fn laws_of<M: Mapping>(_mapping: &M)
+    ensures lawful { IsLaidOut (M.layout _mapping.now) (M.slot_count _mapping.now) (map (λ h. h.width) (M.hold_list _mapping.now)) }
+    ensures paired { length (M.hold_list _mapping.now) ≡ length (M.cell_list _mapping.now) }
+{}
 
 /// Under any mapping, a write to one cell of one slot changes no other cell. It does nothing: its contract is the law.
 pub fn writes_keep_others<M: Mapping>(_mapping: &M)

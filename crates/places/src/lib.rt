@@ -1,10 +1,14 @@
 // What lies where: layouts as lists of bits, and the contract of a mapping.
 #![tactic(auto)]
 
+mod forms;
 mod laws;
 mod mapping;
+mod multiple;
 mod piece;
 
-pub use laws::{pieces_of, writes_keep_others, writes_read_back};
+pub use forms::{AosForm, SoaForm};
+pub use laws::{laws_of, pieces_of, writes_keep_others, writes_read_back};
 pub use mapping::{MAX_BLOB_BITS, MAX_SLOTS, Mapping, NewMapping};
+pub use multiple::up;
 pub use piece::{Cell, CellList, Hold, Piece, Pieces, Run, RunList, RunOwner};

@@ -8,20 +8,27 @@ ghost use Rattle.places.specs.declared.piece.Hold.{Hold};
 use crate::piece::{Cell, Hold, Pieces};
 use record_dim::LeafType;
 use std::alloc::{AllocError, AllocFailed};
+use thiserror::Error;
 
 /// Why a mapping was not made.
-#[derive(Clone, Copy, Debug, PartialEq, Eq)]
+#[derive(Clone, Copy, Debug, PartialEq, Eq, Error)]
 pub enum NewMapping {
     /// The lanes are not 1 to 64.
+    #[error("the lanes are not 1 to 64")]
     Lanes,
     /// The width is not 1 to 64.
+    #[error("the width is not 1 to 64")]
     Width,
     /// A cell of the inner mapping has another sign or width than its type.
+    #[error("a cell of the inner mapping has another sign or width than its type")]
     NotFull,
     /// All cells or none go to the first side.
+    #[error("all cells or none go to the first side")]
     Side,
     /// More than 2^24 slots, or more than 2^28 bytes in all blobs.
+    #[error("more than 2^24 slots, or more than 2^28 bytes in all blobs")]
     TooBig,
+    #[error("out of memory")]
     NoMemory,
 }
 

@@ -3,7 +3,7 @@ use lists::Sequence;
 use record_dim::LeafType;
 
 /// What a mapping is built over: a leaf and the type in which it is stored.
-#[derive(Clone, Copy, Debug)]
+#[derive(Clone, Copy)]
 pub struct Cell {
     pub leaf: usize,
     pub kind: LeafType,
@@ -13,14 +13,29 @@ pub struct Cell {
 pub type CellList = Sequence<Cell>;
 
 /// How a cell is stored: as a signed or unsigned number of so many bits.
-#[derive(Clone, Copy, Debug, PartialEq, Eq)]
+#[derive(Clone, Copy, PartialEq, Eq)]
 pub struct Hold {
     pub signed: bool,
     pub width: u32,
 }
 
+impl Hold {
+    ghost use Rattle.std.specs.Prelude.{◌≡◌};
+    ghost use Rattle.places.specs.Holds.{hold_of};
+
+    /// How a cell of a type is stored whole: in the type's own sign and width.
+    pub fn of(kind: LeafType) -> Hold
+        ensures { result ≡ hold_of kind }
+    {
+        Hold {
+            signed: kind.signed(),
+            width: kind.width(),
+        }
+    }
+}
+
 /// Consecutive bits of one blob, from bit `bit` on.
-#[derive(Clone, Copy, Debug, Default, PartialEq, Eq)]
+#[derive(Clone, Copy, Default, PartialEq, Eq)]
 pub struct Piece {
     pub blob: usize,
     pub bit: u64,
@@ -31,14 +46,14 @@ pub struct Piece {
 pub type Pieces = ArrayVec<Piece, 8>;
 
 /// Who owns a run of bits: nobody, or consecutive bits of one leaf in one row, from bit `low` of it on.
-#[derive(Clone, Copy, Debug, PartialEq, Eq)]
+#[derive(Clone, Copy, PartialEq, Eq)]
 pub enum RunOwner {
     Pad,
     Leaf { row: u64, leaf: usize, low: u32 },
 }
 
 /// Consecutive bits of one blob that have one owner, from bit `bit` on.
-#[derive(Clone, Copy, Debug, PartialEq, Eq)]
+#[derive(Clone, Copy, PartialEq, Eq)]
 pub struct Run {
     pub blob: usize,
     pub bit: u64,

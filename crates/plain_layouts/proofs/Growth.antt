@@ -10,7 +10,7 @@ use Rattle.std.proofs.lemmas.List.FromFn.{map-range_with_len_more}
 use Rattle.std.proofs.lemmas.List.FromFn.{length-enumerate_from, get_or-enumerate_from}
 use Rattle.std.proofs.lemmas.List.Elements.{All-map, All-same}
 use Rattle.places.specs.Image.{bit_held, digit, entry}
-use Rattle.places.proofs.Numbers.{digit_lt}
+use Rattle.places.specs.NumbersLaws.{digit_lt}
 use Rattle.places.specs.Layout.{Pad as Nobody, Bit as Owned, Owner, field, array, padded_to, greatest, aligned_fields, aligned_arrays, narrowed, cells_of}
 use Rattle.plain_layouts.specs.Plain.{owner_of, owners_of}
 use Rattle.plain_layouts.specs.declared.owner.PlainOwner.{PlainOwner}

@@ -11,6 +11,3 @@ pub use form::LayoutForm;
 pub use image::{PlainTable, plain_bytes, plain_image};
 pub use owner::{PlainBlob, PlainOwner};
 pub use plain::plain_layout;
-
-#[cfg(test)]
-mod tests;

@@ -12,7 +12,7 @@ use Rattle.record_dim.specs.declared.dim.Dim.TheVariants as dim
 use Rattle.record_dim.specs.Trees.{Tree, Single, Record, Array, Fields, End, Field, tree_of}
 use Rattle.record_dim.specs.Leaves.{Leaf, under, leaves_of, leaves, paths_of, names_of, has_twice, shares_name, records_of, records_below, first_fault}
 use Rattle.record_dim.specs.Nodes.{node_at, node_in, LeadsTo}
-use Rattle.record_dim.proofs.NameBytes.{same_text, text_self}
+use Rattle.record_dim.specs.NameBytesLaws.{same_text, text_self}
 use Rattle.record_dim.proofs.Lookup.{leaves-suc}
 use Rattle.record_dim.proofs.Fit.{neither, none_of_both, fit_from}
 

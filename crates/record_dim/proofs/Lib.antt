@@ -1,4 +1,3 @@
-pub mod NameBytes
 pub mod Walks
 pub mod Twice
 pub mod Gathered

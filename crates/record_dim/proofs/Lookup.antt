@@ -8,10 +8,10 @@ use Rattle.record_dim.specs.declared.path.PathStep.{PathStep}
 use Rattle.record_dim.specs.declared.path.PathStep.TheVariants.{Name, At}
 use Rattle.record_dim.specs.Trees.{Tree, Record, Array, Fields, Field}
 use Rattle.record_dim.specs.Leaves.{Leaf, under, leaves_of, leaves}
-use Rattle.record_dim.specs.Nodes.{node_at, node_in, behind, IsStretch, HasChild, HasField, LeadsTo}
+use Rattle.record_dim.specs.Nodes.{node_at, node_in, leaves_before, leaves_before_in, behind, IsStretch, HasChild, HasField, LeadsTo}
 use Rattle.record_dim.proofs.Walks.{length-leaves_of_array}
 use Rattle.record_dim.proofs.Gathered.{leaves-more}
-use Rattle.record_dim.proofs.NameBytes.{same_text}
+use Rattle.record_dim.specs.NameBytesLaws.{same_text}
 
 behind_none : (xs : List Leaf) → map (behind []) xs ≡ xs
 behind_none [] = refl
@@ -29,6 +29,7 @@ regroup front f m b back = simp append_assoc
 pub leads_nowhere : (tree : Tree) → LeadsTo tree [] 0 tree
 leads_nowhere tree = record {
   found = refl;
+  place = refl;
   stretch = record { front = []; back = []; before = refl; parts = sym (append-nil (map (behind []) (leaves_of tree)) ∙ behind_none (leaves_of tree)) };
 }
 
@@ -52,12 +53,13 @@ pub leads_on : (tree : Tree) (step : PathStep) (steps : List PathStep) (below no
     HasChild tree step first below → LeadsTo below steps second node → LeadsTo tree (step ∷ steps) (first + second) node
 leads_on tree step steps below node first second child inner = record {
   found = child.node steps ∙ inner.found;
+  place = child.place steps ∙ ap (λ n. first + n) inner.place;
   stretch = stretch_on (leaves_of tree) step steps below node first second child.stretch inner.stretch;
 }
 
 -- a field is one step down from its record
 pub child_of_field : (fields : Fields) (name : List ℕ) (first : ℕ) (held : Tree) → HasField fields name first held → HasChild (Record fields) (Name name) first held
-child_of_field fields name first held field = record { node = field.node; stretch = field.stretch }
+child_of_field fields name first held field = record { node = field.node; place = field.place; stretch = field.stretch }
 
 pub leaves-suc : (len : ℕ) (element : Tree) → leaves_of (Array (suc len) element) ≡ leaves_of (Array len element) ++ map (under (At len)) (leaves_of element)
 leaves-suc len element = rw add-one at (leaves-more len element)
@@ -91,7 +93,7 @@ element_stretch (suc len) number element h =
 pub child_of_array : (len number : ℕ) (element : Tree) → number < len → HasChild (Array len element) (At number) (number * length (leaves_of element)) element
 child_of_array len number element h =
     let yes : nat_lt number len ≡ true = grind (arith, nat_tests) in
-    record { node = λ steps. ap (λ b. cond b (node_at element steps) None) yes; stretch = element_stretch len number element h }
+    record { node = λ steps. ap (λ b. cond b (node_at element steps) None) yes; place = λ steps. refl; stretch = element_stretch len number element h }
 
 pub no_element : (len number : ℕ) (element : Tree) (steps : List PathStep) → len ≤ number → node_at (Array len element) (At number ∷ steps) ≡ None
 no_element len number element steps h =
@@ -108,12 +110,13 @@ stretch_few all steps node first s =
 -- the search for the field of this name: it is among the fields left, if anywhere, and `before` leaves are passed
 pub record IsLeft (fields left : Fields) (name : List ℕ) (before : ℕ) : Type 0 where
   pub node : (steps : List PathStep) → node_in fields name steps ≡ node_in left name steps
+  pub place : (steps : List PathStep) → leaves_before_in fields name steps ≡ before + leaves_before_in left name steps
   pub front : List Leaf
   pub many : length front ≡ before
   pub parts : leaves fields ≡ front ++ leaves left
 
 pub left_all : (fields : Fields) (name : List ℕ) → IsLeft fields fields name 0
-left_all fields name = record { node = λ steps. refl; front = []; many = refl; parts = refl }
+left_all fields name = record { node = λ steps. refl; place = λ steps. omega arith; front = []; many = refl; parts = refl }
 
 pub left_few : (fields left : Fields) (name : List ℕ) (before : ℕ) → IsLeft fields left name before → before + length (leaves left) ≡ length (leaves fields)
 left_few fields left name before l =
@@ -127,6 +130,10 @@ left_more fields own held rest name before other l =
     let one = map (under (Name own)) (leaves_of held) in
     record {
       node = λ steps. l.node steps ∙ ap (λ b. cond b (node_at held steps) (node_in rest name steps)) other;
+      place = λ steps.
+          let later : leaves_before_in (Field own held rest) name steps ≡ length (leaves_of held) + leaves_before_in rest name steps =
+          ap (λ b. cond b (leaves_before held steps) (length (leaves_of held) + leaves_before_in rest name steps)) other in
+          omega (arith, l.place steps);
       front = l.front ++ one;
       many = length-append l.front one ∙ omega (arith, l.many, length-map (leaves_of held) (under (Name own)));
       parts = l.parts ∙ sym (append_assoc l.front one (leaves rest));
@@ -139,6 +146,10 @@ left_found fields own held rest name before this l =
     let same : own ≡ name = same_text own name this in
     record {
       node = λ steps. l.node steps ∙ ap (λ b. cond b (node_at held steps) (node_in rest name steps)) this;
+      place = λ steps.
+          let here : leaves_before_in (Field own held rest) name steps ≡ leaves_before held steps =
+          ap (λ b. cond b (leaves_before held steps) (length (leaves_of held) + leaves_before_in rest name steps)) this in
+          omega (arith, l.place steps);
       stretch = record { front = l.front; back = leaves rest; before = l.many; parts = l.parts ∙ ap (λ n. l.front ++ (map (under (Name n)) (leaves_of held) ++ leaves rest)) same };
     }
 

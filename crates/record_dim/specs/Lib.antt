@@ -7,3 +7,4 @@ pub mod Nodes
 pub mod Paths
 pub mod Schemas
 pub mod Trees
+pub mod NameBytesLaws

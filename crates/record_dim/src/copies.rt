@@ -1,44 +1,51 @@
 ghost use Rattle.std.specs.Prelude.{◌≡◌, ◌↔◌, IsTrue, IfOk};
-ghost use Rattle.record_dim.specs.Trees.{tree_of, fields_of};
+ghost use Rattle.record_dim.specs.Trees.{tree_of, fields_of, Field as NamedTree, IsRecord};
 
-use crate::{Dim, Field, FieldList};
+use crate::{Dim, Field, FieldList, Name};
 use std::alloc::{AllocError as NoMemory, Global};
 
-/// An equal tree. It is meant for the trees of schemas, which are shallow and small.
-#[cycle(copy)]
-pub fn copy_fields(alloc: Global, fields: &FieldList) -> Result<FieldList, NoMemory>
-    ensures { IfOk result (λ copy. fields_of copy ≡ fields_of fields.now) }
-{
-    match fields {
-        FieldList::End => Ok(FieldList::End),
-        FieldList::More { field, rest } => {
-            let dim = copy_dim(alloc, &field.dim)?;
-            let name = field.name;
-            let field = Box::new(alloc, Field { name, dim })?;
-            let rest = copy_fields(alloc, rest)?;
-            let rest = Box::new(alloc, rest)?;
-            Ok(FieldList::More { field, rest })
+impl Dim {
+    /// An equal tree. It takes stack for each field and each level of the tree, so it is meant for trees of a few thousand of these.
+    #[cycle(copy)]
+    pub fn copy(&self, alloc: Global) -> Result<Dim, NoMemory>
+        ensures tree { IfOk result (λ copy. tree_of copy ≡ tree_of self.now) }
+        ensures kind { IfOk result (λ copy. IsRecord copy ↔ IsRecord self.now) }
+    {
+        match self {
+            Dim::Leaf(kind) => Ok(Dim::Leaf(*kind)),
+            Dim::Fields(fields) => Ok(Dim::Fields(fields.copy(alloc)?)),
+            Dim::Array { len, element } => {
+                let element = Box::new(alloc, element.copy(alloc)?)?;
+                Ok(Dim::Array { len: *len, element })
+            }
         }
     }
 }
 
-#[cycle(copy)]
-fn copy_dim(alloc: Global, dim: &Dim) -> Result<Dim, NoMemory>
-    ensures { IfOk result (λ copy. tree_of copy ≡ tree_of dim.now) }
-{
-    match dim {
-        Dim::Leaf(kind) => Ok(Dim::Leaf(*kind)),
-        Dim::Fields(fields) => {
-            let fields = copy_fields(alloc, fields)?;
-            Ok(Dim::Fields(fields))
-        }
-        Dim::Array { len, element } => {
-            let len = *len;
-            let element = copy_dim(alloc, element)?;
-            let element = Box::new(alloc, element)?;
-            Ok(Dim::Array { len, element })
+impl FieldList {
+    /// An equal list of fields.
+    #[cycle(copy)]
+    pub(crate) fn copy(&self, alloc: Global) -> Result<FieldList, NoMemory>
+        ensures { IfOk result (λ copy. fields_of copy ≡ fields_of self.now) }
+    {
+        match self {
+            FieldList::End => Ok(FieldList::End),
+            FieldList::More { field, rest } => {
+                let dim = field.dim.copy(alloc)?;
+                let rest = rest.copy(alloc)?;
+                more(alloc, field.name, dim, rest)
+            }
         }
     }
+}
+
+// The fields with one more in front.
+fn more(alloc: Global, name: Name, dim: Dim, rest: FieldList) -> Result<FieldList, NoMemory>
+    ensures { IfOk result (λ fields. fields_of fields ≡ NamedTree name (tree_of dim) (fields_of rest)) }
+{
+    let field = Box::new(alloc, Field { name, dim })?;
+    let rest = Box::new(alloc, rest)?;
+    Ok(FieldList::More { field, rest })
 }
 
 /// Whether two records are one tree.

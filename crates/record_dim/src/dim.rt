@@ -3,7 +3,6 @@ use lists::Sequence;
 
 /// What a field holds: a leaf, a record, or `len` elements of one kind.
 #[cycle(dim)]
-#[derive(Debug)]
 pub enum Dim {
     Leaf(LeafType),
     Fields(FieldList),
@@ -12,7 +11,6 @@ pub enum Dim {
 
 /// The fields of a record, in order.
 #[cycle(dim)]
-#[derive(Debug)]
 pub enum FieldList {
     End,
     More {
@@ -23,7 +21,7 @@ pub enum FieldList {
 
 /// A field of a record.
 #[cycle(dim)]
-#[derive(Debug, Drop)]
+#[derive(Drop)]
 pub struct Field {
     pub name: Name,
     pub dim: Dim,

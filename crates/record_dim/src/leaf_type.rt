@@ -2,7 +2,7 @@ ghost use Rattle.std.specs.Prelude.{◌≡◌};
 ghost use Rattle.record_dim.specs.LeafTypes.{width_of, is_signed, least_of, greatest_of};
 
 /// The type of one leaf of a record: a truth value, or a whole number of a fixed width in bits.
-#[derive(Clone, Copy, Debug, PartialEq, Eq)]
+#[derive(Clone, Copy, PartialEq, Eq)]
 pub enum LeafType {
     Bool,
     U8,

@@ -20,6 +20,3 @@ pub use name::Name;
 pub use path::{Path, PathStep};
 pub use schema::Schema;
 pub use text::Text;
-
-#[cfg(test)]
-mod tests;

@@ -105,7 +105,7 @@ impl fmt::Debug for Name {
     }
 }
 
-#[tactic(auto, using(crate::proofs::NameBytes::word_at))]
+#[tactic(auto, using(crate::specs::NameBytesLaws::word_at))]
 fn is_word(text: &[u8]) -> bool
     ensures { result ≡ is_word text.now }
 {

@@ -51,6 +51,14 @@ impl Path {
         Ok(())
     }
 
+    /// An equal path.
+    pub fn copy(&self, alloc: Global) -> Result<Path, NoMemory>
+        ensures { IfOk result (λ copy. copy ≡ self.now) }
+    {
+        let steps = self.as_slice().to_vec(alloc)?;
+        Ok(Path { steps })
+    }
+
     /// The steps, in order.
     pub fn as_slice(&self) -> &[PathStep]
         ensures value { result.now ≡ self.now }

@@ -6,14 +6,14 @@ ghost use Rattle.record_dim.specs.Nodes.{node_of, IsUnder};
 ghost use Rattle.record_dim.specs.Faults.{Names};
 
 use crate::checks::{count_leaves, first_fault};
-use crate::copies::{are_same, copy_fields};
+use crate::copies::are_same;
 use crate::nodes::find;
 use crate::tables::{Tables, tables_of};
 use crate::{Dim, FieldList, LeafType, MakeSchema, Path};
 use std::alloc::{AllocError as NoMemory, Global};
 
 /// A record that is fit for a data set: at most 8 deep, no record empty, no name twice in one record, no array empty, and with 1 to 64 leaves.
-#[derive(Debug, Drop)]
+#[derive(Drop)]
 pub struct Schema {
     fields: FieldList,
     tables: Tables,
@@ -91,7 +91,7 @@ impl Schema {
     pub fn copy(&self, alloc: Global) -> Result<Schema, NoMemory>
         ensures { IfOk result (λ copy. schema_fields copy ≡ schema_fields self.now) }
     {
-        let fields = copy_fields(alloc, &self.fields)?;
+        let fields = self.fields.copy(alloc)?;
         let tables = tables_of(alloc, &fields)?;
         Ok(Schema { fields, tables })
     }

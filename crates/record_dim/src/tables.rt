@@ -1,5 +1,5 @@
-ghost use Rattle.std.specs.Prelude.{◌≡◌, ◌++◌, OnOk, IfOk};
-ghost use Rattle.record_dim.specs.Trees.{tree_of, fields_of, Array};
+ghost use Rattle.std.specs.Prelude.{◌≡◌, [], ◌∷◌, ◌++◌, OnOk, IfOk};
+ghost use Rattle.record_dim.specs.Trees.{tree_of, fields_of, Record, Array};
 ghost use Rattle.record_dim.specs.declared.path.PathStep.TheVariants.{At};
 ghost use Rattle.record_dim.specs.Paths.{step_text};
 ghost use Rattle.record_dim.specs.Leaves.{kinds_of, texts_of};
@@ -9,7 +9,7 @@ use crate::{Dim, Field, FieldList, LeafType, Text};
 use std::alloc::{AllocError as NoMemory, Global};
 
 /// The type and the path text of each leaf, in order.
-#[derive(Debug, Drop)]
+#[derive(Drop)]
 pub struct Tables {
     pub kinds: Vec<LeafType>,
     pub texts: Vec<Text>,
@@ -37,18 +37,36 @@ fn gather(alloc: Global, dim: &Dim, text: Text, tables: &mut Tables) -> Result<(
     ensures texts { OnOk result (tables.new.texts.items ≡ tables.old.texts.items ++ node_texts text (tree_of dim.now)) }
 {
     match dim {
-        Dim::Leaf(kind) => {
-            tables.kinds.push(*kind)?;
-            tables.texts.push(text)?;
-            Ok(())
-        }
-        Dim::Fields(fields) => {
-            let mut front = text;
-            front.push_str(".")?;
-            gather_fields(alloc, fields, front.as_str(), tables)
-        }
+        Dim::Leaf(kind) => put(*kind, text, tables),
+        Dim::Fields(fields) => gather_record(alloc, fields, text, tables),
         Dim::Array { len, element } => gather_elements(alloc, *len, element, text.as_str(), tables),
     }
+}
+
+fn put(kind: LeafType, text: Text, tables: &mut Tables) -> Result<(), NoMemory>
+    ensures kinds { OnOk result (tables.new.kinds.items ≡ tables.old.kinds.items ++ kind ∷ []) }
+    ensures texts { OnOk result (tables.new.texts.items ≡ tables.old.texts.items ++ text ∷ []) }
+{
+    tables.kinds.push(kind)?;
+    tables.texts.push(text)?;
+    Ok(())
+}
+
+// The same for a record, where `text` is its path text.
+#[cycle(gather)]
+#[tactic(auto, using(crate::proofs::Gathered::gathered))]
+fn gather_record(
+    alloc: Global,
+    fields: &FieldList,
+    text: Text,
+    tables: &mut Tables,
+) -> Result<(), NoMemory>
+    ensures kinds { OnOk result (tables.new.kinds.items ≡ tables.old.kinds.items ++ node_kinds (Record (fields_of fields.now))) }
+    ensures texts { OnOk result (tables.new.texts.items ≡ tables.old.texts.items ++ node_texts text (Record (fields_of fields.now))) }
+{
+    let mut front = text;
+    front.push_str(".")?;
+    gather_fields(alloc, fields, front.as_str(), tables)
 }
 
 // The same for the fields of a record, where `front` stands before each name.

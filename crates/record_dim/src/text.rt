@@ -5,7 +5,7 @@ use std::alloc::{AllocError as NoMemory, Global};
 use std::marker::Model;
 
 /// A text that grows at its end. Contracts see it as the list of its bytes.
-#[derive(Debug, Drop)]
+#[derive(Drop)]
 pub struct Text {
     text: String,
 }
@@ -37,7 +37,7 @@ impl Text {
         self.text.push_str(more)
     }
 
-    /// Puts the number at the end, in decimal. Where memory is wanting, the text stays as it was.
+    /// Puts the number at the end, in decimal. Where memory is wanting, nothing is said of the text.
     pub(crate) fn push_number(&mut self, number: u32) -> Result<(), NoMemory>
         ensures { OnOk result (self.new ≡ self.old ++ decimal number) }
     {

@@ -2,13 +2,13 @@
 use Rattle.std.proofs.Common.{ℕ, ◌≤◌, true, false, inl, inr, List, [], ◌++◌, codes, None, is_some, refl, ap, neg_ℤ, arith}
 use Rattle.phrases.specs.Phrases.{Behind, IsItem, IsNothing}
 use Rattle.phrases.specs.Reading.{item_at, give_at}
-use Rattle.phrases.proofs.Parses.{Always, Parses, behind_parses, either_parses, give_parses, item_parses, said_otherwise, then_parses}
-use Rattle.phrases.proofs.More.{behind_starts, item_starts, joined_starts}
-use Rattle.phrases.proofs.Whole.{AtEnd}
-use Rattle.phrases.proofs.EndedLaws.{ended_alike, ended_parses}
-use Rattle.phrases.proofs.Wider.{Wider, behind_wider, either_wider, joined_wider, same_wider}
-use Rattle.phrases.proofs.Alike.{Alike, either_alike, no_longer, same_alike, then_alike}
-use Rattle.phrases.proofs.Unbounded.{Nests}
+use Rattle.phrases.specs.ParsesLaws.{Always, Parses, behind_parses, either_parses, give_parses, item_parses, said_otherwise, then_parses}
+use Rattle.phrases.specs.MoreLaws.{behind_starts, item_starts, joined_starts}
+use Rattle.phrases.specs.WholeLaws.{AtEnd}
+use Rattle.phrases.specs.EndedLaws.{ended_alike, ended_parses}
+use Rattle.phrases.specs.WiderLaws.{Wider, behind_wider, either_wider, joined_wider, same_wider}
+use Rattle.phrases.specs.AlikeLaws.{Alike, either_alike, no_longer, same_alike, then_alike}
+use Rattle.phrases.specs.UnboundedLaws.{Nests}
 use Rattle.line_tokens.specs.declared.sign.Sign.TheVariants.{OpenParen, CloseParen, Colon, Comma, Dot, Equals, EqualEqual, Minus}
 use Rattle.record_dim.specs.Trees.{Record}
 use Rattle.expr_lang.specs.declared.expr.BinOp.TheVariants.{Eq}
@@ -24,14 +24,14 @@ use Rattle.line_grammar.specs.Sentences.{Blank, Define, Mapping, View, Load, Ass
 use Rattle.line_grammar.specs.Tokens.{is_sign, is_word, number_of, string_of, comparison_of, kernel_word_of, reduction_of, command_of}
 use Rattle.line_grammar.specs.Grammar.{IsAssignment, IsBody, IsCommand, IsConst, IsFilter, IsKernel, IsKernelInside, IsLine}
 use Rattle.line_phrases.specs.Constants.{const_at}
-use Rattle.line_phrases.proofs.Basics.{AfterLevel, Not, anything, apart, behind_after, behind_not, count_parses, exact_sign, exact_word, name_parses, number_parses, starts_level}
-use Rattle.line_phrases.proofs.FieldLaws.{fields_parses}
-use Rattle.line_phrases.proofs.Levels.{comparison_levels, expr_parses}
+use Rattle.line_phrases.specs.BasicsLaws.{AfterLevel, Not, anything, apart, behind_after, behind_not, count_parses, exact_sign, exact_word, name_parses, number_parses, starts_level}
+use Rattle.line_phrases.specs.FieldLaws.{fields_parses}
+use Rattle.line_phrases.specs.LevelsLaws.{comparison_levels, expr_parses}
 use Rattle.line_phrases.specs.Exprs.{means}
-use Rattle.line_phrases.proofs.ListLaws.{AfterList, bracket_list_parses, extent_parses, fixed_parses, listed_parses}
-use Rattle.line_phrases.proofs.MapLaws.{map_parses}
-use Rattle.line_phrases.proofs.Nesting.{behind_kept, expr_alike, expr_wider, fields_alike, fields_wider, listed_alike, listed_wider, map_alike, map_wider}
-use Rattle.line_phrases.proofs.Paths.{path_parses}
+use Rattle.line_phrases.specs.ListLaws.{AfterList, bracket_list_parses, extent_parses, fixed_parses, listed_parses}
+use Rattle.line_phrases.specs.MapLaws.{map_parses}
+use Rattle.line_phrases.specs.NestingLaws.{behind_kept, expr_alike, expr_wider, fields_alike, fields_wider, listed_alike, listed_wider, map_alike, map_wider}
+use Rattle.line_phrases.specs.PathsLaws.{path_parses}
 use Rattle.schema_lang.specs.Kernels.{axpy_at, clamp_at, count_where_at, inside_at, kernel_at}
 use Rattle.schema_lang.specs.Updates.{assignment_at, filter_at}
 use Rattle.schema_lang.specs.Bodies.{any_token, assign_at, body_at, bytes_at, command_at, copy_at, define_at, kernel_line_at, line_at, load_at, mapping_at, reduce_at, relayout_at, update_at, view_at}

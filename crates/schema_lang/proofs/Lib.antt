@@ -3,3 +3,5 @@ pub mod CommandLaws
 pub mod Depths
 pub mod SpellingLaws
 pub mod LineLaws
+pub mod LineOfLaws
+pub mod Whole

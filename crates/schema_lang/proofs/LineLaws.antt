@@ -1,10 +1,10 @@
 -- A text is one line at most, and reading its tokens tells which, or where they stop.
 use Rattle.std.proofs.Common.{◌≡◌, ℕ, ◌-◌, List, [], length, Ok, Err, refl, sym, ap, ◌∙◌}
-use Rattle.phrases.proofs.Parses.{ok_parts}
-use Rattle.phrases.proofs.Unbounded.{any_found, any_full, any_stop}
+use Rattle.phrases.specs.ParsesLaws.{ok_parts}
+use Rattle.phrases.specs.UnboundedLaws.{any_found, any_full, any_stop}
 use Rattle.line_tokens.specs.declared.spots.Spot.{Spot}
 use Rattle.line_tokens.specs.Spots.{Spots}
-use Rattle.line_tokens.proofs.SpotLaws.{same_spots}
+use Rattle.line_tokens.specs.SpotLaws.{same_spots}
 use Rattle.line_grammar.specs.declared.token.Token.{Token}
 use Rattle.line_grammar.specs.Sentences.{Sentence}
 use Rattle.line_grammar.specs.Grammar.{IsSentence}

@@ -14,8 +14,8 @@ use Rattle.line_tokens.specs.Spots.{brackets_after, Spots}
 use Rattle.line_tokens.specs.declared.spots.Spot.{Spot}
 use Rattle.line_tokens.specs.declared.token.TokenKind.{TokenKind}
 use Rattle.line_tokens.specs.declared.token.TokenKind.TheVariants.{Word, Number, Text, Sign as SignKind}
-use Rattle.line_tokens.proofs.NextToken.{next_inside}
-use Rattle.line_tokens.proofs.SpelledLaws.{next_spells}
+use Rattle.line_tokens.specs.NextTokenLaws.{next_inside}
+use Rattle.line_tokens.specs.SpelledLaws.{next_spells}
 use Rattle.line_grammar.specs.Reads.{column_behind}
 use Rattle.schema_lang.specs.Spelled.{IsSpelled, IsSpelledAs}
 

@@ -32,10 +32,12 @@ load_at n = then_at (item_at name_of) (λ name. behind_at (is_sign Colon) (then_
     behind_at (is_word (codes "as")) (then_at (map_at n) (λ map. behind_at (is_word (codes "from")) (then_at (item_at string_of) (λ file. give_at (Load name schema words map file)))))))))
 
 unfoldable pub assign_at : ℕ → List Token → Result (Sentence × List Token) ℕ
-assign_at n = then_at (item_at name_of) (λ view. then_at (bracket_list_at (item_at count_of)) (λ index. behind_at (is_sign Dot) (then_at path_at (λ path. behind_at (is_sign Equals) (then_at (expr_at n) (λ value. give_at (Assign view index path value)))))))
+assign_at n = then_at (item_at name_of) (λ view. then_at (bracket_list_at (item_at count_of))
+    (λ index. behind_at (is_sign Dot) (then_at path_at (λ path. behind_at (is_sign Equals) (then_at (expr_at n) (λ value. give_at (Assign view index path value)))))))
 
 unfoldable pub update_at : ℕ → List Token → Result (Sentence × List Token) ℕ
-update_at n = then_at (item_at name_of) (λ view. then_at (filter_at n) (λ filter. behind_at (is_word (codes "set")) (then_at (listed_at (assignment_at n)) (λ sets. give_at (Update view filter sets)))))
+update_at n = then_at (item_at name_of) (λ view. then_at (filter_at n)
+    (λ filter. behind_at (is_word (codes "set")) (then_at (listed_at (assignment_at n)) (λ sets. give_at (Update view filter sets)))))
 
 unfoldable pub kernel_line_at : List Token → Result (Sentence × List Token) ℕ
 kernel_line_at = then_at (item_at name_of) (λ view. then_at kernel_at (λ kernel. behind_at (is_word (codes "lanes")) (then_at (item_at count_of) (λ lanes. give_at (Kernel view kernel lanes)))))

@@ -3,3 +3,4 @@ pub mod Updates
 pub mod Bodies
 pub mod Spelled
 pub mod Parsing
+pub mod LineOf

@@ -1,6 +1,8 @@
 -- What a fault says of a text, and what an answer says where the text is a line.
 use Rattle.std.specs.Prelude.{ℕ, ◌≡◌, ◌<◌, List, Result, Ok, Err}
+use Rattle.record_dim.specs.Trees.{IsRecord}
 use Rattle.line_grammar.specs.declared.line.Line.{Line}
+use Rattle.line_grammar.specs.declared.line.Line.TheVariants as line
 use Rattle.line_grammar.specs.Sentences.{Sentence, deepest, sentence_of}
 use Rattle.line_grammar.specs.Reads.{Reads, StopsAt}
 use Rattle.schema_lang.specs.declared.fault.LineFault.{LineFault}
@@ -18,3 +20,8 @@ IsAnswer sentence (Ok line) = sentence_of line ≡ sentence
 IsAnswer sentence (Err (Syntax column)) = ⊥
 IsAnswer sentence (Err TooDeep) = 32 < deepest sentence
 IsAnswer sentence (Err NoMemory) = Unit {0}
+
+-- a line that names a record has one with fields
+abbrev pub IsWhole : Line → Type 0
+IsWhole (line.Define name dim) = IsRecord dim
+IsWhole _ = Unit {0}

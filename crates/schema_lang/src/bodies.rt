@@ -5,13 +5,13 @@ ghost use Rattle.schema_lang.specs.Bodies.{assign_at, body_at, bytes_at, command
 
 use crate::kernels::read_kernel;
 use crate::updates::{read_filter, read_sets};
-use line_grammar::{Command, Line};
+use line_grammar::{Command, Count, FileName, Line, ReduceKind};
 use line_phrases::{
     ReadError, Tokens, read_expr, read_extents, read_fields, read_fixed_extents, read_index,
     read_map, read_path,
 };
 use line_tokens::Sign;
-use record_dim::Dim;
+use record_dim::{Dim, Name};
 use std::alloc::Global;
 
 // A command, whose brackets nest at most `room` deep.
@@ -23,7 +23,7 @@ pub(crate) fn read_command(
 ) -> Result<Line, ReadError>
     ensures { Gives (λ x. (sentence_of x, tokens.new)) result (command_at room tokens.old) }
 {
-    let command = tokens.command()?;
+    let command = tokens.item::<Command>()?;
     read_body(alloc, room, command, tokens)
 }
 
@@ -48,11 +48,11 @@ fn read_body(
         Command::Reduce => read_reduce(alloc, room, tokens),
         Command::Copy => read_copy(tokens),
         Command::Relayout => read_relayout(alloc, room, tokens),
-        Command::Print => Ok(Line::Print(tokens.name()?)),
-        Command::Counts => Ok(Line::Counts(tokens.name()?)),
-        Command::Heat => Ok(Line::Heat(tokens.name()?)),
-        Command::Layout => Ok(Line::Layout(tokens.name()?)),
-        Command::Drop => Ok(Line::Drop(tokens.name()?)),
+        Command::Print => Ok(Line::Print(tokens.item::<Name>()?)),
+        Command::Counts => Ok(Line::Counts(tokens.item::<Name>()?)),
+        Command::Heat => Ok(Line::Heat(tokens.item::<Name>()?)),
+        Command::Layout => Ok(Line::Layout(tokens.item::<Name>()?)),
+        Command::Drop => Ok(Line::Drop(tokens.item::<Name>()?)),
         Command::Bytes => read_bytes(tokens),
     }
 }
@@ -61,7 +61,7 @@ fn read_body(
 fn read_define(alloc: Global, room: usize, tokens: &mut Tokens) -> Result<Line, ReadError>
     ensures { Gives (λ x. (sentence_of x, tokens.new)) result (define_at room tokens.old) }
 {
-    let name = tokens.name()?;
+    let name = tokens.item::<Name>()?;
     let fields = read_fields(alloc, room, tokens)?;
     Ok(Line::Define {
         name,
@@ -73,7 +73,7 @@ fn read_define(alloc: Global, room: usize, tokens: &mut Tokens) -> Result<Line, 
 fn read_mapping(alloc: Global, room: usize, tokens: &mut Tokens) -> Result<Line, ReadError>
     ensures { Gives (λ x. (sentence_of x, tokens.new)) result (mapping_at room tokens.old) }
 {
-    let name = tokens.name()?;
+    let name = tokens.item::<Name>()?;
     tokens.sign(Sign::Equals)?;
     let expr = read_map(alloc, room, tokens)?;
     Ok(Line::Mapping { name, expr })
@@ -83,9 +83,9 @@ fn read_mapping(alloc: Global, room: usize, tokens: &mut Tokens) -> Result<Line,
 fn read_view(alloc: Global, room: usize, tokens: &mut Tokens) -> Result<Line, ReadError>
     ensures { Gives (λ x. (sentence_of x, tokens.new)) result (view_at room tokens.old) }
 {
-    let name = tokens.name()?;
+    let name = tokens.item::<Name>()?;
     tokens.sign(Sign::Colon)?;
-    let schema = tokens.name()?;
+    let schema = tokens.item::<Name>()?;
     let words = read_fixed_extents(alloc, tokens)?;
     tokens.word("as")?;
     let expr = read_map(alloc, room, tokens)?;
@@ -101,14 +101,14 @@ fn read_view(alloc: Global, room: usize, tokens: &mut Tokens) -> Result<Line, Re
 fn read_load(alloc: Global, room: usize, tokens: &mut Tokens) -> Result<Line, ReadError>
     ensures { Gives (λ x. (sentence_of x, tokens.new)) result (load_at room tokens.old) }
 {
-    let name = tokens.name()?;
+    let name = tokens.item::<Name>()?;
     tokens.sign(Sign::Colon)?;
-    let schema = tokens.name()?;
+    let schema = tokens.item::<Name>()?;
     let words = read_extents(alloc, tokens)?;
     tokens.word("as")?;
     let expr = read_map(alloc, room, tokens)?;
     tokens.word("from")?;
-    let file = tokens.file_name()?;
+    let file = tokens.item::<FileName>()?;
     Ok(Line::Load {
         name,
         schema,
@@ -122,7 +122,7 @@ fn read_load(alloc: Global, room: usize, tokens: &mut Tokens) -> Result<Line, Re
 fn read_assign(alloc: Global, room: usize, tokens: &mut Tokens) -> Result<Line, ReadError>
     ensures { Gives (λ x. (sentence_of x, tokens.new)) result (assign_at room tokens.old) }
 {
-    let view = tokens.name()?;
+    let view = tokens.item::<Name>()?;
     let index = read_index(alloc, tokens)?;
     tokens.sign(Sign::Dot)?;
     let path = read_path(alloc, tokens)?;
@@ -140,7 +140,7 @@ fn read_assign(alloc: Global, room: usize, tokens: &mut Tokens) -> Result<Line, 
 fn read_update(alloc: Global, room: usize, tokens: &mut Tokens) -> Result<Line, ReadError>
     ensures { Gives (λ x. (sentence_of x, tokens.new)) result (update_at room tokens.old) }
 {
-    let view = tokens.name()?;
+    let view = tokens.item::<Name>()?;
     let filter = read_filter(alloc, room, tokens)?;
     tokens.word("set")?;
     let sets = read_sets(alloc, room, tokens)?;
@@ -151,10 +151,10 @@ fn read_update(alloc: Global, room: usize, tokens: &mut Tokens) -> Result<Line, 
 fn read_kernel_line(alloc: Global, tokens: &mut Tokens) -> Result<Line, ReadError>
     ensures { Gives (λ x. (sentence_of x, tokens.new)) result (kernel_line_at tokens.old) }
 {
-    let view = tokens.name()?;
+    let view = tokens.item::<Name>()?;
     let kernel = read_kernel(alloc, tokens)?;
     tokens.word("lanes")?;
-    let lanes = tokens.count()?;
+    let lanes = tokens.item::<Count>()?;
     Ok(Line::Kernel {
         view,
         kernel,
@@ -166,14 +166,14 @@ fn read_kernel_line(alloc: Global, tokens: &mut Tokens) -> Result<Line, ReadErro
 fn read_reduce(alloc: Global, room: usize, tokens: &mut Tokens) -> Result<Line, ReadError>
     ensures { Gives (λ x. (sentence_of x, tokens.new)) result (reduce_at room tokens.old) }
 {
-    let view = tokens.name()?;
+    let view = tokens.item::<Name>()?;
     if tokens.begins_word("count") {
         tokens.word("count")?;
         tokens.word("where")?;
         let filter = read_expr(alloc, room, tokens)?;
         return Ok(Line::Count { view, filter });
     }
-    let kind = tokens.reduction()?;
+    let kind = tokens.item::<ReduceKind>()?;
     let path = read_path(alloc, tokens)?;
     Ok(Line::Reduce { view, kind, path })
 }
@@ -183,9 +183,9 @@ fn read_copy(tokens: &mut Tokens) -> Result<Line, ReadError>
     ensures gives { Gives (λ x. (sentence_of x, tokens.new)) result (copy_at tokens.old) }
     ensures fault { IfErr result IsSyntax }
 {
-    let source = tokens.name()?;
+    let source = tokens.item::<Name>()?;
     tokens.word("to")?;
-    let target = tokens.name()?;
+    let target = tokens.item::<Name>()?;
     Ok(Line::Copy { source, target })
 }
 
@@ -193,7 +193,7 @@ fn read_copy(tokens: &mut Tokens) -> Result<Line, ReadError>
 fn read_relayout(alloc: Global, room: usize, tokens: &mut Tokens) -> Result<Line, ReadError>
     ensures { Gives (λ x. (sentence_of x, tokens.new)) result (relayout_at room tokens.old) }
 {
-    let view = tokens.name()?;
+    let view = tokens.item::<Name>()?;
     tokens.word("as")?;
     let expr = read_map(alloc, room, tokens)?;
     Ok(Line::Relayout { view, expr })
@@ -204,7 +204,7 @@ fn read_bytes(tokens: &mut Tokens) -> Result<Line, ReadError>
     ensures gives { Gives (λ x. (sentence_of x, tokens.new)) result (bytes_at tokens.old) }
     ensures fault { IfErr result IsSyntax }
 {
-    let view = tokens.name()?;
-    let blob = tokens.count()?;
+    let view = tokens.item::<Name>()?;
+    let blob = tokens.item::<Count>()?;
     Ok(Line::Bytes { view, blob })
 }

@@ -1,16 +1,20 @@
 ghost use Rattle.std.specs.Prelude.{◌≡◌};
 
 use std::alloc::AllocError;
+use thiserror::Error;
 
 /// Why a text gives no line.
-#[derive(Clone, Copy, Debug, PartialEq, Eq)]
+#[derive(Clone, Copy, Debug, PartialEq, Eq, Error)]
 pub enum LineFault {
     /// The text is no line. The column, counted from 1, is that of the first token with which the tokens so far begin no line,
     /// or one past the last token.
+    #[error("the text is no line from column {column} on")]
     Syntax { column: u64 },
     /// An expression in the line is more than 32 deep.
+    #[error("an expression is more than 32 deep")]
     TooDeep,
     /// Memory ran out.
+    #[error("memory ran out")]
     NoMemory,
 }
 

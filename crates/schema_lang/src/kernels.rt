@@ -2,7 +2,7 @@ ghost use Rattle.std.specs.Prelude.{◌≡◌, ◌<◌, length, OnOk};
 ghost use Rattle.line_phrases.specs.Gives.{Gives};
 ghost use Rattle.schema_lang.specs.Kernels.{axpy_at, clamp_at, count_where_at, inside_at, kernel_at};
 
-use line_grammar::{KernelText, KernelWord};
+use line_grammar::{Comparison, KernelText, KernelWord};
 use line_phrases::{ReadError, Tokens, read_const, read_path};
 use line_tokens::Sign;
 use std::alloc::Global;
@@ -12,7 +12,7 @@ use std::alloc::Global;
 pub(crate) fn read_kernel(alloc: Global, tokens: &mut Tokens) -> Result<KernelText, ReadError>
     ensures gives { Gives (λ x. (x, tokens.new)) result (kernel_at tokens.old) }
 {
-    let word = tokens.kernel_word()?;
+    let word = tokens.item::<KernelWord>()?;
     tokens.sign(Sign::OpenParen)?;
     let kernel = read_inside(alloc, word, tokens)?;
     tokens.sign(Sign::CloseParen)?;
@@ -66,7 +66,7 @@ fn read_count_where(alloc: Global, tokens: &mut Tokens) -> Result<KernelText, Re
     ensures gives { Gives (λ x. (x, tokens.new)) result (count_where_at tokens.old) }
 {
     let x = read_path(alloc, tokens)?;
-    let op = tokens.comparison()?;
+    let op = tokens.item::<Comparison>()?;
     let c = read_const(tokens)?;
     Ok(KernelText::CountWhere { x, op, c })
 }

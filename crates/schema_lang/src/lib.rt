@@ -10,11 +10,8 @@ mod token_list;
 mod updates;
 
 pub use fault::LineFault;
-pub use line::parse_line;
+pub use line::{line_law, parse_line};
 pub use line_grammar::{
     ExtentWords, FileName, IndexWords, KernelText, Line, ReduceKind, SetList, SetText,
 };
 pub use line_writer::write_line;
-
-#[cfg(test)]
-mod tests;

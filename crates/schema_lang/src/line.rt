@@ -1,9 +1,10 @@
-ghost use Rattle.std.specs.Prelude.{◌≡◌, ◌≤◌, [], length, IfOk, IfErr};
-ghost use Rattle.line_grammar.specs.Reads.{Reads};
+ghost use Rattle.std.specs.Prelude.{◌≡◌, ◌≤◌, [], length, IfOk, IfErr, MatchResult};
+ghost use Rattle.line_grammar.specs.Reads.{Reads, StopsAt};
 ghost use Rattle.line_grammar.specs.Sentences.{Sentence, deepest, sentence_of};
 ghost use Rattle.line_phrases.specs.Gives.{Gives};
 ghost use Rattle.schema_lang.specs.Bodies.{line_at};
-ghost use Rattle.schema_lang.specs.Parsing.{IsAnswer, IsFault};
+ghost use Rattle.schema_lang.specs.LineOf.{IsTold, line_of};
+ghost use Rattle.schema_lang.specs.Parsing.{IsAnswer, IsFault, IsWhole};
 
 use crate::LineFault;
 use crate::bodies::read_command;
@@ -20,11 +21,14 @@ pub fn parse_line(alloc: Global, text: &[u8]) -> Result<Line, LineFault>
     requires { length text.now ≤ 4096 }
     // What is read is the line that the text is.
     ensures found { IfOk result (λ line. Reads text.now (sentence_of line)) }
+    ensures whole { IfOk result IsWhole }
     ensures shallow { IfOk result (λ line. deepest (sentence_of line) ≤ 32) }
     // Which fault it is, and where it stands.
     ensures fault { IfErr result (IsFault text.now) }
     // A text that is a line is read as that line, unless it is too deep.
     ensures only { (sentence : Sentence) → Reads text.now sentence → IsAnswer sentence result }
+    // It is what a function of the text tells, which is the grammar's answer (`line_law`).
+    ensures told { IsTold (line_of text.now) result }
     // No text is two lines.
     ensures one { (a b : Sentence) → Reads text.now a → Reads text.now b → a ≡ b }
 {
@@ -47,7 +51,7 @@ pub fn parse_line(alloc: Global, text: &[u8]) -> Result<Line, LineFault>
 
 // The line that has these tokens.
 #[tactic(auto, unfolding(crate::specs::Bodies::line_at))]
-fn read_line(alloc: Global, tokens: &[Token]) -> Result<Line, ReadError>
+fn read_line(alloc: Global, tokens: &[Token<'_>]) -> Result<Line, ReadError>
     ensures { Gives (λ x. (sentence_of x, [])) result (line_at (length tokens.now) tokens.now) }
 {
     let mut left = Tokens::new(tokens);
@@ -60,3 +64,8 @@ fn read_line(alloc: Global, tokens: &[Token]) -> Result<Line, ReadError>
     }
     Ok(line)
 }
+
+/// What `line_of` tells of a text is what the grammar says. It does nothing: its contract is the law.
+pub fn line_law(_text: &[u8])
+    ensures { MatchResult (line_of _text.now) (Reads _text.now) (StopsAt _text.now) }
+{}

@@ -7,13 +7,17 @@ ghost use Rattle.line_grammar.specs.Reads.{column_behind, tokens_of};
 ghost use Rattle.line_grammar.specs.Tokens.{token_of};
 ghost use Rattle.schema_lang.specs.Spelled.{IsSpelled};
 
-use line_grammar::{FileName, Token};
+use line_grammar::{Quoted, Token};
 use line_tokens::{Spot, TokenKind};
 use record_dim::Name;
 use std::alloc::{AllocError as NoMemory, Global};
 
 // The tokens at these spots of the text.
-pub(crate) fn tokens_of(alloc: Global, text: &[u8], spots: &[Spot]) -> Result<Vec<Token>, NoMemory>
+pub(crate) fn tokens_of<'a>(
+    alloc: Global,
+    text: &'a [u8],
+    spots: &[Spot],
+) -> Result<Vec<Token<'a>>, NoMemory>
     requires { All (IsSpelled text.now) spots.now }
     ensures { IfOk result (λ tokens. tokens.items ≡ tokens_of text.now spots.now) }
 {
@@ -24,7 +28,7 @@ pub(crate) fn tokens_of(alloc: Global, text: &[u8], spots: &[Spot]) -> Result<Ve
     Ok(tokens)
 }
 
-fn token_of(text: &[u8], spot: &Spot) -> Token
+fn token_of<'a>(text: &'a [u8], spot: &Spot) -> Token<'a>
     requires { IsSpelled text.now spot.now }
     ensures { result ≡ token_of text.now spot.now }
 {
@@ -35,8 +39,8 @@ fn token_of(text: &[u8], spot: &Spot) -> Token
             None => unreachable!(),
         },
         Some(TokenKind::Number(value)) => Token::Number(value),
-        Some(TokenKind::Text) => match file_name_of(&text[spot.from + 1..spot.end - 1]) {
-            Some(name) => Token::Text(name),
+        Some(TokenKind::Text) => match quoted_of(&text[spot.from + 1..spot.end - 1]) {
+            Some(quoted) => Token::Text(quoted),
             None => unreachable!(),
         },
         Some(TokenKind::Sign(sign)) => Token::Sign(sign),
@@ -52,11 +56,11 @@ fn name_of(text: &[u8]) -> Option<Name>
     }
 }
 
-fn file_name_of(text: &[u8]) -> Option<FileName>
+fn quoted_of(text: &[u8]) -> Option<Quoted<'_>>
     ensures { result ≡ (if is_file_name text.now then Some text.now else None) }
 {
     match str::from_utf8(text) {
-        Ok(text) => FileName::new(text),
+        Ok(text) => Quoted::new(text),
         Err(_) => None,
     }
 }

@@ -18,12 +18,12 @@ use Rattle.places.specs.Image.{entry, image}
 use Rattle.places.specs.Laws.{IsLaidOut}
 use Rattle.extents.specs.Indices.{indices}
 use Rattle.map_expr.specs.Terms.{Term}
-use Rattle.map_any.specs.Mappings.{layout_of, holds_of, IsTooBigFor}
+use Rattle.map_any.specs.Mappings.{leaf_cells, layout_by, holds_by, IsTooBigFor}
 use Rattle.blobs.specs.Bits.{bits_of, bit_in}
 use Rattle.piece_bits.specs.Tables.{AreLaid, HasShape, hold_at, with_entry, zeros}
-use Rattle.piece_bits.proofs.TableLaws.{table_shape, with_entry_same, with_entry_other, zeros_entry}
-use Rattle.piece_bits.proofs.Entries.{image_from_padding, blob_is, zeros_read}
-use Rattle.piece_bits.proofs.Cells.{bit_in_lt, hold_widths}
+use Rattle.piece_bits.specs.TableLaws.{table_shape, with_entry_same, with_entry_other, zeros_entry}
+use Rattle.piece_bits.specs.EntriesLaws.{image_from_padding, blob_is, zeros_read}
+use Rattle.piece_bits.specs.CellsLaws.{bit_in_lt, hold_widths}
 use Rattle.views.specs.Stores.{kind_at, Fits, AllFit}
 use Rattle.views.specs.Kept.{IsKept, table_under}
 
@@ -43,48 +43,48 @@ sum_lengths (owners ∷ layout) (blob ∷ blobs) count each =
     let rest : 8 * sum_by (length {A = ℕ}) blobs ≡ sum_by (length {A = Owner}) layout = sum_lengths layout blobs (omega arith) (λ b l. each (suc b) (omega arith)) in
     omega (arith, sum_by-cons (length {A = ℕ}) blob blobs, sum_by-cons (length {A = Owner}) owners layout)
 
-module _ (term : Term) (extents : List ℕ) (kinds : List LeafType) (blobs : List (List ℕ)) (kept : IsKept term extents kinds blobs) where
+module _ (term : Term) (extents : List ℕ) (fields : Fields) (blobs : List (List ℕ)) (kept : IsKept term extents fields blobs) where
   -- the table has a row for each index and in it a number for each leaf
-  pub row_count : length (table_under term extents kinds blobs) ≡ length (indices extents)
-  row_count = (table_shape (layout_of term extents kinds) (length (indices extents)) (holds_of term kinds) (bit_in blobs)).row_count
+  pub row_count : length (table_under term extents fields blobs) ≡ length (indices extents)
+  row_count = (table_shape (layout_by term extents fields) (length (indices extents)) (holds_by term fields) (bit_in blobs)).row_count
 
-  pub kept_shape : (leaves : ℕ) → length kinds ≡ leaves → HasShape (length (table_under term extents kinds blobs)) leaves (table_under term extents kinds blobs)
+  pub kept_shape : (leaves : ℕ) → length (kinds_of fields) ≡ leaves → HasShape (length (table_under term extents fields blobs)) leaves (table_under term extents fields blobs)
   kept_shape leaves same =
-      let shape = table_shape (layout_of term extents kinds) (length (indices extents)) (holds_of term kinds) (bit_in blobs) in
+      let shape = table_shape (layout_by term extents fields) (length (indices extents)) (holds_by term fields) (bit_in blobs) in
       record {
         row_count = refl;
         leaf_count = λ row l. shape.leaf_count row (omega (arith, row_count)) ∙ kept.paired ∙ same;
       }
 
-  pub kept_fits : AllFit (length (table_under term extents kinds blobs)) kinds (holds_of term kinds) (table_under term extents kinds blobs)
+  pub kept_fits : AllFit (length (table_under term extents fields blobs)) (kinds_of fields) (holds_by term fields) (table_under term extents fields blobs)
   kept_fits = λ row leaf l m. kept.fit row leaf (omega (arith, row_count)) m
 
   -- the bytes of all blobs
-  pub byte_count : 8 * sum_by (length {A = ℕ}) blobs ≡ sum_by (length {A = Owner}) (layout_of term extents kinds)
-  byte_count = sum_lengths (layout_of term extents kinds) blobs kept.laid.count kept.laid.lengths
+  pub byte_count : 8 * sum_by (length {A = ℕ}) blobs ≡ sum_by (length {A = Owner}) (layout_by term extents fields)
+  byte_count = sum_lengths (layout_by term extents fields) blobs kept.laid.count kept.laid.lengths
 
   pub few_bytes : sum_by (length {A = ℕ}) blobs ≤ 2 ^ 28
   few_bytes =
-      ⊎_elim (λ (many : 8 * 2 ^ 28 < sum_by (length {A = Owner}) (layout_of term extents kinds)). absurd (kept.within (inr many)))
-      (λ (few : sum_by (length {A = Owner}) (layout_of term extents kinds) ≤ 8 * 2 ^ 28). omega (arith, byte_count))
-      (cases_lt (8 * 2 ^ 28) (sum_by (length {A = Owner}) (layout_of term extents kinds)))
+      ⊎_elim (λ (many : 8 * 2 ^ 28 < sum_by (length {A = Owner}) (layout_by term extents fields)). absurd (kept.within (inr many)))
+      (λ (few : sum_by (length {A = Owner}) (layout_by term extents fields) ≤ 8 * 2 ^ 28). omega (arith, byte_count))
+      (cases_lt (8 * 2 ^ 28) (sum_by (length {A = Owner}) (layout_by term extents fields)))
 
   -- a blob has the bits of the image
-  pub kept_blob : (b : ℕ) → b < length (layout_of term extents kinds) →
-      bits_of (get_or blobs b []) ≡ get_or (image (layout_of term extents kinds) (table_under term extents kinds blobs)) b []
+  pub kept_blob : (b : ℕ) → b < length (layout_by term extents fields) →
+      bits_of (get_or blobs b []) ≡ get_or (image (layout_by term extents fields) (table_under term extents fields blobs)) b []
   kept_blob b l =
-      blob_is (layout_of term extents kinds) (table_under term extents kinds blobs) blobs b l (kept.laid.lengths b l)
-      (image_from_padding (layout_of term extents kinds) (length (indices extents)) (holds_of term kinds) kept.lawful (bit_in blobs) (bit_in_lt blobs) kept.laid.padding)
+      blob_is (layout_by term extents fields) (table_under term extents fields blobs) blobs b l (kept.laid.lengths b l)
+      (image_from_padding (layout_by term extents fields) (length (indices extents)) (holds_by term fields) kept.lawful (bit_in blobs) (bit_in_lt blobs) kept.laid.padding)
 
   -- one fitting value is written
-  pub kept_set : (new : List (List ℕ)) (row leaf : ℕ) (value : ℤ) → row < length (indices extents) → leaf < length kinds → AreLaid (layout_of term extents kinds) new →
-      table_under term extents kinds new ≡ with_entry (table_under term extents kinds blobs) row leaf value →
-      Fits (kind_at kinds leaf) (hold_at (holds_of term kinds) leaf) value → IsKept term extents kinds new
+  pub kept_set : (new : List (List ℕ)) (row leaf : ℕ) (value : ℤ) → row < length (indices extents) → leaf < length (kinds_of fields) → AreLaid (layout_by term extents fields) new →
+      table_under term extents fields new ≡ with_entry (table_under term extents fields blobs) row leaf value →
+      Fits (kind_at (kinds_of fields) leaf) (hold_at (holds_by term fields) leaf) value → IsKept term extents fields new
   kept_set new row leaf value row_in leaf_in laid is fits =
-      let holds = holds_of term kinds in
+      let holds = holds_by term fields in
       let slots = length (indices extents) in
-      let old = table_under term extents kinds blobs in
-      let shape = table_shape (layout_of term extents kinds) slots holds (bit_in blobs) in
+      let old = table_under term extents fields blobs in
+      let shape = table_shape (layout_by term extents fields) slots holds (bit_in blobs) in
       let in_holds : leaf < length holds = omega (arith, kept.paired) in
       record {
         lawful = kept.lawful;
@@ -92,20 +92,20 @@ module _ (term : Term) (extents : List ℕ) (kinds : List LeafType) (blobs : Lis
         within = kept.within;
         laid = laid;
         fit = λ r c l m.
-            subst (λ (t : List (List ℤ)). Fits (kind_at kinds c) (hold_at holds c) (entry t r c)) (sym is)
+            subst (λ (t : List (List ℤ)). Fits (kind_at (kinds_of fields) c) (hold_at holds c) (entry t r c)) (sym is)
             (⊎_elim (λ (same_row : r ≡ row).
             ⊎_elim (λ (same_leaf : c ≡ leaf).
-            let there : Fits (kind_at kinds leaf) (hold_at holds leaf) (entry (with_entry old row leaf value) row leaf) =
-            subst (λ (v : ℤ). Fits (kind_at kinds leaf) (hold_at holds leaf) v)
+            let there : Fits (kind_at (kinds_of fields) leaf) (hold_at holds leaf) (entry (with_entry old row leaf value) row leaf) =
+            subst (λ (v : ℤ). Fits (kind_at (kinds_of fields) leaf) (hold_at holds leaf) v)
             (sym (with_entry_same slots (length holds) old shape row leaf value row_in in_holds)) fits in
-            subst (λ (x : ℕ). Fits (kind_at kinds c) (hold_at holds c) (entry (with_entry old row leaf value) x c)) (sym same_row)
-            (subst (λ (x : ℕ). Fits (kind_at kinds x) (hold_at holds x) (entry (with_entry old row leaf value) row x)) (sym same_leaf) there))
+            subst (λ (x : ℕ). Fits (kind_at (kinds_of fields) c) (hold_at holds c) (entry (with_entry old row leaf value) x c)) (sym same_row)
+            (subst (λ (x : ℕ). Fits (kind_at (kinds_of fields) x) (hold_at holds x) (entry (with_entry old row leaf value) row x)) (sym same_leaf) there))
             (λ (apart : c ≡ leaf → ⊥).
-            subst (λ (v : ℤ). Fits (kind_at kinds c) (hold_at holds c) v)
+            subst (λ (v : ℤ). Fits (kind_at (kinds_of fields) c) (hold_at holds c) v)
             (sym (with_entry_other slots (length holds) old shape row leaf value row_in in_holds r c (λ e. apart e.1))) (kept.fit r c l m))
             (cases_eq c leaf))
             (λ (apart : r ≡ row → ⊥).
-            subst (λ (v : ℤ). Fits (kind_at kinds c) (hold_at holds c) v)
+            subst (λ (v : ℤ). Fits (kind_at (kinds_of fields) c) (hold_at holds c) v)
             (sym (with_entry_other slots (length holds) old shape row leaf value row_in in_holds r c (λ e. apart e.0))) (kept.fit r c l m))
             (cases_eq r row));
       }
@@ -129,16 +129,16 @@ zero_declared I32 = (omega (arith, ints), omega (arith, ints))
 zero_declared I64 = (omega (arith, ints), omega (arith, ints))
 
 -- blobs of zeros are kept, and hold zeros
-module _ (term : Term) (extents : List ℕ) (kinds : List LeafType) (blobs : List (List ℕ))
-    (lawful : IsLaidOut (layout_of term extents kinds) (length (indices extents)) (map (λ (h : Hold). h.width) (holds_of term kinds)))
-    (paired : length (holds_of term kinds) ≡ length kinds) (within : IsTooBigFor term extents kinds → ⊥)
-    (laid : AreLaid (layout_of term extents kinds) blobs) (none : (b p : ℕ) → bit_in blobs b p ≡ 0) where
-  pub zero_table : table_under term extents kinds blobs ≡ zeros (length (indices extents)) (length (holds_of term kinds))
-  zero_table = zeros_read (layout_of term extents kinds) (length (indices extents)) (holds_of term kinds) (bit_in blobs) none
+module _ (term : Term) (extents : List ℕ) (fields : Fields) (blobs : List (List ℕ))
+    (lawful : IsLaidOut (layout_by term extents fields) (length (indices extents)) (map (λ (h : Hold). h.width) (holds_by term fields)))
+    (paired : length (holds_by term fields) ≡ length (kinds_of fields)) (within : IsTooBigFor term extents fields (leaf_cells (kinds_of fields)) → ⊥)
+    (laid : AreLaid (layout_by term extents fields) blobs) (none : (b p : ℕ) → bit_in blobs b p ≡ 0) where
+  pub zero_table : table_under term extents fields blobs ≡ zeros (length (indices extents)) (length (holds_by term fields))
+  zero_table = zeros_read (layout_by term extents fields) (length (indices extents)) (holds_by term fields) (bit_in blobs) none
 
-  pub kept_zeros : IsKept term extents kinds blobs
+  pub kept_zeros : IsKept term extents fields blobs
   kept_zeros =
-      let holds = holds_of term kinds in
+      let holds = holds_by term fields in
       record {
         lawful = lawful;
         paired = paired;
@@ -146,11 +146,11 @@ module _ (term : Term) (extents : List ℕ) (kinds : List LeafType) (blobs : Lis
         laid = laid;
         fit = λ row leaf l m.
             (let in_holds : leaf < length holds = omega (arith, paired) in
-            let zero : entry (table_under term extents kinds blobs) row leaf ≡ pos 0 =
+            let zero : entry (table_under term extents fields blobs) row leaf ≡ pos 0 =
             ap (λ (t : List (List ℤ)). entry t row leaf) zero_table ∙ zeros_entry (length (indices extents)) (length holds) row leaf l in_holds in
             let width : 1 ≤ (hold_at holds leaf).width =
-            (hold_widths (layout_of term extents kinds) (length (indices extents)) holds lawful leaf (hold_at holds leaf) in_holds
+            (hold_widths (layout_by term extents fields) (length (indices extents)) holds lawful leaf (hold_at holds leaf) in_holds
             (slice_get-get_or holds leaf (record { signed = false; width = 0 }) in_holds)).0 in
-            subst (λ (v : ℤ). Fits (kind_at kinds leaf) (hold_at holds leaf) v) (sym zero)
-            (record { declared = zero_declared (kind_at kinds leaf); held = zero_held (hold_at holds leaf) width }));
+            subst (λ (v : ℤ). Fits (kind_at (kinds_of fields) leaf) (hold_at holds leaf) v) (sym zero)
+            (record { declared = zero_declared (kind_at (kinds_of fields) leaf); held = zero_held (hold_at holds leaf) width }));
       }

@@ -2,3 +2,4 @@ pub mod KeptLaws
 pub mod StoreLaws
 pub mod Opened
 pub mod ZeroBlobs
+pub mod AccessLaws

@@ -16,7 +16,7 @@ use Rattle.places.specs.declared.piece.Cell.{Cell}
 use Rattle.places.specs.declared.piece.Hold.{Hold}
 use Rattle.map_expr.specs.declared.expr.MapExpr.{MapExpr}
 use Rattle.map_expr.specs.Terms.{Term, term_of}
-use Rattle.map_any.specs.Mappings.{leaf_cells, layout_of, holds_of, IsTooBigFor}
+use Rattle.map_any.specs.Mappings.{leaf_cells, layout_by, holds_by, IsTooBigFor}
 use Rattle.piece_bits.specs.Tables.{AreLaid, table_in, hold_at, with_entry}
 use Rattle.views.specs.Seen.{Seen, leaf_count_of, answer_of, IsTable}
 use Rattle.views.specs.Stores.{kind_at, store_answer, Fits}
@@ -31,52 +31,52 @@ length-leaf_cells kinds =
     length-map (enumerate_from 0 kinds) cell ∙ length-enumerate_from 0 kinds
 
 -- what a mapping says is what its expression says
-module _ {term : Term} {extents : List ℕ} {kinds : List LeafType} {layout : List (List Owner)} {slots : ℕ} {cells : List Cell} {holds : List Hold}
-    (mapping : IsMappingOf term extents kinds layout slots cells holds) where
-  pub cell_count : length cells ≡ length kinds
-  cell_count = ap (length {A = Cell}) mapping.cells_are ∙ length-leaf_cells kinds
+module _ {term : Term} {extents : List ℕ} {fields : Fields} {layout : List (List Owner)} {slots : ℕ} {cells : List Cell} {holds : List Hold}
+    (mapping : IsMappingOf term extents fields layout slots cells holds) where
+  pub cell_count : length cells ≡ length (kinds_of fields)
+  cell_count = ap (length {A = Cell}) mapping.cells_are ∙ length-leaf_cells (kinds_of fields)
 
   -- the table that its layout says is that of the expression
-  pub table_same : (blobs : List (List ℕ)) → table_in layout slots holds blobs ≡ table_under term extents kinds blobs
+  pub table_same : (blobs : List (List ℕ)) → table_in layout slots holds blobs ≡ table_under term extents fields blobs
   table_same blobs =
       ap (λ (w : List (List Owner)). table_in w slots holds blobs) mapping.layout_is
-      ∙ ap (λ (w : ℕ). table_in (layout_of term extents kinds) w holds blobs) mapping.slots_are
-      ∙ ap (λ (w : List Hold). table_in (layout_of term extents kinds) (length (indices extents)) w blobs) mapping.holds_are
+      ∙ ap (λ (w : ℕ). table_in (layout_by term extents fields) w holds blobs) mapping.slots_are
+      ∙ ap (λ (w : List Hold). table_in (layout_by term extents fields) (length (indices extents)) w blobs) mapping.holds_are
 
-  pub laid_there : (blobs : List (List ℕ)) → AreLaid layout blobs → AreLaid (layout_of term extents kinds) blobs
+  pub laid_there : (blobs : List (List ℕ)) → AreLaid layout blobs → AreLaid (layout_by term extents fields) blobs
   laid_there blobs laid = subst (λ (w : List (List Owner)). AreLaid w blobs) mapping.layout_is laid
 
   -- the same of blobs that were lent
-  pub laid_here : (lent blobs : List (List ℕ)) → lent ≡ blobs → AreLaid (layout_of term extents kinds) blobs → AreLaid layout lent
+  pub laid_here : (lent blobs : List (List ℕ)) → lent ≡ blobs → AreLaid (layout_by term extents fields) blobs → AreLaid layout lent
   laid_here lent blobs same laid = subst (λ (w : List (List ℕ)). AreLaid layout w) (sym same) (subst (λ (w : List (List Owner)). AreLaid w blobs) (sym mapping.layout_is) laid)
 
   pub read_here : (lent blobs : List (List ℕ)) → lent ≡ blobs → (row leaf : ℕ) →
-      entry (table_in layout slots holds lent) row leaf ≡ entry (table_under term extents kinds blobs) row leaf
+      entry (table_in layout slots holds lent) row leaf ≡ entry (table_under term extents fields blobs) row leaf
   read_here lent blobs same row leaf =
       ap (λ (w : List (List ℕ)). entry (table_in layout slots holds w) row leaf) same ∙ ap (λ (t : List (List ℤ)). entry t row leaf) (table_same blobs)
 
   pub lawful_there : IsLaidOut layout slots (map (λ (h : Hold). h.width) holds) →
-      IsLaidOut (layout_of term extents kinds) (length (indices extents)) (map (λ (h : Hold). h.width) (holds_of term kinds))
+      IsLaidOut (layout_by term extents fields) (length (indices extents)) (map (λ (h : Hold). h.width) (holds_by term fields))
   lawful_there laws =
-      subst (λ (w : List Hold). IsLaidOut (layout_of term extents kinds) (length (indices extents)) (map (λ (h : Hold). h.width) w)) mapping.holds_are
-      (subst (λ (w : ℕ). IsLaidOut (layout_of term extents kinds) w (map (λ (h : Hold). h.width) holds)) mapping.slots_are
+      subst (λ (w : List Hold). IsLaidOut (layout_by term extents fields) (length (indices extents)) (map (λ (h : Hold). h.width) w)) mapping.holds_are
+      (subst (λ (w : ℕ). IsLaidOut (layout_by term extents fields) w (map (λ (h : Hold). h.width) holds)) mapping.slots_are
       (subst (λ (w : List (List Owner)). IsLaidOut w slots (map (λ (h : Hold). h.width) holds)) mapping.layout_is laws))
 
-  pub paired_there : length holds ≡ length cells → length (holds_of term kinds) ≡ length kinds
+  pub paired_there : length holds ≡ length cells → length (holds_by term fields) ≡ length (kinds_of fields)
   paired_there paired = ap (length {A = Hold}) (sym mapping.holds_are) ∙ paired ∙ cell_count
 
 -- the same after copies of the schema and the expression
 pub mapping_copied : {term copy : Term} {fields same : Fields} {extents : List ℕ} {layout : List (List Owner)} {slots : ℕ} {cells : List Cell} {holds : List Hold} →
-    copy ≡ term → same ≡ fields → IsMappingOf term extents (kinds_of fields) layout slots cells holds → IsMappingOf copy extents (kinds_of same) layout slots cells holds
+    copy ≡ term → same ≡ fields → IsMappingOf term extents fields layout slots cells holds → IsMappingOf copy extents same layout slots cells holds
 mapping_copied {term} {copy} {fields} {same} {extents} {layout} {slots} {cells} {holds} terms trees mapping =
-    subst (λ (t : Term). IsMappingOf t extents (kinds_of same) layout slots cells holds) (sym terms)
-    (subst (λ (f : Fields). IsMappingOf term extents (kinds_of f) layout slots cells holds) (sym trees) mapping)
+    subst (λ (t : Term). IsMappingOf t extents same layout slots cells holds) (sym terms)
+    (subst (λ (f : Fields). IsMappingOf term extents f layout slots cells holds) (sym trees) mapping)
 
 pub within_copied : {term copy : Term} {fields same : Fields} (extents : List ℕ) → copy ≡ term → same ≡ fields →
-    (IsTooBigFor term extents (kinds_of fields) → ⊥) → IsTooBigFor copy extents (kinds_of same) → ⊥
+    (IsTooBigFor term extents fields (leaf_cells (kinds_of fields)) → ⊥) → IsTooBigFor copy extents same (leaf_cells (kinds_of same)) → ⊥
 within_copied {term} {copy} {fields} {same} extents terms trees within =
-    subst (λ (t : Term). IsTooBigFor t extents (kinds_of same) → ⊥) (sym terms)
-    (subst (λ (f : Fields). IsTooBigFor term extents (kinds_of f) → ⊥) (sym trees) within)
+    subst (λ (t : Term). IsTooBigFor t extents same (leaf_cells (kinds_of same)) → ⊥) (sym terms)
+    (subst (λ (f : Fields). IsTooBigFor term extents f (leaf_cells (kinds_of f)) → ⊥) (sym trees) within)
 
 -- what callers see of the fields
 abbrev pub seen_from : Schema → List ℕ → MapExpr → List (List ℕ) → Seen
@@ -84,21 +84,21 @@ seen_from schema extents expr blobs = record {
   schema = schema;
   extents = extents;
   expr = expr;
-  table = table_under (term_of expr) extents (kinds_of (schema_fields schema)) blobs;
+  table = table_under (term_of expr) extents (schema_fields schema) blobs;
 }
 
-module _ (schema : Schema) (extents : List ℕ) (expr : MapExpr) (blobs : List (List ℕ)) (kept : IsKept (term_of expr) extents (kinds_of (schema_fields schema)) blobs)
+module _ (schema : Schema) (extents : List ℕ) (expr : MapExpr) (blobs : List (List ℕ)) (kept : IsKept (term_of expr) extents (schema_fields schema) blobs)
     (seen : Seen) (is : seen_from schema extents expr blobs ≡ seen) where
   pub rows_seen : length seen.table ≡ length (indices extents)
-  rows_seen = ap (λ (s : Seen). length s.table) (sym is) ∙ row_count (term_of expr) extents (kinds_of (schema_fields schema)) blobs kept
+  rows_seen = ap (λ (s : Seen). length s.table) (sym is) ∙ row_count (term_of expr) extents (schema_fields schema) blobs kept
 
   pub table_seen : IsTable seen
   table_seen =
-      let kinds = kinds_of (schema_fields schema) in
+      let fields = schema_fields schema in
       let here : IsTable (seen_from schema extents expr blobs) = record {
-        rows = row_count (term_of expr) extents kinds blobs kept;
-        shape = kept_shape (term_of expr) extents kinds blobs kept (length (leaves (schema_fields schema))) (kind_count (schema_fields schema));
-        fits = kept_fits (term_of expr) extents kinds blobs kept;
+        rows = row_count (term_of expr) extents fields blobs kept;
+        shape = kept_shape (term_of expr) extents fields blobs kept (length (leaves (schema_fields schema))) (kind_count (schema_fields schema));
+        fits = kept_fits (term_of expr) extents fields blobs kept;
       } in
       subst (λ (s : Seen). IsTable s) is here
 
@@ -110,19 +110,19 @@ module _ (schema : Schema) (extents : List ℕ) (expr : MapExpr) (blobs : List (
 
   -- a value whose store is taken fits
   pub fits_seen : (leaf : ℕ) (value : ℤ) → Ok tt ≡ answer_of seen leaf value →
-      Fits (kind_at (kinds_of (schema_fields schema)) leaf) (hold_at (holds_of (term_of expr) (kinds_of (schema_fields schema))) leaf) value
+      Fits (kind_at (kinds_of (schema_fields schema)) leaf) (hold_at (holds_by (term_of expr) (schema_fields schema)) leaf) value
   fits_seen leaf value taken =
       let kind = kind_at (kinds_of (schema_fields schema)) leaf in
-      let hold = hold_at (holds_of (term_of expr) (kinds_of (schema_fields schema))) leaf in
+      let hold = hold_at (holds_by (term_of expr) (schema_fields schema)) leaf in
       let here : store_answer kind hold value ≡ Ok tt = ap (λ (s : Seen). answer_of s leaf value) is ∙ sym taken in
       stored_fits kind hold value here
 
   -- a fitting value is written
   pub kept_after : (row leaf : ℕ) (value : ℤ) (new : List (List ℕ)) → row < length seen.table → leaf < leaf_count_of seen → Ok tt ≡ answer_of seen leaf value →
-      AreLaid (layout_of (term_of expr) extents (kinds_of (schema_fields schema))) new →
-      table_under (term_of expr) extents (kinds_of (schema_fields schema)) new
-      ≡ with_entry (table_under (term_of expr) extents (kinds_of (schema_fields schema)) blobs) row leaf value →
-      IsKept (term_of expr) extents (kinds_of (schema_fields schema)) new
+      AreLaid (layout_by (term_of expr) extents (schema_fields schema)) new →
+      table_under (term_of expr) extents (schema_fields schema) new
+      ≡ with_entry (table_under (term_of expr) extents (schema_fields schema) blobs) row leaf value →
+      IsKept (term_of expr) extents (schema_fields schema) new
   kept_after row leaf value new row_in leaf_in taken laid table =
-      kept_set (term_of expr) extents (kinds_of (schema_fields schema)) blobs kept
+      kept_set (term_of expr) extents (schema_fields schema) blobs kept
       new row leaf value (omega (arith, rows_seen)) (leaf_seen leaf leaf_in) laid table (fits_seen leaf value taken)

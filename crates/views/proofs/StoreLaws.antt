@@ -4,7 +4,7 @@ use Rattle.std.specs.Prelude.{int_le}
 use Rattle.std.proofs.lemmas.Int.{ints}
 use Rattle.std.proofs.lemmas.Bool.{cases_Bool, and_parts}
 use Rattle.record_dim.specs.declared.leaf_type.LeafType.{LeafType}
-use Rattle.record_dim.specs.LeafTypes.{least_of, greatest_of, least_in, greatest_in}
+use Rattle.record_dim.specs.LeafTypes.{least_of, greatest_of, least_in, greatest_in, IsIn, IsDeclared}
 use Rattle.places.specs.declared.piece.Hold.{Hold}
 use Rattle.views.specs.Stores.{is_between, store_answer, Fits}
 use Rattle.views.specs.declared.fault.StoreFault.TheVariants.{Range, Narrow}
@@ -38,3 +38,14 @@ stored_fits kind hold value taken =
     (λ (not_declared : is_between (least_of kind) (greatest_of kind) value ≡ false).
     absurd (let clash : Ok tt ≡ Err Range = sym taken ∙ answer_range kind hold value not_declared in cc))
     (cases_Bool (is_between (least_of kind) (greatest_of kind) value))
+
+true_between : (least greatest value : ℤ) → least ≤ℤ value → value ≤ℤ greatest → is_between least greatest value ≡ true
+true_between least greatest value low high = grind (arith, ints)
+
+-- a value that fits is taken
+pub fitting_stored : (kind : LeafType) (hold : Hold) (value : ℤ) → IsDeclared kind value → IsIn hold.signed hold.width value → store_answer kind hold value ≡ Ok tt
+fitting_stored kind hold value declared held =
+    rw (
+      true_between (least_of kind) (greatest_of kind) value declared.0 declared.1,
+      true_between (least_in hold.signed hold.width) (greatest_in hold.signed hold.width) value held.0 held.1,
+    ) refl

@@ -10,8 +10,8 @@ use Rattle.places.specs.Image.{image}
 use Rattle.places.specs.declared.piece.Hold.{Hold}
 use Rattle.map_expr.specs.declared.expr.MapExpr.{MapExpr}
 use Rattle.map_expr.specs.Terms.{term_of}
-use Rattle.map_any.specs.Mappings.{layout_of, holds_of}
-use Rattle.piece_bits.specs.Tables.{HasShape, hold_at}
+use Rattle.map_any.specs.Mappings.{layout_by, holds_by}
+use Rattle.piece_bits.specs.Tables.{HasShape, hold_at, with_entry}
 use Rattle.views.specs.Stores.{kind_at, store_answer, AllFit}
 use Rattle.views.specs.declared.fault.StoreFault.{StoreFault}
 
@@ -28,11 +28,11 @@ leaf_types_of seen = kinds_of (schema_fields seen.schema)
 
 -- who owns each bit of each blob: the layout of the expression
 abbrev pub seen_layout : Seen → List (List Owner)
-seen_layout seen = layout_of (term_of seen.expr) seen.extents (leaf_types_of seen)
+seen_layout seen = layout_by (term_of seen.expr) seen.extents (schema_fields seen.schema)
 
 -- how each leaf is stored
 abbrev pub seen_holds : Seen → List Hold
-seen_holds seen = holds_of (term_of seen.expr) (leaf_types_of seen)
+seen_holds seen = holds_by (term_of seen.expr) (schema_fields seen.schema)
 
 -- the number of leaves, and the type of one
 abbrev pub leaf_count_of : Seen → ℕ
@@ -54,3 +54,11 @@ pub record IsTable (seen : Seen) : Type 0 where
   pub rows : length seen.table ≡ length (indices seen.extents)
   pub shape : HasShape (length seen.table) (leaf_count_of seen) seen.table
   pub fits : AllFit (length seen.table) (leaf_types_of seen) (seen_holds seen) seen.table
+
+-- the view after a read of a leaf in a row: as it was
+abbrev pub after_read : Seen → ℕ → ℕ → Seen
+after_read seen row leaf = seen
+
+-- the view after a store of a value in a leaf of a row: this entry is the value, and nothing else changed
+abbrev pub after_write : Seen → ℕ → ℕ → ℤ → Seen
+after_write seen row leaf value = record seen { table = with_entry seen.table row leaf value }

@@ -6,12 +6,29 @@ ghost use Rattle.piece_bits.specs.Tables.{AreLaid, hold_at, table_in, with_entry
 use crate::view::BlobList;
 use blobs::Blob;
 use map_any::AnyMap;
-use piece_bits::{read_entry, read_piece, write_entry, write_piece};
-use places::Mapping;
+use piece_bits::{put_value_at, read_entry, read_piece, value_at, write_entry, write_piece};
+use places::{Mapping, laws_of};
 
-/// The value of a leaf in a row, in one step where it lies in one piece.
-#[inline]
+/// The value of a leaf in a row, in one step where its rule has a short form.
+#[inline(always)]
 pub fn read(map: &AnyMap, blobs: &[Blob], row: u64, leaf: usize) -> i128
+    requires row_in { row < ⟦<AnyMap as Mapping>⟧.slot_count map.now }
+    requires leaf_in { leaf < length (⟦<AnyMap as Mapping>⟧.cell_list map.now) }
+    requires laid { AreLaid (⟦<AnyMap as Mapping>⟧.layout map.now) blobs.now }
+    ensures { result ≡ entry (table_in (⟦<AnyMap as Mapping>⟧.layout map.now) (⟦<AnyMap as Mapping>⟧.slot_count map.now)
+        (⟦<AnyMap as Mapping>⟧.hold_list map.now) blobs.now) row leaf }
+{
+    laws_of(map);
+    let short = map.short(leaf);
+    match short.first_byte(row) {
+        Some(first) => value_at(&blobs[short.blob], first, short.kind),
+        None => read_by_rule(map, blobs, row, leaf),
+    }
+}
+
+// The same by the whole rule.
+#[inline(never)]
+fn read_by_rule(map: &AnyMap, blobs: &[Blob], row: u64, leaf: usize) -> i128
     requires row_in { row < ⟦<AnyMap as Mapping>⟧.slot_count map.now }
     requires leaf_in { leaf < length (⟦<AnyMap as Mapping>⟧.cell_list map.now) }
     requires laid { AreLaid (⟦<AnyMap as Mapping>⟧.layout map.now) blobs.now }
@@ -24,9 +41,30 @@ pub fn read(map: &AnyMap, blobs: &[Blob], row: u64, leaf: usize) -> i128
     }
 }
 
-/// Makes the value of a leaf in a row this one, in one step where it lies in one piece.
-#[inline]
+/// Makes the value of a leaf in a row this one, in one step where its rule has a short form.
+#[inline(always)]
 pub fn write(map: &AnyMap, blobs: &mut BlobList, row: u64, leaf: usize, value: i128)
+    requires row_in { row < ⟦<AnyMap as Mapping>⟧.slot_count map.now }
+    requires leaf_in { leaf < length (⟦<AnyMap as Mapping>⟧.cell_list map.now) }
+    requires laid { AreLaid (⟦<AnyMap as Mapping>⟧.layout map.now) blobs.old.items }
+    requires held { let hold = hold_at (⟦<AnyMap as Mapping>⟧.hold_list map.now) leaf in IsIn hold.signed hold.width value }
+    ensures table { table_in (⟦<AnyMap as Mapping>⟧.layout map.now) (⟦<AnyMap as Mapping>⟧.slot_count map.now)
+        (⟦<AnyMap as Mapping>⟧.hold_list map.now) blobs.new.items
+        ≡ with_entry (table_in (⟦<AnyMap as Mapping>⟧.layout map.now) (⟦<AnyMap as Mapping>⟧.slot_count map.now)
+        (⟦<AnyMap as Mapping>⟧.hold_list map.now) blobs.old.items) row leaf value }
+    ensures still_laid { AreLaid (⟦<AnyMap as Mapping>⟧.layout map.now) blobs.new.items }
+{
+    laws_of(map);
+    let short = map.short(leaf);
+    match short.first_byte(row) {
+        Some(first) => put_value_at(&mut blobs[short.blob], first, short.kind, value),
+        None => write_by_rule(map, blobs, row, leaf, value),
+    }
+}
+
+// The same by the whole rule.
+#[inline(never)]
+fn write_by_rule(map: &AnyMap, blobs: &mut BlobList, row: u64, leaf: usize, value: i128)
     requires row_in { row < ⟦<AnyMap as Mapping>⟧.slot_count map.now }
     requires leaf_in { leaf < length (⟦<AnyMap as Mapping>⟧.cell_list map.now) }
     requires laid { AreLaid (⟦<AnyMap as Mapping>⟧.layout map.now) blobs.old.items }

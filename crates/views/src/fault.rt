@@ -4,23 +4,29 @@ ghost use Rattle.views.specs.Refusals.{made_view};
 
 use map_any::{BadMapping, MakeMap};
 use std::alloc::{AllocError, AllocFailed};
+use thiserror::Error;
 
 /// Why a value was not stored.
-#[derive(Clone, Copy, Debug, PartialEq, Eq)]
+#[derive(Clone, Copy, Debug, PartialEq, Eq, Error)]
 pub enum StoreFault {
     /// The value lies outside of the declared range of its leaf.
+    #[error("Range")]
     Range,
     /// The value lies in the declared range and not in the range of how the leaf is stored.
+    #[error("Narrow")]
     Narrow,
 }
 
 /// Why no view was made.
-#[derive(Clone, Copy, Debug, PartialEq, Eq)]
+#[derive(Clone, Copy, Debug, PartialEq, Eq, Error)]
 pub enum MakeView {
     /// The expression is no mapping of the leaves.
+    #[error("BadMapping {0:?}")]
     Bad(BadMapping),
     /// A base mapping has more than 2^24 slots, or all blobs have more than 2^28 bytes.
+    #[error("TooBig")]
     TooBig,
+    #[error("NoMemory")]
     NoMemory,
 }
 

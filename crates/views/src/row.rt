@@ -1,11 +1,12 @@
 ghost use Rattle.std.specs.Prelude.{◌≡◌, ◌+◌, ◌<◌, OnOk, OnErr, length};
 ghost use Rattle.places.specs.Image.{entry};
-ghost use Rattle.piece_bits.specs.Tables.{hold_at, with_entry};
+ghost use Rattle.piece_bits.specs.Tables.{hold_at};
 ghost use Rattle.views.specs.Stores.{Fits};
-ghost use Rattle.views.specs.Seen.{leaf_count_of, leaf_type_of, seen_holds, answer_of};
+ghost use Rattle.views.specs.Seen.{leaf_count_of, leaf_type_of, seen_holds, answer_of, after_read, after_write};
 
 use crate::fault::StoreFault;
 use crate::view::View;
+use expr_lang::Row;
 use std::sync::ledger::Ledger;
 use steps::Steps;
 
@@ -35,7 +36,7 @@ impl RowRef<'_> {
         requires leaf_in { leaf < leaf_count_of self.old.view.now }
         ensures value { result ≡ entry self.old.view.now.table self.old.row leaf }
         ensures fits { Fits (leaf_type_of self.old.view.now leaf) (hold_at (seen_holds self.old.view.now) leaf) result }
-        ensures same { self.new.view.now ≡ self.old.view.now }
+        ensures same { self.new.view.now ≡ after_read self.old.view.now self.old.row leaf }
         ensures same_row { self.new.row ≡ self.old.row }
         ensures same_view { self.new.view.ghost_name ≡ self.old.view.ghost_name }
         ensures step { steps.new ≡ steps.old + 1 }
@@ -53,12 +54,32 @@ impl RowRef<'_> {
         requires row_in { self.old.row < length self.old.view.now.table }
         requires leaf_in { leaf < leaf_count_of self.old.view.now }
         ensures answer { result ≡ answer_of self.old.view.now leaf value }
-        ensures stored { OnOk result (self.new.view.now ≡ record self.old.view.now { table = with_entry self.old.view.now.table self.old.row leaf value }) }
+        ensures stored { OnOk result (self.new.view.now ≡ after_write self.old.view.now self.old.row leaf value) }
         ensures refused { OnErr result (self.new.view.now ≡ self.old.view.now) }
         ensures same_row { self.new.row ≡ self.old.row }
         ensures same_view { self.new.view.ghost_name ≡ self.old.view.ghost_name }
         ensures step { steps.new ≡ steps.old + 1 }
     {
         self.view.set(self.row, leaf, value, steps)
+    }
+}
+
+/// The row as an expression reads it. Its state is all that its view means, as it is lent, with the number of the row.
+impl Row for RowRef<'_> {
+    ghost use Rattle.std.specs.Prelude.{ℕ, [], slice_index_or};
+    ghost use Rattle.std.specs.Borrow.{MutBor};
+    ghost use Rattle.views.specs.Seen.{Seen, after_read};
+
+    ghost State = { MutBor Seen × ℕ };
+
+    ghost numbers = { λ r. slice_index_or r.view.now.table r.row [] };
+
+    ghost state = { λ r. (r.view, r.row) };
+
+    ghost after = { λ state leaf. (record state.0 { now = after_read state.0.now state.1 leaf }, state.1) };
+
+    fn read<L: Ledger>(&mut self, leaf: usize, steps: &mut Steps<L>) -> i128 {
+        let _leaves = self.view.schema();
+        self.view.get(self.row, leaf, steps)
     }
 }

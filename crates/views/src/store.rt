@@ -1,5 +1,4 @@
 ghost use Rattle.std.specs.Prelude.{ℕ, ◌≡◌, ◌≤◌};
-ghost use Rattle.record_dim.specs.LeafTypes.{least_of, greatest_of};
 ghost use Rattle.views.specs.Stores.{is_between, store_answer};
 
 use crate::fault::StoreFault;
@@ -13,27 +12,13 @@ pub fn answer(kind: LeafType, hold: Hold, value: i128) -> Result<(), StoreFault>
     requires narrow { hold.width ≤ 64 }
     ensures { result ≡ store_answer kind hold value }
 {
-    if !is_declared(kind, value) {
+    if !is_between(kind.least(), kind.greatest(), value) {
         return Err(StoreFault::Range);
     }
     if !is_between(least_held(hold), greatest_held(hold), value) {
         return Err(StoreFault::Narrow);
     }
     Ok(())
-}
-
-/// Whether a value lies in the declared range of a type. It is worked out from the width, which takes less time than a choice among nine.
-fn is_declared(kind: LeafType, value: i128) -> bool
-    ensures { result ≡ is_between (least_of kind) (greatest_of kind) value }
-{
-    if kind == LeafType::Bool {
-        return is_between(0, 1, value);
-    }
-    let whole = Hold {
-        signed: kind.signed(),
-        width: kind.width(),
-    };
-    is_between(least_held(whole), greatest_held(whole), value)
 }
 
 /// Whether a value lies between two numbers, both included.

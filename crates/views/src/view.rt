@@ -1,20 +1,19 @@
 ghost use Rattle.std.specs.Prelude.{ℕ, ◌≡◌, ◌+◌, ◌*◌, ◌^◌, ◌<◌, ◌≤◌, IfOk, OnOk, IfErr, OnErr, Ok, length, sum_by};
 ghost use Rattle.extents.specs.Indices.{indices};
 ghost use Rattle.map_expr.specs.Terms.{term_of};
-ghost use Rattle.map_expr.specs.Checks.{checked};
-ghost use Rattle.map_any.specs.Mappings.{leaf_cells, IsBuiltTerm, IsTooBigFor};
+ghost use Rattle.map_any.specs.Mappings.{leaf_cells, accepted, IsBuiltTerm, IsTooBigFor};
 ghost use Rattle.places.specs.Image.{entry};
 ghost use Rattle.blobs.specs.Bits.{bits_of};
-ghost use Rattle.piece_bits.specs.Tables.{with_entry, zeros};
+ghost use Rattle.piece_bits.specs.Tables.{zeros};
 
 use crate::access::{read, write};
 use crate::fault::{MakeView, StoreFault};
-use crate::fresh::{laws_of, zeroed_blobs};
+use crate::fresh::zeroed_blobs;
 use crate::store::answer;
 use blobs::Blob;
 use extents::Extents;
 use map_any::{AnyMap, MapExpr};
-use places::Mapping;
+use places::{Mapping, laws_of};
 use record_dim::Schema;
 use std::alloc::Global;
 use std::marker::Model;
@@ -48,7 +47,6 @@ impl Model for View {
     ghost coded = { Prim.hlevel (codes, dim.the_row.coded, list.the_row.coded, mapping.the_row.coded) };
 
     ghost use Rattle.record_dim.specs.Schemas.{schema_fields};
-    ghost use Rattle.record_dim.specs.Leaves.{kinds_of};
     ghost use Rattle.map_expr.specs.Terms.{term_of};
     ghost use Rattle.views.specs.Kept.{IsKept, IsMappingOf, table_under};
 
@@ -56,12 +54,12 @@ impl Model for View {
       schema = v.schema;
       extents = v.extents;
       expr = v.expr;
-      table = table_under (term_of v.expr) v.extents (kinds_of (schema_fields v.schema)) v.blobs.items;
+      table = table_under (term_of v.expr) v.extents (schema_fields v.schema) v.blobs.items;
     } };
 
-    ghost invariant = { λ v. IsMappingOf (term_of v.expr) v.extents (kinds_of (schema_fields v.schema)) (⟦<AnyMap as Mapping>⟧.layout v.map)
+    ghost invariant = { λ v. IsMappingOf (term_of v.expr) v.extents (schema_fields v.schema) (⟦<AnyMap as Mapping>⟧.layout v.map)
         (⟦<AnyMap as Mapping>⟧.slot_count v.map) (⟦<AnyMap as Mapping>⟧.cell_list v.map) (⟦<AnyMap as Mapping>⟧.hold_list v.map)
-        × IsKept (term_of v.expr) v.extents (kinds_of (schema_fields v.schema)) v.blobs.items };
+        × IsKept (term_of v.expr) v.extents (schema_fields v.schema) v.blobs.items };
 }
 
 impl View {
@@ -70,7 +68,7 @@ impl View {
     ghost use Rattle.piece_bits.specs.Tables.{hold_at};
     ghost use Rattle.views.specs.Stores.{Fits};
     ghost use Rattle.views.specs.Refusals.{IsNoView};
-    ghost use Rattle.views.specs.Seen.{leaf_count_of, leaf_type_of, leaf_types_of, seen_layout, seen_holds, answer_of, blob_bits_of, IsTable};
+    ghost use Rattle.views.specs.Seen.{leaf_count_of, leaf_type_of, leaf_types_of, seen_layout, seen_holds, answer_of, blob_bits_of, after_read, after_write, IsTable};
 
     /// A view of zeros, which lies in memory as the expression says. `Bad` comes exactly where the expression is refused, and `TooBig`
     /// exactly where it is not and is over a limit.
@@ -87,9 +85,9 @@ impl View {
         ensures table { IfOk result (λ v. v.table ≡ zeros (length (indices extents)) (length (leaves (schema_fields schema.now)))) }
 
         // Only want of memory comes before the other answers.
-        ensures accepted { OnOk result (checked (term_of expr.now) ≡ Ok tt) }
-        ensures fits { OnOk result (IsTooBigFor (term_of expr.now) extents (kinds_of (schema_fields schema.now)) → ⊥) }
-        ensures refused { IfErr result (IsNoView (term_of expr.now) extents (kinds_of (schema_fields schema.now))) }
+        ensures accepted { OnOk result (accepted (term_of expr.now) (schema_fields schema.now) (leaf_cells (kinds_of (schema_fields schema.now))) ≡ Ok tt) }
+        ensures fits { OnOk result (IsTooBigFor (term_of expr.now) extents (schema_fields schema.now) (leaf_cells (kinds_of (schema_fields schema.now))) → ⊥) }
+        ensures refused { IfErr result (IsNoView (term_of expr.now) extents (schema_fields schema.now)) }
     {
         let map = AnyMap::new(alloc, schema, &extents, expr)?;
         laws_of(&map);
@@ -105,10 +103,11 @@ impl View {
         })
     }
 
-    /// The schema of the rows.
+    /// The schema of the rows. A row has a number for each leaf, and each leaf is stored in one way.
     pub fn schema(&self) -> &Schema
         ensures value { result.now ≡ self.now.schema }
         ensures table { IsTable self.now }
+        ensures paired { length (seen_holds self.now) ≡ length (leaf_types_of self.now) }
     {
         &self.schema
     }
@@ -164,7 +163,7 @@ impl View {
         requires leaf_in { leaf < leaf_count_of self.old }
         ensures value { result ≡ entry self.old.table row leaf }
         ensures fits { Fits (leaf_type_of self.old leaf) (hold_at (seen_holds self.old) leaf) result }
-        ensures same { self.new ≡ self.old }
+        ensures same { self.new ≡ after_read self.old row leaf }
         ensures step { steps.new ≡ steps.old + 1 }
     {
         steps.tick();
@@ -173,7 +172,20 @@ impl View {
 
     /// Whether a value can be stored in a leaf: `Range` exactly where it lies outside of the leaf's declared range, and `Narrow` exactly
     /// where it lies inside that and outside of the range of how the leaf is stored.
+    #[inline(always)]
     pub fn fits(&self, leaf: usize, value: i128) -> Result<(), StoreFault>
+        requires { leaf < leaf_count_of self.now }
+        ensures { result ≡ answer_of self.now leaf value }
+    {
+        if self.map.takes(leaf, value) {
+            return Ok(());
+        }
+        self.tested(leaf, value)
+    }
+
+    // The same where no range was worked out before.
+    #[inline(never)]
+    fn tested(&self, leaf: usize, value: i128) -> Result<(), StoreFault>
         requires { leaf < leaf_count_of self.now }
         ensures { result ≡ answer_of self.now leaf value }
     {
@@ -191,7 +203,7 @@ impl View {
         requires row_in { row < length self.old.table }
         requires leaf_in { leaf < leaf_count_of self.old }
         ensures answer { result ≡ answer_of self.old leaf value }
-        ensures stored { OnOk result (self.new ≡ record self.old { table = with_entry self.old.table row leaf value }) }
+        ensures stored { OnOk result (self.new ≡ after_write self.old row leaf value) }
         ensures refused { OnErr result (self.new ≡ self.old) }
         ensures step { steps.new ≡ steps.old + 1 }
     {

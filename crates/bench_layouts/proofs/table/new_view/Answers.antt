@@ -2,7 +2,7 @@ use Rattle.std.proofs.Common.{◌≡◌, ℕ, List, [], ◌∷◌, length, ap, �
 use Rattle.std.specs.Prelude.{IfOk}
 use Rattle.extents.specs.Indices.{indices}
 use Rattle.record_dim.specs.Trees.{Fields}
-use Rattle.record_dim.specs.Leaves.{leaves, kinds_of}
+use Rattle.record_dim.specs.Leaves.{leaves}
 use Rattle.piece_bits.specs.Tables.{zeros}
 use Rattle.views.specs.declared.fault.MakeView.TheVariants.{TooBig}
 use Rattle.views.specs.Refusals.{IsNoView}
@@ -14,8 +14,8 @@ use Rattle.bench_layouts.proofs.table.new_view.Goals as goal
 pub returns-in_err-extents-clause-refused : goal.returns-in_err-extents-clause-refused
 returns-in_err-extents-clause-refused c =
     let refused = c.in_err-extents.ensures.refused in
-    let none : IsNoView (form_term c.args.work.form) (c.args.work.rows ∷ []) (kinds_of measured_fields) TooBig =
-    too_many c.args.work.form c.args.work.rows (kinds_of measured_fields) refused.1 in
+    let none : IsNoView (form_term c.args.work.form) (c.args.work.rows ∷ []) measured_fields TooBig =
+    too_many c.args.work.form c.args.work.rows measured_fields refused.1 in
     search (rules, none, refused.0)
 
 pub returns-clause-table : goal.returns-clause-table

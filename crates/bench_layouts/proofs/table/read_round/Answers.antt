@@ -1,46 +1,40 @@
-use Rattle.std.proofs.Common.{◌≡◌, ◌+◌, Ok, Err, ◌∙◌, sym, ap, arith, rules}
+use Rattle.std.proofs.Common.{◌≡◌, ◌+◌, ◌*◌, ◌<◌, ◌≤◌, ℕ, ℤ, pos, ◌+ℤ◌, ◌-ℤ◌, ◌≤ℤ◌, length, ◌∙◌, sym, ap, subst, to_z, of_z, arith, rules}
 use Rattle.std.specs.Prelude.{FitsSigned}
 use Rattle.std.specs.Int.{w128}
 use Rattle.std.proofs.lemmas.Int.{to_z-of_z}
 use Rattle.places.specs.Image.{entry}
 use Rattle.views.specs.Seen.{Seen}
 use Rattle.bench_layouts.specs.Tables.{row_sum, round_sum}
-use Rattle.bench_layouts.proofs.Sums.{next_sum, fault_of_answer, fault_of_sum}
+use Rattle.bench_layouts.proofs.TableSums.{small_row, small_sum, fits_in, sum_next}
+use Rattle.bench_layouts.proofs.table.read_round.Given as given
 use Rattle.bench_layouts.proofs.table.read_round.Goals as goal
+use Rattle.bench_layouts.proofs.table.read_round.Goals.{After-read_row-total}
 
-pub returns-in_err-read_row-clause-sum : goal.returns-in_err-read_row-clause-sum
-returns-in_err-read_row-clause-sum g c =
-    let row = c.loop-row.row in
-    let sums = row_sum (entry c.args.view.now.table) in
-    let is : sums row ≡ Err c.in_err-read_row.field-0.0 =
-    ap (λ (view : Seen). row_sum (entry view.table) row) (sym c.loop-row.invariant.1) ∙ sym c.in_err-read_row.ensures.sum in
-    let whole : round_sum (entry c.args.view.now.table) c.args.rows ≡ Err c.in_err-read_row.field-0.0 =
-    fault_of_answer sums row c.args.rows _ _ c.loop-row.invariant.0 (omega arith) is in
-    search (rules, whole)
+-- the sum with one row more, and that it fits
+next : (g : given.Over) (c : goal.After-read_row-total g) → round_sum (entry c.args.view.now.table) (c.loop-row.row + 1)
+    ≡ to_z w128 c.loop-row.total-bits +ℤ to_z w128 (of_z w128 c.read_row-total.result)
+next g c =
+    let sums : ℕ → ℤ = row_sum (entry c.args.view.now.table) in
+    let fits : FitsSigned w128 c.read_row-total.result = search rules in
+    let value : c.read_row-total.result ≡ sums c.loop-row.row =
+    c.read_row-total.ensures.sum ∙ ap (λ (view : Seen). row_sum (entry view.table) c.loop-row.row) c.loop-row.invariant.same in
+    sum_next sums c.loop-row.row _ c.read_row-total.result c.loop-row.invariant.sum value fits
 
-pub returns-in_err-total-clause-sum : goal.returns-in_err-total-clause-sum
-returns-in_err-total-clause-sum g c =
+fitting : (g : given.Over) (c : goal.After-read_row-total g) → FitsSigned w128 (to_z w128 c.loop-row.total-bits +ℤ to_z w128 (of_z w128 c.read_row-total.result))
+fitting g c =
+    let sums : ℕ → ℤ = row_sum (entry c.args.view.now.table) in
     let row = c.loop-row.row in
-    let sums = row_sum (entry c.args.view.now.table) in
-    let value = c.in_ok-read_row.field-0 in
-    let is : sums row ≡ Ok value =
-    ap (λ (view : Seen). row_sum (entry view.table) row) (sym c.loop-row.invariant.1) ∙ sym c.in_ok-read_row.ensures.sum in
-    let fits : FitsSigned w128 value = search rules in
-    let great = sym (rw (to_z-of_z w128 value fits) at c.in_err-total.ensures) in
-    let whole : round_sum (entry c.args.view.now.table) c.args.rows ≡ Err c.in_err-total.field-0.0 =
-    fault_of_sum sums row c.args.rows _ value _ c.loop-row.invariant.0 (omega arith) is great in
-    search (rules, whole)
+    let rows : row < c.args.rows = omega arith in
+    let both = small_sum sums 512 (row + 1) (λ r below. small_row (entry c.args.view.now.table r) (λ l l_in. c.requires.small r l (omega (arith, c.requires.rows)) l_in)) in
+    subst (λ (sum : ℤ). FitsSigned w128 sum) (next g c) (fits_in (512 * (row + 1)) (round_sum (entry c.args.view.now.table) (row + 1)) (omega arith) both.0 both.1)
+
+pub overflow_add-total : goal.overflow_add-total
+overflow_add-total g c = fitting g (goal.at.overflow_add-total g c).After-read_row-total
 
 pub loop-row-preserved : goal.loop-row-preserved
 loop-row-preserved g c =
-    let row = c.loop-row.row in
-    let sums = row_sum (entry c.args.view.now.table) in
-    let value = c.in_ok-read_row.field-0 in
-    let is : sums row ≡ Ok value =
-    ap (λ (view : Seen). row_sum (entry view.table) row) (sym c.loop-row.invariant.1) ∙ sym c.in_ok-read_row.ensures.sum in
-    let fits : FitsSigned w128 value = search rules in
-    let added = sym (rw (to_z-of_z w128 value fits) at c.in_ok-total.ensures) in
-    let sum : round_sum (entry c.args.view.now.table) (row + 1) ≡ Ok c.in_ok-total.total =
-    next_sum sums row _ value _ c.loop-row.invariant.0 is added in
-    let same = c.in_ok-read_row.ensures.same ∙ c.loop-row.invariant.1 in
-    search (rules, sum, same)
+    let here = (goal.at.loop-row-preserved g c).After-read_row-total in
+    record {
+      sum = next g here ∙ sym (to_z-of_z w128 _ (fitting g here));
+      same = c.read_row-total.ensures.same ∙ c.loop-row.invariant.same;
+    }

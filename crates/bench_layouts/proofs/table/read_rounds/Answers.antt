@@ -1,49 +1,42 @@
-use Rattle.std.proofs.Common.{◌≡◌, ℕ, ◌+◌, Ok, Err, ◌∙◌, sym, ap, arith, rules}
+use Rattle.std.proofs.Common.{◌≡◌, ◌+◌, ◌*◌, ◌^◌, ◌<◌, ◌≤◌, ℕ, ℤ, pos, ◌+ℤ◌, ◌-ℤ◌, ◌≤ℤ◌, length, ◌∙◌, sym, ap, subst, to_z, of_z, arith, rules}
 use Rattle.std.specs.Prelude.{FitsSigned}
 use Rattle.std.specs.Int.{w128}
 use Rattle.std.proofs.lemmas.Int.{to_z-of_z}
 use Rattle.places.specs.Image.{entry}
 use Rattle.views.specs.Seen.{Seen}
 use Rattle.bench_layouts.specs.Tables.{round_sum, sum_read}
-use Rattle.bench_layouts.proofs.Sums.{next_sum, fault_of_answer, fault_of_sum}
+use Rattle.bench_layouts.proofs.TableSums.{small_round, small_sum, fits_in, sum_next}
+use Rattle.bench_layouts.proofs.table.read_rounds.Given as given
 use Rattle.bench_layouts.proofs.table.read_rounds.Goals as goal
+use Rattle.bench_layouts.proofs.table.read_rounds.Goals.{After-read_round-total}
 
-pub returns-in_err-read_round-clause-sum : goal.returns-in_err-read_round-clause-sum
-returns-in_err-read_round-clause-sum g c =
-    let round = c.loop-round._round in
-    let one = round_sum (entry c.args.view.now.table) c.args.rows in
-    let sums = λ (_ : ℕ). one in
-    let is : one ≡ Err c.in_err-read_round.field-0.0 =
-    ap (λ (view : Seen). round_sum (entry view.table) c.args.rows) (sym c.loop-round.invariant.1) ∙ sym c.in_err-read_round.ensures.sum in
-    let whole : sum_read (entry c.args.view.now.table) c.args.rows c.args.rounds ≡ Err c.in_err-read_round.field-0.0 =
-    fault_of_answer sums round c.args.rounds _ _ c.loop-round.invariant.0 (omega arith) is in
-    search (rules, whole)
+-- the sum with one round more, and that it fits
+next : (g : given.Over) (c : goal.After-read_round-total g) → sum_read (entry c.args.view.now.table) c.args.rows (c.loop-round._round + 1)
+    ≡ to_z w128 c.loop-round.total-bits +ℤ to_z w128 (of_z w128 c.read_round-total.result)
+next g c =
+    let one : ℤ = round_sum (entry c.args.view.now.table) c.args.rows in
+    let fits : FitsSigned w128 c.read_round-total.result = search rules in
+    let value : c.read_round-total.result ≡ one =
+    c.read_round-total.ensures.sum ∙ ap (λ (view : Seen). round_sum (entry view.table) c.args.rows) c.loop-round.invariant.same in
+    sum_next (λ (_ : ℕ). one) c.loop-round._round _ c.read_round-total.result c.loop-round.invariant.sum value fits
 
-pub returns-in_err-total-clause-sum : goal.returns-in_err-total-clause-sum
-returns-in_err-total-clause-sum g c =
+fitting : (g : given.Over) (c : goal.After-read_round-total g) → FitsSigned w128 (to_z w128 c.loop-round.total-bits +ℤ to_z w128 (of_z w128 c.read_round-total.result))
+fitting g c =
+    let one : ℤ = round_sum (entry c.args.view.now.table) c.args.rows in
     let round = c.loop-round._round in
-    let one = round_sum (entry c.args.view.now.table) c.args.rows in
-    let sums = λ (_ : ℕ). one in
-    let value = c.in_ok-read_round.field-0 in
-    let is : one ≡ Ok value =
-    ap (λ (view : Seen). round_sum (entry view.table) c.args.rows) (sym c.loop-round.invariant.1) ∙ sym c.in_ok-read_round.ensures.sum in
-    let fits : FitsSigned w128 value = search rules in
-    let great = sym (rw (to_z-of_z w128 value fits) at c.in_err-total.ensures) in
-    let whole : sum_read (entry c.args.view.now.table) c.args.rows c.args.rounds ≡ Err c.in_err-total.field-0.0 =
-    fault_of_sum sums round c.args.rounds _ value _ c.loop-round.invariant.0 (omega arith) is great in
-    search (rules, whole)
+    let low : round < c.args.rounds = omega arith in
+    let each = small_round (entry c.args.view.now.table) c.args.rows (omega arith) (λ r l r_in l_in. c.requires.small r l (omega (arith, c.requires.rows)) l_in) in
+    let both = small_sum (λ (_ : ℕ). one) (2 ^ 41) (round + 1) (λ r below. each) in
+    subst (λ (sum : ℤ). FitsSigned w128 sum) (next g c)
+    (fits_in (2 ^ 41 * (round + 1)) (sum_read (entry c.args.view.now.table) c.args.rows (round + 1)) (omega arith) both.0 both.1)
+
+pub overflow_add-total : goal.overflow_add-total
+overflow_add-total g c = fitting g (goal.at.overflow_add-total g c).After-read_round-total
 
 pub loop-round-preserved : goal.loop-round-preserved
 loop-round-preserved g c =
-    let round = c.loop-round._round in
-    let one = round_sum (entry c.args.view.now.table) c.args.rows in
-    let sums = λ (_ : ℕ). one in
-    let value = c.in_ok-read_round.field-0 in
-    let is : one ≡ Ok value =
-    ap (λ (view : Seen). round_sum (entry view.table) c.args.rows) (sym c.loop-round.invariant.1) ∙ sym c.in_ok-read_round.ensures.sum in
-    let fits : FitsSigned w128 value = search rules in
-    let added = sym (rw (to_z-of_z w128 value fits) at c.in_ok-total.ensures) in
-    let sum : sum_read (entry c.args.view.now.table) c.args.rows (round + 1) ≡ Ok c.in_ok-total.total =
-    next_sum sums round _ value _ c.loop-round.invariant.0 is added in
-    let same = c.in_ok-read_round.ensures.same ∙ c.loop-round.invariant.1 in
-    search (rules, sum, same)
+    let here = (goal.at.loop-round-preserved g c).After-read_round-total in
+    record {
+      sum = next g here ∙ sym (to_z-of_z w128 _ (fitting g here));
+      same = c.read_round-total.ensures.same ∙ c.loop-round.invariant.same;
+    }

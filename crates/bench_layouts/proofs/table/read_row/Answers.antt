@@ -1,23 +1,40 @@
-use Rattle.std.proofs.Common.{◌≡◌, ◌+◌, Ok, ◌∙◌, sym, ap, rules}
+use Rattle.std.proofs.Common.{◌≡◌, ◌+◌, ◌*◌, ◌<◌, ℕ, ℤ, pos, ◌+ℤ◌, ◌-ℤ◌, ◌≤ℤ◌, ◌∙◌, sym, ap, subst, to_z, of_z, arith, rules}
 use Rattle.std.specs.Prelude.{FitsSigned}
 use Rattle.std.specs.Int.{w128}
 use Rattle.std.proofs.lemmas.Int.{to_z-of_z}
 use Rattle.places.specs.Image.{entry}
 use Rattle.views.specs.Seen.{Seen}
-use Rattle.bench_layouts.specs.Totals.{summed}
-use Rattle.bench_layouts.proofs.Sums.{next_sum}
+use Rattle.bench_layouts.specs.Tables.{sum_to}
+use Rattle.bench_layouts.proofs.TableSums.{small_sum, fits_in, sum_next}
+use Rattle.bench_layouts.proofs.table.read_row.Given as given
 use Rattle.bench_layouts.proofs.table.read_row.Goals as goal
+use Rattle.bench_layouts.proofs.table.read_row.Goals.{After-get-total}
+
+-- the sum with one leaf more, and that it fits
+next : (g : given.Over) (c : goal.After-get-total g) → sum_to (entry c.args.view.now.table c.args.row) (c.loop-leaf.leaf + 1)
+    ≡ to_z w128 c.loop-leaf.total-bits +ℤ to_z w128 (of_z w128 c.get-total.result)
+next g c =
+    let read : ℕ → ℤ = entry c.args.view.now.table c.args.row in
+    let fits : FitsSigned w128 c.get-total.result = search rules in
+    let value : c.get-total.result ≡ read c.loop-leaf.leaf =
+    c.get-total.ensures.value ∙ ap (λ (r : ℕ). entry c.loop-leaf.view.table r c.loop-leaf.leaf) c.from.ensures
+    ∙ ap (λ (view : Seen). entry view.table c.args.row c.loop-leaf.leaf) c.loop-leaf.invariant.same in
+    sum_next read c.loop-leaf.leaf _ c.get-total.result c.loop-leaf.invariant.sum value fits
+
+fitting : (g : given.Over) (c : goal.After-get-total g) → FitsSigned w128 (to_z w128 c.loop-leaf.total-bits +ℤ to_z w128 (of_z w128 c.get-total.result))
+fitting g c =
+    let read : ℕ → ℤ = entry c.args.view.now.table c.args.row in
+    let leaf = c.loop-leaf.leaf in
+    let both = small_sum read 128 (leaf + 1) (λ l below. c.requires.small c.args.row l c.requires.row_in (omega arith)) in
+    subst (λ (sum : ℤ). FitsSigned w128 sum) (next g c) (fits_in (128 * (leaf + 1)) (sum_to read (leaf + 1)) (omega arith) both.0 both.1)
+
+pub overflow_add-total : goal.overflow_add-total
+overflow_add-total g c = fitting g (goal.at.overflow_add-total g c).After-get-total
 
 pub loop-leaf-preserved : goal.loop-leaf-preserved
 loop-leaf-preserved g c =
-    let row = c.args.row in
-    let leaf = c.loop-leaf.leaf in
-    let read = entry c.args.view.now.table row in
-    let value : c.get.result ≡ read leaf =
-    c.get.ensures.value ∙ ap (λ r. entry c.loop-leaf.view.table r leaf) c.from.ensures ∙ ap (λ (view : Seen). entry view.table row leaf) c.loop-leaf.invariant.1 in
-    let fits : FitsSigned w128 c.get.result = search rules in
-    let added = sym (rw (to_z-of_z w128 c.get.result fits) at c.in_ok-total.ensures) in
-    let sum : summed (λ l. Ok (read l)) (leaf + 1) ≡ Ok c.in_ok-total.total =
-    next_sum (λ l. Ok (read l)) leaf _ c.get.result _ c.loop-leaf.invariant.0 (ap Ok (sym value)) added in
-    let same = c.get.ensures.same ∙ c.loop-leaf.invariant.1 in
-    search (rules, sum, same)
+    let here = (goal.at.loop-leaf-preserved g c).After-get-total in
+    record {
+      sum = next g here ∙ sym (to_z-of_z w128 _ (fitting g here));
+      same = c.get-total.ensures.same ∙ c.loop-leaf.invariant.same;
+    }

@@ -1,20 +1,19 @@
-use Rattle.std.proofs.Common.{◌≡◌, Ok, Err, ◌∙◌, sym, rules}
+use Rattle.std.proofs.Common.{◌≡◌, Ok, ℤ, List, length, ◌∙◌, ap, sym, rules}
+use Rattle.std.proofs.lemmas.List.{length-replicate}
 use Rattle.bench_layouts.specs.Tables.{entry_after, sum_read}
-use Rattle.bench_layouts.proofs.Rounds.{same_read}
+use Rattle.bench_layouts.proofs.Rounds.{same_read, small_entries}
 use Rattle.bench_layouts.proofs.table.written_and_read.Goals as goal
-
-pub returns-in_err-read_rounds-clause-fault : goal.returns-in_err-read_rounds-clause-fault
-returns-in_err-read_rounds-clause-fault g c =
-    let work = c.args.work in
-    let whole : sum_read (entry_after work.sets) work.rows work.gets ≡ Err c.in_err-read_rounds.field-0.0 =
-    sym (same_read c.write_rounds.new.view (entry_after work.sets) work.rows work.gets c.in_ok-write_rounds.ensures.entries)
-    ∙ sym c.in_err-read_rounds.ensures.sum in
-    search (rules, whole)
 
 pub returns-clause-sum : goal.returns-clause-sum
 returns-clause-sum g c =
     let work = c.args.work in
-    let whole : Ok c.in_ok-read_rounds.field-0 ≡ sum_read (entry_after work.sets) work.rows work.gets =
-    c.in_ok-read_rounds.ensures.sum
+    let whole : c.read_rounds.result ≡ sum_read (entry_after work.sets) work.rows work.gets =
+    c.read_rounds.ensures.sum
     ∙ same_read c.write_rounds.new.view (entry_after work.sets) work.rows work.gets c.in_ok-write_rounds.ensures.entries in
     search (rules, whole)
+
+pub read_rounds-requires-clause-small : goal.read_rounds-requires-clause-small
+read_rounds-requires-clause-small g c =
+    let rows : length c.write_rounds.new.view.table ≡ c.args.work.rows =
+    c.in_ok-write_rounds.ensures.rewritten.rows ∙ ap (λ (t : List (List ℤ)). length t) c.requires.table ∙ length-replicate c.args.work.rows _ in
+    small_entries c.write_rounds.new.view c.args.work.sets c.args.work.rows c.in_ok-write_rounds.ensures.entries rows

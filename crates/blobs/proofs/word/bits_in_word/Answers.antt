@@ -1,5 +1,5 @@
 use Rattle.std.proofs.Common.{arith}
-use Rattle.blobs.proofs.Words.{read_field}
+use Rattle.blobs.specs.WordsLaws.{read_field}
 use Rattle.blobs.proofs.word.bits_in_word.Goals as goal
 
 pub returns : goal.returns

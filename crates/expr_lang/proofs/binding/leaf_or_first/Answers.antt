@@ -1,5 +1,5 @@
 use Rattle.std.proofs.Common.{◌∙◌, sym, ap, unwrap_or}
-use Rattle.expr_lang.proofs.Unknown.{leaf_number_is}
+use Rattle.expr_lang.specs.BindingLaws.{leaf_number_is}
 use Rattle.expr_lang.proofs.binding.leaf_or_first.Goals as goal
 
 pub returns : goal.returns

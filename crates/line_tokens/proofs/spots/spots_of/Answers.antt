@@ -1,6 +1,6 @@
 use Rattle.std.proofs.Common.{◌++◌, [], ◌∷◌, Some, None, sym, refl, append-nil, arith}
 use Rattle.line_tokens.specs.Spots.{Spots}
-use Rattle.line_tokens.proofs.SpotLaws.{brackets_after-le, Spots-last, Spots-more, same_spots, spot_at, spots_inside}
+use Rattle.line_tokens.specs.SpotLaws.{brackets_after-le, Spots-last, Spots-more, same_spots, spot_at, spots_inside}
 use Rattle.line_tokens.proofs.spots.spots_of.Goals as goal
 
 pub returns-in-End : goal.returns-in-End

@@ -1,5 +1,5 @@
 use Rattle.std.specs.Char.{is_ascii_digit}
-use Rattle.line_tokens.proofs.Decimal.{AllPass-take_prefix_len}
+use Rattle.line_tokens.specs.DecimalLaws.{AllPass-take_prefix_len}
 use Rattle.line_tokens.proofs.token.number_at.Goals as goal
 
 pub value_of-requires : goal.value_of-requires

@@ -1,6 +1,6 @@
 use Rattle.std.proofs.Common.{get_or, arith}
 use Rattle.std.proofs.lemmas.Bool.Decides.{nat_tests}
-use Rattle.line_tokens.proofs.Decimal.{digit_range, digits_more, digits_pass}
+use Rattle.line_tokens.specs.DecimalLaws.{digit_range, digits_more, digits_pass}
 use Rattle.line_tokens.proofs.token.value_of.Goals as goal
 
 pub returns-then-value : goal.returns-then-value

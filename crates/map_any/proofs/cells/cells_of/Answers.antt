@@ -3,7 +3,7 @@ use Rattle.std.proofs.lemmas.List.{length-map}
 use Rattle.record_dim.specs.Schemas.{schema_fields}
 use Rattle.record_dim.specs.Leaves.{Leaf, leaves, kinds_of}
 use Rattle.places.specs.declared.piece.Cell.{Cell}
-use Rattle.map_any.proofs.LeafCells.{leaf_cells_more}
+use Rattle.map_any.specs.LeafCells.{leaf_cells_more}
 use Rattle.map_any.proofs.cells.cells_of.Goals as goal
 
 pub loop-leaf-preserved : goal.loop-leaf-preserved

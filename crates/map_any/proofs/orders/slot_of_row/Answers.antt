@@ -1,5 +1,5 @@
 use Rattle.std.proofs.Common.{◌≡◌, ◌∙◌, sym, ap}
-use Rattle.linearize.specs.declared.Order.{Order}
+use Rattle.extents.specs.declared.order.Order.{Order}
 use Rattle.linearize.specs.Slots.{slot_at}
 use Rattle.linearize.specs.SlotsLaws.{slot_at_by_rows}
 use Rattle.map_any.proofs.orders.slot_of_row.Goals as goal

@@ -4,7 +4,7 @@ use Rattle.std.proofs.lemmas.Int.{to_z-of_z}
 use Rattle.places.specs.declared.piece.Piece.{Piece}
 use Rattle.places.specs.declared.piece.Hold.{Hold}
 use Rattle.places.specs.Laws.{IsLocated}
-use Rattle.piece_bits.proofs.Cells.{IsCell, some_bits, few_bits, bit_count, read_small, read_entry_is}
+use Rattle.piece_bits.specs.CellsLaws.{IsCell, some_bits, few_bits, bit_count, read_small, read_entry_is}
 use Rattle.piece_bits.proofs.entry.read_entry.Given as given
 use Rattle.piece_bits.proofs.entry.read_entry.Goals as goal
 use Rattle.piece_bits.proofs.entry.read_entry.Goals.{After-as_slice, After-read_pieces}

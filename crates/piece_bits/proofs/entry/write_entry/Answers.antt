@@ -6,7 +6,7 @@ use Rattle.places.specs.declared.piece.Piece.{Piece}
 use Rattle.places.specs.declared.piece.Hold.{Hold}
 use Rattle.places.specs.Laws.{IsLocated}
 use Rattle.places.specs.Image.{number, digit}
-use Rattle.piece_bits.proofs.Cells.{IsCell, hold_is, some_bits, few_bits, bit_count, apart, written_table, written_padding, still_laid}
+use Rattle.piece_bits.specs.CellsLaws.{IsCell, hold_is, some_bits, few_bits, bit_count, apart, written_table, written_padding, still_laid}
 use Rattle.piece_bits.proofs.entry.write_entry.Given as given
 use Rattle.piece_bits.proofs.entry.write_entry.Goals as goal
 use Rattle.piece_bits.proofs.entry.write_entry.Goals.{After-as_slice}

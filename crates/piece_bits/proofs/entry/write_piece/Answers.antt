@@ -1,17 +1,13 @@
-use Rattle.std.proofs.Common.{ℤ, ℕ, ◌≡◌, ◌<◌, ◌^◌, ◌∙◌, ◌∷◌, [], List, length, get_or, set, subst, sym, ap, arith, rules, SFits}
+use Rattle.std.proofs.Common.{ℤ, ℕ, ◌≡◌, ◌<◌, ◌^◌, ◌∙◌, ◌∷◌, [], get_or, subst, sym, ap, arith, rules, SFits}
 use Rattle.std.specs.Int.{w128}
 use Rattle.std.proofs.lemmas.Int.{to_z-of_z}
 use Rattle.std.proofs.lemmas.List.{get_or_default}
 use Rattle.record_dim.specs.LeafTypes.{IsIn}
 use Rattle.places.specs.declared.piece.Hold.{Hold}
 use Rattle.places.specs.Image.{number, digit}
-use Rattle.places.proofs.Numbers.{number_lt, digit_lt}
-use Rattle.blobs.specs.Bits.{bit_of}
-use Rattle.piece_bits.specs.Spots.{spots_of, IsWithin}
-use Rattle.piece_bits.proofs.Cells.{IsCell, hold_is, some_bits, few_bits, bit_count, apart, within, written_table, written_padding, still_laid}
-use Rattle.piece_bits.proofs.OnePiece.{one_count, write_one}
-use Rattle.piece_bits.proofs.SpotsOf.{nowhere}
-use Rattle.piece_bits.proofs.Writes.{AreWritten}
+use Rattle.places.specs.NumbersLaws.{number_lt, digit_lt}
+use Rattle.piece_bits.specs.CellsLaws.{IsCell, hold_is, some_bits, few_bits, bit_count}
+use Rattle.piece_bits.specs.OnePieceLaws.{one_count, one_within, one_table, one_laid}
 use Rattle.piece_bits.proofs.entry.write_piece.Given as given
 use Rattle.piece_bits.proofs.entry.write_piece.Goals as goal
 use Rattle.piece_bits.proofs.entry.write_piece.Goals.{After-hold-hold, After-encode, After-put_bits}
@@ -75,34 +71,23 @@ put_bits-requires-clause-few g c =
 pub put_bits-requires-clause-fits : goal.put_bits-requires-clause-fits
 put_bits-requires-clause-fits g c = small g ((goal.at.put_bits-requires-clause-fits g c).After-encode)
 
-abbrev blobs_after : (g : given.Over) → goal.After-put_bits g → List (List ℕ)
-blobs_after g c = set c.args.blobs.now.items c.args.piece.blob c.put_bits.new.self
-
-written : (g : given.Over) (c : goal.After-put_bits g) →
-    AreWritten c.args.blobs.now.items (blobs_after g c) (spots_of (c.args.piece ∷ [])) (length (spots_of (c.args.piece ∷ []))) c.encode.result
-written g c =
+-- what stood in the blob
+blob : (g : given.Over) (c : goal.After-put_bits g) → c.index_mut.result.now ≡ get_or c.args.blobs.now.items c.args.piece.blob []
+blob g c =
     let here = at g ((goal.at.After-put_bits g c).After-hold-hold) in
-    let piece = c.args.piece in
-    let old = get_or c.args.blobs.now.items piece.blob [] in
-    let inside : IsWithin c.args.blobs.now.items piece = within here c.args.blobs.now.items c.requires.laid 0 nowhere (omega arith) in
-    let blob : c.index_mut.result.now ≡ old = c.index_mut.ensures.value ∙ get_or_default c.args.blobs.now.items piece.blob _ [] inside.blob_in in
-    let same : (k : ℕ) → bit_of c.index_mut.result.now k ≡ bit_of old k = λ k. ap (λ (w : List ℕ). bit_of w k) blob in
-    let put = c.put_bits.ensures in
-    write_one c.args.blobs.now.items piece c.encode.result c.put_bits.new.self inside (apart here) (small g ((goal.at.After-put_bits g c).After-encode))
-    put.inside (λ k l. put.before k l ∙ same k) (λ k l. put.after k l ∙ same k) (put.len ∙ ap (length {A = ℕ}) blob)
+    c.index_mut.ensures.value ∙ get_or_default c.args.blobs.now.items c.args.piece.blob _ [] (one_within here c.args.blobs.now.items c.requires.laid).blob_in
 
 pub returns-clause-table : goal.returns-clause-table
 returns-clause-table g c =
     let d = (goal.at.returns-clause-table g c).After-hold-hold in
-    let done = written g ((goal.at.returns-clause-table g c).After-put_bits) in
-    written_table (at g d) c.args.blobs.now.items (set c.args.blobs.now.items c.args.piece.blob c.put_bits.new.self) c.args.value c.encode.result
-    (code g ((goal.at.returns-clause-table g c).After-encode)) (held g d) done.inside done.outside
+    let put = c.put_bits.ensures in
+    one_table (at g d) c.args.blobs.now.items c.requires.laid c.args.value c.encode.result c.index_mut.result.now c.put_bits.new.self (held g d)
+    (code g ((goal.at.returns-clause-table g c).After-encode)) (blob g ((goal.at.returns-clause-table g c).After-put_bits)) put.inside put.before put.after put.len
 
 pub returns-clause-still_laid : goal.returns-clause-still_laid
 returns-clause-still_laid g c =
     let d = (goal.at.returns-clause-still_laid g c).After-hold-hold in
-    let done = written g ((goal.at.returns-clause-still_laid g c).After-put_bits) in
-    let old = c.args.blobs.now.items in
-    let new = set old c.args.piece.blob c.put_bits.new.self in
-    still_laid (g.M.Mapping.layout c.args.mapping.now) old new c.requires.laid done.lengths
-    (written_padding (at g d) old new c.args.value c.encode.result (code g ((goal.at.returns-clause-still_laid g c).After-encode)) (held g d) done.inside done.outside)
+    let put = c.put_bits.ensures in
+    one_laid (at g d) c.args.blobs.now.items c.requires.laid c.args.value c.encode.result c.index_mut.result.now c.put_bits.new.self (held g d)
+    (code g ((goal.at.returns-clause-still_laid g c).After-encode)) (blob g ((goal.at.returns-clause-still_laid g c).After-put_bits)) put.inside put.before put.after
+    put.len

@@ -5,7 +5,7 @@ use Rattle.places.specs.Image.{number}
 use Rattle.places.specs.declared.piece.Piece.{Piece}
 use Rattle.blobs.specs.Bits.{bit_of, bit_in}
 use Rattle.piece_bits.specs.Spots.{spots_of, bit_at_spot, IsWithin}
-use Rattle.piece_bits.proofs.SpotsOf.{IsNext, nowhere, next_piece, read_next}
+use Rattle.piece_bits.specs.SpotsOfLaws.{IsNext, nowhere, next_piece, read_next}
 use Rattle.piece_bits.proofs.pieces.read_pieces.Goals as goal
 
 pub bits-requires-clause-few : goal.bits-requires-clause-few

@@ -3,8 +3,8 @@ use Rattle.std.proofs.lemmas.List.{get_or_default}
 use Rattle.places.specs.declared.piece.Piece.{Piece}
 use Rattle.blobs.specs.Bits.{bit_of}
 use Rattle.piece_bits.specs.Spots.{spots_of, IsWithin}
-use Rattle.piece_bits.proofs.SpotsOf.{IsNext, nowhere, next_piece}
-use Rattle.piece_bits.proofs.Writes.{AreWritten, within_same, write_next}
+use Rattle.piece_bits.specs.SpotsOfLaws.{IsNext, nowhere, next_piece}
+use Rattle.piece_bits.specs.WritesLaws.{AreWritten, within_same, write_next}
 use Rattle.piece_bits.proofs.pieces.write_pieces.Goals as goal
 use Rattle.piece_bits.proofs.pieces.write_pieces.Goals.{In-loop-piece}
 

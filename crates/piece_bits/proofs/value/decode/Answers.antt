@@ -1,37 +1,33 @@
-use Rattle.std.proofs.Common.{◌≡◌, ◌-◌, ◌*◌, ◌%◌, ◌^◌, pos, ◌-ℤ◌, ◌<◌, ◌≤◌, ap, ◌∙◌, arith}
+use Rattle.std.proofs.Common.{◌≡◌, ℕ, ℤ, ◌-◌, ◌^◌, Bool, true, false, refl, pos, ◌-ℤ◌, ◌<◌, ◌≤◌, ⊎_elim, sym, ap, ◌∙◌, arith}
+use Rattle.std.specs.Prelude.{not}
+use Rattle.std.proofs.lemmas.Bool.{cases_lt}
 use Rattle.std.proofs.lemmas.Int.{ints}
-use Rattle.std.proofs.lemmas.Nat.{pow_pos}
-use Rattle.std.proofs.Math.Pow.{pow_mono}
 use Rattle.places.specs.Image.{decoded}
-use Rattle.places.proofs.Numbers.{decoded_low, decoded_high, half_of}
+use Rattle.places.specs.NumbersLaws.{decoded_low, decoded_high}
 use Rattle.piece_bits.proofs.value.decode.Goals as goal
-use Rattle.piece_bits.proofs.value.decode.Goals.{then-hold, else-hold, then-bits-half, else-bits-half}
 
-pub returns : goal.returns
-returns c =
+is_true : (b : Bool) → not b ≡ false → b ≡ true
+is_true true e = refl
+is_true false e = cc
+
+is_false : (b : Bool) → not b ≡ true → b ≡ false
+is_false true e = cc
+is_false false e = refl
+
+-- what a cast says
+cast_is : (signed : Bool) (width n bits : ℕ) (result : ℤ) → not signed ≡ false → width ≡ n → (bits < 2 ^ (n - 1) → result ≡ pos bits)
+    → (2 ^ (n - 1) ≤ bits → result ≡ pos bits -ℤ pos (2 ^ n)) → result ≡ decoded signed width bits
+cast_is signed width n bits result e same low high =
+    let own : decoded signed width bits ≡ decoded true n bits =
+    ap (λ (s : Bool). decoded s width bits) (is_true signed e) ∙ ap (λ (w : ℕ). decoded true w bits) same in
+    ⊎_elim
+    (λ (l : bits < 2 ^ (n - 1)). low l ∙ sym (decoded_low n bits l) ∙ sym own)
+    (λ (l : 2 ^ (n - 1) ≤ bits). high l ∙ sym (decoded_high n bits l) ∙ sym own)
+    (cases_lt bits (2 ^ (n - 1)))
+
+pub returns-then-not-hold : goal.returns-then-not-hold
+returns-then-not-hold c =
     let hold = c.args.hold in
-    let bits = c.args.bits in
-    let power = pow_pos (hold.width - 1) in
-    let double = half_of hold.width c.requires.some in
-    let narrow : 2 ^ hold.width ≤ 2 ^ 64 = pow_mono c.requires.narrow in
-    let plain : (1 * 2 ^ (hold.width - 1)) % 2 ^ 64 ≡ 2 ^ (hold.width - 1) = omega (arith, power, double, narrow) in
-    elim c.if-hold.branch [
-      | then-hold s ↦
-          let own = ap (λ signed. decoded signed hold.width bits) s.if-hold.true in
-          elim c.if-bits-half.branch [
-            | then-bits-half m ↦
-                let low : bits < 2 ^ (hold.width - 1) = omega (arith, plain, m.if-bits-half.true, s.half-is) in
-                let is : decoded hold.signed hold.width bits ≡ pos bits = own ∙ decoded_low hold.width bits low in
-                omega (arith, ints, power, double, narrow, plain, is, m.moved-is, s.half-is, c.from.ensures, c.from-2.ensures)
-            | else-bits-half m ↦
-                let high : 2 ^ (hold.width - 1) ≤ bits = omega (arith, plain, m.if-bits-half.false, s.half-is) in
-                let is : decoded hold.signed hold.width bits ≡ pos bits -ℤ pos (2 ^ hold.width) = own ∙ decoded_high hold.width bits high in
-                omega (arith, ints, double, narrow, plain, is, m.moved-is, s.half-is, c.from.ensures, c.from-2.ensures)
-          ]
-      | else-hold s ↦
-          let own : decoded hold.signed hold.width bits ≡ pos bits = ap (λ signed. decoded signed hold.width bits) s.if-hold.false in
-          elim c.if-bits-half.branch [
-            | then-bits-half m ↦ omega (arith, ints, own, m.moved-is, s.half-is, c.from.ensures, c.from-2.ensures)
-            | else-bits-half m ↦ omega (arith, ints, own, m.moved-is, s.half-is, c.from.ensures, c.from-2.ensures)
-          ]
-    ]
+    let own : decoded hold.signed hold.width c.args.bits ≡ pos c.args.bits =
+    ap (λ signed. decoded signed hold.width c.args.bits) (is_false hold.signed c.if-not-hold.true) in
+    omega (arith, ints, own, c.from.ensures)

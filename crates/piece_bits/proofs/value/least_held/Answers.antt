@@ -2,8 +2,8 @@ use Rattle.std.proofs.Common.{◌≡◌, ◌-◌, true, ap, arith}
 use Rattle.std.proofs.lemmas.Int.{ints}
 use Rattle.std.proofs.lemmas.Nat.{pow_pos}
 use Rattle.record_dim.specs.LeafTypes.{least_in}
-use Rattle.places.proofs.Numbers.{half_of}
-use Rattle.blobs.proofs.Words.{ones_of}
+use Rattle.places.specs.NumbersLaws.{half_of}
+use Rattle.blobs.specs.WordsLaws.{ones_of}
 use Rattle.piece_bits.proofs.value.least_held.Goals as goal
 
 pub returns-then-hold : goal.returns-then-hold

@@ -1,5 +1,5 @@
 use Rattle.places.specs.Layout.{Bit}
-use Rattle.places.proofs.Places.{bits_located}
+use Rattle.places.specs.PlacesLaws.{bits_located}
 use Rattle.places.proofs.laws.pieces_of.Goals as goal
 
 pub returns-clause-bits : goal.returns-clause-bits

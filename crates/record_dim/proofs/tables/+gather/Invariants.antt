@@ -8,6 +8,10 @@ use Rattle.record_dim.proofs.tables.+gather.Given as goal
 abbrev pub decreases-gather : goal.decreases-gather
 decreases-gather l = 2 * goal.size-gather l
 
+-- above that of its fields, and below that of the node
+abbrev pub decreases-gather_record : goal.decreases-gather_record
+decreases-gather_record l = 2 * goal.size-gather_record l + 1
+
 -- above that of one element, and below that of the array
 abbrev pub decreases-gather_elements : goal.decreases-gather_elements
 decreases-gather_elements l = 2 * goal.size-gather_elements l + 1

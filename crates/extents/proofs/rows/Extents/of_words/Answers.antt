@@ -4,7 +4,7 @@ use Rattle.std.proofs.lemmas.List.Elements.{All-set}
 use Rattle.extents.specs.declared.words.ExtentWord.TheVariants.{Fixed}
 use Rattle.extents.specs.Shapes.{extent_of}
 use Rattle.extents.specs.Stored.{padded}
-use Rattle.extents.proofs.ShapeLemmas.{padded_more, IsStored_from}
+use Rattle.extents.specs.ShapeLaws.{padded_more, IsStored_from}
 use Rattle.extents.proofs.rows.Extents.of_words.Goals as goal
 
 pub loop-d-preserved : goal.loop-d-preserved

@@ -4,7 +4,7 @@ use Rattle.std.specs.List.{list_any}
 use Rattle.std.proofs.lemmas.Bool.{false_from_ne_true, false≢true}
 use Rattle.extents.specs.Shapes.{is_rows, is_zero, extent_of, extents_for, fixed_product, HasRows, IsUneven, IsUnequal}
 use Rattle.extents.specs.Indices.{product}
-use Rattle.extents.proofs.ShapeLemmas.{same_fixed, product_fixed, product_divided, fixed_positive, settled, settled_too_many}
+use Rattle.extents.specs.ShapeLaws.{same_fixed, product_fixed, product_divided, fixed_positive, settled, settled_too_many, settled_first}
 use Rattle.extents.proofs.words.Shape.resolve.Goals as goal
 
 pub bounded-requires-clause-counted : goal.bounded-requires-clause-counted
@@ -30,6 +30,11 @@ pub returns-then-count_rows-eq0-clause-too_many : goal.returns-then-count_rows-e
 returns-then-count_rows-eq0-clause-too_many c =
     let s = fixed_settled c in
     settled_too_many c.args.self.now c.args.rows c.fixed_product-fixed.result (λ u. omega (arith, u.0, s.0)) s.1 s.2 c.bounded.ensures.too_many
+
+pub returns-then-count_rows-eq0-clause-first : goal.returns-then-count_rows-eq0-clause-first
+returns-then-count_rows-eq0-clause-first c =
+    let s = fixed_settled c in
+    settled_first c.args.self.now c.args.rows c.fixed_product-fixed.result c.bounded.result (λ u. omega (arith, u.0, s.0)) s.1 s.2 c.bounded.ensures.ok c.bounded.ensures.only
 
 pub returns-then-count_rows-eq0-clause-extents : goal.returns-then-count_rows-eq0-clause-extents
 returns-then-count_rows-eq0-clause-extents c =
@@ -78,3 +83,8 @@ pub returns-clause-too_many : goal.returns-clause-too_many
 returns-clause-too_many c =
     let s = rows_settled c in
     settled_too_many c.args.self.now c.args.rows c.from-rows.result s.0 s.1 s.2 c.bounded-2.ensures.too_many
+
+pub returns-clause-first : goal.returns-clause-first
+returns-clause-first c =
+    let s = rows_settled c in
+    settled_first c.args.self.now c.args.rows c.from-rows.result c.bounded-2.result s.0 s.1 s.2 c.bounded-2.ensures.ok c.bounded-2.ensures.only

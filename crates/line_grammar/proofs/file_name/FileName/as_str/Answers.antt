@@ -1,4 +1,4 @@
-use Rattle.line_grammar.proofs.FileBytes.{file_name_utf8}
+use Rattle.line_grammar.specs.FileBytesLaws.{file_name_utf8}
 use Rattle.line_grammar.proofs.file_name.FileName.as_str.Goals as goal
 
 pub unreachable-requires : goal.unreachable-requires

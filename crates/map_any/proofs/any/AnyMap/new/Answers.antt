@@ -1,36 +1,65 @@
-use Rattle.std.proofs.Common.{◌≡◌, ◌∙◌, List, Ok, ap, subst, sym, rules}
-use Rattle.record_dim.specs.declared.leaf_type.LeafType.{LeafType}
+use Rattle.std.proofs.Common.{◌≡◌, ◌∙◌, ℕ, List, Ok, map, length, refl, ap, subst, sym, rules}
 use Rattle.record_dim.specs.Schemas.{schema_fields}
 use Rattle.record_dim.specs.Leaves.{kinds_of}
-use Rattle.map_expr.specs.Terms.{term_of}
-use Rattle.map_expr.specs.Checks.{checked}
-use Rattle.map_any.specs.Mappings.{layout_of, holds_of, IsTooBigFor}
-use Rattle.map_any.proofs.LeafCells.{kinds_are}
-use Rattle.map_any.proofs.Faults.{refused}
+use Rattle.record_dim.specs.Trees.{Fields}
+use Rattle.places.specs.declared.piece.Cell.{Cell}
+use Rattle.places.specs.declared.piece.Hold.{Hold}
+use Rattle.map_expr.specs.Terms.{Term, term_of}
+use Rattle.map_expr.specs.Checks.{checked, bad_number}
+use Rattle.map_any.specs.Mappings.{leaf_cells, layout_of, layout_by, holds_by, IsBuiltTerm}
+use Rattle.map_any.specs.LeafRules.{AreLeafRules}
+use Rattle.map_any.specs.Ruled.{IsRuled}
+use Rattle.map_any.specs.declared.rule.Rule.{Rule}
+use Rattle.map_any.specs.Plans.{IsPlanOf}
+use Rattle.map_any.specs.TermLaws.{good_numbers}
+use Rattle.map_any.proofs.LeafLaws.{leaves_ruled, whole_holds, whole_rules}
+use Rattle.map_any.proofs.Built.{accepted_numbers, built_nameless}
 use Rattle.map_any.proofs.any.AnyMap.new.Goals as goal
 
-pub returns-in_err-node-clause-refused : goal.returns-in_err-node-clause-refused
-returns-in_err-node-clause-refused c =
-    let kinds : List LeafType = kinds_of (schema_fields c.args.schema.now) in
-    let accepted : checked (term_of c.args.expr.now) ≡ Ok tt = search rules in
-    let same = kinds_are c.in_ok-cells.cells kinds c.in_ok-cells.ensures in
-    refused c.from_residual-in_err-node.result c.in_err-node.field-0.0 (term_of c.args.expr.now) c.args.extents.now kinds
-    c.from_residual-in_err-node.ensures.1 accepted
-    (λ big. subst (λ (ks : List LeafType). IsTooBigFor (term_of c.args.expr.now) c.args.extents.now ks) same (c.in_err-node.ensures.too_big big))
-    c.in_err-node.ensures.only
+pub check-requires : goal.check-requires
+check-requires c = record { nameless = built_nameless (term_of c.args.expr.now) c.requires.built }
 
-pub returns-clause-holds : goal.returns-clause-holds
-returns-clause-holds c =
-    let kinds : List LeafType = kinds_of (schema_fields c.args.schema.now) in
-    c.in_ok-node.ensures.holds ∙ ap (holds_of (term_of c.args.expr.now)) (kinds_are c.in_ok-cells.cells kinds c.in_ok-cells.ensures)
+pub make_plan-requires-clause-numbers : goal.make_plan-requires-clause-numbers
+make_plan-requires-clause-numbers c =
+    let is_checked : checked (term_of c.args.expr.now) ≡ Ok tt = search rules in
+    good_numbers (term_of c.args.expr.now) (accepted_numbers (term_of c.args.expr.now) is_checked)
 
-pub returns-clause-layout : goal.returns-clause-layout
-returns-clause-layout c =
-    let kinds : List LeafType = kinds_of (schema_fields c.args.schema.now) in
-    c.in_ok-node.ensures.layout ∙ ap (layout_of (term_of c.args.expr.now) c.args.extents.now) (kinds_are c.in_ok-cells.cells kinds c.in_ok-cells.ensures)
+pub leaf_rules-requires-clause-holds : goal.leaf_rules-requires-clause-holds
+leaf_rules-requires-clause-holds c =
+    ap (λ (hs : List Hold). length hs) c.as_slice.ensures
+    ∙ whole_holds (term_of c.args.expr.now) c.args.extents.now (schema_fields c.args.schema.now) c.in_ok-cells.cells c.in_ok-plan.plan c.in_ok-plan.ensures.plan
+    c.in_ok-cells.ensures
 
-pub returns-clause-fits : goal.returns-clause-fits
-returns-clause-fits c = λ big.
-    let kinds : List LeafType = kinds_of (schema_fields c.args.schema.now) in
-    let same = kinds_are c.in_ok-cells.cells kinds c.in_ok-cells.ensures in
-    c.in_ok-node.ensures.fits (subst (λ (ks : List LeafType). IsTooBigFor (term_of c.args.expr.now) c.args.extents.now ks) (sym same) big)
+pub leaf_rules-requires-clause-rules : goal.leaf_rules-requires-clause-rules
+leaf_rules-requires-clause-rules c =
+    ap (λ (rs : List Rule). length rs) c.as_slice-2.ensures
+    ∙ whole_rules (term_of c.args.expr.now) c.args.extents.now (schema_fields c.args.schema.now) c.in_ok-cells.cells c.in_ok-plan.plan c.in_ok-plan.ensures.plan
+    c.in_ok-cells.ensures
+
+pub invariant_of-result : goal.invariant_of-result
+invariant_of-result c =
+    let term : Term = term_of c.args.expr.now in
+    let copy : Term = term_of c.in_ok-expr.expr in
+    let fields : Fields = schema_fields c.in_ok-schema.schema in
+    let extents : List ℕ = c.args.extents.now in
+    let plan = c.in_ok-plan.plan in
+    let is_checked : checked term ≡ Ok tt = search rules in
+    let same : copy ≡ term = c.in_ok-expr.ensures in
+    let trees : schema_fields c.args.schema.now ≡ fields = sym c.in_ok-schema.ensures in
+    let one = subst (λ (cs : List Cell). IsPlanOf term extents (schema_fields c.args.schema.now) cs plan) c.in_ok-cells.ensures c.in_ok-plan.ensures.plan in
+    let two = subst (λ (f : Fields). IsPlanOf term extents f (leaf_cells (kinds_of f)) plan) trees one in
+    let planned : IsPlanOf copy extents fields (leaf_cells (kinds_of fields)) plan =
+    subst (λ (t : Term). IsPlanOf t extents fields (leaf_cells (kinds_of fields)) plan) (sym same) two in
+    record {
+      built = subst IsBuiltTerm (sym same) c.requires.built;
+      numbers = ap bad_number same ∙ accepted_numbers term is_checked;
+      held = planned.held;
+      sized = planned.sized;
+      ruled = leaves_ruled (layout_by copy extents fields) extents (kinds_of fields) plan.holds plan.rules c.in_ok-rules.rules
+          (subst (λ (hs : List Hold). IsRuled (layout_by copy extents fields) extents (map (λ (h : Hold). h.width) hs) plan.rules) (sym planned.held) planned.ruled)
+          (whole_holds copy extents fields (leaf_cells (kinds_of fields)) plan planned refl)
+          (subst (λ (f : Fields). AreLeafRules (kinds_of f) plan.holds plan.rules c.in_ok-rules.rules) trees
+          (subst (λ (hs : List Hold). AreLeafRules (kinds_of (schema_fields c.args.schema.now)) hs plan.rules c.in_ok-rules.rules) c.as_slice.ensures
+          (subst (λ (rs : List Rule). AreLeafRules (kinds_of (schema_fields c.args.schema.now)) c.as_slice.result.now rs c.in_ok-rules.rules) c.as_slice-2.ensures
+          c.in_ok-rules.ensures)));
+    }

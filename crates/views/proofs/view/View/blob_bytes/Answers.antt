@@ -3,7 +3,6 @@ use Rattle.std.specs.List.{sum_by}
 use Rattle.std.proofs.lemmas.List.{take_all, get_or_read}
 use Rattle.std.proofs.lemmas.List.Sums.{sum_by_more_le}
 use Rattle.record_dim.specs.Schemas.{schema_fields}
-use Rattle.record_dim.specs.Leaves.{kinds_of}
 use Rattle.map_expr.specs.Terms.{term_of}
 use Rattle.places.specs.Layout.{Owner}
 use Rattle.views.specs.Seen.{Seen, seen_layout}
@@ -19,7 +18,7 @@ overflow_add-bytes c =
     sum_by_more_le (length {A = ℕ}) items c.loop-blob.blob-index [] c.loop-blob-test.true in
     let item : c.blob-item.result ≡ get_or items c.loop-blob.blob-index [] = get_or_read items c.loop-blob.blob-index c.blob-item.result c.loop-blob-test.true c.blob-item.is [] in
     let long : length c.blob-item.result ≡ length (get_or items c.loop-blob.blob-index []) = ap (length {A = ℕ}) item in
-    omega (arith, c.loop-blob.invariant, c.len.ensures, few_bytes (term_of a.expr) a.extents (kinds_of (schema_fields a.schema)) a.blobs.items c.self.invariant.1)
+    omega (arith, c.loop-blob.invariant, c.len.ensures, few_bytes (term_of a.expr) a.extents (schema_fields a.schema) a.blobs.items c.self.invariant.1)
 
 pub returns-clause-sum : goal.returns-clause-sum
 returns-clause-sum c =
@@ -29,7 +28,7 @@ returns-clause-sum c =
     let bytes : c.loop-blob.bytes ≡ sum_by (length {A = ℕ}) a.blobs.items =
     c.loop-blob.invariant ∙ ap (sum_by (length {A = ℕ})) (whole ∙ c.deref-blob-items.ensures.value) in
     ap (λ (n : ℕ). 8 * n) bytes
-    ∙ byte_count (term_of a.expr) a.extents (kinds_of (schema_fields a.schema)) a.blobs.items c.self.invariant.1
+    ∙ byte_count (term_of a.expr) a.extents (schema_fields a.schema) a.blobs.items c.self.invariant.1
     ∙ ap (λ (s : Seen). sum_by (length {A = Owner}) (seen_layout s)) c.self.view_is
 
 pub returns-clause-few : goal.returns-clause-few
@@ -39,4 +38,4 @@ returns-clause-few c =
     let whole : take c.loop-blob.blob-index items ≡ items = take_all c.loop-blob.blob-index items (omega arith) in
     let bytes : c.loop-blob.bytes ≡ sum_by (length {A = ℕ}) a.blobs.items =
     c.loop-blob.invariant ∙ ap (sum_by (length {A = ℕ})) (whole ∙ c.deref-blob-items.ensures.value) in
-    omega (arith, few_bytes (term_of a.expr) a.extents (kinds_of (schema_fields a.schema)) a.blobs.items c.self.invariant.1)
+    omega (arith, few_bytes (term_of a.expr) a.extents (schema_fields a.schema) a.blobs.items c.self.invariant.1)

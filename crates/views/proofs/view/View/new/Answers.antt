@@ -1,6 +1,6 @@
 use Rattle.std.proofs.Common.{◌∙◌, length, ap}
 use Rattle.record_dim.specs.Schemas.{schema_fields}
-use Rattle.record_dim.specs.Leaves.{leaves, kinds_of}
+use Rattle.record_dim.specs.Leaves.{leaves}
 use Rattle.record_dim.specs.Trees.{Fields}
 use Rattle.extents.specs.Indices.{indices}
 use Rattle.map_expr.specs.Terms.{term_of}
@@ -15,7 +15,7 @@ invariant_of-result c =
     let mapping = mapping_copied {extents = c.args.extents} c.in_ok-expr.ensures c.in_ok-schema.ensures
     (record { layout_is = made.layout; slots_are = made.slots; cells_are = made.cells; holds_are = made.holds }) in (
       mapping,
-      kept_zeros (term_of c.in_ok-expr.expr) c.args.extents (kinds_of (schema_fields c.in_ok-schema.schema)) c.in_ok-blobs.blobs.items
+      kept_zeros (term_of c.in_ok-expr.expr) c.args.extents (schema_fields c.in_ok-schema.schema) c.in_ok-blobs.blobs.items
           (lawful_there mapping c.laws_of.ensures.lawful) (paired_there mapping c.laws_of.ensures.paired)
           (within_copied c.args.extents c.in_ok-expr.ensures c.in_ok-schema.ensures made.fits)
           (laid_there mapping c.in_ok-blobs.blobs.items c.in_ok-blobs.ensures.laid) c.in_ok-blobs.ensures.zero,
@@ -28,7 +28,7 @@ returns-clause-table c =
     (record { layout_is = made.layout; slots_are = made.slots; cells_are = made.cells; holds_are = made.holds }) in
     let fields = schema_fields c.in_ok-schema.schema in
     let paired = paired_there mapping c.laws_of.ensures.paired in
-    zero_table (term_of c.in_ok-expr.expr) c.args.extents (kinds_of fields) c.in_ok-blobs.blobs.items
+    zero_table (term_of c.in_ok-expr.expr) c.args.extents fields c.in_ok-blobs.blobs.items
     (lawful_there mapping c.laws_of.ensures.lawful) paired (within_copied c.args.extents c.in_ok-expr.ensures c.in_ok-schema.ensures made.fits)
     (laid_there mapping c.in_ok-blobs.blobs.items c.in_ok-blobs.ensures.laid) c.in_ok-blobs.ensures.zero
     ∙ ap (zeros (length (indices c.args.extents))) (paired ∙ kind_count fields ∙ ap (λ (f : Fields). length (leaves f)) c.in_ok-schema.ensures)

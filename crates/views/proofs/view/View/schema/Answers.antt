@@ -1,3 +1,5 @@
+use Rattle.std.proofs.Common.{◌≡◌, length, subst}
+use Rattle.views.specs.Seen.{Seen, leaf_types_of, seen_holds}
 use Rattle.views.proofs.Opened.{table_seen}
 use Rattle.views.proofs.view.View.schema.Goals as goal
 
@@ -5,3 +7,7 @@ pub returns-clause-table : goal.returns-clause-table
 returns-clause-table c =
     let a = c.self.inside in
     table_seen a.schema a.extents a.expr a.blobs.items c.self.invariant.1 c.args.self.now c.self.view_is
+
+pub returns-clause-paired : goal.returns-clause-paired
+returns-clause-paired c =
+    subst (λ (s : Seen). length (seen_holds s) ≡ length (leaf_types_of s)) c.self.view_is c.self.invariant.1.paired

@@ -1,0 +1,28 @@
+use Rattle.std.proofs.Common.{◌<◌, ◌∙◌, ap, length}
+use Rattle.std.proofs.lemmas.List.{length-map}
+use Rattle.std.proofs.lemmas.Option.{slice_get_within}
+use Rattle.record_dim.specs.Leaves.{paths_of}
+use Rattle.record_dim.specs.Schemas.{schema_fields}
+use Rattle.expr_lang.specs.BindingLaws.{leaf_number_is}
+use Rattle.worlds.specs.Outcomes.{some_or}
+use Rattle.worlds.specs.declared.fault.CommandFault.TheVariants.{Unknown}
+use Rattle.worlds.specs.declared.fault.UnknownName.TheVariants.{Path}
+use Rattle.command_checks.proofs.leaves.leaf_of.Goals as goal
+
+pub returns-in-Some-clause-leaf : goal.returns-in-Some-clause-leaf
+returns-in-Some-clause-leaf c =
+    let number = leaf_number_is _ _ _ c.leaf_of.ensures.some c.leaf_of.ensures.only ∙ c.in-Some.is in
+    ap (some_or (Unknown (Path c.args.path.now))) (rw c.schema.ensures.value at number)
+
+pub returns-in-Some-clause-inside : goal.returns-in-Some-clause-inside
+returns-in-Some-clause-inside c =
+    let fields = schema_fields c.args.view.now.schema in
+    let there = rw c.schema.ensures.value at c.in-Some.ensures.some in
+    let within : c.in-Some.leaf < length (paths_of fields) = slice_get_within (paths_of fields) c.in-Some.leaf c.args.path.now there in
+    rw length-map at within
+
+pub returns-in_ok-copy-in-None-clause-leaf : goal.returns-in_ok-copy-in-None-clause-leaf
+returns-in_ok-copy-in-None-clause-leaf c =
+    let number = leaf_number_is _ _ _ c.leaf_of.ensures.some c.leaf_of.ensures.only ∙ c.in-None.is in
+    let told = ap (some_or (Unknown (Path c.args.path.now))) (rw c.schema.ensures.value at number) in
+    rw (c.unknown_path.ensures, c.in_ok-copy-in-None.ensures) told

@@ -1,0 +1,131 @@
+-- Laws of mappings that are built and have no name, and of the rows that words ask for.
+use Rattle.std.proofs.Common.{◌≡◌, ◌⊎◌, inl, inr, ℕ, zero, suc, ◌+◌, ◌<◌, ◌/◌, ◌%◌, Bool, true, false, not, nat_lt, count_by, List, length, Option, Some, None, refl, sym, ap, ◌∙◌, arith, ⊎_elim}
+use Rattle.std.specs.Prelude.{IsSome, IfSome, ◌==◌, ◌&&◌, if◌then◌else◌}
+use Rattle.std.proofs.lemmas.Bool.{false≢true, cases_Bool}
+use Rattle.std.proofs.lemmas.Bool.Decides.{nat_tests}
+use Rattle.extents.specs.declared.order.Order.{Order}
+use Rattle.extents.specs.declared.order.Order.TheVariants.{Row, Col, Morton}
+use Rattle.extents.specs.declared.words.ExtentWord.{ExtentWord}
+use Rattle.extents.specs.declared.words.BadExtents.{BadExtents as Bad}
+use Rattle.extents.specs.Indices.{indices, product}
+use Rattle.extents.specs.IndicesLaws.{length-indices}
+use Rattle.extents.specs.Shapes.{is_rows, HasRows, IsShape, bad_extents, extents_for, fixed_product}
+use Rattle.extents.specs.ShapeLaws.{product_divided, product_fixed}
+use Rattle.linearize.specs.Slots.{IsBuilt}
+use Rattle.map_expr.specs.Terms.{Term, Aos, Soa, Aosoa, BitAos, BitSoa, Split, Byteswap, Bytesplit, Change, Count, Heat, Named}
+use Rattle.map_expr.specs.Checks.{IsNameless}
+use Rattle.map_any.specs.Mappings.{IsBuiltTerm}
+use Rattle.worlds.specs.Built.{is_built_order}
+use Rattle.worlds.specs.Outcomes.{Goes, Faults}
+use Rattle.worlds.specs.Tables.{resolved}
+use Rattle.worlds.specs.declared.fault.CommandFault.TheVariants.{BadExtents}
+use Rattle.command_checks.specs.Bases.{is_base, rows_for}
+
+order_built : (order : Order) → is_built_order order ≡ true → IsBuilt order
+order_built Row e = tt
+order_built Col e = tt
+order_built Morton e = absurd (false≢true e)
+
+-- it has a mapping
+pub base_built : (term : Term) → is_base term ≡ true → IsBuiltTerm term
+base_built (Aos form order) e = order_built order e
+base_built (Soa form order) e = order_built order e
+base_built (Aosoa lanes order) e = order_built order e
+base_built (BitAos width order) e = absurd (false≢true e)
+base_built (BitSoa width order) e = absurd (false≢true e)
+base_built (Split path first rest) e = absurd (false≢true e)
+base_built (Byteswap inner) e = absurd (false≢true e)
+base_built (Bytesplit inner) e = absurd (false≢true e)
+base_built (Change from to inner) e = absurd (false≢true e)
+base_built (Count inner) e = absurd (false≢true e)
+base_built (Heat granule inner) e = absurd (false≢true e)
+base_built (Named name) e = absurd (false≢true e)
+
+-- and no name
+pub base_nameless : (term : Term) → is_base term ≡ true → IsNameless term
+base_nameless (Aos form order) e = tt
+base_nameless (Soa form order) e = tt
+base_nameless (Aosoa lanes order) e = tt
+base_nameless (BitAos width order) e = tt
+base_nameless (BitSoa width order) e = tt
+base_nameless (Split path first rest) e = absurd (false≢true e)
+base_nameless (Byteswap inner) e = absurd (false≢true e)
+base_nameless (Bytesplit inner) e = absurd (false≢true e)
+base_nameless (Change from to inner) e = absurd (false≢true e)
+base_nameless (Count inner) e = absurd (false≢true e)
+base_nameless (Heat granule inner) e = absurd (false≢true e)
+base_nameless (Named name) e = absurd (false≢true e)
+
+-- a number of rows is given where there is a `?`
+pub rows_for_some : (words : List ExtentWord) (rows : Option ℕ) → HasRows words → IsSome (rows_for words rows)
+rows_for_some words rows has =
+    let e : nat_lt 0 (count_by is_rows words) ≡ true = grind (arith, nat_tests) in
+    rw e refl
+
+some_not_none : (n : ℕ) → nat_lt 0 n ≡ true → (n == 0) ≡ false
+some_not_none n e = grind (arith, nat_tests)
+
+-- and it changes nothing
+pub rows_for_same : (words : List ExtentWord) (rows : Option ℕ) → resolved words (rows_for words rows) ≡ resolved words rows
+rows_for_same words None = ⊎_elim
+    (λ (e : nat_lt 0 (count_by is_rows words) ≡ true). let none = some_not_none (count_by is_rows words) e in rw (e, none) refl)
+    (λ (e : nat_lt 0 (count_by is_rows words) ≡ false). rw e refl)
+    (cases_Bool (nat_lt 0 (count_by is_rows words)))
+rows_for_same words (Some n) = ⊎_elim
+    (λ (e : nat_lt 0 (count_by is_rows words) ≡ true). rw e refl)
+    (λ (e : nat_lt 0 (count_by is_rows words) ≡ false). rw e refl)
+    (cases_Bool (nat_lt 0 (count_by is_rows words)))
+
+-- the first cause that refuses extents, or the extents
+pub resolves : (words : List ExtentWord) (rows : Option ℕ) (extents : List ℕ) → bad_extents words rows ≡ None → extents ≡ extents_for words rows → resolved words rows ≡ Goes extents
+resolves words rows extents none is = rw none (ap (λ (e : List ℕ). Goes e) (sym is))
+
+pub resolves_not : (words : List ExtentWord) (rows : Option ℕ) (bad : Bad) → bad_extents words rows ≡ Some bad → resolved words rows ≡ Faults (BadExtents bad)
+resolves_not words rows bad some = rw some refl
+
+-- the extents for so many rows have as many
+even : (n : ℕ) (r : ℕ) → 0 < n → (nat_lt 0 n && not (r == 0)) ≡ false → r ≡ 0
+even n r some e = grind (arith, nat_tests)
+
+rows_of_shape : (words : List ExtentWord) (rows : ℕ) → IsShape words → bad_extents words (Some rows) ≡ None → product (extents_for words (Some rows)) ≡ rows
+rows_of_shape words rows shape none =
+    let n = count_by is_rows words in
+    let fixed = fixed_product words in
+    ⊎_elim
+    (λ (has : 0 < n).
+    let one : n ≡ 1 = omega (arith, shape.one) in
+    let odd : (nat_lt 0 n && not (rows % fixed == 0)) ≡ false = first_false _ _ _ none in
+    sym (product_divided words rows fixed one refl (even n (rows % fixed) has odd)))
+    (λ (is : n ≡ 0).
+    let other : ((n == 0) && not (rows == fixed)) ≡ false = second_false _ _ _ _ _ none in
+    sym (product_fixed words (rows / fixed) fixed is refl) ∙ sym (same_rows n rows fixed is other))
+    (some_or_none n)
+  where
+    some_or_none : (n : ℕ) → (0 < n) ⊎ (n ≡ 0)
+    some_or_none zero = inr refl
+    some_or_none (suc n) = inl (omega arith)
+
+    same_rows : (n rows fixed : ℕ) → n ≡ 0 → ((n == 0) && not (rows == fixed)) ≡ false → rows ≡ fixed
+    same_rows n rows fixed is e = grind (arith, nat_tests)
+
+    first_false : (a : Bool) (x : Bad) (rest : Option Bad) → (if a then Some x else rest) ≡ None → a ≡ false
+    first_false true x rest e = absurd (cc)
+    first_false false x rest e = refl
+
+    second_false : (a b : Bool) (x y : Bad) (rest : Option Bad) → (if a then Some x else (if b then Some y else rest)) ≡ None → b ≡ false
+    second_false true b x y rest e = absurd (cc)
+    second_false false true x y rest e = absurd (cc)
+    second_false false false x y rest e = refl
+
+pub rows_are : (words : List ExtentWord) (rows : Option ℕ) (extents : List ℕ) → IsShape words → bad_extents words (rows_for words rows) ≡ None → extents ≡ extents_for words (rows_for words rows)
+    → IfSome rows (λ count. length (indices extents) ≡ count)
+rows_are words None extents shape none is = tt
+rows_are words (Some rows) extents shape none is =
+    let same : rows_for words (Some rows) ≡ Some rows = rows_for_given words rows in
+    length-indices extents ∙ ap product (is ∙ ap (extents_for words) same) ∙ rows_of_shape words rows shape (rw same at none)
+  where
+    rows_for_given : (words : List ExtentWord) (rows : ℕ) → rows_for words (Some rows) ≡ Some rows
+    rows_for_given words rows = ⊎_elim
+        (λ (e : nat_lt 0 (count_by is_rows words) ≡ true). rw e refl)
+        (λ (e : nat_lt 0 (count_by is_rows words) ≡ false). rw e refl)
+        (cases_Bool (nat_lt 0 (count_by is_rows words)))

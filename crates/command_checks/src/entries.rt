@@ -1,0 +1,26 @@
+use crate::mapping_entry::MappingEntry;
+use record_dim::{Name, Schema};
+use views::View;
+
+/// A record and its name.
+#[derive(Drop)]
+pub struct RecordEntry {
+    pub name: Name,
+    pub schema: Schema,
+}
+
+/// A view and its name.
+#[derive(Drop)]
+pub struct ViewEntry {
+    pub name: Name,
+    pub view: View,
+}
+
+/// The records of a session, in the order in which they were named.
+pub type RecordList = Vec<RecordEntry>;
+
+/// The mappings of a session, in the order in which they were named.
+pub type MappingList = Vec<MappingEntry>;
+
+/// The live views of a session, in the order in which they were named.
+pub type ViewList = Vec<ViewEntry>;

@@ -1,0 +1,18 @@
+//! The tests that refuse a command of a session, one for each cause.
+#![tactic(auto)]
+
+mod entries;
+mod fault;
+mod leaves;
+mod mapping_entry;
+mod mappings;
+mod names;
+mod tables;
+
+pub use entries::{MappingList, RecordEntry, RecordList, ViewEntry, ViewList};
+pub use fault::StepFault;
+pub use leaves::{bound, leaf_of, leaf_text};
+pub use mapping_entry::MappingEntry;
+pub use mappings::nameless;
+pub use names::{free_mapping, free_record, free_view, known_view, schema_of};
+pub use tables::{has_room, made, resolved, shaped};

@@ -1,0 +1,128 @@
+// New views, and what refuses them.
+ghost use Rattle.std.specs.Prelude.{◌≡◌, ◌*◌, ◌^◌, ◌<◌, ◌≤◌, IfOk, IfSome, OnOk, nat_lt, count_by, map, length, true};
+ghost use Rattle.extents.specs.Indices.{indices};
+ghost use Rattle.extents.specs.Shapes.{is_rows, IsShape};
+ghost use Rattle.map_expr.specs.Terms.{term_of};
+ghost use Rattle.record_dim.specs.Schemas.{schema_fields};
+ghost use Rattle.worlds.specs.Tables.{room, shaped, resolved, made, live_bits};
+ghost use Rattle.command_checks.specs.Bases.{is_base, rows_for};
+ghost use Rattle.command_checks.specs.Entries.{view_of, table_of};
+ghost use Rattle.command_checks.specs.Gives.{Gives};
+
+use crate::entries::ViewEntry;
+use crate::fault::StepFault;
+use extents::{ExtentWord, Extents, Shape};
+use map_expr::MapExpr;
+use record_dim::Schema;
+use std::alloc::Global;
+use views::{MakeView, View};
+use worlds::CommandFault;
+
+/// The most live views.
+const MOST_VIEWS: usize = 64;
+
+/// The most bytes of the blobs of all live views.
+const MOST_BYTES: u64 = 1 << 30;
+
+/// That a view more may live.
+pub fn has_room(views: &[ViewEntry]) -> Result<(), StepFault>
+    ensures room { Gives (λ done. tt) result (room (map view_of views.now)) }
+    ensures few { OnOk result (length views.now < 64) }
+{
+    if views.len() >= MOST_VIEWS {
+        return Err(StepFault::Command(CommandFault::TooManyViews));
+    }
+    Ok(())
+}
+
+/// The shape of these words.
+pub fn shaped(words: &[ExtentWord]) -> Result<Shape, StepFault>
+    ensures shape { IfOk result (λ shape. shape ≡ words.now) }
+    ensures is_shape { OnOk result (IsShape words.now) }
+    ensures shaped { Gives (λ shape. tt) result (shaped words.now) }
+{
+    match Shape::new(words) {
+        Ok(shape) => Ok(shape),
+        Err(bad) => Err(StepFault::Command(CommandFault::BadExtents(bad))),
+    }
+}
+
+/// The extents for the rows of a dataset; without one, no row is left for `?`.
+pub fn resolved(
+    shape: &Shape,
+    words: &[ExtentWord],
+    rows: Option<u64>,
+) -> Result<Extents, StepFault>
+    requires words { shape.now ≡ words.now }
+    requires is_shape { IsShape words.now }
+    ensures extents { Gives (λ extents. extents) result (resolved words.now rows) }
+    ensures rows { IfOk result (λ extents. IfSome rows (λ count. length (indices extents) ≡ count)) }
+{
+    match shape.resolve(rows_for(words, rows)) {
+        Ok(extents) => Ok(extents),
+        Err(bad) => Err(StepFault::Command(CommandFault::BadExtents(bad))),
+    }
+}
+
+fn rows_for(words: &[ExtentWord], rows: Option<u64>) -> Option<u64>
+    ensures { result ≡ rows_for words.now rows }
+{
+    if has_rows(words) {
+        Some(rows.unwrap_or(0))
+    } else {
+        rows
+    }
+}
+
+fn has_rows(words: &[ExtentWord]) -> bool
+    ensures { result ≡ nat_lt 0 (count_by is_rows words.now) }
+{
+    words.iter().filter(|word| is_rows(word)).count() > 0
+}
+
+fn is_rows(word: &ExtentWord) -> bool
+    ensures { result ≡ is_rows word.now }
+{
+    matches!(word, ExtentWord::Rows)
+}
+
+/// A view of zeros beside the views that live.
+pub fn made(
+    alloc: Global,
+    views: &[ViewEntry],
+    schema: &Schema,
+    extents: Extents,
+    expr: &MapExpr,
+) -> Result<View, StepFault>
+    requires base { is_base (term_of expr.now) ≡ true }
+    requires few { length views.now < 64 }
+    ensures made { Gives table_of result (made (map view_of views.now) (schema_fields schema.now) extents (term_of expr.now)) }
+    ensures extents { IfOk result (λ view. view.extents ≡ extents) }
+{
+    match View::new(alloc, schema, extents, expr) {
+        Ok(view) => {
+            if live_bytes(views) + view.blob_bytes() > MOST_BYTES {
+                return Err(StepFault::Command(CommandFault::TooBig));
+            }
+            Ok(view)
+        }
+        Err(fault) => match fault {
+            MakeView::Bad(bad) => Err(StepFault::Command(CommandFault::BadMapping(bad))),
+            MakeView::TooBig => Err(StepFault::Command(CommandFault::TooBig)),
+            MakeView::NoMemory => Err(StepFault::NoMemory),
+        },
+    }
+}
+
+// The bytes of the blobs of all live views.
+fn live_bytes(views: &[ViewEntry]) -> u64
+    requires { length views.now < 64 }
+    ensures sum { 8 * result ≡ live_bits (map view_of views.now) }
+    ensures few { result ≤ 2 ^ 34 }
+{
+    let mut bytes = 0;
+    for entry in views {
+        bytes += entry.view.blob_bytes();
+    }
+    bytes
+}

@@ -1,0 +1,104 @@
+-- A number that is further from 0 than any leaf reaches.
+use Rattle.std.proofs.Common.{◌≡◌, ◌⊎◌, inl, inr, ℕ, zero, suc, ◌^◌, ◌-◌, ◌<◌, List, [], ◌∷◌, ◌≤◌, min, Bool, true, false, ◌&&◌, ℤ, pos, negsuc, neg_ℤ, ◌<ℤ◌, Result, Err, Option, Some, None, refl, sym, ap, ◌∙◌, arith, ⊎_elim}
+use Rattle.std.specs.Prelude.{int_le, option_map}
+use Rattle.std.specs.List.{slice_get}
+use Rattle.std.proofs.lemmas.Int.{ints}
+use Rattle.std.proofs.lemmas.Bool.{cases_lt}
+use Rattle.record_dim.specs.declared.leaf_type.LeafType.{LeafType}
+use Rattle.record_dim.specs.declared.leaf_type.LeafType.TheVariants.{Bool as Truth, U8, U16, U32, U64, I8, I16, I32, I64}
+use Rattle.record_dim.specs.LeafTypes.{least_of, greatest_of}
+use Rattle.places.specs.declared.piece.Hold.{Hold}
+use Rattle.views.specs.Stores.{store_answer}
+use Rattle.views.specs.declared.fault.StoreFault.TheVariants.{Range}
+use Rattle.csv.specs.Records.{field_at}
+use Rattle.csv_rows.specs.Clipped.{clipped}
+use Rattle.csv_rows.specs.Datasets.{◌>>=◌, Place, unspaced, number_of, the_field, the_number, taken, value_at}
+use Rattle.csv_rows.specs.declared.fault.RowFault.{RowFault}
+use Rattle.csv_rows.specs.declared.fault.RowFault.TheVariants.{ShortRow, Number}
+use Rattle.csv_rows.proofs.CsvReads.{some_is}
+
+int_le-false : (a b : ℤ) → b <ℤ a → int_le a b ≡ false
+int_le-false a b e = grind (arith, ints)
+
+and_false : (a b : Bool) → b ≡ false → (a && b) ≡ false
+and_false true b e = e
+and_false false b e = refl
+
+and_first : (a b : Bool) → a ≡ false → (a && b) ≡ false
+and_first true b e = absurd (cc e)
+and_first false b e = refl
+
+-- above every range, and below
+above_all : (kind : LeafType) (n : ℕ) → 2 ^ 65 ≤ n → greatest_of kind <ℤ pos n
+above_all Truth n far = grind (arith, ints)
+above_all U8 n far = grind (arith, ints)
+above_all U16 n far = grind (arith, ints)
+above_all U32 n far = grind (arith, ints)
+above_all U64 n far = grind (arith, ints)
+above_all I8 n far = grind (arith, ints)
+above_all I16 n far = grind (arith, ints)
+above_all I32 n far = grind (arith, ints)
+above_all I64 n far = grind (arith, ints)
+
+below_all : (kind : LeafType) (n : ℕ) → 2 ^ 65 ≤ suc n → negsuc n <ℤ least_of kind
+below_all Truth n far = grind (arith, ints)
+below_all U8 n far = grind (arith, ints)
+below_all U16 n far = grind (arith, ints)
+below_all U32 n far = grind (arith, ints)
+below_all U64 n far = grind (arith, ints)
+below_all I8 n far = grind (arith, ints)
+below_all I16 n far = grind (arith, ints)
+below_all I32 n far = grind (arith, ints)
+below_all I64 n far = grind (arith, ints)
+
+far_above : (kind : LeafType) (hold : Hold) (n : ℕ) → 2 ^ 65 ≤ n → store_answer kind hold (pos n) ≡ Err Range
+far_above kind hold n far = rw (and_false (int_le (least_of kind) (pos n)) (int_le (pos n) (greatest_of kind)) (int_le-false (pos n) (greatest_of kind) (above_all kind n far))) refl
+
+far_below : (kind : LeafType) (hold : Hold) (n : ℕ) → 2 ^ 65 ≤ suc n → store_answer kind hold (negsuc n) ≡ Err Range
+far_below kind hold n far = rw (and_first (int_le (least_of kind) (negsuc n)) (int_le (negsuc n) (greatest_of kind)) (int_le-false (least_of kind) (negsuc n) (below_all kind n far))) refl
+
+-- a number is kept as it is, or is refused as what is kept of it
+pub kept : (kind : LeafType) (hold : Hold) (z : ℤ) → (clipped z ≡ z) ⊎ ((store_answer kind hold z ≡ Err Range) × (store_answer kind hold (clipped z) ≡ Err Range))
+kept kind hold (pos n) =
+    ⊎_elim (λ (near : n < 2 ^ 65). let same : min (2 ^ 65) n ≡ n = omega arith in inl (ap pos same))
+    (λ (far : 2 ^ 65 ≤ n). let most : min (2 ^ 65) n ≡ 2 ^ 65 = omega arith in inr (far_above kind hold n far, ap (λ m. store_answer kind hold (pos m)) most ∙ far_above kind hold (2 ^ 65) (omega arith)))
+    (cases_lt n (2 ^ 65))
+kept kind hold (negsuc n) =
+    ⊎_elim (λ (near : suc n < 2 ^ 65). let same : min (2 ^ 65) (suc n) ≡ suc n = omega arith in inl (ap (λ m. neg_ℤ (pos m)) same))
+    (λ (far : 2 ^ 65 ≤ suc n). let most : min (2 ^ 65) (suc n) ≡ suc (2 ^ 65 - 1) = omega arith in inr (far_below kind hold n far, ap (λ m. store_answer kind hold (neg_ℤ (pos m))) most ∙ far_below kind hold (2 ^ 65 - 1) (omega arith)))
+    (cases_lt (suc n) (2 ^ 65))
+
+-- the field at a place
+same_at : (fields : List (List ℕ)) (i : ℕ) → slice_get fields i ≡ field_at fields i
+unfolding field_at
+same_at [] i = refl
+same_at (field ∷ fields) zero = refl
+same_at (field ∷ fields) (suc i) = same_at fields i
+
+none_from : (number : Option ℤ) → option_map clipped number ≡ None → number ≡ None
+none_from None e = refl
+none_from (Some z) e = absurd (cc e)
+
+abbrev value_of : Place → Option ℤ → Result ℤ RowFault
+value_of place number = the_number place number >>= (λ value. taken place value (store_answer place.kind place.hold value))
+
+-- no field, a field that is no number, and one that is
+pub value_short : (place : Place) (fields : List (List ℕ)) → field_at fields place.column ≡ None → value_at place fields ≡ Err (ShortRow place.row place.leaf)
+value_short place fields none = ap (λ (field : Option (List ℕ)). the_field place field >>= (λ text. value_of place (number_of (unspaced text)))) (same_at fields place.column ∙ none)
+
+value_in : (place : Place) (fields : List (List ℕ)) (field : List ℕ) → field_at fields place.column ≡ Some field → value_at place fields ≡ value_of place (number_of (unspaced field))
+value_in place fields field some = ap (λ (found : Option (List ℕ)). the_field place found >>= (λ text. value_of place (number_of (unspaced text)))) (same_at fields place.column ∙ some)
+
+pub value_none : (place : Place) (fields : List (List ℕ)) (field : List ℕ) → field_at fields place.column ≡ Some field → option_map clipped (number_of (unspaced field)) ≡ None → value_at place fields ≡ Err (Number place.row place.leaf)
+value_none place fields field some none = value_in place fields field some ∙ ap (value_of place) (none_from (number_of (unspaced field)) none)
+
+clip_of : (place : Place) (number : Option ℤ) (value : ℤ) → option_map clipped number ≡ Some value → value_of place number ≡ taken place value (store_answer place.kind place.hold value)
+clip_of place None value is = absurd (cc is)
+clip_of place (Some z) value is = ⊎_elim
+    (λ (same : clipped z ≡ z). ap (λ v. taken place v (store_answer place.kind place.hold v)) (sym same ∙ some_is is))
+    (λ (far : (store_answer place.kind place.hold z ≡ Err Range) × (store_answer place.kind place.hold (clipped z) ≡ Err Range)).
+    ap (taken place z) far.0 ∙ sym (ap (λ v. taken place value (store_answer place.kind place.hold v)) (sym (some_is is)) ∙ ap (taken place value) far.1))
+    (kept place.kind place.hold z)
+
+pub value_some : (place : Place) (fields : List (List ℕ)) (field : List ℕ) (value : ℤ) → field_at fields place.column ≡ Some field → option_map clipped (number_of (unspaced field)) ≡ Some value → value_at place fields ≡ taken place value (store_answer place.kind place.hold value)
+value_some place fields field value some is = value_in place fields field some ∙ clip_of place (number_of (unspaced field)) value is

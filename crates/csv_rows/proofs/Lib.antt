@@ -1,0 +1,16 @@
+pub mod Clips
+pub mod Commas
+pub mod CsvReads
+pub mod Cutting
+pub mod Headers
+pub mod Leaves
+pub mod Numbers
+pub mod PlainCounts
+pub mod PlainLines
+pub mod PrintedAgain
+pub mod PrintedBytes
+pub mod PrintedColumns
+pub mod PrintedLines
+pub mod PrintedRows
+pub mod Sequences
+pub mod Tables

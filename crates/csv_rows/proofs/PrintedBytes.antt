@@ -1,0 +1,168 @@
+-- The bytes of names and of decimal texts, which stand in a line as they are.
+use Rattle.std.proofs.Common.{◌≡◌, ℕ, suc, ◌+◌, ◌*◌, ◌/◌, ◌%◌, ◌^◌, ◌<◌, ◌≤◌, Bool, true, false, not, ◌&&◌, ◌||◌, nat_eq, List, [], ◌∷◌, ◌++◌, get_or, reverse, ℤ, pos, negsuc, neg_ℤ, Some, None, refl, sym, ap, subst, ◌∙◌, arith}
+use Rattle.std.specs.Prelude.{All, if◌then◌else◌, option_map}
+use Rattle.std.specs.List.{list_all}
+use Rattle.std.specs.Char.{is_ascii_digit, digit_value}
+use Rattle.std.specs.Str.Parse.{digits_value, digits_value_after}
+use Rattle.std.proofs.lemmas.Bool.Decides.{nat_tests}
+use Rattle.std.proofs.lemmas.Fmt.{decimal_by_steps_wide}
+use Rattle.std.proofs.lemmas.List.{reverse-reverse, reverse-append}
+use Rattle.std.proofs.lemmas.List.Folds.{list_all-append}
+use Rattle.std.proofs.lemmas.List.Sums.{AllPass-from_list_all}
+use Rattle.std.proofs.lemmas.Str.{digit_value_digit}
+use Rattle.layout_io.specs.Decimal.{digits_text, decimal_text}
+use Rattle.layout_io.specs.DecimalLaws.{decimal-digits_text}
+use Rattle.csv_rows.specs.Datasets.{is_blank, behind_blanks, before_blanks, unspaced, all_digits, digits_number, number_of}
+use Rattle.csv_rows.specs.Plain.{is_comma, is_line_end}
+use Rattle.csv_rows.specs.Printed.{is_plain_byte, is_plain_text}
+
+pub and_parts : (a b : Bool) → (a && b) ≡ true → (a ≡ true) × (b ≡ true)
+and_parts true b e = (refl, e)
+and_parts false b e = cc e
+
+pub and_both : (a b : Bool) → a ≡ true → b ≡ true → (a && b) ≡ true
+and_both a b e f = rw (e, f) refl
+
+-- what a plain byte is not
+pub record IsPlainByte (c : ℕ) : Type 0 where
+  pub comma : is_comma c ≡ false
+  pub quote : nat_eq c 34 ≡ false
+  pub ending : is_line_end c ≡ false
+  pub blank : is_blank c ≡ false
+  pub mark : nat_eq c 239 ≡ false
+
+none_of : (a b c d e f g : Bool) → not (a || (b || (c || (d || (e || (f || (g || false))))))) ≡ true
+    → (a ≡ false) × (b ≡ false) × (c ≡ false) × (d ≡ false) × (e ≡ false) × (f ≡ false) × (g ≡ false)
+none_of true b c d e f g h = cc h
+none_of false true c d e f g h = cc h
+none_of false false true d e f g h = cc h
+none_of false false false true e f g h = cc h
+none_of false false false false true f g h = cc h
+none_of false false false false false true g h = cc h
+none_of false false false false false false true h = cc h
+none_of false false false false false false false h = (refl, refl, refl, refl, refl, refl, refl)
+
+pub plain_byte : (c : ℕ) → is_plain_byte c ≡ true → IsPlainByte c
+plain_byte c plain =
+    let (tab, feed, ret, space, quote, comma, mark) = none_of (nat_eq c 9) (nat_eq c 10) (nat_eq c 13) (nat_eq c 32) (nat_eq c 34) (nat_eq c 44) (nat_eq c 239) plain in
+    record { comma = comma; quote = quote; ending = rw (ret, feed) refl; blank = rw (space, tab) refl; mark = mark }
+
+-- the same of each byte of a text
+pub plain_bytes : (P : ℕ → Type 0) → ((c : ℕ) → IsPlainByte c → P c) → (xs : List ℕ) → list_all is_plain_byte xs ≡ true → All P xs
+plain_bytes P of xs plain = λ k d small. of (get_or xs k d) (plain_byte (get_or xs k d) (AllPass-from_list_all is_plain_byte xs plain k d small))
+
+all_reversed : (xs : List ℕ) → list_all is_plain_byte xs ≡ true → list_all is_plain_byte (reverse xs) ≡ true
+all_reversed [] plain = refl
+all_reversed (c ∷ xs) plain =
+    let (one, rest) = and_parts (is_plain_byte c) (list_all is_plain_byte xs) plain in
+    ap (list_all is_plain_byte) (reverse-append (c ∷ []) xs) ∙ list_all-append is_plain_byte (reverse xs) (c ∷ [])
+    ∙ and_both (list_all is_plain_byte (reverse xs)) (is_plain_byte c && true) (all_reversed xs rest) (and_both (is_plain_byte c) true one refl)
+
+front_same : (xs : List ℕ) → list_all is_plain_byte xs ≡ true → behind_blanks xs ≡ xs
+front_same [] plain = refl
+front_same (c ∷ xs) plain =
+    let no : is_blank c ≡ false = (plain_byte c (and_parts (is_plain_byte c) (list_all is_plain_byte xs) plain).0).blank in
+    ap (λ (b : Bool). if b then behind_blanks xs else c ∷ xs) no
+
+-- no blank stands at its ends
+pub unspaced_same : (xs : List ℕ) → list_all is_plain_byte xs ≡ true → unspaced xs ≡ xs
+unspaced_same xs plain = ap before_blanks (front_same xs plain) ∙ ap reverse (front_same (reverse xs) (all_reversed xs plain)) ∙ reverse-reverse xs
+
+-- digits, and the number that they write
+pub record AreDigits (n : ℕ) (text : List ℕ) : Type 0 where
+  pub all : list_all is_ascii_digit text ≡ true
+  pub value : digits_value 10 text ≡ n
+  pub first : ℕ
+  pub rest : List ℕ
+  pub is : text ≡ first ∷ rest
+
+digit_is : (n : ℕ) → n < 10 → is_ascii_digit (48 + n) ≡ true
+digit_is n small = grind (arith, nat_tests)
+
+digit_worth : (n : ℕ) → n < 10 → digit_value (48 + n) ≡ n
+digit_worth n small = omega (arith, digit_value_digit (48 + n) (omega arith, omega arith))
+
+value_push : (m : ℕ) (xs : List ℕ) (c : ℕ) → digits_value_after 10 m (xs ++ c ∷ []) ≡ digits_value_after 10 m xs * 10 + digit_value c
+value_push m [] c = refl
+value_push m (x ∷ xs) c = value_push (m * 10 + digit_value x) xs c
+
+digits_one : (n : ℕ) → n < 10 → AreDigits n ((48 + n) ∷ [])
+digits_one n small = record {
+  all = and_both (is_ascii_digit (48 + n)) true (digit_is n small) refl;
+  value = omega (arith, digit_worth n small);
+  first = 48 + n;
+  rest = [];
+  is = refl;
+}
+
+digits_more : (n : ℕ) (text : List ℕ) → 10 ≤ n → AreDigits (n / 10) text → AreDigits n (text ++ (48 + n % 10) ∷ [])
+digits_more n text long front =
+    let low : n % 10 < 10 = omega arith in
+    record {
+      all = list_all-append is_ascii_digit text ((48 + n % 10) ∷ []) ∙ and_both (list_all is_ascii_digit text) (is_ascii_digit (48 + n % 10) && true) front.all (and_both (is_ascii_digit (48 + n % 10)) true (digit_is (n % 10) low) refl);
+      value = value_push 0 text (48 + n % 10) ∙ omega (arith, front.value, digit_worth (n % 10) low);
+      first = front.first;
+      rest = front.rest ++ (48 + n % 10) ∷ [];
+      is = ap (λ (t : List ℕ). t ++ (48 + n % 10) ∷ []) front.is;
+    }
+
+pub digits_are : (n : ℕ) → n < 10 ^ 64 → AreDigits n (digits_text n)
+digits_are n small = subst (AreDigits n) (decimal-digits_text n small) (decimal_by_steps_wide AreDigits digits_one digits_more n small)
+
+-- a digit and a minus are plain
+plain_digit : (c : ℕ) → is_ascii_digit c ≡ true → is_plain_byte c ≡ true
+plain_digit c digit =
+    let a : nat_eq c 9 ≡ false = grind (arith, nat_tests) in
+    let b : nat_eq c 10 ≡ false = grind (arith, nat_tests) in
+    let d : nat_eq c 13 ≡ false = grind (arith, nat_tests) in
+    let e : nat_eq c 32 ≡ false = grind (arith, nat_tests) in
+    let f : nat_eq c 34 ≡ false = grind (arith, nat_tests) in
+    let g : nat_eq c 44 ≡ false = grind (arith, nat_tests) in
+    let h : nat_eq c 239 ≡ false = grind (arith, nat_tests) in
+    rw (a, b, d, e, f, g, h) refl
+
+plain_digits : (xs : List ℕ) → list_all is_ascii_digit xs ≡ true → list_all is_plain_byte xs ≡ true
+plain_digits [] digits = refl
+plain_digits (c ∷ xs) digits =
+    let (one, rest) = and_parts (is_ascii_digit c) (list_all is_ascii_digit xs) digits in
+    and_both (is_plain_byte c) (list_all is_plain_byte xs) (plain_digit c one) (plain_digits xs rest)
+
+pub plain_some : (c : ℕ) (xs text : List ℕ) → text ≡ c ∷ xs → list_all is_plain_byte text ≡ true → is_plain_text text ≡ true
+plain_some c xs text is plain = ap is_plain_text is ∙ ap (list_all is_plain_byte) (sym is) ∙ plain
+
+pub digits_read : (n : ℕ) (text : List ℕ) → AreDigits n text → digits_number text ≡ Some n
+digits_read n text digits =
+    let some : digits_number (digits.first ∷ digits.rest) ≡ all_digits (digits.first ∷ digits.rest) = refl in
+    ap digits_number digits.is ∙ some ∙ ap all_digits (sym digits.is)
+    ∙ ap (λ (b : Bool). if b then Some (digits_value 10 text) else None) digits.all ∙ ap (λ (m : ℕ). Some m) digits.value
+
+no_sign : (c : ℕ) → is_ascii_digit c ≡ true → (nat_eq c 43 ≡ false) × (nat_eq c 45 ≡ false)
+no_sign c digit = (grind (arith, nat_tests), grind (arith, nat_tests))
+
+number_digits : (c : ℕ) (xs : List ℕ) → is_ascii_digit c ≡ true → number_of (c ∷ xs) ≡ option_map pos (digits_number (c ∷ xs))
+number_digits c xs digit = let (plus, minus) = no_sign c digit in rw (plus, minus) refl
+
+-- what the text of a number is
+pub record IsNumberText (z : ℤ) (text : List ℕ) : Type 0 where
+  pub plain : list_all is_plain_byte text ≡ true
+  pub some : is_plain_text text ≡ true
+  pub number : number_of text ≡ Some z
+
+pub number_text : (z : ℤ) → ((n : ℕ) → z ≡ pos n → n < 10 ^ 64) → ((n : ℕ) → z ≡ negsuc n → suc n < 10 ^ 64) → IsNumberText z (decimal_text z)
+number_text (pos n) small low =
+    let digits = digits_are n (small n refl) in
+    let plain = plain_digits (digits_text n) digits.all in
+    let first = (and_parts (is_ascii_digit digits.first) (list_all is_ascii_digit digits.rest) (ap (list_all is_ascii_digit) (sym digits.is) ∙ digits.all)).0 in
+    record {
+      plain = plain;
+      some = plain_some digits.first digits.rest (digits_text n) digits.is plain;
+      number = ap number_of digits.is ∙ number_digits digits.first digits.rest first ∙ ap (λ (t : List ℕ). option_map pos (digits_number t)) (sym digits.is) ∙ ap (option_map pos) (digits_read n (digits_text n) digits);
+    }
+number_text (negsuc n) small low =
+    let digits = digits_are (suc n) (low n refl) in
+    let plain = plain_digits (digits_text (suc n)) digits.all in
+    record {
+      plain = plain;
+      some = plain;
+      number = ap (option_map (λ m. neg_ℤ (pos m))) (digits_read (suc n) (digits_text (suc n)) digits);
+    }

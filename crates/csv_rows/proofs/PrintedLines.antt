@@ -1,0 +1,115 @@
+-- The records of lines of plain parts are these parts.
+use Rattle.std.proofs.Common.{◌≡◌, ℕ, ◌+◌, ◌<◌, Bool, true, false, ◌&&◌, nat_eq, List, [], ◌∷◌, ◌++◌, map, flat_map, refl, ap, ◌∙◌, arith, append_assoc, append-nil, ℤ}
+use Rattle.std.specs.Prelude.{All, filter, if◌then◌else◌}
+use Rattle.std.specs.List.{slice_split, list_all, enumerate_from}
+use Rattle.std.proofs.lemmas.List.Elements.{All-append, All-cons}
+use Rattle.std.proofs.lemmas.List.Splits.{slice_split_none, slice_split_at}
+use Rattle.csv.specs.Reading.{strip_bom}
+use Rattle.csv.specs.declared.parser.State.TheVariants as st
+use Rattle.layout_io.specs.Decimal.{decimal_text}
+use Rattle.csv_rows.specs.Readers.{rows_from}
+use Rattle.csv_rows.specs.Datasets.{records_of}
+use Rattle.csv_rows.specs.Plain.{is_comma, is_line_end, is_some_line, plain_records, HasNoQuote}
+use Rattle.csv_rows.specs.Printed.{is_plain_byte, is_plain_text}
+use Rattle.csv_rows.specs.Texts.{with_comma, comma_joined, comma_line, print_text}
+use Rattle.csv_rows.proofs.Commas.{comma_behind}
+use Rattle.csv_rows.proofs.PlainLines.{is_plain}
+use Rattle.csv_rows.proofs.PrintedBytes.{IsPlainByte, plain_byte, plain_bytes, and_parts}
+
+-- parts that are not the first of a line
+abbrev joined_behind : List (List ℕ) → List ℕ
+joined_behind parts = flat_map (λ part. 44 ∷ part) parts
+
+comma_rest : (n : ℕ) (parts : List (List ℕ)) → 0 < n → flat_map with_comma (enumerate_from n parts) ≡ joined_behind parts
+comma_rest n [] later = refl
+comma_rest n (part ∷ parts) later =
+    ap (λ (t : List ℕ). t ++ flat_map with_comma (enumerate_from (n + 1) parts)) (comma_behind n part (λ e. absurd (omega arith)))
+    ∙ ap (λ (t : List ℕ). (44 ∷ part) ++ t) (comma_rest (n + 1) parts (omega arith))
+
+joined_is : (part : List ℕ) (parts : List (List ℕ)) → comma_joined (part ∷ parts) ≡ part ++ joined_behind parts
+joined_is part parts = ap (λ (t : List ℕ). part ++ t) (comma_rest (0 + 1) parts (omega arith))
+
+-- parts that have a byte, and plain ones alone
+abbrev AllPlain : List (List ℕ) → Type 0
+AllPlain parts = list_all is_plain_text parts ≡ true
+
+pub plain_part : (part : List ℕ) → is_plain_text part ≡ true → list_all is_plain_byte part ≡ true
+plain_part [] plain = cc plain
+plain_part (c ∷ part) plain = plain
+
+joined_all : (P : ℕ → Type 0) → ((c : ℕ) → IsPlainByte c → P c) → P 44 → (part : List ℕ) (parts : List (List ℕ)) → is_plain_text part ≡ true → AllPlain parts → All P (part ++ joined_behind parts)
+joined_all P of comma part [] plain more = rw append-nil (plain_bytes P of part (plain_part part plain))
+joined_all P of comma part (other ∷ parts) plain more =
+    let (one, rest) = and_parts (is_plain_text other) (list_all is_plain_text parts) more in
+    All-append P part (44 ∷ (other ++ joined_behind parts)) (plain_bytes P of part (plain_part part plain)) (All-cons P 44 (other ++ joined_behind parts) comma (joined_all P of comma other parts one rest))
+
+cut_joined : (part : List ℕ) (parts : List (List ℕ)) → is_plain_text part ≡ true → AllPlain parts → slice_split is_comma (part ++ joined_behind parts) ≡ part ∷ parts
+cut_joined part [] plain more = ap (slice_split is_comma) (append-nil part) ∙ slice_split_none is_comma part (plain_bytes (λ c. is_comma c ≡ false) (λ c is. is.comma) part (plain_part part plain))
+cut_joined part (other ∷ parts) plain more =
+    let (one, rest) = and_parts (is_plain_text other) (list_all is_plain_text parts) more in
+    slice_split_at is_comma part 44 (other ++ joined_behind parts) (plain_bytes (λ c. is_comma c ≡ false) (λ c is. is.comma) part (plain_part part plain)) refl
+    ∙ ap (λ (ps : List (List ℕ)). part ∷ ps) (cut_joined other parts one rest)
+
+-- lines of parts
+abbrev pub rows_text : List (List (List ℕ)) → List ℕ
+rows_text rows = flat_map comma_line rows
+
+abbrev pub is_plain_row : List (List ℕ) → Bool
+is_plain_row [] = false
+is_plain_row (part ∷ parts) = list_all is_plain_text (part ∷ parts)
+
+pub rows_plain : (rows : List (List (List ℕ))) → list_all is_plain_row rows ≡ true → plain_records (rows_text rows) ≡ rows
+rows_plain [] plain = refl
+rows_plain ([] ∷ rows) plain = cc plain
+rows_plain (([] ∷ parts) ∷ rows) plain = cc plain
+rows_plain (((c ∷ part) ∷ parts) ∷ rows) plain =
+    let (row, rest) = and_parts (list_all is_plain_text ((c ∷ part) ∷ parts)) (list_all is_plain_row rows) plain in
+    let (one, more) = and_parts (is_plain_text (c ∷ part)) (list_all is_plain_text parts) row in
+    let line = (c ∷ part) ++ joined_behind parts in
+    let ends : All (λ b. is_line_end b ≡ false) line = joined_all (λ b. is_line_end b ≡ false) (λ b is. is.ending) refl (c ∷ part) parts one more in
+    let whole : rows_text (((c ∷ part) ∷ parts) ∷ rows) ≡ line ++ 10 ∷ rows_text rows = ap (λ (t : List ℕ). (t ++ 10 ∷ []) ++ rows_text rows) (joined_is (c ∷ part) parts) ∙ append_assoc line (10 ∷ []) (rows_text rows) in
+    ap plain_records whole
+    ∙ ap (λ (lines : List (List ℕ)). map (slice_split is_comma) (filter is_some_line lines)) (slice_split_at is_line_end line 10 (rows_text rows) ends refl)
+    ∙ ap (λ (fields : List (List ℕ)). fields ∷ plain_records (rows_text rows)) (cut_joined (c ∷ part) parts one more)
+    ∙ ap (λ (rs : List (List (List ℕ))). ((c ∷ part) ∷ parts) ∷ rs) (rows_plain rows rest)
+
+rows_quotes : (rows : List (List (List ℕ))) → list_all is_plain_row rows ≡ true → HasNoQuote (rows_text rows)
+rows_quotes [] plain = λ k d small. absurd (omega arith)
+rows_quotes ([] ∷ rows) plain = cc plain
+rows_quotes ((part ∷ parts) ∷ rows) plain =
+    let P = λ (b : ℕ). nat_eq b 34 ≡ false in
+    let (row, rest) = and_parts (list_all is_plain_text (part ∷ parts)) (list_all is_plain_row rows) plain in
+    let (one, more) = and_parts (is_plain_text part) (list_all is_plain_text parts) row in
+    let line : All P (comma_joined (part ∷ parts)) = rw (joined_is part parts) (joined_all P (λ b is. is.quote) refl part parts one more) in
+    All-append P (comma_line (part ∷ parts)) (rows_text rows) (All-append P (comma_joined (part ∷ parts)) (10 ∷ []) line (All-cons P 10 [] refl (λ k d small. absurd (omega arith)))) (rows_quotes rows rest)
+
+strip_other : (c : ℕ) (xs : List ℕ) → nat_eq c 239 ≡ false → strip_bom (c ∷ xs) ≡ c ∷ xs
+unfolding strip_bom
+strip_other c [] other = refl
+strip_other c (d ∷ []) other = refl
+strip_other c (d ∷ e ∷ xs) other = ap (λ (b : Bool). if b && nat_eq d 187 && nat_eq e 191 then xs else c ∷ d ∷ e ∷ xs) other
+
+rows_marks : (rows : List (List (List ℕ))) → list_all is_plain_row rows ≡ true → strip_bom (rows_text rows) ≡ rows_text rows
+unfolding strip_bom
+rows_marks [] plain = refl
+rows_marks ([] ∷ rows) plain = cc plain
+rows_marks (([] ∷ parts) ∷ rows) plain = cc plain
+rows_marks (((c ∷ part) ∷ parts) ∷ rows) plain =
+    let (row, rest) = and_parts (list_all is_plain_text ((c ∷ part) ∷ parts)) (list_all is_plain_row rows) plain in
+    let (one, more) = and_parts (is_plain_text (c ∷ part)) (list_all is_plain_text parts) row in
+    let (byte, bytes) = and_parts (is_plain_byte c) (list_all is_plain_byte part) one in
+    strip_other c _ (plain_byte c byte).mark
+
+-- the records of such lines
+pub rows_read : (rows : List (List (List ℕ))) → list_all is_plain_row rows ≡ true → records_of (rows_text rows) ≡ rows
+rows_read rows plain =
+    let marks = rows_marks rows plain in
+    ap (λ (t : List ℕ). rows_from st.StartRecord (strip_bom t)) marks ∙ ap (rows_from st.StartRecord) marks ∙ (is_plain (rows_text rows) (rows_quotes rows plain)).whole ∙ rows_plain rows plain
+
+rows_mapped : (table : List (List ℤ)) → flat_map (λ row. comma_line (map decimal_text row)) table ≡ rows_text (map (map decimal_text) table)
+rows_mapped [] = refl
+rows_mapped (row ∷ table) = ap (λ (t : List ℕ). comma_line (map decimal_text row) ++ t) (rows_mapped table)
+
+pub print_rows_text : (names : List (List ℕ)) (table : List (List ℤ)) → print_text names table ≡ rows_text (names ∷ map (map decimal_text) table)
+unfolding print_text
+print_rows_text names table = ap (λ (t : List ℕ). comma_line names ++ t) (rows_mapped table)

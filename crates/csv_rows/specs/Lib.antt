@@ -1,0 +1,7 @@
+pub mod Clipped
+pub mod Datasets
+pub mod Loads
+pub mod Plain
+pub mod Printed
+pub mod Readers
+pub mod Texts

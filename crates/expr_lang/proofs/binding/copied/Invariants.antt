@@ -1,6 +1,0 @@
--- the steps that are copied and those that are left are all
-use Rattle.std.proofs.Common.{◌≡◌, ◌++◌, drop}
-use Rattle.expr_lang.proofs.binding.copied.Given as goal
-
-abbrev pub invariant-loop-step : goal.invariant-loop-step
-invariant-loop-step l = l.copy ++ drop l.step-index l.rest ≡ l.path

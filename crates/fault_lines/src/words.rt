@@ -1,0 +1,134 @@
+// The words of each fault.
+ghost use Rattle.std.specs.Prelude.{◌≡◌, [], ◌++◌, codes};
+ghost use Rattle.worlds.specs.FaultTexts.{fault_words, unknown_words, record_words, extents_words, mapping_words, kernel_words};
+ghost use Rattle.fault_lines.specs.Details.{detail_text, place_text};
+
+use crate::detail::{Detail, Words};
+use extents::BadExtents;
+use map_expr::BadMapping;
+use record_dim::{BadRecord, Text};
+use worlds::{BadKernel, CommandFault, UnknownName};
+
+/// The words of a fault.
+pub fn words_of(fault: &CommandFault) -> Words<'_>
+    ensures { result.name.now ++ detail_text result.detail ≡ fault_words fault.now }
+{
+    match fault {
+        CommandFault::Syntax { column } => words("Syntax column ", Detail::Count(*column)),
+        CommandFault::TooDeep => name_alone("TooDeep"),
+        CommandFault::LineTooLong => name_alone("LineTooLong"),
+        CommandFault::ScriptTooLong => name_alone("ScriptTooLong"),
+        CommandFault::TooBig => name_alone("TooBig"),
+        CommandFault::BadIndex => name_alone("BadIndex"),
+        CommandFault::Empty => name_alone("Empty"),
+        CommandFault::Mismatch => name_alone("Mismatch"),
+        CommandFault::NotCounted => name_alone("NotCounted"),
+        CommandFault::TooManyViews => name_alone("TooManyViews"),
+        CommandFault::Unknown(name) => unknown_words(name),
+        CommandFault::Taken(name) => words("Taken ", Detail::Text(name.as_str())),
+        CommandFault::Twice { leaf } => words("Twice ", Detail::Text(leaf.as_str())),
+        CommandFault::MissingColumn { leaf } => {
+            words("MissingColumn ", Detail::Text(leaf.as_str()))
+        }
+        CommandFault::ColumnTwice { leaf } => words("ColumnTwice ", Detail::Text(leaf.as_str())),
+        CommandFault::BadRecord(bad) => words("BadRecord ", Detail::Text(record_words(*bad))),
+        CommandFault::BadExtents(bad) => words("BadExtents ", Detail::Text(extents_words(*bad))),
+        CommandFault::BadMapping(bad) => words("BadMapping ", Detail::Text(mapping_words(*bad))),
+        CommandFault::BadKernel(bad) => words("BadKernel ", Detail::Text(kernel_words(*bad))),
+        CommandFault::ShortRow { row, leaf } => words("ShortRow record ", place(*row, leaf)),
+        CommandFault::Number { row, leaf } => words("Number record ", place(*row, leaf)),
+        CommandFault::Range { row, leaf } => words("Range record ", place(*row, leaf)),
+        CommandFault::Narrow { row, leaf } => words("Narrow record ", place(*row, leaf)),
+        CommandFault::Overflow { row } => words("Overflow record ", Detail::Count(*row)),
+        CommandFault::DivideByZero { row } => words("DivideByZero record ", Detail::Count(*row)),
+        CommandFault::NotBuilt => name_alone("NotBuilt"),
+    }
+}
+
+fn words<'a>(name: &'static str, detail: Detail<'a>) -> Words<'a>
+    ensures name { result.name.now ≡ name.now }
+    ensures detail { detail_text result.detail ≡ detail_text detail.entry }
+{
+    Words { name, detail }
+}
+
+fn name_alone(name: &'static str) -> Words<'static>
+    ensures name { result.name.now ≡ name.now }
+    ensures detail { detail_text result.detail ≡ [] }
+{
+    Words {
+        name,
+        detail: Detail::Nothing,
+    }
+}
+
+fn place(row: u64, leaf: &Text) -> Detail<'_>
+    ensures { detail_text result ≡ place_text row leaf.now }
+{
+    Detail::Place {
+        row,
+        leaf: leaf.as_str(),
+    }
+}
+
+// The words of what names nothing.
+fn unknown_words(name: &UnknownName) -> Words<'_>
+    ensures { result.name.now ++ detail_text result.detail ≡ codes "Unknown " ++ unknown_words name.now }
+{
+    match name {
+        UnknownName::Name(name) => words("Unknown ", Detail::Text(name.as_str())),
+        UnknownName::Path(path) => words("Unknown ", Detail::Path(path)),
+        UnknownName::Index(dimension) => {
+            words("Unknown i", Detail::Count(u64::from(*dimension)))
+        }
+    }
+}
+
+fn record_words(bad: BadRecord) -> &'static str
+    ensures { result.now ≡ record_words bad }
+{
+    match bad {
+        BadRecord::TooDeep => "TooDeep",
+        BadRecord::Empty => "Empty",
+        BadRecord::Twice => "Twice",
+        BadRecord::NoElements => "NoElements",
+        BadRecord::TooManyLeaves => "TooManyLeaves",
+    }
+}
+
+fn extents_words(bad: BadExtents) -> &'static str
+    ensures { result.now ≡ extents_words bad }
+{
+    match bad {
+        BadExtents::Rank => "Rank",
+        BadExtents::TwoRows => "TwoRows",
+        BadExtents::RowsBesideZero => "RowsBesideZero",
+        BadExtents::NotDivisible => "NotDivisible",
+        BadExtents::NotEqual => "NotEqual",
+        BadExtents::TooMany => "TooMany",
+    }
+}
+
+fn mapping_words(bad: BadMapping) -> &'static str
+    ensures { result.now ≡ mapping_words bad }
+{
+    match bad {
+        BadMapping::TooDeep => "TooDeep",
+        BadMapping::Counter => "Counter",
+        BadMapping::Lanes => "Lanes",
+        BadMapping::Width => "Width",
+        BadMapping::Granule => "Granule",
+        BadMapping::Side => "Side",
+        BadMapping::NotFull => "NotFull",
+    }
+}
+
+fn kernel_words(bad: BadKernel) -> &'static str
+    ensures { result.now ≡ kernel_words bad }
+{
+    match bad {
+        BadKernel::Lanes => "Lanes",
+        BadKernel::Wide => "Wide",
+        BadKernel::Constant => "Constant",
+    }
+}

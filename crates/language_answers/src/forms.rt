@@ -1,0 +1,73 @@
+//! What may be asked, a line each. `|` stands between parts, and is in no line of the language.
+//!
+//! | asked | answered |
+//! |---|---|
+//! | `next AT BRACKETS TEXT` | the token that stands next in TEXT from place AT on, where BRACKETS are open |
+//! | `tokens TEXT` | all tokens of TEXT, a bad one the last |
+//! | `value A B INDEX.. : EXPR` | the value or the fault of EXPR over the leaves a and b at this index, and the leaves in the order of their reads, 1 for a and 2 for b; or the first path or index of it that is unknown |
+//! | `nested COUNT HEAD\|FRONT\|MIDDLE\|BACK` | `line`, or the fault, of HEAD, COUNT of FRONT, MIDDLE and COUNT of BACK |
+//! | `chain HEAD\|PART\|TAIL` | the same of 4,096 bytes: HEAD, as many PART as there is room for, TAIL, and spaces |
+//! | `written HEAD\|PART\|TAIL` | the canonical text of these 4,096 bytes |
+//! | any other line | its canonical text, or its fault with the column |
+
+use crate::expressions::value_answer;
+use crate::repeats::{chain_answer, nested_answer, written_answer};
+use crate::tokens::{next_answer, tokens_answer};
+use line_writer::write_line;
+use schema_lang::{LineFault, parse_line};
+use std::alloc::{AllocError as NoMemory, Global};
+
+/// The most bytes of a line.
+pub(crate) const MOST_BYTES: usize = 4096;
+
+/// The answer to a line of stdin.
+pub(crate) fn answer(alloc: Global, asked: &[u8]) -> Result<String, NoMemory> {
+    let (word, rest) = cut(asked, b' ');
+    match str::from_utf8(word).unwrap_or("") {
+        "next" => next_answer(alloc, rest),
+        "tokens" => tokens_answer(alloc, rest),
+        "value" => value_answer(alloc, rest),
+        "nested" => nested_answer(alloc, rest),
+        "chain" => chain_answer(alloc, rest),
+        "written" => written_answer(alloc, rest),
+        _ => text_answer(alloc, asked),
+    }
+}
+
+/// The canonical text of a line, or its fault.
+pub(crate) fn text_answer(alloc: Global, text: &[u8]) -> Result<String, NoMemory> {
+    if text.len() > MOST_BYTES {
+        return String::from_str(alloc, "LineTooLong");
+    }
+    match parse_line(alloc, text) {
+        Ok(line) => String::from_str(alloc, write_line(alloc, &line)?.as_str()),
+        Err(fault) => fault_answer(alloc, fault),
+    }
+}
+
+/// The fault of a line.
+pub(crate) fn fault_answer(alloc: Global, fault: LineFault) -> Result<String, NoMemory> {
+    match fault {
+        LineFault::Syntax { column } => format!(in alloc; "Syntax {column}"),
+        LineFault::TooDeep => String::from_str(alloc, "TooDeep"),
+        LineFault::NoMemory => Err(NoMemory),
+    }
+}
+
+/// The answer to a line of stdin that has not the form that its word says.
+pub(crate) fn no_form(alloc: Global) -> Result<String, NoMemory> {
+    String::from_str(alloc, "asked in no form")
+}
+
+/// What stands before the first such byte, and what behind it.
+pub(crate) fn cut(text: &[u8], byte: u8) -> (&[u8], &[u8]) {
+    match text.iter().position(|other| *other == byte) {
+        Some(place) => (&text[..place], &text[place + 1..]),
+        None => (text, &[]),
+    }
+}
+
+/// The number that a word is in decimal.
+pub(crate) fn number_of(word: &[u8]) -> Option<usize> {
+    str::from_utf8(word).ok()?.parse::<usize>().ok()
+}

@@ -1,9 +1,0 @@
-use Rattle.std.proofs.Common.{◌≡◌, take, flat_map}
-use Rattle.std.specs.List.{enumerate_from}
-use Rattle.record_dim.specs.Schemas.{schema_fields}
-use Rattle.record_dim.specs.Leaves.{texts_of}
-use Rattle.layout_cli.specs.FirstDataset.{with_comma}
-use Rattle.layout_cli.proofs.dataset.header_text.Given as goal
-
-abbrev pub invariant-loop-leaf : goal.invariant-loop-leaf
-invariant-loop-leaf l = l.text.items ≡ flat_map with_comma (take l.leaf (enumerate_from 0 (texts_of (schema_fields l.schema))))

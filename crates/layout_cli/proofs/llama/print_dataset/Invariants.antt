@@ -1,4 +1,0 @@
-use Rattle.layout_cli.proofs.llama.print_dataset.Given as goal
-
-abbrev pub ghosts-print_counted : goal.ghosts-print_counted
-ghosts-print_counted g a = record { name = a.blank.name; parts = a.blank.parts }

@@ -1,0 +1,37 @@
+//! The tests of what no clause says and no script reaches. The crate has nothing else.
+#![tactic(auto)]
+
+#[cfg(test)]
+mod any_maps;
+#[cfg(test)]
+mod aos_places;
+#[cfg(test)]
+mod aosoa_places;
+#[cfg(test)]
+mod datasets;
+#[cfg(test)]
+mod expressions;
+#[cfg(test)]
+mod files_and_texts;
+#[cfg(test)]
+mod lines;
+#[cfg(test)]
+mod mapped;
+#[cfg(test)]
+mod mapping_exprs;
+#[cfg(test)]
+mod orders;
+#[cfg(test)]
+mod plain_bytes;
+#[cfg(test)]
+mod played_system;
+#[cfg(test)]
+mod records;
+#[cfg(test)]
+mod rows_and_indices;
+#[cfg(test)]
+mod sequences;
+#[cfg(test)]
+mod soa_places;
+#[cfg(test)]
+mod stored_values;

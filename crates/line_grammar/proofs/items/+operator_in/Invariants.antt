@@ -1,0 +1,6 @@
+-- the rest is shorter
+use Rattle.std.proofs.Common.{length}
+use Rattle.line_grammar.proofs.items.+operator_in.Given as goal
+
+abbrev pub decreases-operator_in : goal.decreases-operator_in
+decreases-operator_in l = length l.ops.now

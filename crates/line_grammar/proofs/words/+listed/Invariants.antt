@@ -1,0 +1,6 @@
+-- the rest is shorter
+use Rattle.std.proofs.Common.{length}
+use Rattle.line_grammar.proofs.words.+listed.Given as goal
+
+abbrev pub decreases-listed : goal.decreases-listed
+decreases-listed g l = length l.values.now

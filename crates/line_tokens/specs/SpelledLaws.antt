@@ -1,0 +1,267 @@
+-- What is spelled is read back: a token that stands at the end or before a blank, and a whole line of tokens.
+use Rattle.std.proofs.Common.{◌≡◌, ℕ, zero, suc, ◌+◌, ◌-◌, Bool, true, false, List, [], ◌∷◌, ◌++◌, length, map, take, drop, slice_range, Option, Some, None, ◌≤◌, ◌⊎◌, inl, inr, refl, sym, ◌∙◌, ap, append_assoc, append-nil, add-zero, zero-add, length-append, ⊎_elim, arith}
+use Rattle.std.specs.Char.{is_ascii_digit}
+use Rattle.std.specs.List.{prefix_len, AllPass}
+use Rattle.std.proofs.lemmas.Bool.{both_ways, cases_Bool}
+use Rattle.std.proofs.lemmas.Bool.Decides.{nat_tests}
+use Rattle.std.proofs.lemmas.List.{drop_at, take_at}
+use Rattle.std.proofs.lemmas.List.Folds.{length-prefix_len}
+use Rattle.line_tokens.specs.Bytes.{is_blank, is_letter, is_word_byte}
+use Rattle.line_tokens.specs.Signs.{spelling}
+use Rattle.line_tokens.specs.Tokens.{Begins, start_of, IsToken}
+use Rattle.line_tokens.specs.Next.{next_of}
+use Rattle.line_tokens.specs.Spots.{brackets_after, Spots}
+use Rattle.line_tokens.specs.Spelled.{Written, Spells, HasRoom, AreSpelled, spaced, joined, places, AreTokensOf}
+use Rattle.line_tokens.specs.declared.spots.Spot.{Spot}
+use Rattle.line_tokens.specs.declared.token.Next.TheVariants.{End, Token}
+use Rattle.line_tokens.specs.declared.token.TokenKind.{TokenKind}
+use Rattle.line_tokens.specs.declared.token.TokenKind.TheVariants.{Word, Number, Text, Sign as SignKind}
+use Rattle.line_tokens.specs.NextTokenLaws.{end_exactly, token_exactly, token_sized}
+use Rattle.line_tokens.specs.DecimalLaws.{AllPass-take_prefix_len}
+use Rattle.line_tokens.specs.SpotLaws.{same_spots, spot_at, token_room}
+use Rattle.line_tokens.specs.SignsLaws.{sign_longest, sign_spelled}
+use Rattle.line_tokens.specs.StringsLaws.{prefix_len-all, prefix_len-run}
+
+-- the end, or a blank
+abbrev pub IsParted : List ℕ → Type 0
+IsParted after = (after ≡ []) ⊎ Begins is_blank after
+
+-- a run of bytes that are not blank ends there
+run_parted : (p : ℕ → Bool) (bytes after : List ℕ) → ((b : ℕ) → is_blank b ≡ true → p b ≡ false) → AllPass p bytes → IsParted after → prefix_len p (bytes ++ after) ≡ length bytes
+run_parted p bytes [] apart pass parted = rw append-nil (prefix_len-all p bytes pass)
+run_parted p bytes (c ∷ after) apart pass (inl e) = absurd cc
+run_parted p bytes (c ∷ after) apart pass (inr blank) = prefix_len-run p bytes c after pass (apart c blank)
+
+blank_is : (b : ℕ) → is_blank b ≡ true → (b ≡ 32) ⊎ (b ≡ 9)
+blank_is b h = grind (arith, nat_tests)
+
+blank_no_word : (b : ℕ) → is_blank b ≡ true → is_word_byte b ≡ false
+blank_no_word b h = elim (blank_is b h) [ inl e ↦ rw e | inr e ↦ rw e ]
+
+blank_no_digit : (b : ℕ) → is_blank b ≡ true → is_ascii_digit b ≡ false
+blank_no_digit b h = elim (blank_is b h) [ inl e ↦ rw e | inr e ↦ rw e ]
+
+begins_more : (p : ℕ → Bool) (bytes after : List ℕ) → Begins p bytes → Begins p (bytes ++ after)
+begins_more p [] after h = absurd h
+begins_more p (b ∷ bytes) after h = h
+
+-- spelled bytes are a token there
+token_spelled : (kind : TokenKind) (bytes after : List ℕ) (brackets : ℕ) → Spells kind bytes → HasRoom kind brackets → IsParted after → IsToken kind (length bytes) (bytes ++ after) brackets
+token_spelled Word bytes after brackets h room parted =
+    (begins_more is_letter bytes after h.0, sym (run_parted is_word_byte bytes after blank_no_word h.1 parted), h.2)
+token_spelled (Number value) bytes after brackets h room parted = (
+  begins_more is_ascii_digit bytes after h.0,
+  sym (run_parted is_ascii_digit bytes after blank_no_digit h.1 parted),
+  rw (take_at bytes after (length bytes) refl) h.2,
+  rw (take_at bytes after (length bytes) refl) h.3,
+)
+token_spelled Text bytes after brackets h room parted =
+    let len = length-append h.0 (34 ∷ []) in
+    (h.0, (after, ap (λ xs. xs ++ after) h.1), h.2, h.3, h.4, ap length h.1 ∙ omega arith)
+token_spelled (SignKind sign) bytes after brackets h room parted =
+    rw h (((after, refl), refl, sign_longest sign after parted), room)
+
+-- spelled bytes begin with no blank
+
+first_apart : (p : ℕ → Bool) (bytes after : List ℕ) → ((b : ℕ) → is_blank b ≡ true → p b ≡ false) → Begins p bytes → prefix_len is_blank (bytes ++ after) ≡ 0
+first_apart p [] after apart h = absurd h
+first_apart p (b ∷ bytes) after apart h = ⊎_elim
+    (λ blank. absurd (both_ways (p b) (apart b blank) h))
+    (λ inked. rw inked)
+    (cases_Bool (is_blank b))
+
+blank_no_letter : (b : ℕ) → is_blank b ≡ true → is_letter b ≡ false
+blank_no_letter b h = elim (blank_is b h) [ inl e ↦ rw e | inr e ↦ rw e ]
+
+spelled_inked : (kind : TokenKind) (bytes after : List ℕ) → Spells kind bytes → prefix_len is_blank (bytes ++ after) ≡ 0
+spelled_inked Word bytes after h = first_apart is_letter bytes after blank_no_letter h.0
+spelled_inked (Number value) bytes after h = first_apart is_ascii_digit bytes after blank_no_digit h.0
+spelled_inked Text bytes after h = rw h.1
+spelled_inked (SignKind sign) bytes after h = elim (sign_spelled sign) [
+  | inl s ↦ rw (h, s.spelled, s.inked)
+  | inr s ↦ rw (h, s.spelled, s.inked)
+]
+
+blanks_before : (blanks rest : List ℕ) → AllPass is_blank blanks → prefix_len is_blank rest ≡ 0 → prefix_len is_blank (blanks ++ rest) ≡ length blanks
+blanks_before [] rest pass inked = inked
+blanks_before (b ∷ blanks) rest pass inked =
+    let e = blanks_before blanks rest (λ k d l. pass (suc k) d (omega arith)) inked in
+    rw (pass 0 0 (omega arith), e) (omega arith)
+
+-- what is spelled behind blanks, at the end or before a blank, is the next token
+pub next_spelled : (kind : TokenKind) (front blanks bytes after : List ℕ) (brackets : ℕ) →
+    Spells kind bytes → HasRoom kind brackets → AllPass is_blank blanks → IsParted after →
+    next_of (front ++ (blanks ++ (bytes ++ after))) (length front) brackets
+    ≡ Token (length front + length blanks) (length front + length blanks + length bytes) kind
+next_spelled kind front blanks bytes after brackets h room pass parted =
+    let text : List ℕ = front ++ (blanks ++ (bytes ++ after)) in
+    let at = length front in let from = length front + length blanks in
+    let start : start_of text at ≡ from =
+    rw (drop_at front (blanks ++ (bytes ++ after)) at refl, blanks_before blanks (bytes ++ after) pass (spelled_inked kind bytes after h)) in
+    let rest : drop from text ≡ bytes ++ after =
+    ap (λ xs. drop from xs) (sym (append_assoc front blanks (bytes ++ after)))
+    ∙ drop_at (front ++ blanks) (bytes ++ after) from (length-append front blanks) in
+    (token_exactly text at brackets from (from + length bytes) kind).1
+    (sym start, length bytes, refl, rw rest (token_spelled kind bytes after brackets h room parted))
+
+-- behind all tokens the text ends
+end_spelled : (front : List ℕ) (brackets : ℕ) → next_of (front ++ []) (length front) brackets ≡ End
+end_spelled front brackets =
+    let nil : drop (length front) (front ++ []) ≡ [] = drop_at front [] (length front) refl in
+    (end_exactly (front ++ []) (length front) brackets).1 (inl (rw (nil, add-zero) nil))
+
+spaced_parted : (tokens : List Written) → IsParted (spaced tokens)
+spaced_parted [] = inl refl
+spaced_parted (token ∷ tokens) = inr refl
+
+grown : (n m : ℕ) → n + suc m ≡ n + 1 + m
+grown n m = omega arith
+
+-- tokens behind spaces are read back, each at its place
+spaced_spots : (front : List ℕ) (tokens : List Written) (brackets : ℕ) → AreSpelled brackets tokens →
+    Spots (front ++ spaced tokens) (length front) brackets (places (length front + 1) tokens)
+spaced_spots front [] brackets h = end_spelled front brackets
+spaced_spots front (token ∷ tokens) brackets h =
+    let text : List ℕ = front ++ (32 ∷ (token.bytes ++ spaced tokens)) in
+    let next : next_of text (length front) brackets ≡ Token (length front + 1) (length front + 1 + length token.bytes) token.kind =
+    next_spelled token.kind front (32 ∷ []) token.bytes (spaced tokens) brackets h.0 h.1 one_blank (spaced_parted tokens) in
+    let front' : List ℕ = front ++ (32 ∷ token.bytes) in
+    let split : front' ++ spaced tokens ≡ text = append_assoc front (32 ∷ token.bytes) (spaced tokens) in
+    let len : length front' ≡ length front + 1 + length token.bytes = length-append front (32 ∷ token.bytes) ∙ grown (length front) (length token.bytes) in
+    let behind = spaced_spots front' tokens (brackets_after token.kind brackets) h.2 in
+    (next, rw (split, len) at behind)
+  where
+    one_blank : AllPass is_blank (32 ∷ [])
+    one_blank zero d l = refl
+    one_blank (suc k) d l = absurd (omega arith)
+
+-- a line of tokens is read back, each at its place
+pub joined_spots : (tokens : List Written) → AreSpelled 0 tokens → Spots (joined tokens) 0 0 (places 0 tokens)
+joined_spots [] h = end_spelled [] 0
+joined_spots (token ∷ tokens) h = (
+  next_spelled token.kind [] [] token.bytes (spaced tokens) 0 h.0 h.1 no_blank (spaced_parted tokens),
+  rw (zero-add (length token.bytes)) (spaced_spots token.bytes tokens (brackets_after token.kind 0) h.2),
+)
+  where
+    no_blank : AllPass is_blank []
+    no_blank k d l = absurd (omega arith)
+
+-- the bytes at the places are those of the tokens
+
+bytes_there : (front bytes after : List ℕ) (from : ℕ) → length front ≡ from → slice_range (front ++ (bytes ++ after)) from (from + length bytes) ≡ bytes
+bytes_there front bytes after from e =
+    let len : from + length bytes - from ≡ length bytes = omega arith in
+    rw (drop_at front (bytes ++ after) from e, len, take_at bytes after (length bytes) refl)
+
+spaced_bytes : (front : List ℕ) (tokens : List Written) →
+    map (λ spot. slice_range (front ++ spaced tokens) spot.from spot.end) (places (length front + 1) tokens) ≡ map (λ token. token.bytes) tokens
+spaced_bytes front [] = refl
+spaced_bytes front (token ∷ tokens) =
+    let text : List ℕ = front ++ (32 ∷ (token.bytes ++ spaced tokens)) in
+    let from = length front + 1 in
+    let shifted : (front ++ (32 ∷ [])) ++ (token.bytes ++ spaced tokens) ≡ text = append_assoc front (32 ∷ []) (token.bytes ++ spaced tokens) in
+    let head : slice_range text from (from + length token.bytes) ≡ token.bytes =
+    ap (λ xs. slice_range xs from (from + length token.bytes)) (sym shifted)
+    ∙ bytes_there (front ++ (32 ∷ [])) token.bytes (spaced tokens) from (length-append front (32 ∷ [])) in
+    let front' : List ℕ = front ++ (32 ∷ token.bytes) in
+    let split : front' ++ spaced tokens ≡ text = append_assoc front (32 ∷ token.bytes) (spaced tokens) in
+    let len : length front' ≡ from + length token.bytes = length-append front (32 ∷ token.bytes) ∙ grown (length front) (length token.bytes) in
+    let tail = spaced_bytes front' tokens in
+    let there : map (λ spot. slice_range text spot.from spot.end) (places (from + length token.bytes + 1) tokens) ≡ map (λ token. token.bytes) tokens = rw (split, len) at tail in
+    ap (λ xs. xs ∷ map (λ spot. slice_range text spot.from spot.end) (places (from + length token.bytes + 1) tokens)) head
+    ∙ ap (λ xs. token.bytes ∷ xs) there
+
+pub joined_bytes : (tokens : List Written) →
+    map (λ spot. slice_range (joined tokens) spot.from spot.end) (places 0 tokens) ≡ map (λ token. token.bytes) tokens
+joined_bytes [] = refl
+joined_bytes (token ∷ tokens) =
+    let text : List ℕ = token.bytes ++ spaced tokens in
+    ap (λ xs. xs ∷ map (λ spot. slice_range text spot.from spot.end) (places (0 + length token.bytes + 1) tokens)) (bytes_there [] token.bytes (spaced tokens) 0 refl)
+    ∙ ap (λ xs. token.bytes ∷ xs) (rw (zero-add (length token.bytes)) (spaced_bytes token.bytes tokens))
+
+-- the other way round: what is read has the form of its kind
+
+begins_take : (p : ℕ → Bool) (n : ℕ) (rest : List ℕ) → 1 ≤ n → Begins p rest → Begins p (take n rest)
+begins_take p zero rest some h = absurd (omega arith)
+begins_take p (suc n) [] some h = h
+begins_take p (suc n) (b ∷ after) some h = h
+
+pub token_spells : (kind : TokenKind) (n : ℕ) (rest : List ℕ) (brackets : ℕ) → IsToken kind n rest brackets → Spells kind (take n rest)
+token_spells Word n rest brackets h =
+    let some = (token_sized Word n rest brackets h).0 in
+    let len : length (take n rest) ≡ n = rw h.1 (length-prefix_len is_word_byte rest) in
+    (begins_take is_letter n rest some h.0, rw h.1 (AllPass-take_prefix_len is_word_byte rest), omega arith)
+token_spells (Number value) n rest brackets h =
+    let some = (token_sized (Number value) n rest brackets h).0 in
+    (begins_take is_ascii_digit n rest some h.0, rw h.1 (AllPass-take_prefix_len is_ascii_digit rest), h.2, h.3)
+token_spells Text n rest brackets h =
+    let string : List ℕ = 34 ∷ (h.0 ++ (34 ∷ [])) in
+    let len : length string ≡ n = ap suc (length-append h.0 (34 ∷ [])) ∙ omega arith in
+    (h.0, rw h.1.1 (take_at string h.1.0 n len), h.2, h.3, h.4)
+token_spells (SignKind sign) n rest brackets h =
+    rw h.0.0.1 (take_at (spelling sign) h.0.0.0 n (sym h.0.1))
+
+-- the same of a token at its place
+pub next_spells : (text : List ℕ) (at brackets from end : ℕ) (kind : TokenKind) → next_of text at brackets ≡ Token from end kind →
+    Spells kind (slice_range text from end) × HasRoom kind brackets
+next_spells text at brackets from end kind e =
+    let h = (token_exactly text at brackets from end kind).0 e in
+    let len : end - from ≡ h.1 = omega arith in
+    (rw len (token_spells kind h.1 (drop from text) brackets h.3), token_room kind h.1 (drop from text) brackets h.3)
+
+spell_step : (text : List ℕ) (at brackets f e : ℕ) (k : Option TokenKind) (rest : List Spot) (token : Written) (tokens : List Written) →
+    ((at brackets : ℕ) → Spots text at brackets rest → AreSpelled brackets tokens) →
+    Spots text at brackets (spot_at f e k ∷ rest) → k ≡ Some token.kind → slice_range text f e ≡ token.bytes → AreSpelled brackets (token ∷ tokens)
+spell_step text at brackets f e None rest token tokens behind h kind bytes = absurd cc
+spell_step text at brackets f e (Some own) rest token tokens behind h kind bytes =
+    let same : own ≡ token.kind = cc in
+    let spelled = rw (bytes, same) at (next_spells text at brackets f e own h.0) in
+    (spelled.0, spelled.1, behind e (brackets_after token.kind brackets) (rw same at h.1))
+
+spots_spell : (text : List ℕ) (at brackets : ℕ) (spots : List Spot) (tokens : List Written) → Spots text at brackets spots →
+    map (λ spot. spot.kind) spots ≡ map (λ token. Some token.kind) tokens →
+    map (λ spot. slice_range text spot.from spot.end) spots ≡ map (λ token. token.bytes) tokens → AreSpelled brackets tokens
+spots_spell text at brackets [] [] h kinds bytes = tt
+spots_spell text at brackets [] (token ∷ tokens) h kinds bytes = absurd cc
+spots_spell text at brackets (spot ∷ spots) [] h kinds bytes = absurd cc
+spots_spell text at brackets (spot ∷ spots) (token ∷ tokens) h kinds bytes =
+    let kinds' : map (λ s. s.kind) spots ≡ map (λ t. Some t.kind) tokens = cc in
+    let bytes' : map (λ s. slice_range text s.from s.end) spots ≡ map (λ t. t.bytes) tokens = cc in
+    let kind : spot.kind ≡ Some token.kind = cc in let own : slice_range text spot.from spot.end ≡ token.bytes = cc in
+    spell_step text at brackets spot.from spot.end spot.kind spots token tokens
+    (λ at' brackets' h'. spots_spell text at' brackets' spots tokens h' kinds' bytes') h kind own
+
+-- the tokens of any text are spelled
+pub read_spelled : (text : List ℕ) (tokens : List Written) → AreTokensOf text tokens → AreSpelled 0 tokens
+read_spelled text tokens h = spots_spell text 0 0 h.spots tokens h.read h.kinds h.bytes
+
+kinds_placed : (at : ℕ) (tokens : List Written) → map (λ spot. spot.kind) (places at tokens) ≡ map (λ token. Some token.kind) tokens
+kinds_placed at [] = refl
+kinds_placed at (token ∷ tokens) = ap (λ xs. Some token.kind ∷ xs) (kinds_placed (at + length token.bytes + 1) tokens)
+
+-- spelled tokens, joined by spaces, are read back
+pub joined_read : (tokens : List Written) → AreSpelled 0 tokens → AreTokensOf (joined tokens) tokens
+joined_read tokens h = record { spots = places 0 tokens; read = joined_spots tokens h; kinds = kinds_placed 0 tokens; bytes = joined_bytes tokens }
+
+abbrev written : TokenKind → List ℕ → Written
+written kind bytes = record { kind = kind; bytes = bytes }
+
+same_written : (xs ys : List Written) → map (λ token. Some token.kind) xs ≡ map (λ token. Some token.kind) ys → map (λ token. token.bytes) xs ≡ map (λ token. token.bytes) ys → xs ≡ ys
+same_written [] [] kinds bytes = refl
+same_written [] (y ∷ ys) kinds bytes = absurd cc
+same_written (x ∷ xs) [] kinds bytes = absurd cc
+same_written (x ∷ xs) (y ∷ ys) kinds bytes =
+    let kind : x.kind ≡ y.kind = cc in let own : x.bytes ≡ y.bytes = cc in
+    let first : written x.kind x.bytes ≡ written y.kind y.bytes = rw (kind, own) in
+    let kinds' : map (λ token. Some token.kind) xs ≡ map (λ token. Some token.kind) ys = cc in
+    let bytes' : map (λ token. token.bytes) xs ≡ map (λ token. token.bytes) ys = cc in
+    let rest : xs ≡ ys = same_written xs ys kinds' bytes' in
+    ap (λ t. t ∷ xs) first ∙ ap (λ ts. y ∷ ts) rest
+
+-- a text has one list of tokens at most
+pub same_tokens : (text : List ℕ) (xs ys : List Written) → AreTokensOf text xs → AreTokensOf text ys → xs ≡ ys
+same_tokens text xs ys h g =
+    let spots : h.spots ≡ g.spots = same_spots text 0 0 h.spots g.spots h.read g.read in
+    same_written xs ys
+    (sym h.kinds ∙ ap (λ s. map (λ spot. spot.kind) s) spots ∙ g.kinds)
+    (sym h.bytes ∙ ap (λ s. map (λ spot. slice_range text spot.from spot.end) s) spots ∙ g.bytes)

@@ -1,0 +1,38 @@
+-- What a mapping keeps, as its calls use it.
+use Rattle.std.proofs.Common.{◌≡◌, ℕ, ◌+◌, ◌*◌, ◌^◌, ◌<◌, ◌≤◌, List, [], map, length, get_or, slice_get, Some, sym, ap, ◌∙◌, subst, arith}
+use Rattle.std.specs.Prelude.{slice_index, slice_index_or, All}
+use Rattle.std.proofs.lemmas.List.{get_or-map, length-map, get_or_default}
+use Rattle.extents.specs.Indices.{indices}
+use Rattle.linearize.specs.Slots.{slot_at}
+use Rattle.record_dim.specs.Trees.{Fields}
+use Rattle.record_dim.specs.Leaves.{kinds_of}
+use Rattle.places.specs.Layout.{Owner}
+use Rattle.places.specs.Laws.{IsLocated, IsPiece}
+use Rattle.places.specs.declared.piece.Hold.{Hold}
+use Rattle.places.specs.declared.piece.Piece.{Piece}
+use Rattle.piece_rules.specs.PieceRules.{begin_in, piece_in, pieces_in}
+use Rattle.piece_rules.specs.declared.rule.PieceRule.{PieceRule}
+use Rattle.map_expr.specs.Terms.{Term}
+use Rattle.map_any.specs.AnyLaws.{holds_cells}
+use Rattle.map_any.specs.Mappings.{leaf_cells, holds_by}
+use Rattle.map_any.specs.Ruled.{HasLengths, IsRuled, IsRuleOf, pieces_of}
+use Rattle.map_any.specs.declared.rule.Rule.{Rule}
+
+-- the number of blobs, and the bytes of each
+pub length-sized : (layout : List (List Owner)) (lengths : List ℕ) → HasLengths layout lengths → length lengths ≡ length layout
+length-sized layout lengths sized =
+    sym (length-map lengths (λ (bytes : ℕ). 8 * bytes)) ∙ ap (λ (ns : List ℕ). length ns) sized ∙ length-map layout (length {A = Owner})
+
+pub bytes_at : (layout : List (List Owner)) (lengths : List ℕ) (blob d : ℕ) → HasLengths layout lengths → blob < length layout
+    → 8 * get_or lengths blob d ≡ length (get_or layout blob [])
+bytes_at layout lengths blob d sized inside =
+    let count : length lengths ≡ length layout = length-sized layout lengths sized in
+    sym (get_or-map (λ (bytes : ℕ). 8 * bytes) lengths blob d 0 (omega arith))
+    ∙ ap (λ (ns : List ℕ). get_or ns blob 0) sized
+    ∙ get_or-map (length {A = Owner}) layout blob [] 0 inside
+
+-- each leaf has a hold
+pub hold_in : (term : Term) (fields : Fields) (holds : List Hold) (cell : ℕ) → holds ≡ holds_by term fields → cell < length (leaf_cells (kinds_of fields)) → cell < length holds
+hold_in term fields holds cell held inside =
+    let size : length holds ≡ length (leaf_cells (kinds_of fields)) = holds_cells term fields holds held in
+    omega arith

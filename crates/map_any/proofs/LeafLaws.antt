@@ -1,0 +1,102 @@
+-- What accesses to leaves go by: rules that are copied, and the short form of a rule by rows.
+use Rattle.std.proofs.Common.{◌≡◌, ℕ, ◌+◌, ◌^◌, ◌<◌, ◌≤◌, List, ◌∷◌, [], All, Bool, true, map, length, get_or, slice_index, sum_by, ℤ, ◌≤ℤ◌, refl, sym, ap, ◌∙◌, subst, arith}
+use Rattle.std.proofs.lemmas.List.{length-map}
+use Rattle.extents.specs.Indices.{indices}
+use Rattle.extents.specs.declared.order.Order.{Order}
+use Rattle.linearize.specs.Slots.{slot_at, slot_count}
+use Rattle.linearize.specs.SlotsLaws.{slot_at_by_rows}
+use Rattle.record_dim.specs.declared.leaf_type.LeafType.{LeafType}
+use Rattle.places.specs.Layout.{Owner}
+use Rattle.places.specs.Laws.{IsLocated}
+use Rattle.places.specs.declared.piece.Hold.{Hold}
+use Rattle.places.specs.declared.piece.Piece.{Piece}
+use Rattle.piece_rules.specs.PieceRules.{pieces_in}
+use Rattle.piece_rules.specs.declared.rule.PieceRule.{PieceRule}
+use Rattle.record_dim.specs.Trees.{Fields}
+use Rattle.record_dim.specs.Leaves.{kinds_of}
+use Rattle.places.specs.declared.piece.Cell.{Cell}
+use Rattle.map_expr.specs.Terms.{Term}
+use Rattle.map_any.specs.AnyLaws.{length-leaf_cells}
+use Rattle.map_any.specs.Mappings.{leaf_cells, layout_of, holds_of, most_slots}
+use Rattle.map_any.specs.Plans.{IsPlanOf}
+use Rattle.map_any.specs.TermLaws.{length-holds}
+use Rattle.map_any.specs.declared.plan.Plan.{Plan}
+use Rattle.map_any.specs.LeafRules.{kind_in, hold_in, IsSameRule, IsLeafRule, AreLeafRules, AreRuled, IsShortIn}
+use Rattle.map_any.specs.Ruled.{EachWith, IsRuleOf, IsRuled}
+use Rattle.map_any.specs.Shorts.{IsShortOf, short_piece}
+use Rattle.map_any.specs.declared.leaf_rule.LeafRule.{LeafRule}
+use Rattle.map_any.specs.declared.rule.Rule.{Rule}
+use Rattle.map_any.proofs.PlanLaws.{plan_holds, plan_rules}
+use Rattle.map_any.proofs.ShortLaws.{short_pieces}
+
+-- a rule that says the same is a rule of the same cell
+pub rule_same : (layout : List (List Owner)) (extents : List ℕ) (cell width : ℕ) (old new : Rule) → IsSameRule old new
+    → IsRuleOf layout extents cell width old → IsRuleOf layout extents cell width new
+rule_same layout extents cell width old new same h = record {
+  few = subst (λ (o : Order). slot_count o extents ≤ 2 ^ 24) (sym same.order) h.few;
+  blobs = subst (λ (ps : List PieceRule). All (λ (p : PieceRule). p.blob < length layout) ps) (sym same.pieces) h.blobs;
+  bits = ap (λ (ps : List PieceRule). sum_by (λ (p : PieceRule). p.bits) ps) same.pieces ∙ h.bits;
+  bounds = subst (λ (ps : List PieceRule). All (λ (p : PieceRule). p.base + p.bits < 2 ^ 64) ps) (sym same.pieces) h.bounds;
+  places = λ row inside.
+      let Located : List PieceRule → Order → Type 0 = λ ps o. IsLocated layout row cell width (pieces_in ps (slot_at o extents row)) in
+      subst (λ (o : Order). Located new.pieces.items o) (sym same.order)
+      (subst (λ (ps : List PieceRule). Located ps old.order) (sym same.pieces) (h.places row inside));
+}
+
+-- what accesses to leaves go by, of the rules of a layout
+pub leaves_ruled : (layout : List (List Owner)) (extents : List ℕ) (kinds : List LeafType) (holds : List Hold) (rules : List Rule) (leaves : List LeafRule)
+    → IsRuled layout extents (map (λ (h : Hold). h.width) holds) rules → length holds ≡ length kinds → AreLeafRules kinds holds rules leaves
+    → AreRuled layout extents kinds holds leaves
+leaves_ruled layout extents kinds holds rules leaves ruled paired h = record {
+  each = h.each;
+  places = λ k d inside.
+      let leaf : LeafRule = get_or leaves k d in
+      let widths : length (map (λ (x : Hold). x.width) holds) ≡ length holds = length-map holds (λ (x : Hold). x.width) in
+      let low : k < length rules = omega (arith, ruled.each, h.each) in
+      rule_same layout extents k (slice_index (map (λ (x : Hold). x.width) holds) k) (get_or rules k leaf.rule) leaf.rule (h.same k d inside)
+      (ruled.places k leaf.rule low);
+  whole = h.whole;
+}
+
+-- a plan of all leaves has as many holds and rules as there are leaves
+module _ (term : Term) (extents : List ℕ) (fields : Fields) (cells : List Cell) (plan : Plan) (h : IsPlanOf term extents fields cells plan)
+    (all : cells ≡ leaf_cells (kinds_of fields)) where
+  cell_count : length (holds_of term fields cells) ≡ length (kinds_of fields)
+  cell_count = length-holds term fields cells ∙ ap (λ (cs : List Cell). length cs) all ∙ length-leaf_cells (kinds_of fields)
+
+  pub whole_holds : length plan.holds ≡ length (kinds_of fields)
+  whole_holds = plan_holds (most_slots term extents) (layout_of term extents fields cells) extents (holds_of term fields cells) plan h ∙ cell_count
+
+  pub whole_rules : length plan.rules ≡ length (kinds_of fields)
+  whole_rules = plan_rules (most_slots term extents) (layout_of term extents fields cells) extents (holds_of term fields cells) plan h ∙ cell_count
+
+-- what the accesses to one leaf go by
+module _ (layout : List (List Owner)) (extents : List ℕ) (kinds : List LeafType) (holds : List Hold) (leaves : List LeafRule) (k : ℕ) (leaf : LeafRule)
+    (h : AreRuled layout extents kinds holds leaves) (inside : k < length kinds) (read : leaf ≡ get_or leaves k leaf) where
+  pub leaf_in : k < length leaves
+  leaf_in = omega (arith, h.each)
+
+  pub leaf_placed : IsRuleOf layout extents k (slice_index (map (λ (x : Hold). x.width) holds) k) leaf.rule
+  leaf_placed =
+      subst (λ (l : LeafRule). IsRuleOf layout extents k (slice_index (map (λ (x : Hold). x.width) holds) k) l.rule) (sym read) (h.places k leaf leaf_in)
+
+  pub leaf_whole : IsLeafRule (kind_in kinds k) (hold_in holds k) leaf
+  leaf_whole = subst (λ (l : LeafRule). IsLeafRule (kind_in kinds k) (hold_in holds k) l) (sym read) (h.whole k leaf leaf_in)
+
+-- a short form says where its cell lies
+pub short_in : (layout : List (List Owner)) (extents : List ℕ) (cell width : ℕ) (kind : LeafType) (hold : Hold) (leaf : LeafRule)
+    → IsRuleOf layout extents cell width leaf.rule → IsLeafRule kind hold leaf → leaf.short.is_some ≡ true
+    → IsShortIn layout (length (indices extents)) cell width hold.signed leaf.short
+short_in layout extents cell width kind hold leaf placed whole some =
+    let form = whole.short some in
+    record {
+      signed = form.signed;
+      masked = form.masked;
+      low = form.low;
+      located = λ row inside.
+          let slot : slot_at leaf.rule.order extents row ≡ row =
+          ap (λ (o : Order). slot_at o extents row) form.by_rows ∙ slot_at_by_rows extents row inside in
+          let here : IsLocated layout row cell width (pieces_in leaf.rule.pieces.items row) =
+          subst (λ (s : ℕ). IsLocated layout row cell width (pieces_in leaf.rule.pieces.items s)) slot (placed.places row inside) in
+          subst (λ (ps : List Piece). IsLocated layout row cell width ps) (short_pieces leaf.rule.order leaf.rule.pieces.items hold leaf.short row form) here;
+    }

@@ -1,0 +1,42 @@
+use Rattle.std.proofs.Common.{◌≡◌, ◌*◌, ◌<◌, ◌∙◌, ℕ, List, length, get_or, ap, arith}
+use Rattle.record_dim.specs.Schemas.{schema_fields}
+use Rattle.record_dim.specs.Leaves.{kinds_of}
+use Rattle.map_expr.specs.Terms.{term_of}
+use Rattle.map_any.specs.declared.any.AnyMap.{AnyMap}
+use Rattle.map_any.specs.declared.leaf_rule.LeafRule.{LeafRule}
+use Rattle.map_any.specs.AnyLaws.{length-leaf_cells}
+use Rattle.map_any.specs.Mappings.{leaf_cells, layout_by}
+use Rattle.map_any.proofs.LeafLaws.{leaf_placed, leaf_whole}
+use Rattle.map_any.proofs.any.AnyMap.leaf_rule.Goals as goal
+
+in_kinds : (m : AnyMap) (leaf : ℕ) → leaf < length (leaf_cells (kinds_of (schema_fields m.schema))) → leaf < length (kinds_of (schema_fields m.schema))
+in_kinds m leaf low = omega (arith, length-leaf_cells (kinds_of (schema_fields m.schema)))
+
+inside : (m : AnyMap) (rules : List LeafRule) (leaf : ℕ) → rules ≡ m.rules → leaf < length (leaf_cells (kinds_of (schema_fields m.schema))) → leaf < length rules
+inside m rules leaf is low =
+    let same : length rules ≡ length m.rules = ap (λ (rs : List LeafRule). length rs) is in
+    omega (arith, in_kinds m leaf low, m.ruled.each)
+
+pub bounds-as_slice-leaf : goal.bounds-as_slice-leaf
+bounds-as_slice-leaf c = inside c.args.self.now c.as_slice.result.now c.args.leaf c.as_slice.ensures c.requires
+
+pub offset_bounds-as_slice-leaf : goal.offset_bounds-as_slice-leaf
+offset_bounds-as_slice-leaf c =
+    let low : c.args.leaf < length c.as_slice.result.now = inside c.args.self.now c.as_slice.result.now c.args.leaf c.as_slice.ensures c.requires in
+    omega arith
+
+pub returns-clause-places : goal.returns-clause-places
+returns-clause-places c =
+    let m = c.args.self.now in
+    let item : LeafRule = c.index-as_slice-leaf.result in
+    let read : item ≡ get_or m.rules c.args.leaf item = c.index-as_slice-leaf.is ∙ ap (λ (rs : List LeafRule). get_or rs c.args.leaf item) c.as_slice.ensures in
+    leaf_placed (layout_by (term_of m.expr) m.extents (schema_fields m.schema)) m.extents (kinds_of (schema_fields m.schema)) m.holds m.rules c.args.leaf item m.ruled
+    (in_kinds m c.args.leaf c.requires) read
+
+pub returns-clause-whole : goal.returns-clause-whole
+returns-clause-whole c =
+    let m = c.args.self.now in
+    let item : LeafRule = c.index-as_slice-leaf.result in
+    let read : item ≡ get_or m.rules c.args.leaf item = c.index-as_slice-leaf.is ∙ ap (λ (rs : List LeafRule). get_or rs c.args.leaf item) c.as_slice.ensures in
+    leaf_whole (layout_by (term_of m.expr) m.extents (schema_fields m.schema)) m.extents (kinds_of (schema_fields m.schema)) m.holds m.rules c.args.leaf item m.ruled
+    (in_kinds m c.args.leaf c.requires) read

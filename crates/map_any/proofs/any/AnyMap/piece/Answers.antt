@@ -1,0 +1,57 @@
+use Rattle.std.proofs.Common.{ℕ, ◌≡◌, ◌<◌, ◌≤◌, ◌∙◌, List, [], ◌∷◌, length, map, get_or, slice_index, sym, ap, subst, arith}
+use Rattle.record_dim.specs.Schemas.{schema_fields}
+use Rattle.places.specs.Layout.{Owner}
+use Rattle.places.specs.Laws.{IsLocated}
+use Rattle.places.specs.declared.piece.Hold.{Hold}
+use Rattle.places.specs.declared.piece.Piece.{Piece}
+use Rattle.piece_rules.specs.BeginsLaws.{begins_fit}
+use Rattle.piece_rules.specs.declared.rule.PieceRule.{PieceRule}
+use Rattle.piece_rules.specs.PieceRules.{pieces_in}
+use Rattle.map_expr.specs.Terms.{term_of}
+use Rattle.map_any.specs.declared.any.AnyMap.{AnyMap}
+use Rattle.map_any.specs.Mappings.{layout_by}
+use Rattle.map_any.proofs.any.AnyMap.piece.Goals as goal
+use Rattle.map_any.proofs.any.AnyMap.piece.Goals.{After-slot_of_row}
+
+abbrev layout_in : AnyMap → List (List Owner)
+layout_in m = layout_by (term_of m.expr) m.extents (schema_fields m.schema)
+
+abbrev width_in : AnyMap → ℕ → ℕ
+width_in m leaf = slice_index (map (λ (h : Hold). h.width) m.holds) leaf
+
+pub slot_of_row-requires-clause-few : goal.slot_of_row-requires-clause-few
+slot_of_row-requires-clause-few c = c.leaf_rule.ensures.places.few
+
+one_item : (xs : List PieceRule) (x : PieceRule) → 1 ≤ length xs → length xs < 2 → x ≡ get_or xs 0 x → xs ≡ x ∷ []
+one_item [] x low high read = let none : ⊥ = omega arith in absurd none
+one_item (y ∷ []) x low high read = ap (λ (z : PieceRule). z ∷ []) (sym read)
+one_item (y ∷ z ∷ zs) x low high read = let none : ⊥ = omega arith in absurd none
+
+-- the one piece of the rule is the place of the leaf
+located : (c : goal.After-slot_of_row) → IsLocated (layout_in c.args.self.now) c.args.row c.args.leaf (width_in c.args.self.now c.args.leaf)
+    (pieces_in (c.piece-item.result ∷ []) c.slot_of_row.result)
+located c =
+    let m = c.args.self.now in
+    let Located : List PieceRule → ℕ → Type 0 = λ ps slot. IsLocated (layout_in m) c.args.row c.args.leaf (width_in m c.args.leaf) (pieces_in ps slot) in
+    let item : PieceRule = c.piece-item.result in
+    let alone = sym c.as_slice.ensures.value ∙ one_item c.as_slice.result.now item c.in-len1.len_at_least c.in-len1.len_below c.piece-item.is in
+    subst (λ (ps : List PieceRule). Located ps c.slot_of_row.result) alone
+    (subst (λ (slot : ℕ). Located c.leaf_rule.result.now.rule.pieces.items slot) (sym c.slot_of_row.ensures.slot)
+    (c.leaf_rule.ensures.places.places c.args.row c.requires.slot_in))
+
+pub piece-requires : goal.piece-requires
+piece-requires c =
+    let m = c.args.self.now in
+    let item : PieceRule = c.piece-item.result in
+    record {
+      fits = begins_fit (layout_in m) c.args.row c.args.leaf (width_in m c.args.leaf) c.slot_of_row.result (item ∷ [])
+          (located (goal.at.piece-requires c).After-slot_of_row) 0 item (let l : 0 < 1 = omega arith in l);
+    }
+
+pub returns : goal.returns
+returns c =
+    let m = c.args.self.now in
+    record {
+      located = subst (λ (p : Piece). IsLocated (layout_in m) c.args.row c.args.leaf (width_in m c.args.leaf) (p ∷ [])) (sym c.piece.ensures)
+          (located (goal.at.returns c).After-slot_of_row);
+    }

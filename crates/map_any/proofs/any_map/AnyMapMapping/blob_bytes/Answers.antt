@@ -1,0 +1,13 @@
+use Rattle.std.proofs.Common.{◌*◌, ◌∙◌, ℕ, List, get_or, ap}
+use Rattle.record_dim.specs.Schemas.{schema_fields}
+use Rattle.record_dim.specs.Leaves.{kinds_of}
+use Rattle.map_expr.specs.Terms.{term_of}
+use Rattle.map_any.specs.Mappings.{layout_by}
+use Rattle.map_any.proofs.AnyFacts.{bytes_at}
+use Rattle.map_any.proofs.any_map.AnyMapMapping.blob_bytes.Goals as goal
+
+pub returns : goal.returns
+returns c =
+    let m = c.args.self.now in
+    ap (λ (ns : List ℕ). 8 * get_or ns c.args.blob 0) c.as_slice.ensures
+    ∙ bytes_at (layout_by (term_of m.expr) m.extents (schema_fields m.schema)) m.lengths c.args.blob 0 m.sized c.requires

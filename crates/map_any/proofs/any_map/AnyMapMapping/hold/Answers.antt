@@ -1,0 +1,27 @@
+use Rattle.std.proofs.Common.{ℕ, ◌≡◌, ◌*◌, ◌<◌, ◌∙◌, List, length, slice_get, sym, ap, subst, arith}
+use Rattle.std.proofs.lemmas.Option.{slice_get-get_or}
+use Rattle.record_dim.specs.Schemas.{schema_fields}
+use Rattle.record_dim.specs.Leaves.{kinds_of}
+use Rattle.places.specs.declared.piece.Hold.{Hold}
+use Rattle.map_expr.specs.Terms.{term_of}
+use Rattle.map_any.proofs.AnyFacts.{hold_in}
+use Rattle.map_any.specs.declared.any.AnyMap.{AnyMap}
+use Rattle.map_any.specs.Mappings.{leaf_cells}
+use Rattle.map_any.proofs.any_map.AnyMapMapping.hold.Goals as goal
+
+inside : (m : AnyMap) (holds : List Hold) (cell : ℕ) → holds ≡ m.holds → cell < length (leaf_cells (kinds_of (schema_fields m.schema))) → cell < length holds
+inside m holds cell is low =
+    subst (λ (hs : List Hold). cell < length hs) (sym is) (hold_in (term_of m.expr) (schema_fields m.schema) m.holds cell m.held low)
+
+pub bounds-as_slice-cell : goal.bounds-as_slice-cell
+bounds-as_slice-cell c = inside c.args.self.now c.as_slice.result.now c.args.cell c.as_slice.ensures c.requires
+
+pub offset_bounds-as_slice-cell : goal.offset_bounds-as_slice-cell
+offset_bounds-as_slice-cell c =
+    let low : c.args.cell < length c.as_slice.result.now = inside c.args.self.now c.as_slice.result.now c.args.cell c.as_slice.ensures c.requires in
+    omega arith
+
+pub returns : goal.returns
+returns c =
+    ap (λ (hs : List Hold). slice_get hs c.args.cell) (sym c.as_slice.ensures)
+    ∙ slice_get-get_or c.as_slice.result.now c.args.cell _ (inside c.args.self.now c.as_slice.result.now c.args.cell c.as_slice.ensures c.requires)

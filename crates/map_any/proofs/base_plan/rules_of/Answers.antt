@@ -1,0 +1,33 @@
+use Rattle.std.proofs.Common.{◌≡◌, ◌+◌, ◌^◌, ◌<◌, ℕ, ◌++◌, ◌∷◌, [], ◌∙◌, List, length, map, slice_index, sym, ap, subst, arith, length-append}
+use Rattle.std.proofs.lemmas.List.Elements.{All-cons, All-nil}
+use Rattle.std.proofs.lemmas.List.Sums.{sum_by-cons}
+use Rattle.linearize.specs.Slots.{row_at}
+use Rattle.piece_rules.specs.declared.rule.PieceRule.{PieceRule}
+use Rattle.places.specs.Layout.{Owner}
+use Rattle.places.specs.Rules.{in_rows}
+use Rattle.places.specs.declared.piece.Hold.{Hold}
+use Rattle.map_any.specs.declared.rule.Rule.{Rule}
+use Rattle.map_any.specs.Ruled.{IsRuleOf}
+use Rattle.map_any.proofs.RuleLaws.{each_push, rule_by_rows}
+use Rattle.map_any.proofs.base_plan.rules_of.Goals as goal
+
+pub loop-cell-preserved : goal.loop-cell-preserved
+loop-cell-preserved g c =
+    let order = c.args.order in
+    let extents : List ℕ = c.args.extents.now in
+    let layout : List (List Owner) = g.M.Mapping.layout c.args.mapping.now in
+    let widths : List ℕ = map (λ (h : Hold). h.width) (g.M.Mapping.hold_list c.args.mapping.now) in
+    let P : ℕ → Rule → Type 0 = λ cell rule. IsRuleOf (in_rows (row_at order extents) layout) extents cell (slice_index widths cell) rule in
+    let made : Rule = c.of_piece.result in
+    let size : length c.loop-cell.rules ≡ c.loop-cell.cell = c.loop-cell.invariant.0 in
+    let here : P c.loop-cell.cell made =
+    rule_by_rows order extents layout (g.M.Mapping.slot_count c.args.mapping.now) c.loop-cell.cell (slice_index widths c.loop-cell.cell) (c.rule.result ∷ []) made
+    c.requires.built c.requires.counted c.requires.few c.of_piece.ensures.order c.of_piece.ensures.pieces
+    (All-cons (λ (p : PieceRule). p.blob < length layout) c.rule.result [] c.rule.ensures.blob_in (All-nil (λ (p : PieceRule). p.blob < length layout)))
+    (sum_by-cons (λ (p : PieceRule). p.bits) c.rule.result [] ∙ (let e : c.rule.result.bits + 0 ≡ slice_index widths c.loop-cell.cell = omega (arith, c.rule.ensures.bits) in e))
+    (All-cons (λ (p : PieceRule). p.base + p.bits < 2 ^ 64) c.rule.result [] c.rule.ensures.bound (All-nil (λ (p : PieceRule). p.base + p.bits < 2 ^ 64)))
+    c.rule.ensures.places in (
+      ap (λ (rs : List Rule). length rs) c.in_ok-push.ensures.ok ∙ length-append c.loop-cell.rules (made ∷ []) ∙ ap (λ (n : ℕ). n + 1) size,
+      each_push P c.loop-cell.rules c.push.new.self made c.in_ok-push.ensures.ok c.loop-cell.invariant.1
+          (subst (λ (n : ℕ). P n made) (sym size) here),
+    )

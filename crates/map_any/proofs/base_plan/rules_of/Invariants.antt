@@ -1,0 +1,12 @@
+-- the rules so far
+use Rattle.std.proofs.Common.{◌≡◌, length, map, slice_index}
+use Rattle.linearize.specs.Slots.{row_at}
+use Rattle.places.specs.Rules.{in_rows}
+use Rattle.map_any.specs.Ruled.{EachWith, IsRuleOf}
+use Rattle.map_any.proofs.base_plan.rules_of.Given as goal
+
+abbrev pub invariant-loop-cell : goal.invariant-loop-cell
+invariant-loop-cell g l =
+    (length l.rules ≡ l.cell)
+    × EachWith (λ cell rule. IsRuleOf (in_rows (row_at l.order l.extents) (g.M.Mapping.layout l.mapping)) l.extents cell
+    (slice_index (map (λ h. h.width) (g.M.Mapping.hold_list l.mapping)) cell) rule) l.rules

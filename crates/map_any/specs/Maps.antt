@@ -1,0 +1,7 @@
+-- What a mapping of run time shows of its array.
+use Rattle.std.specs.Prelude.{ℕ, List}
+use Rattle.map_any.specs.declared.any.AnyMap.{AnyMap}
+
+-- the extents of the array that it maps
+abbrev pub extents_of : AnyMap → List ℕ
+extents_of map = map.extents

@@ -1,0 +1,22 @@
+-- The two sides of a split: which cells go to the first.
+use Rattle.std.specs.Prelude.{ℕ, Bool, true, false, not, List, [], ◌∷◌, map, filter}
+use Rattle.record_dim.specs.declared.path.PathStep.{PathStep}
+use Rattle.record_dim.specs.Trees.{Fields}
+use Rattle.record_dim.specs.Nodes.{is_under}
+use Rattle.places.specs.declared.piece.Cell.{Cell}
+
+-- whether each cell's leaf is under the path, and the cells for which it is and is not
+abbrev pub side_of : Fields → List PathStep → List Cell → List Bool
+side_of fields path cells = map (λ cell. is_under fields path cell.leaf) cells
+
+abbrev pub cells_under : Fields → List PathStep → List Cell → List Cell
+cells_under fields path cells = filter (λ cell. is_under fields path cell.leaf) cells
+
+abbrev pub cells_beside : Fields → List PathStep → List Cell → List Cell
+cells_beside fields path cells = filter (λ cell. not (is_under fields path cell.leaf)) cells
+
+-- items for the cells of both sides, in the order of the whole
+abbrev pub merged : {X : Type 0} → List Bool → List X → List X → List X
+merged (true ∷ side) (x ∷ xs) ys = x ∷ merged side xs ys
+merged (false ∷ side) xs (y ∷ ys) = y ∷ merged side xs ys
+merged _ _ _ = []

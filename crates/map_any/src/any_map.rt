@@ -1,0 +1,173 @@
+ghost use Rattle.std.specs.Prelude.{ℕ, ◌≡◌, ◌<◌, ◌∷◌, List, [], true, IfOk, OnOk, IfErr, IfSome, Ok, length, map, slice_index};
+ghost use Rattle.extents.specs.Indices.{indices};
+ghost use Rattle.record_dim.specs.LeafTypes.{IsIn, IsDeclared};
+ghost use Rattle.record_dim.specs.Schemas.{schema_fields};
+ghost use Rattle.record_dim.specs.Leaves.{kinds_of};
+ghost use Rattle.places.specs.Laws.{IsLocated};
+ghost use Rattle.map_expr.specs.Terms.{term_of};
+ghost use Rattle.map_any.specs.Mappings.{leaf_cells, layout_by, holds_by, accepted, IsBuiltTerm, IsTooBigFor, IsRefusal};
+ghost use Rattle.map_any.specs.AnyLaws.{any_laws, holds_cells};
+ghost use Rattle.map_any.specs.LeafRules.{kind_in, hold_in, IsLeafRule, IsShortIn};
+ghost use Rattle.map_any.specs.Maps.{extents_of};
+ghost use Rattle.map_any.specs.Ruled.{IsRuleOf};
+ghost use Rattle.map_any.specs.Shorts.{IsPlain};
+
+use crate::any::AnyMap;
+use crate::bad_side::has_bad_side;
+use crate::cells::cells_of;
+use crate::fault::MakeMap;
+use crate::leaf_rule::LeafRule;
+use crate::leaf_rules::leaf_rules;
+use crate::make::make_plan;
+use crate::orders::slot_of_row;
+use crate::rule::Rule;
+use crate::short::ShortRule;
+use extents::Extents;
+use map_expr::{BadMapping, MapExpr};
+use piece_rules::pieces_in;
+use places::{Hold, Mapping, Piece, Pieces};
+use record_dim::{LeafType, Schema};
+use std::alloc::Global;
+
+impl AnyMap {
+    /// The mapping of an expression over the leaves of a schema and the rows of an array. Its slots are row numbers, and its cells the
+    /// leaves. `Bad` comes exactly where the expression is refused, and `TooBig` exactly where it is not and is over a limit.
+    pub fn new(
+        alloc: Global,
+        schema: &Schema,
+        extents: &Extents,
+        expr: &MapExpr,
+    ) -> Result<AnyMap, MakeMap>
+        requires built { IsBuiltTerm (term_of expr.now) }
+        ensures slots { IfOk result (λ m. ⟦<AnyMap as Mapping>⟧.slot_count m ≡ length (indices extents.now)) }
+        ensures cells { IfOk result (λ m. ⟦<AnyMap as Mapping>⟧.cell_list m ≡ leaf_cells (kinds_of (schema_fields schema.now))) }
+        ensures holds { IfOk result (λ m. ⟦<AnyMap as Mapping>⟧.hold_list m ≡ holds_by (term_of expr.now) (schema_fields schema.now)) }
+        ensures extents { IfOk result (λ m. extents_of m ≡ extents.now) }
+        ensures layout { IfOk result (λ m. ⟦<AnyMap as Mapping>⟧.layout m ≡ layout_by (term_of expr.now) extents.now (schema_fields schema.now)) }
+
+        // Only want of memory comes before the other answers.
+        ensures accepted { OnOk result (accepted (term_of expr.now) (schema_fields schema.now) (leaf_cells (kinds_of (schema_fields schema.now))) ≡ Ok tt) }
+        ensures fits { OnOk result (IsTooBigFor (term_of expr.now) extents.now (schema_fields schema.now) (leaf_cells (kinds_of (schema_fields schema.now))) → ⊥) }
+        ensures refused { IfErr result (IsRefusal (term_of expr.now) extents.now (schema_fields schema.now) (leaf_cells (kinds_of (schema_fields schema.now)))) }
+    {
+        if let Err(bad) = expr.check() {
+            return Err(MakeMap::Bad(bad));
+        }
+        let cells = cells_of(alloc, schema)?;
+        if has_bad_side(alloc, schema, &cells, expr)? {
+            return Err(MakeMap::Bad(BadMapping::Side));
+        }
+        let plan = make_plan(alloc, schema, &cells, extents, expr)?;
+        let rules = leaf_rules(alloc, schema, plan.holds.as_slice(), plan.rules.as_slice())?;
+        let schema = schema.copy(alloc)?;
+        let expr = expr.copy(alloc)?;
+        Ok(AnyMap {
+            schema,
+            extents: *extents,
+            expr,
+            holds: plan.holds,
+            lengths: plan.lengths,
+            rules,
+        })
+    }
+
+    /// Where a leaf lies in every row, as a rule that needs no look at the mapping. It takes no memory.
+    pub fn rule(&self, leaf: usize) -> Rule
+        requires { leaf < length (⟦<AnyMap as Mapping>⟧.cell_list self.now) }
+        ensures { IsRuleOf (⟦<AnyMap as Mapping>⟧.layout self.now) (extents_of self.now) leaf
+            (slice_index (map (λ h. h.width) (⟦<AnyMap as Mapping>⟧.hold_list self.now)) leaf) result }
+    {
+        self.leaf_rule(leaf).rule.copy()
+    }
+
+    /// The short form of where a leaf lies, where there is one.
+    #[inline(always)]
+    pub fn short(&self, leaf: usize) -> &ShortRule
+        requires { leaf < length (⟦<AnyMap as Mapping>⟧.cell_list self.now) }
+        ensures plain { result.now.is_plain ≡ true → IsPlain result.now }
+        ensures form { result.now.is_some ≡ true → IsShortIn (⟦<AnyMap as Mapping>⟧.layout self.now) (⟦<AnyMap as Mapping>⟧.slot_count self.now) leaf
+            (slice_index (map (λ h. h.width) (⟦<AnyMap as Mapping>⟧.hold_list self.now)) leaf)
+            (hold_in (⟦<AnyMap as Mapping>⟧.hold_list self.now) leaf).signed result.now }
+    {
+        &self.leaf_rule(leaf).short
+    }
+
+    /// Whether a value is sure to be declared for a leaf and held by it. False says nothing.
+    #[inline(always)]
+    pub fn takes(&self, leaf: usize, value: i128) -> bool
+        requires { leaf < length (⟦<AnyMap as Mapping>⟧.cell_list self.now) }
+        ensures declared { result ≡ true → IsDeclared (kind_in (map (λ cell. cell.kind) (⟦<AnyMap as Mapping>⟧.cell_list self.now)) leaf) value }
+        ensures held { result ≡ true → let hold = hold_in (⟦<AnyMap as Mapping>⟧.hold_list self.now) leaf in IsIn hold.signed hold.width value }
+    {
+        let rule = self.leaf_rule(leaf);
+        rule.least <= value && value <= rule.greatest
+    }
+
+    /// The one piece of a leaf in a row, where it has one. None where there may be several.
+    pub fn piece(&self, row: u64, leaf: usize) -> Option<Piece>
+        requires slot_in { row < ⟦<AnyMap as Mapping>⟧.slot_count self.now }
+        requires cell_in { leaf < length (⟦<AnyMap as Mapping>⟧.cell_list self.now) }
+        ensures located { IfSome result (λ piece. IsLocated (⟦<AnyMap as Mapping>⟧.layout self.now) row leaf
+            (slice_index (map (λ h. h.width) (⟦<AnyMap as Mapping>⟧.hold_list self.now)) leaf) (piece ∷ [])) }
+    {
+        let rule = &self.leaf_rule(leaf).rule;
+        let [piece] = rule.pieces.as_slice() else {
+            return None;
+        };
+        Some(piece.piece(slot_of_row(rule.order, &self.extents, row)))
+    }
+
+    /// What the accesses to a leaf go by.
+    #[inline(always)]
+    fn leaf_rule(&self, leaf: usize) -> &LeafRule
+        requires { leaf < length (⟦<AnyMap as Mapping>⟧.cell_list self.now) }
+        ensures places { IsRuleOf (⟦<AnyMap as Mapping>⟧.layout self.now) self.now.extents leaf
+            (slice_index (map (λ h. h.width) self.now.holds) leaf) result.now.rule }
+        ensures whole { IsLeafRule (kind_in (kinds_of (schema_fields self.now.schema)) leaf) (hold_in self.now.holds leaf) result.now }
+    {
+        &self.rules.as_slice()[leaf]
+    }
+}
+
+impl Mapping for AnyMap {
+    ghost layout = { λ m. layout_by (term_of m.expr) m.extents (schema_fields m.schema) };
+
+    ghost slot_count = { λ m. length (indices m.extents) };
+
+    ghost cell_list = { λ m. leaf_cells (kinds_of (schema_fields m.schema)) };
+
+    ghost hold_list = { λ m. m.holds };
+
+    fn slots(&self) -> u64 {
+        self.extents.count()
+    }
+
+    fn cells(&self) -> usize {
+        self.schema.leaf_count()
+    }
+
+    fn kind(&self, cell: usize) -> LeafType {
+        self.schema.leaf_type(cell)
+    }
+
+    fn hold(&self, cell: usize) -> Hold {
+        self.holds.as_slice()[cell]
+    }
+
+    fn blob_count(&self) -> usize {
+        self.lengths.len()
+    }
+
+    fn blob_bytes(&self, blob: usize) -> u64 {
+        self.lengths.as_slice()[blob]
+    }
+
+    fn locate(&self, slot: u64, cell: usize) -> Pieces {
+        let rule = &self.leaf_rule(cell).rule;
+        pieces_in(&rule.pieces, slot_of_row(rule.order, &self.extents, slot))
+    }
+
+    ghost laws = { λ m. any_laws (term_of m.expr) m.extents (schema_fields m.schema) m.holds m.built m.numbers m.held };
+
+    ghost holds_cells = { λ m. holds_cells (term_of m.expr) (schema_fields m.schema) m.holds m.held };
+}

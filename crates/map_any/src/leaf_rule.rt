@@ -1,0 +1,17 @@
+use crate::rule::Rule;
+use crate::short::ShortRule;
+use lists::Sequence;
+
+/// Where a leaf lies in every row, with what is worked out once for all accesses to it.
+#[derive(Drop)]
+pub struct LeafRule {
+    pub rule: Rule,
+    /// The short form of the rule, where it has one.
+    pub short: ShortRule,
+    /// From this value to the greatest, a value is declared and is held. Where none is sure to be, the least is above the greatest.
+    pub least: i128,
+    pub greatest: i128,
+}
+
+/// A rule for each leaf, in order.
+pub type RuleList = Sequence<LeafRule>;

@@ -1,0 +1,57 @@
+ghost use Rattle.std.specs.Prelude.{ℤ, ◌≡◌, ◌≤ℤ◌, IfOk, length};
+ghost use Rattle.record_dim.specs.LeafTypes.{IsIn, IsDeclared};
+ghost use Rattle.record_dim.specs.Schemas.{schema_fields};
+ghost use Rattle.record_dim.specs.Leaves.{kinds_of};
+ghost use Rattle.map_any.specs.LeafRules.{IsSameRule, IsLeafRule, AreLeafRules};
+
+use crate::leaf_rule::{LeafRule, RuleList};
+use crate::plan::hold_at;
+use crate::rule::Rule;
+use crate::short::ShortRule;
+use places::Hold;
+use record_dim::{LeafType, Schema};
+use std::alloc::{AllocError as NoMemory, Global};
+
+/// What the accesses to each leaf of a schema go by, given how each is stored and where.
+pub fn leaf_rules(
+    alloc: Global,
+    schema: &Schema,
+    holds: &[Hold],
+    rules: &[Rule],
+) -> Result<RuleList, NoMemory>
+    requires holds { length holds.now ≡ length (kinds_of (schema_fields schema.now)) }
+    requires rules { length rules.now ≡ length (kinds_of (schema_fields schema.now)) }
+    ensures { IfOk result (AreLeafRules (kinds_of (schema_fields schema.now)) holds.now rules.now) }
+{
+    let mut leaves = RuleList::new(alloc);
+    for leaf in 0..schema.leaf_count() {
+        let hold = hold_at(holds, leaf);
+        leaves.push(leaf_rule(schema.leaf_type(leaf), hold, &rules[leaf]))?;
+    }
+    Ok(leaves)
+}
+
+/// What the accesses to a leaf go by, given its type, how it is stored and where.
+fn leaf_rule(kind: LeafType, hold: Hold, rule: &Rule) -> LeafRule
+    ensures rule { IsSameRule rule.now result.rule }
+    ensures whole { IsLeafRule kind hold result }
+{
+    let (least, greatest) = taken_range(kind, hold);
+    LeafRule {
+        rule: rule.copy(),
+        short: ShortRule::of(rule, hold),
+        least,
+        greatest,
+    }
+}
+
+/// The least and the greatest value that are sure to be declared and held: those of the type, where it is stored as it is, and else none.
+fn taken_range(kind: LeafType, hold: Hold) -> (i128, i128)
+    ensures { (value : ℤ) → result.0 ≤ℤ value → value ≤ℤ result.1 → IsDeclared kind value × IsIn hold.signed hold.width value }
+{
+    if hold.width == kind.width() && hold.signed == kind.signed() {
+        (kind.least(), kind.greatest())
+    } else {
+        (1, 0)
+    }
+}

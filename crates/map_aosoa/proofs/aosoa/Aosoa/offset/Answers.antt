@@ -1,0 +1,9 @@
+use Rattle.std.proofs.Common.{◌<◌, arith}
+use Rattle.map_aosoa.proofs.Blob.{offset_fits}
+use Rattle.map_aosoa.proofs.aosoa.Aosoa.offset.Goals as goal
+
+pub returns-clause-low : goal.returns-clause-low
+returns-clause-low c =
+    let m = c.args.self.now in
+    let some : 0 < m.slots = let h = c.if-self-eq0.false in omega arith in
+    offset_fits m.lanes m.slots m.cells.items m.offsets.items m.stride c.args.cell _ m.some m.stored m.bound some c.requires c.index.ensures

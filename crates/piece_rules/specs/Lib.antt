@@ -1,0 +1,2 @@
+pub mod PieceRules
+pub mod BeginsLaws

@@ -1,0 +1,97 @@
+-- Lists of cells: which cells stand in them.
+use Rattle.std.proofs.Common.{◌≡◌, ℕ, zero, suc, refl, ◌+◌, ◌-◌, ◌<◌, ◌≤◌, inl, inr, ⊎_elim, List, [], ◌∷◌, length, get_or, slice_index, take, sym, ap, ◌∙◌, subst, arith}
+use Rattle.std.specs.List.{enumerate_from}
+use Rattle.std.proofs.lemmas.Bool.{cases_eq}
+use Rattle.places.specs.Layout.{cells_of}
+use Rattle.places.specs.Laws.{IsBitOf}
+use Rattle.places.specs.ExactLaws.{Member, Apart}
+
+-- the cells of a list of widths that is numbered from n on
+pub member_enumerate : (n : ℕ) (widths : List ℕ) (c w : ℕ) → Member (enumerate_from n widths) c w
+    → (n ≤ c) × (c < n + length widths) × (w ≡ get_or widths (c - n) 0)
+member_enumerate n [] c w h = absurd h
+member_enumerate n (width ∷ widths) c w h =
+    ⊎_elim
+    (λ (here : (n ≡ c) × (width ≡ w)).
+    let same : n ≡ c = here.0 in
+    let first : c - n ≡ 0 = omega arith in
+    let value : w ≡ get_or (width ∷ widths) (c - n) 0 = sym here.1 ∙ sym (ap (λ (i : ℕ). get_or (width ∷ widths) i 0) first) in
+    ((let l : n ≤ c = omega arith in l), (let l : c < n + suc (length widths) = omega arith in l), value))
+    (λ (later : Member (enumerate_from (n + 1) widths) c w).
+    let r = member_enumerate (n + 1) widths c w later in
+    let low : n + 1 ≤ c = r.0 in
+    let high : c < n + 1 + length widths = r.1 in
+    let place : suc (c - (n + 1)) ≡ c - n = omega arith in
+    let value : w ≡ get_or (width ∷ widths) (c - n) 0 = r.2 ∙ ap (λ (i : ℕ). get_or (width ∷ widths) i 0) place in
+    ((let l : n ≤ c = omega arith in l), (let l : c < n + suc (length widths) = omega arith in l), value))
+    h
+
+pub enumerate_member : (n : ℕ) (widths : List ℕ) (c : ℕ) → n ≤ c → c < n + length widths → Member (enumerate_from n widths) c (get_or widths (c - n) 0)
+enumerate_member n [] c low high = let none : ⊥ = omega arith in absurd none
+enumerate_member n (width ∷ widths) c low high =
+    ⊎_elim
+    (λ (same : n ≡ c).
+    let first : 0 ≡ c - n = omega arith in
+    inl (same, ap (λ (i : ℕ). get_or (width ∷ widths) i 0) first))
+    (λ (other : n ≡ c → ⊥).
+    let later : n + 1 ≤ c = omega arith in
+    let place : suc (c - (n + 1)) ≡ c - n = omega arith in
+    let rest = enumerate_member (n + 1) widths c later (omega arith) in
+    inr (subst (λ (i : ℕ). Member (enumerate_from (n + 1) widths) c (get_or (width ∷ widths) i 0)) place rest))
+    (cases_eq n c)
+
+pub apart_enumerate : (n : ℕ) (widths : List ℕ) → Apart (enumerate_from n widths)
+apart_enumerate n [] = tt
+apart_enumerate n (width ∷ widths) = (
+  (λ w (later : Member (enumerate_from (n + 1) widths) n w).
+      let low : n + 1 ≤ n = (member_enumerate (n + 1) widths n w later).0 in
+      let none : ⊥ = omega arith in none),
+  apart_enumerate (n + 1) widths,
+)
+
+pub member_cells : (widths : List ℕ) (c w : ℕ) → Member (cells_of widths) c w → (c < length widths) × (w ≡ slice_index widths c)
+member_cells widths c w h =
+    let r = member_enumerate 0 widths c w h in
+    let high : c < 0 + length widths = r.1 in
+    let place : c - 0 ≡ c = omega arith in
+    ((let l : c < length widths = omega arith in l), r.2 ∙ ap (λ (i : ℕ). get_or widths i 0) place)
+
+pub cells_member : (widths : List ℕ) (c : ℕ) → c < length widths → Member (cells_of widths) c (slice_index widths c)
+cells_member widths c inside =
+    let place : c - 0 ≡ c = omega arith in
+    subst (λ (i : ℕ). Member (cells_of widths) c (get_or widths i 0)) place (enumerate_member 0 widths c (omega arith) (omega arith))
+
+-- the bits of the slots' cells, as the combinators say it
+pub bit_of_cells : (slots : ℕ) (widths : List ℕ) (s c k : ℕ) → s < slots → (w : ℕ) × Member (cells_of widths) c w × (k < w) → IsBitOf slots widths s c k
+bit_of_cells slots widths s c k slot_in h =
+    let r = member_cells widths c h.0 h.1 in
+    let same : h.0 ≡ slice_index widths c = r.1 in
+    let low : k < h.0 = h.2 in
+    record { slot_in = slot_in; cell_in = r.0; bit_in = omega arith }
+
+pub cells_of_bit : (slots : ℕ) (widths : List ℕ) (s c k : ℕ) → IsBitOf slots widths s c k → (w : ℕ) × Member (cells_of widths) c w × (k < w)
+cells_of_bit slots widths s c k h = (slice_index widths c, cells_member widths c h.cell_in, h.bit_in)
+
+-- the cell at a place of a list
+pub member_at : (cells : List (ℕ × ℕ)) (i : ℕ) (d : ℕ × ℕ) → i < length cells → Member cells (get_or cells i d).0 (get_or cells i d).1
+member_at [] i d l = let none : ⊥ = omega arith in absurd none
+member_at (cell ∷ cells) zero d l = inl (refl, refl)
+member_at (cell ∷ cells) (suc i) d l = inr (member_at cells i d (omega arith))
+
+-- the cells before a place
+pub member_take : (cells : List (ℕ × ℕ)) (i c w : ℕ) → Member (take i cells) c w → Member cells c w
+member_take cells zero c w m = absurd m
+member_take [] (suc i) c w m = m
+member_take (cell ∷ cells) (suc i) c w m =
+    ⊎_elim (λ (x : (cell.0 ≡ c) × (cell.1 ≡ w)). inl x) (λ (x : Member (take i cells) c w). inr (member_take cells i c w x)) m
+
+-- the cell at a place stands not before it
+pub fresh_at : (cells : List (ℕ × ℕ)) (i : ℕ) (d : ℕ × ℕ) (v : ℕ) → Apart cells → i < length cells → Member (take i cells) (get_or cells i d).0 v → ⊥
+fresh_at [] i d v apart l m = let none : ⊥ = omega arith in none
+fresh_at (cell ∷ cells) zero d v apart l m = m
+fresh_at (cell ∷ cells) (suc i) d v apart l m =
+    ⊎_elim
+    (λ (x : (cell.0 ≡ (get_or cells i d).0) × (cell.1 ≡ v)).
+    apart.0 (get_or cells i d).1 (subst (λ (c : ℕ). Member cells c (get_or cells i d).1) (sym x.0) (member_at cells i d (omega arith))))
+    (λ (x : Member (take i cells) (get_or cells i d).0 v). fresh_at cells i d v apart.1 (omega arith) x)
+    m

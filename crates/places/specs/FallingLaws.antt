@@ -1,0 +1,182 @@
+-- Cells by falling width: the same cells, each once.
+use Rattle.std.proofs.Common.{◌≡◌, ℕ, ◌<◌, Bool, true, false, ◌==◌, ◌⊎◌, inl, inr, ⊎_elim, List, [], ◌∷◌, ◌++◌, filter, refl, sym, ap, ◌∙◌, subst, arith, lit<}
+use Rattle.std.specs.List.{flat_map}
+use Rattle.std.proofs.lemmas.Bool.{cases_Bool, cond-true, cond-false, eqb-true, eq-eqb}
+use Rattle.places.specs.Layout.{falling}
+use Rattle.places.specs.ExactLaws.{Member, Apart}
+use Rattle.places.specs.WidthsLaws.{IsWidth}
+
+-- which cells a filter keeps
+pub member_filter : (p : ℕ × ℕ → Bool) (cells : List (ℕ × ℕ)) (c w : ℕ) → Member (filter p cells) c w → Member cells c w × (p (c, w) ≡ true)
+member_filter p [] c w m = absurd m
+member_filter p (cell ∷ cells) c w m =
+    let Stands : List (ℕ × ℕ) → Type 0 = λ kept. Member kept c w in
+    ⊎_elim
+    (λ (yes : p cell ≡ true).
+    let here : Member (cell ∷ filter p cells) c w = subst Stands (cond-true (p cell) (cell ∷ filter p cells) (filter p cells) yes) m in
+    ⊎_elim
+    (λ (x : (cell.0 ≡ c) × (cell.1 ≡ w)).
+    let Passes : ℕ → ℕ → Type 0 = λ a b. p (a, b) ≡ true in
+    let first : Passes c cell.1 = subst (λ (a : ℕ). Passes a cell.1) x.0 yes in
+    let passes : Passes c w = subst (λ (b : ℕ). Passes c b) x.1 first in
+    (inl x, passes))
+    (λ (x : Member (filter p cells) c w). let r = member_filter p cells c w x in (inr r.0, r.1))
+    here)
+    (λ (other : p cell ≡ false).
+    let later : Member (filter p cells) c w = subst Stands (cond-false (p cell) (cell ∷ filter p cells) (filter p cells) other) m in
+    let r = member_filter p cells c w later in
+    (inr r.0, r.1))
+    (cases_Bool (p cell))
+
+pub filter_member : (p : ℕ × ℕ → Bool) (cells : List (ℕ × ℕ)) (c w : ℕ) → Member cells c w → p (c, w) ≡ true → Member (filter p cells) c w
+filter_member p [] c w m passes = absurd m
+filter_member p (cell ∷ cells) c w m passes =
+    let Stands : List (ℕ × ℕ) → Type 0 = λ kept. Member kept c w in
+    ⊎_elim
+    (λ (x : (cell.0 ≡ c) × (cell.1 ≡ w)).
+    let first : p (cell.0, cell.1) ≡ p (c, cell.1) = ap (λ (a : ℕ). p (a, cell.1)) x.0 in
+    let second : p (c, cell.1) ≡ p (c, w) = ap (λ (b : ℕ). p (c, b)) x.1 in
+    let yes : p cell ≡ true = first ∙ second ∙ passes in
+    subst Stands (sym (cond-true (p cell) (cell ∷ filter p cells) (filter p cells) yes)) (inl x))
+    (λ (x : Member cells c w).
+    let rest : Member (filter p cells) c w = filter_member p cells c w x passes in
+    ⊎_elim
+    (λ (yes : p cell ≡ true). subst Stands (sym (cond-true (p cell) (cell ∷ filter p cells) (filter p cells) yes)) (inr rest))
+    (λ (other : p cell ≡ false). subst Stands (sym (cond-false (p cell) (cell ∷ filter p cells) (filter p cells) other)) rest)
+    (cases_Bool (p cell)))
+    m
+
+pub apart_filter : (p : ℕ × ℕ → Bool) (cells : List (ℕ × ℕ)) → Apart cells → Apart (filter p cells)
+apart_filter p [] apart = apart
+apart_filter p (cell ∷ cells) apart =
+    let rest : Apart (filter p cells) = apart_filter p cells apart.1 in
+    ⊎_elim
+    (λ (yes : p cell ≡ true).
+    let both : Apart (cell ∷ filter p cells) = ((λ w m. apart.0 w (member_filter p cells cell.0 w m).0), rest) in
+    subst Apart (sym (cond-true (p cell) (cell ∷ filter p cells) (filter p cells) yes)) both)
+    (λ (other : p cell ≡ false). subst Apart (sym (cond-false (p cell) (cell ∷ filter p cells) (filter p cells) other)) rest)
+    (cases_Bool (p cell))
+
+-- which cells joined lists have
+pub member_append : (xs ys : List (ℕ × ℕ)) (c w : ℕ) → Member (xs ++ ys) c w → Member xs c w ⊎ Member ys c w
+member_append [] ys c w m = inr m
+member_append (x ∷ xs) ys c w m =
+    ⊎_elim
+    (λ (here : (x.0 ≡ c) × (x.1 ≡ w)). inl (inl here))
+    (λ (later : Member (xs ++ ys) c w).
+    ⊎_elim (λ (l : Member xs c w). inl (inr l)) (λ (r : Member ys c w). inr r) (member_append xs ys c w later))
+    m
+
+pub append_member_left : (xs ys : List (ℕ × ℕ)) (c w : ℕ) → Member xs c w → Member (xs ++ ys) c w
+append_member_left [] ys c w m = absurd m
+append_member_left (x ∷ xs) ys c w m =
+    ⊎_elim (λ (here : (x.0 ≡ c) × (x.1 ≡ w)). inl here) (λ (later : Member xs c w). inr (append_member_left xs ys c w later)) m
+
+pub append_member_right : (xs ys : List (ℕ × ℕ)) (c w : ℕ) → Member ys c w → Member (xs ++ ys) c w
+append_member_right [] ys c w m = m
+append_member_right (x ∷ xs) ys c w m = inr (append_member_right xs ys c w m)
+
+pub apart_append : (xs ys : List (ℕ × ℕ)) → Apart xs → Apart ys → ((c v w : ℕ) → Member xs c v → Member ys c w → ⊥) → Apart (xs ++ ys)
+apart_append [] ys one two fresh = two
+apart_append (x ∷ xs) ys one two fresh = (
+  (λ w m. ⊎_elim
+      (λ (l : Member xs x.0 w). one.0 w l)
+      (λ (r : Member ys x.0 w). fresh x.0 x.1 w (inl (refl, refl)) r)
+      (member_append xs ys x.0 w m)),
+  apart_append xs ys one.1 two (λ c v w l r. fresh c v w (inr l) r),
+)
+
+-- a number stands in a list of numbers, and none stands there twice
+abbrev pub Listed : List ℕ → ℕ → Type 0
+Listed [] w = ⊥
+Listed (x ∷ xs) w = (x ≡ w) ⊎ Listed xs w
+
+abbrev pub Distinct : List ℕ → Type 0
+Distinct [] = Unit
+Distinct (x ∷ xs) = (Listed xs x → ⊥) × Distinct xs
+
+-- the cells of each of some widths
+abbrev pub picked : List (ℕ × ℕ) → List ℕ → List (ℕ × ℕ)
+picked cells ws = flat_map (λ width. filter (λ cell. cell.1 == width) cells) ws
+
+-- a cell has one width
+pub one_width : (cells : List (ℕ × ℕ)) (c v w : ℕ) → Apart cells → Member cells c v → Member cells c w → v ≡ w
+one_width [] c v w apart one two = absurd one
+one_width (cell ∷ cells) c v w apart one two =
+    ⊎_elim
+    (λ (x : (cell.0 ≡ c) × (cell.1 ≡ v)).
+    ⊎_elim
+    (λ (y : (cell.0 ≡ c) × (cell.1 ≡ w)). sym x.1 ∙ y.1)
+    (λ (y : Member cells c w). absurd (apart.0 w (subst (λ (a : ℕ). Member cells a w) (sym x.0) y)))
+    two)
+    (λ (x : Member cells c v).
+    ⊎_elim
+    (λ (y : (cell.0 ≡ c) × (cell.1 ≡ w)). absurd (apart.0 v (subst (λ (a : ℕ). Member cells a v) (sym y.0) x)))
+    (λ (y : Member cells c w). one_width cells c v w apart.1 x y)
+    two)
+    one
+
+pub member_picked : (cells : List (ℕ × ℕ)) (ws : List ℕ) (c w : ℕ) → Member (picked cells ws) c w → Member cells c w × Listed ws w
+member_picked cells [] c w m = absurd m
+member_picked cells (width ∷ ws) c w m =
+    ⊎_elim
+    (λ (here : Member (filter (λ cell. cell.1 == width) cells) c w).
+    let r = member_filter (λ cell. cell.1 == width) cells c w here in
+    (r.0, inl (sym (eqb-true w width r.1))))
+    (λ (later : Member (picked cells ws) c w). let r = member_picked cells ws c w later in (r.0, inr r.1))
+    (member_append (filter (λ cell. cell.1 == width) cells) (picked cells ws) c w m)
+
+pub picked_member : (cells : List (ℕ × ℕ)) (ws : List ℕ) (c w : ℕ) → Member cells c w → Listed ws w → Member (picked cells ws) c w
+picked_member cells [] c w m listed = absurd listed
+picked_member cells (width ∷ ws) c w m listed =
+    ⊎_elim
+    (λ (here : width ≡ w).
+    append_member_left (filter (λ cell. cell.1 == width) cells) (picked cells ws) c w
+    (filter_member (λ cell. cell.1 == width) cells c w m (eq-eqb w width (sym here))))
+    (λ (later : Listed ws w).
+    append_member_right (filter (λ cell. cell.1 == width) cells) (picked cells ws) c w (picked_member cells ws c w m later))
+    listed
+
+pub apart_picked : (cells : List (ℕ × ℕ)) (ws : List ℕ) → Apart cells → Distinct ws → Apart (picked cells ws)
+apart_picked cells [] apart distinct = tt
+apart_picked cells (width ∷ ws) apart distinct =
+    apart_append (filter (λ cell. cell.1 == width) cells) (picked cells ws)
+    (apart_filter (λ cell. cell.1 == width) cells apart)
+    (apart_picked cells ws apart distinct.1)
+    (λ c v w one two.
+    let r = member_filter (λ cell. cell.1 == width) cells c v one in
+    let q = member_picked cells ws c w two in
+    let same : v ≡ w = one_width cells c v w apart r.0 q.0 in
+    let here : v ≡ width = eqb-true v width r.1 in
+    distinct.0 (subst (λ (x : ℕ). Listed ws x) (sym same ∙ here) q.1))
+
+-- a number stands not among smaller ones
+fresh_nil : (x : ℕ) → Listed [] x → ⊥
+fresh_nil x l = l
+
+fresh_cons : (y : ℕ) (xs : List ℕ) (x : ℕ) → y < x → (Listed xs x → ⊥) → Listed (y ∷ xs) x → ⊥
+fresh_cons y xs x small fresh l = ⊎_elim (λ (e : y ≡ x). let none : ⊥ = omega arith in none) fresh l
+
+-- cells of whole-byte widths by falling width
+pub apart_falling : (cells : List (ℕ × ℕ)) → Apart cells → Apart (falling cells)
+apart_falling cells apart =
+    let one : Listed (8 ∷ []) 16 → ⊥ = fresh_cons 8 [] 16 (lit< tt) (fresh_nil 16) in
+    let two : Listed (16 ∷ 8 ∷ []) 32 → ⊥ = fresh_cons 16 (8 ∷ []) 32 (lit< tt) (fresh_cons 8 [] 32 (lit< tt) (fresh_nil 32)) in
+    let three : Listed (32 ∷ 16 ∷ 8 ∷ []) 64 → ⊥ =
+    fresh_cons 32 (16 ∷ 8 ∷ []) 64 (lit< tt) (fresh_cons 16 (8 ∷ []) 64 (lit< tt) (fresh_cons 8 [] 64 (lit< tt) (fresh_nil 64))) in
+    apart_picked cells (64 ∷ 32 ∷ 16 ∷ 8 ∷ []) apart (three, (two, (one, (fresh_nil 8, tt))))
+
+pub member_falling : (cells : List (ℕ × ℕ)) (c w : ℕ) → Member (falling cells) c w → Member cells c w
+member_falling cells c w m = (member_picked cells (64 ∷ 32 ∷ 16 ∷ 8 ∷ []) c w m).0
+
+pub falling_member : (cells : List (ℕ × ℕ)) (c w : ℕ) → IsWidth w → Member cells c w → Member (falling cells) c w
+falling_member cells c w width m =
+    picked_member cells (64 ∷ 32 ∷ 16 ∷ 8 ∷ []) c w m
+    (⊎_elim
+    (λ (e : w ≡ 8). inr (inr (inr (inl (sym e)))))
+    (λ (h : (w ≡ 16) ⊎ ((w ≡ 32) ⊎ (w ≡ 64))).
+    ⊎_elim
+    (λ (e : w ≡ 16). inr (inr (inl (sym e))))
+    (λ (h' : (w ≡ 32) ⊎ (w ≡ 64)). ⊎_elim (λ (e : w ≡ 32). inr (inl (sym e))) (λ (e : w ≡ 64). inl (sym e)) h')
+    h)
+    width)

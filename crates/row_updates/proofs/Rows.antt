@@ -1,0 +1,171 @@
+-- Updates of rows, step by step.
+use Rattle.std.proofs.Common.{◌≡◌, ℕ, zero, suc, ◌+◌, ◌<◌, ◌≤◌, List, [], ◌∷◌, ◌++◌, length, map, get_or, take, drop, set, ℤ, pos, Bool, true, false, Option, Some, Result, Ok, Err, refl, sym, ap, ◌∙◌, subst, arith, count_by, cond}
+use Rattle.std.specs.List.{range_with_len, slice_get}
+use Rattle.std.specs.Prelude.{slice_set}
+use Rattle.std.proofs.lemmas.List.{take_more, take_more_set, drop-set-lt, drop_more, get_or-drop, get_or-set_same, set-set, get_or-map, length-set, length-map, get_or-take}
+use Rattle.std.proofs.lemmas.List.Sums.{sum_by-append}
+use Rattle.std.proofs.lemmas.Option.{get_or_from_slice_get}
+use Rattle.extents.specs.Indices.{indices}
+use Rattle.expr_lang.specs.Terms.{Term}
+use Rattle.linearize.specs.Slots.{index_at}
+use Rattle.piece_bits.specs.Tables.{with_entry}
+use Rattle.views.specs.Seen.{Seen, answer_of}
+use Rattle.views.specs.declared.fault.StoreFault.{StoreFault}
+use Rattle.row_updates.specs.declared.fault.UpdateFault.{UpdateFault}
+use Rattle.row_updates.specs.declared.update.Assign.{Assign}
+use Rattle.row_updates.specs.Rows.{Answer, Setting, setting_of, each, in_row, store_kind, value_of, passes, new_value, with_values, updated_row, updated_rows, counted, ◌>>=◌}
+use Rattle.row_updates.proofs.Each.{each_push, each_stop, each_at, rows_push, rows_stop, with_values_push}
+use mir.Val.{bool_byte}
+
+-- the setting of an assignment in a list
+pub setting_at : (sets : List Assign) (place : ℕ) (set : Assign) (d : Setting) → place < length sets → set ≡ get_or sets place set → get_or (map setting_of sets) place d ≡ setting_of set
+setting_at sets place set d small is = get_or-map setting_of sets place set d small ∙ ap setting_of (sym is)
+
+settings_long : (sets : List Assign) (place : ℕ) → place < length sets → place < length (map setting_of sets)
+settings_long sets place small = rw length-map small
+
+-- a right side has a fault
+pub values_stop : {B : Type 0} (step : Setting → Result B UpdateFault) (sets : List Assign) (place : ℕ) (set : Assign) (values : List B) (fault : UpdateFault) → place < length sets → set ≡ get_or sets place set → each step (take place (map setting_of sets)) ≡ Ok values → Err fault ≡ step (setting_of set) → each step (map setting_of sets) ≡ Err fault
+values_stop step sets place set values fault small is so_far stop =
+    let at = setting_at sets place set (setting_of set) small is in
+    each_stop step (map setting_of sets) place (setting_of set) values fault (settings_long sets place small) so_far (ap step at ∙ sym stop)
+
+-- one right side more
+pub values_more : (step : Setting → Result ℤ UpdateFault) (sets : List Assign) (place : ℕ) (set : Assign) (values : List ℤ) (value : ℤ) → place < length sets → place < length values → set ≡ get_or sets place set → each step (take place (map setting_of sets)) ≡ Ok (take place values) → Ok value ≡ step (setting_of set) → each step (take (place + 1) (map setting_of sets)) ≡ Ok (take (place + 1) (slice_set values place value))
+values_more step sets place set values value small short is so_far more =
+    let at = setting_at sets place set (setting_of set) small is in
+    let front = take_more (map setting_of sets) place (setting_of set) (settings_long sets place small) ∙ ap (λ (s : Setting). take place (map setting_of sets) ++ s ∷ []) at in
+    ap (λ (xs : List Setting). each step xs) front ∙ each_push step (take place (map setting_of sets)) (setting_of set) (take place values) value so_far (sym more) ∙ ap (λ (vs : List ℤ). Ok vs) (sym (take_more_set values place value short))
+
+-- one store more
+pub stored_more : (old view new : Seen) (row place : ℕ) (sets : List Assign) (set : Assign) (values : List ℤ) → row < length old.table → place < length sets → place < length values → set ≡ get_or sets place set
+    → view ≡ record old { table = slice_set old.table row (with_values (take place (map setting_of sets)) (take place values) (get_or old.table row [])) }
+    → new ≡ record view { table = with_entry view.table row set.leaf (get_or values place (pos 0)) }
+    → new ≡ record old { table = slice_set old.table row (with_values (take (place + 1) (map setting_of sets)) (take (place + 1) values) (get_or old.table row [])) }
+stored_more old view new row place sets set values inside small short is so_far more =
+    let row_so_far = with_values (take place (map setting_of sets)) (take place values) (get_or old.table row []) in
+    let at = setting_at sets place set (setting_of set) small is in
+    let one : place + 1 ≡ suc place = omega arith in
+    let row_now : with_values (take (place + 1) (map setting_of sets)) (take (place + 1) values) (get_or old.table row []) ≡ slice_set row_so_far set.leaf (get_or values place (pos 0)) =
+    ap (λ (n : ℕ). with_values (take n (map setting_of sets)) (take n values) (get_or old.table row [])) one
+    ∙ with_values_push (map setting_of sets) values (get_or old.table row []) place (setting_of set) (pos 0) (settings_long sets place small) short
+    ∙ ap (λ (s : Setting). slice_set row_so_far s.leaf (get_or values place (pos 0))) at in
+    let here : get_or (slice_set old.table row row_so_far) row [] ≡ row_so_far = get_or-set_same old.table row row_so_far [] inside in
+    let twice = set-set old.table row row_so_far (slice_set row_so_far set.leaf (get_or values place (pos 0))) in
+    let table = ap (λ (r : List ℤ). slice_set (slice_set old.table row row_so_far) row (slice_set r set.leaf (get_or values place (pos 0)))) here ∙ twice ∙ ap (slice_set old.table row) (sym row_now) in
+    more ∙ ap (λ (v : Seen). record v { table = with_entry v.table row set.leaf (get_or values place (pos 0)) }) so_far ∙ ap (λ (t : List (List ℤ)). record old { table = t }) table
+
+fits_from : (number : ℕ) (set : Setting) (got : ℤ) (told : Result Unit StoreFault) (value : ℤ) → (in_row number (store_kind set.leaf) told >>= (λ fits. Ok got)) ≡ Ok value → (told ≡ Ok tt) × (got ≡ value)
+fits_from number set got (Ok done) value e = (refl, cc)
+fits_from number set got (Err fault) value e = absurd (cc)
+
+took_from : (answer : Answer) (number : ℕ) (set : Setting) (first : Result ℤ UpdateFault) (value : ℤ) → (first >>= (λ v. in_row number (store_kind set.leaf) (answer set.leaf v) >>= (λ fits. Ok v))) ≡ Ok value → answer set.leaf value ≡ Ok tt
+took_from answer number set (Ok v) value e = let f = fits_from number set v (answer set.leaf v) value e in ap (answer set.leaf) (sym f.1) ∙ f.0
+took_from answer number set (Err fault) value e = absurd (cc)
+
+-- a right side that has a value was taken
+took : (answer : Answer) (number : ℕ) (row : List ℤ) (index : List ℕ) (set : Setting) (value : ℤ) → new_value answer number row index set ≡ Ok value → answer set.leaf value ≡ Ok tt
+took answer number row index set value gives = took_from answer number set (value_of number row index set.value) value gives
+
+pub taken_at : (answer : Answer) (number : ℕ) (row : List ℤ) (index : List ℕ) (sets : List Assign) (values : List ℤ) (place : ℕ) (other : Setting) → length sets ≤ length values → place < length sets → each (new_value answer number row index) (map setting_of sets) ≡ Ok (take (length sets) values) → answer (get_or (map setting_of sets) place other).leaf (get_or values place (pos 0)) ≡ Ok tt
+taken_at answer number row index sets values place other long small all =
+    let at = each_at (new_value answer number row index) (map setting_of sets) (take (length sets) values) place other (pos 0) (settings_long sets place small) all in
+    took answer number row index (get_or (map setting_of sets) place other) (get_or values place (pos 0)) (at ∙ ap (λ (v : ℤ). Ok v) (get_or-take (length sets) values place (pos 0) small))
+
+-- the index of a row
+pub index_is : (extents e : List ℕ) (row : ℕ) (items slice : List ℕ) → e ≡ extents → slice_get (indices e) row ≡ Some items → slice ≡ items → slice ≡ index_at extents row
+index_is extents e row items slice same entry is = is ∙ sym (get_or_from_slice_get (indices e) row items [] entry) ∙ ap (λ (x : List ℕ). index_at x row) same
+
+-- a row that does not pass the filter, one with a fault, and one that is updated
+pub row_left : (answer : Answer) (filter : Option (Term ℕ)) (sets : List Setting) (number : ℕ) (row : List ℤ) (index : List ℕ) → Ok false ≡ passes number row index filter → updated_row answer filter sets number row index ≡ Ok row
+row_left answer filter sets number row index test = rw (← test) refl
+
+pub row_stop : (answer : Answer) (filter : Option (Term ℕ)) (sets : List Setting) (number : ℕ) (row : List ℤ) (index : List ℕ) (fault : UpdateFault) → Ok true ≡ passes number row index filter → each (new_value answer number row index) sets ≡ Err fault → updated_row answer filter sets number row index ≡ Err fault
+row_stop answer filter sets number row index fault test stop = rw (← test, stop) refl
+
+pub row_done : (answer : Answer) (filter : Option (Term ℕ)) (sets : List Setting) (number : ℕ) (row : List ℤ) (index : List ℕ) (values : List ℤ) → Ok true ≡ passes number row index filter → each (new_value answer number row index) sets ≡ Ok values → updated_row answer filter sets number row index ≡ Ok (with_values sets values row)
+row_done answer filter sets number row index values test done = rw (← test, done) refl
+
+-- rows from a place on that are the same
+same_at : {A : Type 0} (xs ys : List A) (n : ℕ) (d : A) → drop n xs ≡ drop n ys → get_or xs n d ≡ get_or ys n d
+same_at xs ys n d same =
+    let here : n + 0 ≡ n = omega arith in
+    sym (ap (λ (k : ℕ). get_or xs k d) here) ∙ sym (get_or-drop n xs 0 d) ∙ ap (λ (l : List _). get_or l 0 d) same ∙ get_or-drop n ys 0 d ∙ ap (λ (k : ℕ). get_or ys k d) here
+
+same_behind : {A : Type 0} (xs ys : List A) (n : ℕ) (d : A) → n < length xs → n < length ys → drop n xs ≡ drop n ys → drop (n + 1) xs ≡ drop (n + 1) ys
+same_behind xs ys n d small less same =
+    let e = sym (drop_more xs n d small) ∙ same ∙ drop_more ys n d less in cc
+
+-- a row of the table so far is the row as it stood
+row_here : (old view : Seen) (filter : Option (Term ℕ)) (sets : List Setting) (row : ℕ) (result : Result (List ℤ) UpdateFault) → view ≡ record old { table = view.table } → drop row view.table ≡ drop row old.table → updated_row (answer_of view) filter sets row (get_or view.table row []) (index_at view.extents row) ≡ result → updated_row (answer_of old) filter sets row (get_or old.table row []) (index_at old.extents row) ≡ result
+row_here old view filter sets row result same behind gives =
+    let numbers = same_at view.table old.table row [] behind in
+    let at : updated_row (answer_of old) filter sets row (get_or view.table row []) (index_at old.extents row) ≡ result =
+    subst (λ (v : Seen). updated_row (answer_of v) filter sets row (get_or view.table row []) (index_at v.extents row) ≡ result) same gives in
+    subst (λ (r : List ℤ). updated_row (answer_of old) filter sets row r (index_at old.extents row) ≡ result) numbers at
+
+pub rows_stopped : (old view : Seen) (filter : Option (Term ℕ)) (sets : List Setting) (row : ℕ) (fault : UpdateFault) → row < length old.table → view ≡ record old { table = view.table } → drop row view.table ≡ drop row old.table → updated_rows (answer_of old) filter sets old.extents old.table row ≡ Ok (take row view.table) → updated_row (answer_of view) filter sets row (get_or view.table row []) (index_at view.extents row) ≡ Err fault → updated_rows (answer_of old) filter sets old.extents old.table (length old.table) ≡ Err fault
+rows_stopped old view filter sets row fault small same behind so_far stop =
+    rows_stop (λ number. updated_row (answer_of old) filter sets number (get_or old.table number []) (index_at old.extents number)) (length old.table) row (take row view.table) fault small so_far (row_here old view filter sets row (Err fault) same behind stop)
+
+-- one row more
+pub record AreUpdated (old : Seen) (filter : Option (Term ℕ)) (sets : List Setting) (view : Seen) (row : ℕ) : Type 0 where
+  pub same : view ≡ record old { table = view.table }
+  pub count : length view.table ≡ length old.table
+  pub front : updated_rows (answer_of old) filter sets old.extents old.table row ≡ Ok (take row view.table)
+  pub back : drop row view.table ≡ drop row old.table
+
+pub rows_more : (old view after : Seen) (filter : Option (Term ℕ)) (sets : List Setting) (row : ℕ) (new : List ℤ) → row < length old.table → AreUpdated old filter sets view row → updated_row (answer_of view) filter sets row (get_or view.table row []) (index_at view.extents row) ≡ Ok new → after ≡ record view { table = slice_set view.table row new } → AreUpdated old filter sets after (row + 1)
+rows_more old view after filter sets row new small so_far gives changed =
+    let inside : row < length view.table = omega (arith, small, so_far.count) in
+    let table : after.table ≡ slice_set view.table row new = ap (λ (s : Seen). s.table) changed in
+    let past : row < row + 1 = omega arith in
+    record {
+      same = changed ∙ ap (λ (s : Seen). record s { table = slice_set view.table row new }) so_far.same ∙ ap (λ (t : List (List ℤ)). record old { table = t }) (sym table);
+      count = ap length table ∙ length-set view.table row new ∙ so_far.count;
+      front = rows_push (λ number. updated_row (answer_of old) filter sets number (get_or old.table number []) (index_at old.extents number)) row (take row view.table) new so_far.front (row_here old view filter sets row (Ok new) so_far.same so_far.back gives)
+          ∙ ap (λ (t : List (List ℤ)). Ok t) (sym (take_more_set view.table row new inside) ∙ ap (take (row + 1)) (sym table));
+      back = ap (drop (row + 1)) table ∙ drop-set-lt (row + 1) view.table row new past ∙ same_behind view.table old.table row [] inside small so_far.back;
+    }
+
+-- rows that pass, counted
+count_one : (test : Bool) → count_by (λ t. t) (test ∷ []) ≡ bool_byte test
+count_one true = refl
+count_one false = refl
+
+count_push : (tests : List Bool) (test : Bool) → count_by (λ t. t) (tests ++ test ∷ []) ≡ count_by (λ t. t) tests + bool_byte test
+count_push tests test = sum_by-append (λ (t : Bool). cond t 1 0) tests (test ∷ []) ∙ ap (λ (n : ℕ). count_by (λ t. t) tests + n) (count_one test)
+
+pub record AreCounted (step : ℕ → Result Bool UpdateFault) (row count : ℕ) : Type 0 where
+  pub few : count ≤ row
+  pub tests : List Bool
+  pub gives : each step (range_with_len 0 row) ≡ Ok tests
+  pub counts : count ≡ count_by (λ t. t) tests
+
+pub none_counted : (step : ℕ → Result Bool UpdateFault) → AreCounted step 0 0
+none_counted step = record { few = omega arith; tests = []; gives = refl; counts = refl }
+
+one_at_most : (test : Bool) → bool_byte test ≤ 1
+one_at_most true = omega arith
+one_at_most false = omega arith
+
+pub one_counted : (step : ℕ → Result Bool UpdateFault) (row count more : ℕ) (test : Bool) → AreCounted step row count → step row ≡ Ok test → more ≡ bool_byte test → AreCounted step (row + 1) (count + more)
+one_counted step row count more test so_far gives is =
+    let one = one_at_most test in
+    record {
+      few = omega (arith, so_far.few, one, is);
+      tests = so_far.tests ++ test ∷ [];
+      gives = rows_push step row so_far.tests test so_far.gives gives;
+      counts = omega (arith, count_push so_far.tests test, so_far.counts, is);
+    }
+
+pub counted_stop : (filter : Term ℕ) (extents : List ℕ) (rows : List (List ℤ)) (row count : ℕ) (fault : UpdateFault) → row < length rows → AreCounted (λ number. passes number (get_or rows number []) (index_at extents number) (Some filter)) row count → passes row (get_or rows row []) (index_at extents row) (Some filter) ≡ Err fault → counted filter extents rows ≡ Err fault
+counted_stop filter extents rows row count fault small so_far stop =
+    let step = λ (number : ℕ). passes number (get_or rows number []) (index_at extents number) (Some filter) in
+    ap (λ (r : Result (List Bool) UpdateFault). r >>= (λ tests. Ok (count_by (λ test. test) tests))) (rows_stop step (length rows) row so_far.tests fault small so_far.gives stop)
+
+pub counted_all : (filter : Term ℕ) (extents : List ℕ) (rows : List (List ℤ)) (row count : ℕ) → row ≡ length rows → AreCounted (λ number. passes number (get_or rows number []) (index_at extents number) (Some filter)) row count → counted filter extents rows ≡ Ok count
+counted_all filter extents rows row count whole so_far =
+    let step = λ (number : ℕ). passes number (get_or rows number []) (index_at extents number) (Some filter) in
+    ap (λ (n : ℕ). each step (range_with_len 0 n) >>= (λ tests. Ok (count_by (λ test. test) tests))) (sym whole)
+    ∙ ap (λ (r : Result (List Bool) UpdateFault). r >>= (λ tests. Ok (count_by (λ test. test) tests))) so_far.gives ∙ ap (λ (n : ℕ). Ok n) (sym so_far.counts)

@@ -1,0 +1,29 @@
+// Rows where an expression is not 0, counted.
+ghost use Rattle.std.specs.Prelude.{◌≡◌};
+ghost use Rattle.expr_lang.specs.Bounds.{bound_term};
+ghost use Rattle.row_updates.specs.Rows.{IsOver, counted};
+
+use crate::fault::UpdateFault;
+use crate::value::passes;
+use expr_lang::Bound;
+use std::sync::ledger::Ledger;
+use steps::Steps;
+use views::View;
+
+/// In how many rows an expression is not 0, or its first fault in the order of rows. The table stands, and no memory is taken.
+pub fn count_where<L: Ledger>(
+    view: &mut View,
+    filter: &Bound,
+    steps: &mut Steps<L>,
+) -> Result<u64, UpdateFault>
+    requires { IsOver view.old filter.now }
+    ensures value { result ≡ counted (bound_term filter.now) view.old.extents view.old.table }
+    ensures same { view.new ≡ view.old }
+{
+    let mut count = 0;
+    for row in 0..view.extents().count() {
+        let index = view.extents().index_of(row);
+        count += u64::from(passes(view, row, index.as_slice(), Some(filter), steps)?);
+    }
+    Ok(count)
+}

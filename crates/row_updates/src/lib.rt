@@ -1,0 +1,12 @@
+//! Updates of the rows of a view: new values from the values of each row, where a filter is not 0.
+#![tactic(auto)]
+
+mod count;
+mod fault;
+mod update;
+mod value;
+
+pub use count::count_where;
+pub use fault::{UpdateFault, UpdateKind};
+pub use update::{Assign, update_rows};
+pub use value::value_on;

@@ -1,0 +1,157 @@
+// New values of leaves, row by row.
+ghost use Rattle.std.specs.Prelude.{◌≡◌, ◌<◌, ◌≤◌, ℕ, ℤ, pos, Ok, OnOk, OnErr, IfErr, IfSome, All, [], List, length, map, take, drop, slice_index_or, slice_set};
+ghost use Rattle.views.specs.Seen.{answer_of};
+ghost use Rattle.linearize.specs.Slots.{index_at};
+ghost use Rattle.row_updates.specs.Rows.{IsOver, IsSetOf, Setting, setting_of, filter_term, each, store_kind, new_value, with_values, updated_row, updated_of};
+
+use crate::fault::{UpdateFault, UpdateKind};
+use crate::value::{passes, value_of};
+use expr_lang::Bound;
+use std::sync::ledger::Ledger;
+use steps::Steps;
+use views::{StoreFault, View};
+
+/// A leaf, and the expression of its new value.
+#[derive(Drop)]
+pub struct Assign {
+    pub leaf: usize,
+    pub value: Bound,
+}
+
+/// Stores the values of the right sides in each row where the filter is not 0, row by row. All right sides of a row are evaluated and tested
+/// before one is stored. On a fault exactly the rows before the named one are changed. It takes no memory.
+pub fn update_rows<L: Ledger>(
+    view: &mut View,
+    filter: Option<&Bound>,
+    sets: &[Assign],
+    steps: &mut Steps<L>,
+) -> Result<(), UpdateFault>
+    requires filter { IfSome filter (λ bound. IsOver view.old bound.now) }
+    requires sets { All (IsSetOf view.old) sets.now }
+    requires few { length sets.now ≤ 64 }
+    ensures stored { OnOk result (updated_of view.old (filter_term filter.entry) (map setting_of sets.now) (length view.old.table) ≡ Ok view.new.table) }
+    ensures refused { IfErr result (λ fault. updated_of view.old (filter_term filter.entry) (map setting_of sets.now) (length view.old.table) ≡ Err fault) }
+    ensures before { IfErr result (λ fault. updated_of view.old (filter_term filter.entry) (map setting_of sets.now) fault.row ≡ Ok (take fault.row view.new.table)) }
+    ensures behind { IfErr result (λ fault. drop fault.row view.new.table ≡ drop fault.row view.old.table) }
+    ensures same { view.new ≡ record view.old { table = view.new.table } }
+{
+    let mut values = [0; 64];
+    for row in 0..view.extents().count() {
+        update_row(view, row, filter, sets, &mut values, steps)?;
+    }
+    Ok(())
+}
+
+// Updates one row, or leaves it as it was.
+fn update_row<L: Ledger>(
+    view: &mut View,
+    row: u64,
+    filter: Option<&Bound>,
+    sets: &[Assign],
+    values: &mut [i128; 64],
+    steps: &mut Steps<L>,
+) -> Result<(), UpdateFault>
+    requires row_in { row < length view.old.table }
+    requires filter { IfSome filter (λ bound. IsOver view.old bound.now) }
+    requires sets { All (IsSetOf view.old) sets.now }
+    requires few { length sets.now ≤ 64 }
+    ensures stored { OnOk result ((new : List ℤ)
+        × (updated_row (answer_of view.old) (filter_term filter.entry) (map setting_of sets.now)
+        row (slice_index_or view.old.table row []) (index_at view.old.extents row) ≡ Ok new)
+        × (view.new ≡ record view.old { table = slice_set view.old.table row new })) }
+    ensures refused { IfErr result (λ fault. updated_row (answer_of view.old) (filter_term filter.entry) (map setting_of sets.now)
+        row (slice_index_or view.old.table row []) (index_at view.old.extents row) ≡ Err fault) }
+    ensures named { IfErr result (λ fault. fault.row ≡ row) }
+    ensures kept { OnErr result (view.new ≡ view.old) }
+{
+    let index = view.extents().index_of(row);
+    if !passes(view, row, index.as_slice(), filter, steps)? {
+        return Ok(());
+    }
+    new_values(view, row, index.as_slice(), sets, values, steps)?;
+    store_values(view, row, sets, values, steps);
+    Ok(())
+}
+
+// The values of all right sides on the row as it stands, each tested for its leaf.
+fn new_values<L: Ledger>(
+    view: &mut View,
+    row: u64,
+    index: &[u64],
+    sets: &[Assign],
+    values: &mut [i128; 64],
+    steps: &mut Steps<L>,
+) -> Result<(), UpdateFault>
+    requires row_in { row < length view.old.table }
+    requires rank { length index.now ≡ length view.old.extents }
+    requires sets { All (IsSetOf view.old) sets.now }
+    requires few { length sets.now ≤ 64 }
+    ensures values { OnOk result (each (new_value (answer_of view.old) row (slice_index_or view.old.table row []) index.now) (map setting_of sets.now)
+        ≡ Ok (take (length sets.now) values.new)) }
+    ensures refused { IfErr result (λ fault. each (new_value (answer_of view.old) row (slice_index_or view.old.table row []) index.now) (map setting_of sets.now)
+        ≡ Err fault) }
+    ensures named { IfErr result (λ fault. fault.row ≡ row) }
+    ensures same { view.new ≡ view.old }
+{
+    for (place, set) in sets.iter().enumerate() {
+        values[place] = new_value(view, row, index, set, steps)?;
+    }
+    Ok(())
+}
+
+// The value of one right side on the row as it stands, tested for its leaf.
+fn new_value<L: Ledger>(
+    view: &mut View,
+    row: u64,
+    index: &[u64],
+    set: &Assign,
+    steps: &mut Steps<L>,
+) -> Result<i128, UpdateFault>
+    requires row_in { row < length view.old.table }
+    requires rank { length index.now ≡ length view.old.extents }
+    requires set { IsSetOf view.old set.now }
+    ensures value { result ≡ new_value (answer_of view.old) row (slice_index_or view.old.table row []) index.now (setting_of set.now) }
+    ensures named { IfErr result (λ fault. fault.row ≡ row) }
+    ensures same { view.new ≡ view.old }
+{
+    let value = value_of(view, row, index, &set.value, steps)?;
+    match view.fits(set.leaf, value) {
+        Ok(()) => Ok(value),
+        Err(fault) => Err(UpdateFault {
+            row,
+            kind: store_kind(set.leaf, fault),
+        }),
+    }
+}
+
+// Stores values that fit in the leaves of a row.
+fn store_values<L: Ledger>(
+    view: &mut View,
+    row: u64,
+    sets: &[Assign],
+    values: &[i128; 64],
+    steps: &mut Steps<L>,
+)
+    requires row_in { row < length view.old.table }
+    requires sets { All (IsSetOf view.old) sets.now }
+    requires few { length sets.now ≤ 64 }
+    requires fit { (place : ℕ) (other : Setting) → place < length sets.now
+        → answer_of view.old (slice_index_or (map setting_of sets.now) place other).leaf (slice_index_or values.now place (pos 0)) ≡ Ok tt }
+    ensures { view.new ≡ record view.old {
+      table = slice_set view.old.table row
+          (with_values (map setting_of sets.now) (take (length sets.now) values.now) (slice_index_or view.old.table row []));
+    } }
+{
+    for (place, set) in sets.iter().enumerate() {
+        let _stored = view.set(row, set.leaf, values[place], steps);
+    }
+}
+
+fn store_kind(leaf: usize, fault: StoreFault) -> UpdateKind
+    ensures { result ≡ store_kind leaf fault }
+{
+    match fault {
+        StoreFault::Range => UpdateKind::Range { leaf },
+        StoreFault::Narrow => UpdateKind::Narrow { leaf },
+    }
+}

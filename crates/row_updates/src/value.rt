@@ -1,0 +1,88 @@
+// The value of an expression on a row of a view.
+ghost use Rattle.std.specs.Prelude.{◌≡◌, ◌<◌, IfErr, IfSome, [], length, slice_index_or};
+ghost use Rattle.expr_lang.specs.Bounds.{bound_term, bound_leaves, bound_rank};
+ghost use Rattle.expr_lang.specs.Values.{outcome_of};
+ghost use Rattle.views.specs.Seen.{leaf_count_of};
+ghost use Rattle.row_updates.specs.Rows.{IsOver, filter_term, eval_kind, value_of, passes};
+
+use crate::fault::{UpdateFault, UpdateKind};
+use expr_lang::{Bound, EvalFault, eval};
+use std::sync::ledger::Ledger;
+use steps::Steps;
+use views::View;
+
+/// The value of an expression on the row of this number, whose index this is. The table stands, and no memory is taken.
+pub fn value_on<L: Ledger>(
+    view: &mut View,
+    row: u64,
+    expr: &Bound,
+    index: &[u64],
+    steps: &mut Steps<L>,
+) -> Result<i128, EvalFault>
+    requires row_in { row < length view.old.table }
+    requires leaves { bound_leaves expr.now ≡ leaf_count_of view.old }
+    requires rank { length index.now ≡ bound_rank expr.now }
+    ensures value { result ≡ (outcome_of (slice_index_or view.old.table row []) index.now (bound_term expr.now)).answer }
+    ensures same { view.new ≡ view.old }
+{
+    let _leaves = view.schema();
+    let mut entry = view.row_mut(row);
+    eval(expr, &mut entry, index, steps)
+}
+
+/// The same, with a fault of this row.
+pub fn value_of<L: Ledger>(
+    view: &mut View,
+    row: u64,
+    index: &[u64],
+    value: &Bound,
+    steps: &mut Steps<L>,
+) -> Result<i128, UpdateFault>
+    requires row_in { row < length view.old.table }
+    requires rank { length index.now ≡ length view.old.extents }
+    requires over { IsOver view.old value.now }
+    ensures value { result ≡ value_of row (slice_index_or view.old.table row []) index.now (bound_term value.now) }
+    ensures named { IfErr result (λ fault. fault.row ≡ row) }
+    ensures same { view.new ≡ view.old }
+{
+    match value_on(view, row, value, index, steps) {
+        Ok(value) => Ok(value),
+        Err(fault) => Err(UpdateFault {
+            row,
+            kind: eval_kind(fault),
+        }),
+    }
+}
+
+/// Whether a row passes the filter: each does where there is none, and else the rows where it is not 0.
+pub fn passes<L: Ledger>(
+    view: &mut View,
+    row: u64,
+    index: &[u64],
+    filter: Option<&Bound>,
+    steps: &mut Steps<L>,
+) -> Result<bool, UpdateFault>
+    requires row_in { row < length view.old.table }
+    requires rank { length index.now ≡ length view.old.extents }
+    requires filter { IfSome filter (λ bound. IsOver view.old bound.now) }
+    ensures value { result ≡ passes row (slice_index_or view.old.table row []) index.now (filter_term filter.entry) }
+    ensures named { IfErr result (λ fault. fault.row ≡ row) }
+    ensures same { view.new ≡ view.old }
+{
+    match filter {
+        None => Ok(true),
+        Some(filter) => {
+            let value = value_of(view, row, index, filter, steps)?;
+            Ok(value != 0)
+        }
+    }
+}
+
+fn eval_kind(fault: EvalFault) -> UpdateKind
+    ensures { result ≡ eval_kind fault }
+{
+    match fault {
+        EvalFault::Overflow => UpdateKind::Overflow,
+        EvalFault::DivideByZero => UpdateKind::DivideByZero,
+    }
+}

@@ -1,0 +1,70 @@
+-- The line that a function of the text tells is the grammar's answer.
+use Rattle.std.proofs.Common.{◌≡◌, ℕ, zero, suc, ◌+◌, ◌-◌, ◌<◌, ◌≤◌, List, [], ◌∷◌, length, Option, Some, None, Result, Ok, Err, refl, sym, ap, ◌∙◌, subst, arith}
+use Rattle.std.specs.Prelude.{MatchResult}
+use Rattle.line_tokens.specs.Next.{next_of}
+use Rattle.line_tokens.specs.Spots.{Spots, brackets_after}
+use Rattle.line_tokens.specs.declared.spots.Spot.{Spot}
+use Rattle.line_tokens.specs.declared.token.Next.{Next}
+use Rattle.line_tokens.specs.declared.token.Next.TheVariants.{End, Bad, Token}
+use Rattle.line_tokens.specs.NextTokenLaws.{next_inside}
+use Rattle.line_tokens.specs.SpotLaws.{same_spots}
+use Rattle.line_grammar.specs.Reads.{Reads, StopsAt, tokens_of, column_behind}
+use Rattle.line_grammar.specs.Sentences.{Sentence, Blank}
+use Rattle.line_grammar.specs.declared.token.Token as token
+use Rattle.phrases.specs.Ended.{ended_at, ended}
+use Rattle.phrases.specs.Reading.{◌>>=◌, either_at, give_at}
+use Rattle.phrases.specs.ParsesLaws.{ok_parts}
+use Rattle.schema_lang.specs.Bodies.{line_at, command_at, any_token}
+use Rattle.schema_lang.specs.LineOf.{line_of, told, spots_in, spots_within, spots_behind}
+use Rattle.schema_lang.proofs.LineLaws.{found_line, stopped_line}
+
+-- one spot more
+spot_first : (room : ℕ) (text : List ℕ) (at brackets : ℕ) (next : Next) → at ≤ length text → next_of text at brackets ≡ next → ((end opened : ℕ) → at < end → end ≤ length text → Spots text end opened (spots_within room text end opened)) → Spots text at brackets (spots_behind next (spots_within room text) brackets)
+spot_first room text at brackets End inside is more = is
+spot_first room text at brackets (Bad from) inside is more = (is, refl, refl)
+spot_first room text at brackets (Token from end kind) inside is more =
+    let there = next_inside text at brackets inside in
+    let fits = rw is at there in
+    (is, more end (brackets_after kind brackets) (omega (arith, fits.0, fits.1)) fits.2)
+
+-- the spots of a text are its spots
+within : (room : ℕ) (text : List ℕ) (at brackets : ℕ) → at ≤ length text → length text - at < room → Spots text at brackets (spots_within room text at brackets)
+within zero text at brackets inside room = absurd (omega (arith, room))
+within (suc room) text at brackets inside small =
+    spot_first room text at brackets (next_of text at brackets) inside refl (λ end opened later low. within room text end opened low (omega (arith, later, small, inside)))
+
+pub spots_are : (text : List ℕ) → Spots text 0 0 (spots_in text)
+spots_are text = within (length text + 1) text 0 0 (omega arith) (omega arith)
+
+-- what reading the tokens gives is what is told
+pub told_by : (text : List ℕ) (spots : List Spot) (tokens : List token.Token) (read : Result (Sentence × List token.Token) ℕ) → Spots text 0 0 spots → tokens ≡ tokens_of text spots → line_at (length tokens) tokens ≡ read → line_of text ≡ told spots read
+unfolding line_of
+told_by text spots tokens read all are is =
+    let same : spots_in text ≡ spots = same_spots text 0 0 (spots_in text) spots (spots_are text) all in
+    let these : tokens_of text (spots_in text) ≡ tokens = ap (tokens_of text) same ∙ sym are in
+    ap (λ s. told s (line_at (length (tokens_of text (spots_in text))) (tokens_of text (spots_in text)))) same ∙ ap (λ (t : List token.Token). told spots (line_at (length t) t)) these ∙ ap (told spots) is
+
+-- behind a whole line stands nothing
+ended_nothing : {A T : Type 0} (read : List T → Result (A × List T) ℕ) (tokens : List T) (v : A) (rest : List T) → ended_at read tokens ≡ Ok (v, rest) → rest ≡ []
+ended_nothing {A} {T} read tokens v rest e = of (read tokens) e where
+  of_rest : (w : A) (left : List T) → ended w left ≡ Ok (v, rest) → rest ≡ []
+  of_rest w [] e = sym (ok_parts e).1
+  of_rest w (token ∷ left) e = absurd (cc)
+
+  of : (r : Result (A × List T) ℕ) → (r >>= λ x. ended x.0 x.1) ≡ Ok (v, rest) → rest ≡ []
+  of (Ok x) e = of_rest x.0 x.1 e
+  of (Err n) e = absurd (cc)
+
+whole_line : (tokens : List token.Token) (v : Sentence) (rest : List token.Token) → line_at (length tokens) tokens ≡ Ok (v, rest) → rest ≡ []
+unfolding line_at
+whole_line tokens v rest e = ended_nothing (either_at any_token (command_at (length tokens)) (give_at Blank)) tokens v rest e
+
+-- a text whose line is told is this line, and one whose column is told stops there
+pub line_law : (text : List ℕ) → MatchResult (line_of text) (Reads text) (StopsAt text)
+line_law text = by (line_at (length (tokens_of text (spots_in text))) (tokens_of text (spots_in text))) refl where
+  by : (read : Result (Sentence × List token.Token) ℕ) → line_at (length (tokens_of text (spots_in text))) (tokens_of text (spots_in text)) ≡ read → MatchResult (line_of text) (Reads text) (StopsAt text)
+  by (Ok x) is =
+      let nothing : x.1 ≡ [] = whole_line (tokens_of text (spots_in text)) x.0 x.1 is in
+      let whole : line_at (length (tokens_of text (spots_in text))) (tokens_of text (spots_in text)) ≡ Ok (x.0, []) = is ∙ ap (λ (r : List token.Token). Ok (x.0, r)) nothing in
+      rw (told_by text (spots_in text) (tokens_of text (spots_in text)) (Ok x) (spots_are text) refl is) (found_line text (spots_in text) (tokens_of text (spots_in text)) x.0 (spots_are text) refl whole)
+  by (Err left) is = rw (told_by text (spots_in text) (tokens_of text (spots_in text)) (Err left) (spots_are text) refl is) (stopped_line text (spots_in text) (tokens_of text (spots_in text)) left (spots_are text) refl is)

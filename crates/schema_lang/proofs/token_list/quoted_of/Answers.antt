@@ -1,0 +1,10 @@
+use Rattle.std.proofs.Common.{◌≡◌, true, false, ⊎_elim}
+use Rattle.std.proofs.lemmas.Bool.{cases_Bool}
+use Rattle.line_grammar.specs.FileNames.{is_file_name}
+use Rattle.line_grammar.specs.FileBytesLaws.{file_name_utf8}
+use Rattle.schema_lang.proofs.token_list.quoted_of.Goals as goal
+
+pub returns-in-Err : goal.returns-in-Err
+returns-in-Err c =
+    ⊎_elim (λ (named : is_file_name c.args.text.now ≡ true). absurd (c.in-Err.ensures.cases.0 (file_name_utf8 _ named)))
+    (λ (other : is_file_name c.args.text.now ≡ false). rw other) (cases_Bool (is_file_name c.args.text.now))

@@ -1,0 +1,44 @@
+-- The line that a text is, as a function of the text: what a run over texts is made of. `parse_line` says that it is the grammar's answer.
+use Rattle.std.specs.Prelude.{ℕ, zero, suc, ◌≡◌, ◌+◌, ◌-◌, ◌<◌, ◌≤◌, List, [], ◌∷◌, length, Some, None, Result, Ok, Err}
+use Rattle.line_tokens.specs.Next.{next_of}
+use Rattle.line_tokens.specs.Spots.{brackets_after}
+use Rattle.line_tokens.specs.declared.spots.Spot.{Spot}
+use Rattle.line_tokens.specs.declared.token.Next.{Next}
+use Rattle.line_tokens.specs.declared.token.Next.TheVariants.{End, Bad, Token}
+use Rattle.line_grammar.specs.declared.line.Line.{Line}
+use Rattle.line_grammar.specs.Reads.{tokens_of, column_behind}
+use Rattle.line_grammar.specs.Sentences.{Sentence, sentence_of, deepest}
+use Rattle.line_grammar.specs.declared.token.Token as token
+use Rattle.schema_lang.specs.Bodies.{line_at}
+use Rattle.schema_lang.specs.declared.fault.LineFault.{LineFault}
+use Rattle.schema_lang.specs.declared.fault.LineFault.TheVariants.{Syntax, TooDeep, NoMemory}
+
+-- a token, and the spots behind it
+abbrev pub spots_behind : Next → (ℕ → ℕ → List Spot) → ℕ → List Spot
+spots_behind End more brackets = []
+spots_behind (Bad from) more brackets = record { from = from; end = from; kind = None } ∷ []
+spots_behind (Token from end kind) more brackets = record { from = from; end = end; kind = Some kind } ∷ more end (brackets_after kind brackets)
+
+-- at most so many spots from a place on
+abbrev pub spots_within : ℕ → List ℕ → ℕ → ℕ → List Spot
+spots_within zero text at brackets = []
+spots_within (suc room) text at brackets = spots_behind (next_of text at brackets) (spots_within room text) brackets
+
+-- the spots of a text: each takes a byte
+abbrev pub spots_in : List ℕ → List Spot
+spots_in text = spots_within (length text + 1) text 0 0
+
+-- the line of these tokens, or the column at which they stop
+abbrev pub told : List Spot → Result (Sentence × List token.Token) ℕ → Result Sentence ℕ
+told spots (Ok read) = Ok read.0
+told spots (Err left) = Err (column_behind (length spots - left) spots)
+
+unfoldable pub line_of : List ℕ → Result Sentence ℕ
+line_of text = told (spots_in text) (line_at (length (tokens_of text (spots_in text))) (tokens_of text (spots_in text)))
+
+-- the answer of a reader
+abbrev pub IsTold : Result Sentence ℕ → Result Line LineFault → Type 0
+IsTold line (Ok found) = (line ≡ Ok (sentence_of found)) × (deepest (sentence_of found) ≤ 32)
+IsTold line (Err (Syntax column)) = line ≡ Err column
+IsTold line (Err TooDeep) = (sentence : Sentence) × (line ≡ Ok sentence) × (32 < deepest sentence)
+IsTold line (Err NoMemory) = Unit {0}

@@ -1,0 +1,71 @@
+-- Indices inside extents.
+use Rattle.std.proofs.Common.{◌≡◌, ℕ, zero, suc, ◌<◌, Bool, true, false, not, nat_eq, List, [], ◌∷◌, length, get_or, Some, refl, sym, ap, ◌∙◌, arith, ⊎_elim}
+use Rattle.std.specs.Prelude.{◌||◌}
+use Rattle.std.specs.Cmp.Lexicographic.{pointwise}
+use Rattle.std.specs.List.{list_any, slice_get}
+use Rattle.std.proofs.lemmas.Bool.{cases_Bool, false≢true}
+use Rattle.std.proofs.lemmas.Bool.Decides.{nat_tests}
+use Rattle.std.proofs.lemmas.Cmp.{nat_list_eq_equiv}
+use Rattle.std.proofs.lemmas.List.Elements.{length_all_zip}
+use Rattle.expr_lang.specs.Terms.{Term}
+use Rattle.extents.specs.Indices.{indices, IsInside}
+use Rattle.extents.specs.IndicesLaws.{inside_of_entry, row_of_inside}
+use Rattle.line_grammar.specs.Sentences.{Value}
+use Rattle.linearize.specs.Slots.{place_in}
+use Rattle.record_dim.specs.declared.path.PathStep.{PathStep}
+use Rattle.worlds.specs.Assign.{inside, assigned}
+use Rattle.worlds.specs.Names.{leaf_of, bound}
+use Rattle.worlds.specs.Outcomes.{Goes, Faults}
+use Rattle.worlds.specs.Worlds.{Table}
+use Rattle.worlds.specs.declared.fault.CommandFault.TheVariants.{BadIndex}
+use Rattle.session.specs.Changes.{set_row}
+
+same_list : (a b : List ℕ) → pointwise nat_eq a b ≡ true → a ≡ b
+same_list [] [] e = refl
+same_list [] (y ∷ ys) e = absurd (false≢true e)
+same_list (x ∷ xs) [] e = absurd (false≢true e)
+same_list (x ∷ xs) (y ∷ ys) e = ⊎_elim
+    (λ (s : nat_eq x y ≡ true). let first : x ≡ y = grind (arith, nat_tests) in let rest : pointwise nat_eq xs ys ≡ true = rw s at e in rw (first, same_list xs ys rest) refl)
+    (λ (s : nat_eq x y ≡ false). absurd (false≢true (rw s at e)))
+    (cases_Bool (nat_eq x y))
+
+any_at : (index : List ℕ) (lists : List (List ℕ)) (k : ℕ) → slice_get lists k ≡ Some index → list_any (λ other. pointwise nat_eq other index) lists ≡ true
+any_at index [] k there = absurd (cc)
+any_at index (first ∷ lists) zero there =
+    let is : first ≡ index = cc in
+    let same : pointwise nat_eq first index ≡ true = rw is (nat_list_eq_equiv.refl index) in
+    rw same refl
+any_at index (first ∷ lists) (suc k) there =
+    let later = any_at index lists k there in
+    ⊎_elim (λ (e : pointwise nat_eq first index ≡ true). rw e refl) (λ (e : pointwise nat_eq first index ≡ false). rw e later) (cases_Bool (pointwise nat_eq first index))
+
+any_there : (index : List ℕ) (lists : List (List ℕ)) → list_any (λ other. pointwise nat_eq other index) lists ≡ true → (k : ℕ) × (slice_get lists k ≡ Some index)
+any_there index [] any = absurd (false≢true any)
+any_there index (first ∷ lists) any = ⊎_elim
+    (λ (e : pointwise nat_eq first index ≡ true). (0, ap Some (same_list first index e)))
+    (λ (e : pointwise nat_eq first index ≡ false). let later = any_there index lists (rw e at any) in (suc later.0, later.1))
+    (cases_Bool (pointwise nat_eq first index))
+
+-- an index inside the extents is one of their list
+pub inside_goes : (extents index : List ℕ) → IsInside extents index → inside extents index ≡ Goes tt
+inside_goes extents index is =
+    let row = row_of_inside extents index is in
+    rw (any_at index (indices extents) row.0 row.2) refl
+
+-- and no other is
+pub inside_not : (extents index : List ℕ) → (IsInside extents index → ⊥) → inside extents index ≡ Faults BadIndex
+inside_not extents index none = ⊎_elim
+    (λ (e : list_any (λ other. pointwise nat_eq other index) (indices extents) ≡ true).
+    let there = any_there index (indices extents) e in absurd (none (inside_of_entry extents there.0 index there.1)))
+    (λ (e : list_any (λ other. pointwise nat_eq other index) (indices extents) ≡ false). rw e refl)
+    (cases_Bool (list_any (λ other. pointwise nat_eq other index) (indices extents)))
+
+pub other_rank : (extents index : List ℕ) (rank : ℕ) → rank ≡ length extents → (length index ≡ rank → ⊥) → IsInside extents index → ⊥
+other_rank extents index rank is other inside = other (length_all_zip (λ i n. i < n) index extents inside ∙ sym is)
+
+-- the value of an expression in a leaf of the row of an index
+pub assigned_is : (table : Table) (index : List ℕ) (path : List PathStep) (value : Value) (leaf : ℕ) (term : Term ℕ) →
+    leaf_of table.fields path ≡ Goes leaf → bound table.fields (length table.extents) value ≡ Goes term → inside table.extents index ≡ Goes tt →
+    assigned table index path value ≡ set_row table (place_in (indices table.extents) index) index leaf term
+unfolding assigned
+assigned_is table index path value leaf term a b c = rw (a, b, c) refl

@@ -1,0 +1,6 @@
+pub mod Exits
+pub mod Indexing
+pub mod Reading
+pub mod Reductions
+pub mod Sets
+pub mod Steps

@@ -1,0 +1,75 @@
+-- Reductions of a column.
+use Rattle.std.proofs.Common.{◌≡◌, ℕ, ◌+◌, ◌<◌, ◌^◌, List, [], ◌∷◌, ◌++◌, length, take, get_or, ℤ, pos, neg_ℤ, ◌+ℤ◌, ◌≤ℤ◌, refl, sym, ap, ◌∙◌, arith, fold}
+use Rattle.std.specs.Int.{int_min, int_max}
+use Rattle.std.proofs.lemmas.Int.{ints, int_min_is, int_max_is}
+use Rattle.std.proofs.lemmas.List.{get_or-map, length-map, take_more}
+use Rattle.places.specs.Image.{entry}
+use Rattle.places.specs.declared.piece.Hold.{Hold}
+use Rattle.record_dim.specs.declared.leaf_type.LeafType.{LeafType}
+use Rattle.record_dim.specs.declared.leaf_type.LeafType.TheVariants.{Bool as Truth, U8, U16, U32, U64, I8, I16, I32, I64}
+use Rattle.record_dim.specs.LeafTypes.{IsDeclared}
+use Rattle.views.specs.Stores.{Fits}
+use Rattle.line_grammar.specs.declared.line.ReduceKind.{ReduceKind}
+use Rattle.line_grammar.specs.declared.line.ReduceKind.TheVariants.{Sum, Min, Max}
+use Rattle.worlds.specs.Outcomes.{Goes}
+use Rattle.worlds.specs.Reduce.{reduced, column}
+use Rattle.session.specs.Columns.{combined, IsSmall}
+
+fold_push : {X Y : Type 0} (f : Y → X → Y) (a : Y) (xs : List X) (x : X) → fold f a (xs ++ x ∷ []) ≡ f (fold f a xs) x
+fold_push f a [] x = refl
+fold_push f a (y ∷ xs) x = fold_push f (f a y) xs x
+
+-- one value more
+reduced_push : (kind : ReduceKind) (xs : List ℤ) (x value : ℤ) → reduced kind xs ≡ Goes value → reduced kind (xs ++ x ∷ []) ≡ Goes (combined kind value x)
+reduced_push Sum xs x value e =
+    let is : fold (λ a b. a +ℤ b) (pos 0) xs ≡ value = cc in
+    ap (λ (v : ℤ). Goes v) (fold_push (λ (a b : ℤ). a +ℤ b) (pos 0) xs x ∙ ap (λ (v : ℤ). v +ℤ x) is)
+reduced_push Min [] x value e = absurd (cc)
+reduced_push Min (y ∷ xs) x value e =
+    let is : fold int_min y xs ≡ value = cc in
+    ap (λ (v : ℤ). Goes v) (fold_push int_min y xs x ∙ ap (λ (v : ℤ). int_min v x) is)
+reduced_push Max [] x value e = absurd (cc)
+reduced_push Max (y ∷ xs) x value e =
+    let is : fold int_max y xs ≡ value = cc in
+    ap (λ (v : ℤ). Goes v) (fold_push int_max y xs x ∙ ap (λ (v : ℤ). int_max v x) is)
+
+pub reduced_more : (kind : ReduceKind) (table : List (List ℤ)) (leaf row : ℕ) (value next : ℤ) → row < length table → next ≡ entry table row leaf → reduced kind (take row (column leaf table)) ≡ Goes value → reduced kind (take (row + 1) (column leaf table)) ≡ Goes (combined kind value next)
+reduced_more kind table leaf row value next small is so_far =
+    let inside : row < length (column leaf table) = rw length-map small in
+    let at : get_or (column leaf table) row (pos 0) ≡ next = get_or-map (λ (r : List ℤ). get_or r leaf (pos 0)) table row [] (pos 0) small ∙ sym is in
+    let front = take_more (column leaf table) row (pos 0) inside ∙ ap (λ (v : ℤ). take row (column leaf table) ++ v ∷ []) at in
+    ap (reduced kind) front ∙ reduced_push kind (take row (column leaf table)) next value so_far
+
+-- a value that was read is small
+declared_small : (kind : LeafType) (value : ℤ) → IsDeclared kind value → IsSmall 1 value
+declared_small Truth value d = record { least = omega (arith, ints, d.0); greatest = omega (arith, ints, d.1) }
+declared_small U8 value d = record { least = omega (arith, ints, d.0); greatest = omega (arith, ints, d.1) }
+declared_small U16 value d = record { least = omega (arith, ints, d.0); greatest = omega (arith, ints, d.1) }
+declared_small U32 value d = record { least = omega (arith, ints, d.0); greatest = omega (arith, ints, d.1) }
+declared_small U64 value d = record { least = omega (arith, ints, d.0); greatest = omega (arith, ints, d.1) }
+declared_small I8 value d = record { least = omega (arith, ints, d.0); greatest = omega (arith, ints, d.1) }
+declared_small I16 value d = record { least = omega (arith, ints, d.0); greatest = omega (arith, ints, d.1) }
+declared_small I32 value d = record { least = omega (arith, ints, d.0); greatest = omega (arith, ints, d.1) }
+declared_small I64 value d = record { least = omega (arith, ints, d.0); greatest = omega (arith, ints, d.1) }
+
+pub fits_small : (kind : LeafType) (hold : Hold) (value : ℤ) → Fits kind hold value → IsSmall 1 value
+fits_small kind hold value fits = declared_small kind value fits.declared
+
+-- what is small stays so
+pub combined_small : (kind : ReduceKind) (rows : ℕ) (value next : ℤ) → IsSmall rows value → IsSmall 1 next → IsSmall (rows + 1) (combined kind value next)
+combined_small Sum rows value next a b = record { least = omega (arith, ints, a.least, b.least); greatest = omega (arith, ints, a.greatest, b.greatest) }
+combined_small Min rows value next a b = record { least = omega (arith, ints, a.least, b.least, int_min_is value next); greatest = omega (arith, ints, a.greatest, b.greatest, int_min_is value next) }
+combined_small Max rows value next a b = record { least = omega (arith, ints, a.least, b.least, int_max_is value next); greatest = omega (arith, ints, a.greatest, b.greatest, int_max_is value next) }
+
+pub sum_fits : (rows : ℕ) (value next : ℤ) → rows < 2 ^ 24 → IsSmall rows value → IsSmall 1 next → (neg_ℤ (pos (2 ^ 126)) ≤ℤ (value +ℤ next)) × ((value +ℤ next) ≤ℤ pos (2 ^ 126))
+sum_fits rows value next few a b = (omega (arith, ints, a.least, b.least), omega (arith, ints, a.greatest, b.greatest))
+
+-- the first value alone
+reduced_one : (kind : ReduceKind) (x : ℤ) → reduced kind (x ∷ []) ≡ Goes x
+reduced_one Sum x = ap (λ (v : ℤ). Goes v) (omega (arith, ints))
+reduced_one Min x = refl
+reduced_one Max x = refl
+
+pub reduced_first : (kind : ReduceKind) (table : List (List ℤ)) (leaf : ℕ) (first : ℤ) → 0 < length table → first ≡ entry table 0 leaf → reduced kind (take 1 (column leaf table)) ≡ Goes first
+reduced_first kind [] leaf first some is = absurd (omega (arith, some))
+reduced_first kind (row ∷ rows) leaf first some is = reduced_one kind (get_or row leaf (pos 0)) ∙ ap (λ (v : ℤ). Goes v) (sym is)

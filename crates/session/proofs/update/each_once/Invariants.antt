@@ -1,0 +1,9 @@
+use Rattle.std.proofs.Common.{map}
+use Rattle.record_dim.specs.Schemas.{schema_fields}
+use Rattle.row_updates.specs.Rows.{setting_of}
+use Rattle.worlds.specs.Names.{leaves_of}
+use Rattle.session.proofs.Sets.{IsOnce}
+use Rattle.session.proofs.update.each_once.Given as goal
+
+abbrev pub invariant-loop-place : goal.invariant-loop-place
+invariant-loop-place l = IsOnce (schema_fields l.view.schema) (leaves_of (map setting_of l.sets)) l.place

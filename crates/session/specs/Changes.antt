@@ -1,0 +1,59 @@
+-- The parts of commands.
+use Rattle.std.specs.Prelude.{◌≡◌, ℕ, ℤ, List, [], length, slice_index_or, Option}
+use Rattle.expr_lang.specs.Terms.{Term}
+use Rattle.piece_bits.specs.Tables.{with_entry}
+use Rattle.record_dim.specs.Trees.{Fields}
+use Rattle.map_expr.specs.Terms.{Term as MapTerm}
+use Rattle.map_expr.specs.Checks.{checked}
+use Rattle.worlds.specs.Worlds.{World, Table, added}
+use Rattle.worlds.specs.Outcomes.{Outcome, Goes, ◌>>=◌, ok_or}
+use Rattle.csv_rows.specs.declared.fault.RowFault.{RowFault}
+use Rattle.csv_rows.specs.declared.fault.RowFault.TheVariants as rows
+use Rattle.worlds.specs.Load.{row_fault}
+use Rattle.row_updates.specs.Rows.{Setting, updated_rows}
+use Rattle.worlds.specs.Update.{update_fault}
+use Rattle.worlds.specs.Values.{value_on, storable, answer_in}
+use Rattle.command_checks.specs.declared.fault.StepFault.{StepFault}
+use Rattle.command_checks.specs.declared.fault.StepFault.TheVariants as step
+use Rattle.worlds.specs.declared.fault.CommandFault.{CommandFault}
+use Rattle.worlds.specs.declared.fault.CommandFault.TheVariants.{BadMapping}
+
+-- an expression that can be a mapping, whatever its cells are
+abbrev pub mapping_fits : MapTerm → Outcome (Unit {0})
+mapping_fits term = ok_or BadMapping (checked term)
+
+-- the world with one more record, and with one more mapping
+abbrev pub with_record : World → List ℕ → Fields → World
+with_record world name fields = record world { records = added name fields world.records }
+
+abbrev pub with_mapping : World → List ℕ → MapTerm → World
+with_mapping world name term = record world { mappings = added name term world.mappings }
+
+-- a table with a value in a leaf of a row, where it fits
+abbrev pub stored : Table → ℕ → ℕ → ℤ → Outcome Table
+stored table row leaf value = do
+  fits ← storable table row leaf value
+  Goes (record table { rows = with_entry table.rows row leaf value })
+
+-- the same of the value of an expression on a row
+abbrev pub set_row : Table → ℕ → List ℕ → ℕ → Term ℕ → Outcome Table
+set_row table row index leaf term = do
+  number ← value_on row (slice_index_or table.rows row []) index term
+  stored table row leaf number
+
+-- this refusal, or want of memory
+abbrev pub Tells : CommandFault → StepFault → Type 0
+Tells refusal (step.Command told) = told ≡ refusal
+Tells refusal step.NoMemory = Unit {0}
+Tells refusal _ = ⊥
+
+-- the fault of a dataset, or want of memory
+abbrev pub TellsRow : Fields → RowFault → StepFault → Type 0
+TellsRow fields rows.NoMemory told = told ≡ step.NoMemory
+TellsRow fields fault told = Tells (row_fault fields fault) told
+
+-- the table with new values in the rows that pass a filter
+abbrev pub rows_updated : Table → Option (Term ℕ) → List Setting → Outcome Table
+rows_updated table test settings = do
+  rows ← ok_or (update_fault table.fields) (updated_rows (answer_in table) test settings table.extents table.rows (length table.rows))
+  Goes (record table { rows = rows })

@@ -1,0 +1,5 @@
+pub mod Stands
+pub mod Changes
+pub mod Loads
+pub mod Answers
+pub mod Columns

@@ -1,0 +1,49 @@
+-- What the answer to a load says of its outcome, and of what was read.
+use Rattle.std.specs.Prelude.{ℕ, ◌≡◌, ◌≤◌, ◌⊎◌, Bool, true, false, List, length, Option, Some, IsSome, Result, Ok, Err}
+use Rattle.layout_io.specs.Faults.{Rose}
+use Rattle.layout_io.specs.Files.{File}
+use Rattle.record_dim.specs.Schemas.{schema_fields}
+use Rattle.map_expr.specs.Terms.{term_of}
+use Rattle.extents.specs.declared.words.ExtentWord.{ExtentWord}
+use Rattle.csv_rows.specs.Datasets.{records_of, rows_of}
+use Rattle.worlds.specs.Worlds.{Entry, Table}
+use Rattle.worlds.specs.Outcomes.{Outcome, Goes, Faults, CannotRead, ◌>>=◌}
+use Rattle.worlds.specs.Tables.{resolved, made}
+use Rattle.worlds.specs.Load.{filled}
+use Rattle.worlds.specs.View.{Named}
+use Rattle.command_checks.specs.declared.fault.StepFault.{StepFault}
+use Rattle.command_checks.specs.declared.fault.StepFault.TheVariants as fault
+use Rattle.session.specs.declared.view.Found.{Found}
+
+-- what the names of a new view stand for
+abbrev pub named_of : Found → Named
+named_of found = record { fields = schema_fields found.schema.now; mapping = term_of found.expr }
+
+-- the table of a dataset of bytes that are not too many, beside these views
+abbrev pub filled_table : List (Entry Table) → Named → List ExtentWord → List ℕ → Outcome Table
+filled_table views whole words bytes = do
+  extents ← resolved words (Some (length (rows_of (records_of bytes))))
+  zeros ← made views whole.fields extents whole.mapping
+  filled zeros (records_of bytes)
+
+-- where reading fails the outcome is that this file can't be read; a read failed, or it is the outcome in any case
+pub record IsUnread {A : Type 0} (outcome : Bool → Outcome A) (read_failed : Type 0) : Type 0 where
+  pub name : List ℕ
+  pub is : outcome true ≡ CannotRead name
+  pub cause : read_failed ⊎ (outcome false ≡ CannotRead name)
+
+-- what an answer, seen by `view`, says of the outcome, which is given by whether reading fails
+abbrev pub Loads : {A B : Type 0} → (A → B) → (Bool → Outcome B) → Type 0 → Result A StepFault → Type 0
+Loads view outcome read_failed (Ok x) = outcome false ≡ Goes (view x)
+Loads view outcome read_failed (Err (fault.Command refusal)) = outcome false ≡ Faults refusal
+Loads view outcome read_failed (Err fault.Source) = IsUnread outcome read_failed
+Loads view outcome read_failed (Err fault.Sink) = ⊥
+Loads view outcome read_failed (Err fault.NoMemory) = Unit {0}
+
+-- whether the count of the shelf may have risen
+abbrev pub LoadCause : {A : Type 0} → Option (List File) → ℕ → ℕ → Result A StepFault → Type 0
+LoadCause files old new (Ok x) = new ≡ old
+LoadCause files old new (Err (fault.Command refusal)) = new ≡ old
+LoadCause files old new (Err fault.Source) = (Rose old new ⊎ IsSome files) × (old ≤ new)
+LoadCause files old new (Err fault.Sink) = ⊥
+LoadCause files old new (Err fault.NoMemory) = old ≤ new

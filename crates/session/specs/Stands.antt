@@ -1,0 +1,24 @@
+-- The world that a session stands for.
+use Rattle.std.specs.Prelude.{◌≡◌, List, [], map}
+use Rattle.worlds.specs.Worlds.{World}
+use Rattle.worlds.specs.Outcomes.{Left}
+use Rattle.command_checks.specs.Entries.{record_of, mapping_of, view_of}
+use Rattle.command_checks.specs.declared.entries.RecordEntry.{RecordEntry}
+use Rattle.command_checks.specs.declared.entries.ViewEntry.{ViewEntry}
+use Rattle.command_checks.specs.declared.mapping_entry.MappingEntry.{MappingEntry}
+use Rattle.session.specs.declared.session.Session.{Session}
+
+-- the world of these entries
+abbrev pub world_in : List RecordEntry → List MappingEntry → List ViewEntry → World
+world_in records mappings views = record { records = map record_of records; mappings = map mapping_of mappings; views = map view_of views }
+
+-- the session holds what is in the world, in the same order
+abbrev pub world_of : Session → World
+world_of session = world_in session.records.items session.mappings.items session.views.items
+
+abbrev pub Stands : Session → World → Type 0
+Stands session world = world_of session ≡ world
+
+-- what a command leaves that writes nothing
+abbrev pub left_of : Session → Left
+left_of session = record { world = world_of session; text = [] }

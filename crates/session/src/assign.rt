@@ -1,0 +1,180 @@
+// `set V[..].path = ..`.
+ghost use Rattle.std.specs.Prelude.{◌≡◌, ◌<◌, ◌≤◌, IfOk, [], length, slice_index_or};
+ghost use Rattle.expr_lang.specs.Bounds.{bound_term};
+ghost use Rattle.expr_lang.specs.Terms.{term_of};
+ghost use Rattle.extents.specs.Indices.{indices, IsInside};
+ghost use Rattle.linearize.specs.Slots.{place_in};
+ghost use Rattle.row_updates.specs.Rows.{IsOver};
+ghost use Rattle.views.specs.Seen.{leaf_count_of};
+ghost use Rattle.worlds.specs.Assign.{assign, assigned, inside};
+ghost use Rattle.worlds.specs.Values.{value_on};
+ghost use Rattle.session.specs.Changes.{set_row, stored};
+ghost use Rattle.command_checks.specs.Entries.{table_of};
+ghost use Rattle.command_checks.specs.Gives.{Gives};
+
+use crate::session::Session;
+use arrayvec::ArrayVec;
+use command_checks::{StepFault, bound, known_view, leaf_of, leaf_text};
+use expr_lang::{Bound, EvalFault, Expr};
+use extents::Extents;
+use record_dim::{Name, Path};
+use row_updates::value_on;
+use std::alloc::Global;
+use std::sync::ledger::Ledger;
+use steps::Steps;
+use views::{StoreFault, View};
+use worlds::CommandFault;
+
+impl Session {
+    ghost use Rattle.session.specs.Stands.{left_of, world_of};
+
+    /// Stores a value in one row of a view.
+    #[tactic(auto, unfolding(worlds::specs::Assign::assign))]
+    pub fn assign<L: Ledger>(
+        mut self,
+        name: Name,
+        index: &[u32],
+        path: &Path,
+        value: &Expr,
+        steps: &mut Steps<L>,
+    ) -> Result<Session, StepFault>
+        ensures { Gives left_of result (assign (world_of self) name index.now path.now (term_of value.now)) }
+    {
+        let place = known_view(self.views.as_slice(), name)?;
+        let view = &mut self.views[place].view;
+        assigned(self.alloc, view, index, path, value, steps)?;
+        Ok(self)
+    }
+}
+
+// The value of an expression, stored in a leaf of the row of an index.
+#[tactic(auto, unfolding(worlds::specs::Assign::assigned))]
+fn assigned<L: Ledger>(
+    alloc: Global,
+    view: &mut View,
+    index: &[u32],
+    path: &Path,
+    value: &Expr,
+    steps: &mut Steps<L>,
+) -> Result<(), StepFault>
+    ensures { Gives (λ done. table_of view.new) result (assigned (table_of view.old) index.now path.now (term_of value.now)) }
+{
+    let leaf = leaf_of(alloc, view, path)?;
+    let value = bound(alloc, view, value)?;
+    let index = inside(view.extents(), index)?;
+    let row = row_of(view, index.as_slice());
+    set_row(alloc, view, row, index.as_slice(), leaf, &value, steps)?;
+    Ok(())
+}
+
+// The index, which is one of those inside the extents.
+fn inside(extents: Extents, index: &[u32]) -> Result<ArrayVec<u64, 4>, StepFault>
+    ensures inside { Gives (λ wide. tt) result (inside extents index.now) }
+    ensures index { IfOk result (λ wide. wide.items ≡ index.now) }
+    ensures member { IfOk result (λ wide. IsInside extents wide.items) }
+{
+    if index.len() != extents.rank() {
+        return Err(bad_index());
+    }
+    let wide = widened(index);
+    if !extents.holds(wide.as_slice()) {
+        return Err(bad_index());
+    }
+    Ok(wide)
+}
+
+fn bad_index() -> StepFault
+    ensures { result ≡ StepFault.Command CommandFault.BadIndex }
+{
+    StepFault::Command(CommandFault::BadIndex)
+}
+
+// The index with wider components.
+fn widened(index: &[u32]) -> ArrayVec<u64, 4>
+    requires { length index.now ≤ 4 }
+    ensures { result.items ≡ index.now }
+{
+    let mut wide = ArrayVec::new();
+    for component in index {
+        wide.push(u64::from(*component));
+    }
+    wide
+}
+
+// The value of an expression on a row, stored in a leaf of it.
+fn set_row<L: Ledger>(
+    alloc: Global,
+    view: &mut View,
+    row: u64,
+    index: &[u64],
+    leaf: usize,
+    value: &Bound,
+    steps: &mut Steps<L>,
+) -> Result<(), StepFault>
+    requires row_in { row < length view.old.table }
+    requires rank { length index.now ≡ length view.old.extents }
+    requires leaf_in { leaf < leaf_count_of view.old }
+    requires over { IsOver view.old value.now }
+    ensures { Gives (λ done. table_of view.new) result (set_row (table_of view.old) row index.now leaf (bound_term value.now)) }
+{
+    let value = row_value(view, row, index, value, steps)?;
+    store(alloc, view, row, leaf, value, steps)?;
+    Ok(())
+}
+
+// The row of an index.
+fn row_of(view: &View, index: &[u64]) -> u64
+    requires { IsInside view.now.extents index.now }
+    ensures row { result ≡ place_in (indices view.now.extents) index.now }
+    ensures below { result < length view.now.table }
+{
+    view.extents().row_of(index)
+}
+
+// The value of an expression on a row.
+fn row_value<L: Ledger>(
+    view: &mut View,
+    row: u64,
+    index: &[u64],
+    value: &Bound,
+    steps: &mut Steps<L>,
+) -> Result<i128, StepFault>
+    requires row_in { row < length view.old.table }
+    requires rank { length index.now ≡ length view.old.extents }
+    requires over { IsOver view.old value.now }
+    ensures value { Gives (λ number. number) result (value_on row (slice_index_or view.old.table row []) index.now (bound_term value.now)) }
+    ensures same { view.new ≡ view.old }
+{
+    match value_on(view, row, value, index, steps) {
+        Ok(number) => Ok(number),
+        Err(fault) => match fault {
+            EvalFault::Overflow => Err(StepFault::Command(CommandFault::Overflow { row })),
+            EvalFault::DivideByZero => Err(StepFault::Command(CommandFault::DivideByZero { row })),
+        },
+    }
+}
+
+// A value, stored where it fits.
+fn store<L: Ledger>(
+    alloc: Global,
+    view: &mut View,
+    row: u64,
+    leaf: usize,
+    value: i128,
+    steps: &mut Steps<L>,
+) -> Result<(), StepFault>
+    requires row_in { row < length view.old.table }
+    requires leaf_in { leaf < leaf_count_of view.old }
+    ensures { Gives (λ done. table_of view.new) result (stored (table_of view.old) row leaf value) }
+{
+    match view.set(row, leaf, value, steps) {
+        Ok(()) => Ok(()),
+        Err(fault) => {
+            let leaf = leaf_text(alloc, view, leaf)?;
+            match fault {
+                StoreFault::Range => Err(StepFault::Command(CommandFault::Range { row, leaf })),
+                StoreFault::Narrow => Err(StepFault::Command(CommandFault::Narrow { row, leaf })),
+            }
+        }
+    }
+}

@@ -1,0 +1,89 @@
+// `record P { .. }` and `mapping M = ..`.
+ghost use Rattle.std.specs.Prelude.{◌≡◌, IfOk, IfErr, true};
+ghost use Rattle.map_expr.specs.Terms.{term_of};
+ghost use Rattle.record_dim.specs.Schemas.{schema_fields};
+ghost use Rattle.record_dim.specs.Trees.{tree_of, IsRecord};
+ghost use Rattle.worlds.specs.Built.{is_built_map};
+ghost use Rattle.worlds.specs.Define.{define, fit};
+ghost use Rattle.worlds.specs.Mapping.{mapping};
+ghost use Rattle.command_checks.specs.Bases.{is_base};
+ghost use Rattle.command_checks.specs.Gives.{Gives};
+ghost use Rattle.session.specs.Changes.{mapping_fits, with_record, with_mapping};
+
+use crate::session::Session;
+use command_checks::{MappingEntry, RecordEntry, StepFault, free_mapping, free_record, nameless};
+use map_expr::MapExpr;
+use record_dim::{Dim, MakeSchema, Name, Schema};
+use std::alloc::Global;
+use worlds::CommandFault;
+
+impl Session {
+    ghost use Rattle.session.specs.Stands.{Stands, left_of, world_of};
+
+    /// Names a record.
+    #[tactic(auto, unfolding(worlds::specs::Define::define))]
+    pub fn define(self, name: Name, dim: &Dim) -> Result<Session, StepFault>
+        requires { IsRecord dim.now }
+        ensures { Gives left_of result (define (world_of self) name (tree_of dim.now)) }
+    {
+        free_record(self.records.as_slice(), name)?;
+        let schema = new_schema(self.alloc, dim)?;
+        self.with_record(name, schema)
+    }
+
+    // One record more.
+    fn with_record(mut self, name: Name, schema: Schema) -> Result<Session, StepFault>
+        ensures added { IfOk result (λ next. Stands next (with_record (world_of self) name (schema_fields schema))) }
+        ensures starved { IfErr result (λ fault. fault ≡ StepFault.NoMemory) }
+    {
+        self.records.push(RecordEntry { name, schema })?;
+        Ok(self)
+    }
+
+    /// Names a mapping expression, the names in it replaced.
+    #[tactic(auto, unfolding(worlds::specs::Mapping::mapping))]
+    pub fn mapping(self, name: Name, expr: &MapExpr) -> Result<Session, StepFault>
+        requires { is_built_map (term_of expr.now) ≡ true }
+        ensures { Gives left_of result (mapping (world_of self) name (term_of expr.now)) }
+    {
+        free_mapping(self.mappings.as_slice(), name)?;
+        let whole = nameless(self.alloc, self.mappings.as_slice(), expr)?;
+        fits(&whole)?;
+        self.with_mapping(name, whole)
+    }
+
+    // One mapping more.
+    fn with_mapping(mut self, name: Name, expr: MapExpr) -> Result<Session, StepFault>
+        requires { is_base (term_of expr) ≡ true }
+        ensures added { IfOk result (λ next. Stands next (with_mapping (world_of self) name (term_of expr))) }
+        ensures starved { IfErr result (λ fault. fault ≡ StepFault.NoMemory) }
+    {
+        self.mappings.push(MappingEntry { name, expr })?;
+        Ok(self)
+    }
+}
+
+// The schema of a tree of fields.
+fn new_schema(alloc: Global, dim: &Dim) -> Result<Schema, StepFault>
+    requires { IsRecord dim.now }
+    ensures { Gives schema_fields result (fit (tree_of dim.now)) }
+{
+    match Schema::new(alloc, dim.copy(alloc)?) {
+        Ok(schema) => Ok(schema),
+        Err(fault) => match fault {
+            MakeSchema::Bad(bad) => Err(StepFault::Command(CommandFault::BadRecord(bad))),
+            MakeSchema::NoMemory => Err(StepFault::NoMemory),
+        },
+    }
+}
+
+// That an expression can be a mapping, whatever its cells are.
+fn fits(expr: &MapExpr) -> Result<(), StepFault>
+    requires { is_base (term_of expr.now) ≡ true }
+    ensures { Gives (λ done. tt) result (mapping_fits (term_of expr.now)) }
+{
+    match expr.check() {
+        Ok(()) => Ok(()),
+        Err(bad) => Err(StepFault::Command(CommandFault::BadMapping(bad))),
+    }
+}

@@ -1,0 +1,20 @@
+//! A session: what a script has named so far, and what each line does to it.
+#![tactic(auto)]
+
+mod assign;
+mod built;
+mod define;
+mod load;
+mod reduce;
+mod session;
+mod show;
+mod update;
+mod view;
+
+pub use command_checks::{
+    MappingEntry, MappingList, RecordEntry, RecordList, StepFault, ViewEntry, ViewList,
+};
+pub use fault_lines::write_fault;
+pub use row_updates::{Assign, UpdateFault, UpdateKind, update_rows};
+pub use session::Session;
+pub use worlds::{BadKernel, CommandFault, UnknownName};

@@ -1,0 +1,196 @@
+// `load V : P [..] as .. from "F"`.
+ghost use Rattle.std.specs.Prelude.{◌≡◌, ◌<◌, IfOk, true, List, Some, length, map};
+ghost use Rattle.extents.specs.Indices.{indices};
+ghost use Rattle.extents.specs.Shapes.{IsShape};
+ghost use Rattle.layout_io.specs.Faults.{Rose};
+ghost use Rattle.layout_io.specs.Files.{File};
+ghost use Rattle.map_expr.specs.Terms.{term_of};
+ghost use Rattle.record_dim.specs.Schemas.{schema_fields};
+ghost use Rattle.csv_rows.specs.Datasets.{records_of, rows_of};
+ghost use Rattle.worlds.specs.Built.{is_built_map};
+ghost use Rattle.worlds.specs.Load.{load, loaded_table, filled};
+ghost use Rattle.worlds.specs.Tables.{resolved};
+ghost use Rattle.command_checks.specs.Bases.{is_base};
+ghost use Rattle.command_checks.specs.Entries.{table_of, view_of};
+ghost use Rattle.command_checks.specs.Gives.{Gives};
+ghost use Rattle.session.specs.Changes.{TellsRow};
+ghost use Rattle.session.specs.Loads.{named_of, filled_table, Loads, LoadCause};
+
+use crate::session::Session;
+use crate::view::{Found, named};
+use command_checks::{MappingEntry, RecordEntry, StepFault, ViewEntry, leaf_text, made, resolved};
+use csv_rows::{RowFault, count_rows, load_rows};
+use extents::{ExtentWord, Extents, Shape};
+use layout_io::{ReadEnd, Shelf, read_all};
+use line_grammar::FileName;
+use map_expr::MapExpr;
+use record_dim::Name;
+use std::alloc::Global;
+use std::sync::ledger::Ledger;
+use steps::Steps;
+use views::View;
+use worlds::CommandFault;
+
+/// The most bytes of a dataset.
+const DATASET_BYTES: usize = 1 << 28;
+
+impl Session {
+    ghost use Rattle.session.specs.Stands.{left_of, world_of};
+
+    /// Makes a view with the values of a dataset.
+    pub fn load<H: Shelf, L: Ledger>(
+        self,
+        name: Name,
+        schema: Name,
+        words: &[ExtentWord],
+        expr: &MapExpr,
+        file: &FileName,
+        shelf: &mut H,
+        steps: &mut Steps<L>,
+    ) -> Result<Session, StepFault>
+        requires { is_built_map (term_of expr.now) ≡ true }
+        ensures loads { (files : List File) → H.files shelf.old ≡ Some files
+            → Loads left_of (load (world_of self) name schema words.now (term_of expr.now) file.now files)
+            (Rose (H.faults shelf.old) (H.faults shelf.new)) result }
+        ensures files { H.files shelf.new ≡ H.files shelf.old }
+        ensures cause { LoadCause (H.files shelf.old) (H.faults shelf.old) (H.faults shelf.new) result }
+    {
+        let view = loaded_view(
+            self.alloc,
+            self.records.as_slice(),
+            self.mappings.as_slice(),
+            self.views.as_slice(),
+            name,
+            schema,
+            words,
+            expr,
+            file,
+            shelf,
+            steps,
+        )?;
+        let next = self.with_view(name, view)?;
+        Ok(next)
+    }
+}
+
+ghost use Rattle.session.specs.Stands.{world_in};
+
+// The view of a dataset in a file.
+fn loaded_view<H: Shelf, L: Ledger>(
+    alloc: Global,
+    records: &[RecordEntry],
+    mappings: &[MappingEntry],
+    views: &[ViewEntry],
+    name: Name,
+    schema: Name,
+    words: &[ExtentWord],
+    expr: &MapExpr,
+    file: &FileName,
+    shelf: &mut H,
+    steps: &mut Steps<L>,
+) -> Result<View, StepFault>
+    requires { is_built_map (term_of expr.now) ≡ true }
+    ensures loads { (files : List File) → H.files shelf.old ≡ Some files
+        → Loads table_of (loaded_table (world_in records.now mappings.now views.now) name schema words.now (term_of expr.now) file.now files)
+        (Rose (H.faults shelf.old) (H.faults shelf.new)) result }
+    ensures files { H.files shelf.new ≡ H.files shelf.old }
+    ensures cause { LoadCause (H.files shelf.old) (H.faults shelf.old) (H.faults shelf.new) result }
+{
+    let found = named(alloc, records, mappings, views, name, schema, words, expr)?;
+    match read_all(alloc, shelf, file.as_str(), DATASET_BYTES) {
+        Ok(bytes) => filled_view(alloc, views, &found, words, bytes.as_slice(), steps),
+        Err(end) => match end {
+            ReadEnd::Failed => Err(StepFault::Source),
+            ReadEnd::TooLong => Err(StepFault::Command(CommandFault::TooBig)),
+            ReadEnd::NoMemory => Err(StepFault::NoMemory),
+        },
+    }
+}
+
+// The view of a dataset that was read.
+fn filled_view<L: Ledger>(
+    alloc: Global,
+    views: &[ViewEntry],
+    found: &Found<'_>,
+    words: &[ExtentWord],
+    bytes: &[u8],
+    steps: &mut Steps<L>,
+) -> Result<View, StepFault>
+    requires base { is_base (term_of found.now.expr) ≡ true }
+    requires shape { found.now.shape ≡ words.now }
+    requires is_shape { IsShape words.now }
+    requires few { length views.now < 64 }
+    ensures { Gives table_of result (filled_table (map view_of views.now) (named_of found.now) words.now bytes.now) }
+{
+    let extents = dataset_extents(alloc, &found.shape, words, bytes)?;
+    let mut view = made(alloc, views, found.schema, extents, &found.expr)?;
+    let _rows = view.schema();
+    fill(alloc, &mut view, bytes, steps)?;
+    Ok(view)
+}
+
+// The extents for the rows of a dataset.
+fn dataset_extents(
+    alloc: Global,
+    shape: &Shape,
+    words: &[ExtentWord],
+    bytes: &[u8],
+) -> Result<Extents, StepFault>
+    requires words { shape.now ≡ words.now }
+    requires is_shape { IsShape words.now }
+    ensures extents { Gives (λ extents. extents) result (resolved words.now (Some (length (rows_of (records_of bytes.now))))) }
+    ensures rows { IfOk result (λ extents. length (indices extents) ≡ length (rows_of (records_of bytes.now))) }
+{
+    let rows = count_rows(alloc, bytes)?;
+    let extents = resolved(shape, words, Some(rows))?;
+    Ok(extents)
+}
+
+// The values of a dataset, stored in a view that has as many rows.
+fn fill<L: Ledger>(
+    alloc: Global,
+    view: &mut View,
+    bytes: &[u8],
+    steps: &mut Steps<L>,
+) -> Result<(), StepFault>
+    requires { length view.old.table ≡ length (rows_of (records_of bytes.now)) }
+    ensures { Gives (λ done. table_of view.new) result (filled (table_of view.old) (records_of bytes.now)) }
+{
+    match load_rows(alloc, bytes, view, steps) {
+        Ok(()) => Ok(()),
+        Err(fault) => Err(row_fault(alloc, view, fault)),
+    }
+}
+
+// The fault of a dataset, with the path text of its leaf.
+fn row_fault(alloc: Global, view: &View, fault: RowFault) -> StepFault
+    ensures { TellsRow (schema_fields view.now.schema) fault result }
+{
+    match fault {
+        RowFault::MissingColumn { leaf } => match leaf_text(alloc, view, leaf) {
+            Ok(leaf) => StepFault::Command(CommandFault::MissingColumn { leaf }),
+            Err(fault) => fault,
+        },
+        RowFault::ColumnTwice { leaf } => match leaf_text(alloc, view, leaf) {
+            Ok(leaf) => StepFault::Command(CommandFault::ColumnTwice { leaf }),
+            Err(fault) => fault,
+        },
+        RowFault::ShortRow { row, leaf } => match leaf_text(alloc, view, leaf) {
+            Ok(leaf) => StepFault::Command(CommandFault::ShortRow { row, leaf }),
+            Err(fault) => fault,
+        },
+        RowFault::Number { row, leaf } => match leaf_text(alloc, view, leaf) {
+            Ok(leaf) => StepFault::Command(CommandFault::Number { row, leaf }),
+            Err(fault) => fault,
+        },
+        RowFault::Range { row, leaf } => match leaf_text(alloc, view, leaf) {
+            Ok(leaf) => StepFault::Command(CommandFault::Range { row, leaf }),
+            Err(fault) => fault,
+        },
+        RowFault::Narrow { row, leaf } => match leaf_text(alloc, view, leaf) {
+            Ok(leaf) => StepFault::Command(CommandFault::Narrow { row, leaf }),
+            Err(fault) => fault,
+        },
+        RowFault::NoMemory => StepFault::NoMemory,
+    }
+}

@@ -1,0 +1,190 @@
+// `reduce V sum|min|max path` and `reduce V count where ..`.
+ghost use Rattle.std.specs.Prelude.{◌≡◌, ◌<◌, ◌≤◌, ◌+◌, ◌^◌, length, take, pos, flat_map};
+ghost use Rattle.expr_lang.specs.Terms.{term_of};
+ghost use Rattle.layout_io.specs.Parts.{text_of_part};
+ghost use Rattle.layout_io.specs.Writing.{Writes};
+ghost use Rattle.views.specs.Seen.{leaf_count_of};
+ghost use Rattle.worlds.specs.Outcomes.{Goes};
+ghost use Rattle.worlds.specs.Reduce.{reduce, reduced, reduction, column, count, counting};
+ghost use Rattle.worlds.specs.Texts.{number_line};
+ghost use Rattle.command_checks.specs.Entries.{table_of};
+ghost use Rattle.command_checks.specs.Gives.{Gives};
+ghost use Rattle.session.specs.Columns.{combined, IsSmall};
+
+use crate::session::Session;
+use crate::update::update_fault;
+use command_checks::{StepFault, bound, known_view, leaf_of};
+use expr_lang::Expr;
+use layout_io::{Failed, Part, Sink, TextBuffer};
+use line_grammar::ReduceKind;
+use record_dim::{Name, Path};
+use row_updates::count_where;
+use std::alloc::Global;
+use std::sync::ledger::Ledger;
+use steps::Steps;
+use views::View;
+use worlds::CommandFault;
+
+impl Session {
+    ghost use Rattle.session.specs.Stands.{Stands, world_of};
+    ghost use Rattle.session.specs.Answers.{Answers};
+
+    /// Writes the number of rows where an expression is not 0.
+    #[tactic(auto, unfolding(worlds::specs::Reduce::count))]
+    pub fn count<K: Sink, L: Ledger>(
+        mut self,
+        name: Name,
+        filter: &Expr,
+        out: &mut K,
+        steps: &mut Steps<L>,
+    ) -> Result<Session, StepFault>
+        ensures { Answers Stands K.taken K.faults out.old out.new (count (world_of self) name (term_of filter.now)) result }
+    {
+        let place = known_view(self.views.as_slice(), name)?;
+        let rows = counting(self.alloc, &mut self.views[place].view, filter, steps)?;
+        match write_count(rows, out) {
+            Ok(()) => Ok(self),
+            Err(_) => Err(StepFault::Sink),
+        }
+    }
+
+    /// Writes the sum, the least or the greatest of the values of a leaf.
+    #[tactic(auto, unfolding(worlds::specs::Reduce::reduce))]
+    pub fn reduce<K: Sink, L: Ledger>(
+        mut self,
+        name: Name,
+        kind: ReduceKind,
+        path: &Path,
+        out: &mut K,
+        steps: &mut Steps<L>,
+    ) -> Result<Session, StepFault>
+        ensures { Answers Stands K.taken K.faults out.old out.new (reduce (world_of self) name kind path.now) result }
+    {
+        let place = known_view(self.views.as_slice(), name)?;
+        let value = reduction(self.alloc, &mut self.views[place].view, kind, path, steps)?;
+        match write_number(value, out) {
+            Ok(()) => Ok(self),
+            Err(_) => Err(StepFault::Sink),
+        }
+    }
+}
+
+// One number of the values of a leaf.
+#[tactic(auto, unfolding(worlds::specs::Reduce::reduction))]
+fn reduction<L: Ledger>(
+    alloc: Global,
+    view: &mut View,
+    kind: ReduceKind,
+    path: &Path,
+    steps: &mut Steps<L>,
+) -> Result<i128, StepFault>
+    ensures value { Gives (λ value. value) result (reduction (table_of view.old) kind path.now) }
+    ensures same { view.new ≡ view.old }
+{
+    let leaf = leaf_of(alloc, view, path)?;
+    reduced(view, leaf, kind, steps)
+}
+
+// In how many rows an expression is not 0.
+#[tactic(auto, unfolding(worlds::specs::Reduce::counting))]
+fn counting<L: Ledger>(
+    alloc: Global,
+    view: &mut View,
+    filter: &Expr,
+    steps: &mut Steps<L>,
+) -> Result<u64, StepFault>
+    ensures value { Gives (λ rows. rows) result (counting (table_of view.old) (term_of filter.now)) }
+    ensures same { view.new ≡ view.old }
+{
+    let filter = bound(alloc, view, filter)?;
+    match count_where(view, &filter, steps) {
+        Ok(rows) => Ok(rows),
+        Err(fault) => Err(update_fault(alloc, view, fault)),
+    }
+}
+
+// The count as a line.
+#[tactic(auto, unfolding(worlds::specs::Texts::number_line))]
+fn write_count<K: Sink>(count: u64, out: &mut K) -> Result<(), Failed>
+    ensures { Writes K.taken K.faults out.old out.new result (number_line (pos count)) }
+{
+    write_line(&[Part::Count(count), Part::Text(b"\n")], out)
+}
+
+// The number as a line.
+#[tactic(auto, unfolding(worlds::specs::Texts::number_line))]
+fn write_number<K: Sink>(value: i128, out: &mut K) -> Result<(), Failed>
+    ensures { Writes K.taken K.faults out.old out.new result (number_line value) }
+{
+    write_line(&[Part::Number(value), Part::Text(b"\n")], out)
+}
+
+fn write_line<K: Sink>(parts: &[Part<'_>], out: &mut K) -> Result<(), Failed>
+    ensures { Writes K.taken K.faults out.old out.new result (flat_map text_of_part parts.now) }
+{
+    let mut buffer = TextBuffer::new();
+    buffer.put_parts(parts, out)?;
+    buffer.flush(out)
+}
+
+// The sum, the least or the greatest of the values of a leaf in all rows.
+fn reduced<L: Ledger>(
+    view: &mut View,
+    leaf: usize,
+    kind: ReduceKind,
+    steps: &mut Steps<L>,
+) -> Result<i128, StepFault>
+    requires { leaf < leaf_count_of view.old }
+    ensures value { Gives (λ value. value) result (reduced kind (column leaf view.old.table)) }
+    ensures same { view.new ≡ view.old }
+{
+    match kind {
+        ReduceKind::Sum => Ok(along(view, leaf, kind, 0, 0, steps)),
+        ReduceKind::Min | ReduceKind::Max => {
+            if view.extents().count() == 0 {
+                return Err(StepFault::Command(CommandFault::Empty));
+            }
+            let first = view.get(0, leaf, steps);
+            Ok(along(view, leaf, kind, 1, first, steps))
+        }
+    }
+}
+
+// The same, where `value` is that of the rows before `start`.
+fn along<L: Ledger>(
+    view: &mut View,
+    leaf: usize,
+    kind: ReduceKind,
+    start: u64,
+    value: i128,
+    steps: &mut Steps<L>,
+) -> i128
+    requires leaf_in { leaf < leaf_count_of view.old }
+    requires start { start ≤ length view.old.table }
+    requires before { reduced kind (take start (column leaf view.old.table)) ≡ Goes value }
+    requires small { IsSmall start value }
+    ensures value { reduced kind (column leaf view.old.table) ≡ Goes result }
+    ensures same { view.new ≡ view.old }
+{
+    let mut reached = value;
+    for row in start..view.extents().count() {
+        let next = view.get(row, leaf, steps);
+        reached = combined(kind, row, reached, next);
+    }
+    reached
+}
+
+// One value more.
+fn combined(kind: ReduceKind, rows: u64, value: i128, next: i128) -> i128
+    requires few { rows < 2 ^ 24 }
+    requires value { IsSmall rows value }
+    requires next { IsSmall 1 next }
+    ensures value { result ≡ combined kind value next }
+    ensures small { IsSmall (rows + 1) result }
+{
+    match kind {
+        ReduceKind::Sum => value + next,
+        ReduceKind::Min => value.min(next),
+        ReduceKind::Max => value.max(next),
+    }
+}

@@ -1,0 +1,119 @@
+// `view V : P [..] as ..`.
+ghost use Rattle.std.specs.Prelude.{◌≡◌, ◌<◌, IfOk, IfErr, OnOk, true, length};
+ghost use Rattle.extents.specs.Shapes.{IsShape};
+ghost use Rattle.map_expr.specs.Terms.{term_of};
+ghost use Rattle.worlds.specs.Built.{is_built_map};
+ghost use Rattle.worlds.specs.View.{named, new_table, view, with_view};
+ghost use Rattle.command_checks.specs.Bases.{is_base};
+ghost use Rattle.command_checks.specs.Entries.{table_of};
+ghost use Rattle.command_checks.specs.Gives.{Gives};
+
+use crate::session::Session;
+use command_checks::{
+    MappingEntry, RecordEntry, StepFault, ViewEntry, free_view, has_room, made, nameless, resolved,
+    schema_of, shaped,
+};
+use extents::{ExtentWord, Shape};
+use map_expr::MapExpr;
+use record_dim::{Name, Schema};
+use std::alloc::Global;
+use views::View;
+
+/// What the names of a new view stand for, and its shape.
+#[derive(Drop)]
+pub struct Found<'a> {
+    pub schema: &'a Schema,
+    pub expr: MapExpr,
+    pub shape: Shape,
+}
+
+impl Session {
+    ghost use Rattle.session.specs.Stands.{Stands, left_of, world_of};
+
+    /// Makes a view of zeros.
+    #[tactic(auto, unfolding(worlds::specs::View::view))]
+    pub fn view(
+        self,
+        name: Name,
+        schema: Name,
+        words: &[ExtentWord],
+        expr: &MapExpr,
+    ) -> Result<Session, StepFault>
+        requires { is_built_map (term_of expr.now) ≡ true }
+        ensures { Gives left_of result (view (world_of self) name schema words.now (term_of expr.now)) }
+    {
+        let view = new_view(
+            self.alloc,
+            self.records.as_slice(),
+            self.mappings.as_slice(),
+            self.views.as_slice(),
+            name,
+            schema,
+            words,
+            expr,
+        )?;
+        self.with_view(name, view)
+    }
+
+    /// One view more.
+    pub fn with_view(mut self, name: Name, view: View) -> Result<Session, StepFault>
+        ensures added { IfOk result (λ next. Stands next (with_view (world_of self) name (table_of view))) }
+        ensures starved { IfErr result (λ fault. fault ≡ StepFault.NoMemory) }
+    {
+        self.views.push(ViewEntry { name, view })?;
+        Ok(self)
+    }
+}
+
+ghost use Rattle.session.specs.Stands.{world_in};
+ghost use Rattle.session.specs.Loads.{named_of};
+
+/// What the names of a new view stand for, and its shape: the tests that need no file.
+pub fn named<'a>(
+    alloc: Global,
+    records: &'a [RecordEntry],
+    mappings: &[MappingEntry],
+    views: &[ViewEntry],
+    name: Name,
+    schema: Name,
+    words: &[ExtentWord],
+    expr: &MapExpr,
+) -> Result<Found<'a>, StepFault>
+    requires { is_built_map (term_of expr.now) ≡ true }
+    ensures named { Gives named_of result (named (world_in records.now mappings.now views.now) name schema words.now (term_of expr.now)) }
+    ensures base { IfOk result (λ found. is_base (term_of found.expr) ≡ true) }
+    ensures shape { IfOk result (λ found. found.shape ≡ words.now) }
+    ensures is_shape { OnOk result (IsShape words.now) }
+    ensures room { OnOk result (length views.now < 64) }
+{
+    free_view(views, name)?;
+    let schema = schema_of(records, schema)?;
+    let expr = nameless(alloc, mappings, expr)?;
+    has_room(views)?;
+    let shape = shaped(words)?;
+    Ok(Found {
+        schema,
+        expr,
+        shape,
+    })
+}
+
+// The view that stands at first.
+#[tactic(auto, unfolding(worlds::specs::View::new_table))]
+fn new_view(
+    alloc: Global,
+    records: &[RecordEntry],
+    mappings: &[MappingEntry],
+    views: &[ViewEntry],
+    name: Name,
+    schema: Name,
+    words: &[ExtentWord],
+    expr: &MapExpr,
+) -> Result<View, StepFault>
+    requires { is_built_map (term_of expr.now) ≡ true }
+    ensures { Gives table_of result (new_table (world_in records.now mappings.now views.now) name schema words.now (term_of expr.now)) }
+{
+    let found = named(alloc, records, mappings, views, name, schema, words, expr)?;
+    let extents = resolved(&found.shape, words, None)?;
+    made(alloc, views, found.schema, extents, &found.expr)
+}

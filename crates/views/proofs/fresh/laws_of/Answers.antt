@@ -1,4 +1,0 @@
-use Rattle.views.proofs.fresh.laws_of.Goals as goal
-
-pub returns-clause-lawful : goal.returns-clause-lawful
-returns-clause-lawful g c = g.met.M.Mapping.laws c.args._mapping.now

@@ -1,4 +1,0 @@
-use Rattle.views.proofs.view.tests.set_in_row.Given as goal
-
-abbrev pub ghosts-row_from : goal.ghosts-row_from
-ghosts-row_from a = record { name = a.blank.name; parts = a.blank.parts }

@@ -1,0 +1,64 @@
+-- `load V : P [..] as .. from "F"` makes a table of the values of a dataset.
+use Rattle.std.specs.Prelude.{ℕ, ◌^◌, Bool, List, length, Option, Some, None, nat_lt, if◌then◌else◌}
+use Rattle.extents.specs.declared.words.ExtentWord.{ExtentWord}
+use Rattle.layout_io.specs.Files.{File, file_of}
+use Rattle.record_dim.specs.Trees.{Fields}
+use Rattle.record_dim.specs.Leaves.{kinds_of, texts_of}
+use Rattle.map_expr.specs.Terms.{Term as MapTerm}
+use Rattle.map_any.specs.Mappings.{holds_by}
+use Rattle.csv_rows.specs.Datasets.{records_of, rows_of, dataset_table}
+use Rattle.csv_rows.specs.declared.fault.RowFault.{RowFault}
+use Rattle.csv_rows.specs.declared.fault.RowFault.TheVariants as rows
+use Rattle.worlds.specs.Worlds.{World, Entry, Table}
+use Rattle.worlds.specs.Outcomes.{Outcome, Goes, CannotRead, ◌>>=◌, Left, quiet, refused_if, ok_or}
+use Rattle.worlds.specs.Names.{text_of_leaf}
+use Rattle.worlds.specs.Tables.{resolved, made}
+use Rattle.worlds.specs.View.{with_view, Named, named}
+use Rattle.worlds.specs.declared.fault.CommandFault.{CommandFault}
+use Rattle.worlds.specs.declared.fault.CommandFault.TheVariants as fault
+
+-- the bytes of a file that may be missing
+abbrev pub there : List ℕ → Option (List ℕ) → Outcome (List ℕ)
+there name None = CannotRead name
+there name (Some bytes) = Goes bytes
+
+-- the bytes of a file; `unread`: reading fails in this command
+abbrev pub read : List File → Bool → List ℕ → Outcome (List ℕ)
+read files unread name = there name (if unread then None else file_of files name)
+
+-- the fault of a dataset, the leaf by its path text; want of memory is no fault of a dataset
+abbrev pub row_fault : Fields → RowFault → CommandFault
+row_fault fields (rows.MissingColumn leaf) = fault.MissingColumn (text_of_leaf fields leaf)
+row_fault fields (rows.ColumnTwice leaf) = fault.ColumnTwice (text_of_leaf fields leaf)
+row_fault fields (rows.ShortRow row leaf) = fault.ShortRow row (text_of_leaf fields leaf)
+row_fault fields (rows.Number row leaf) = fault.Number row (text_of_leaf fields leaf)
+row_fault fields (rows.Range row leaf) = fault.Range row (text_of_leaf fields leaf)
+row_fault fields (rows.Narrow row leaf) = fault.Narrow row (text_of_leaf fields leaf)
+row_fault fields rows.NoMemory = fault.TooBig
+
+-- a table of zeros with the values of a dataset in place of them
+abbrev pub filled : Table → List (List (List ℕ)) → Outcome Table
+filled table records = do
+  rows ← ok_or (row_fault table.fields)
+      (dataset_table (texts_of table.fields) (kinds_of table.fields) (holds_by table.mapping table.fields) records)
+  Goes (record table { rows = rows })
+
+-- the table of a dataset of these bytes, beside these views
+unfoldable pub loaded : List (Entry Table) → Named → List ExtentWord → List ℕ → Outcome Table
+loaded views whole words bytes = do
+  short ← refused_if (nat_lt (2 ^ 28) (length bytes)) fault.TooBig
+  extents ← resolved words (Some (length (rows_of (records_of bytes))))
+  zeros ← made views whole.fields extents whole.mapping
+  filled zeros (records_of bytes)
+
+-- the table of a dataset in a file
+unfoldable pub loaded_table : World → List ℕ → List ℕ → List ExtentWord → MapTerm → List ℕ → List File → Bool → Outcome Table
+loaded_table world name schema words term file files unread = do
+  whole ← named world name schema words term
+  bytes ← read files unread file
+  loaded world.views whole words bytes
+
+unfoldable pub load : World → List ℕ → List ℕ → List ExtentWord → MapTerm → List ℕ → List File → Bool → Outcome Left
+load world name schema words term file files unread = do
+  table ← loaded_table world name schema words term file files unread
+  quiet (with_view world name table)

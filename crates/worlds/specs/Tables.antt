@@ -1,0 +1,51 @@
+-- New tables, and what refuses them.
+use Rattle.std.specs.Prelude.{ℕ, ◌+◌, ◌*◌, ◌^◌, List, length, sum_by, nat_lt, nat_le, Option}
+use Rattle.extents.specs.Indices.{indices}
+use Rattle.extents.specs.Shapes.{extents_for, bad_shape, bad_extents}
+use Rattle.extents.specs.declared.words.ExtentWord.{ExtentWord}
+use Rattle.record_dim.specs.Trees.{Fields}
+use Rattle.record_dim.specs.Leaves.{leaves, kinds_of}
+use Rattle.map_expr.specs.Terms.{Term as MapTerm}
+use Rattle.map_any.specs.Mappings.{leaf_cells, layout_by, most_slots, accepted}
+use Rattle.piece_bits.specs.Tables.{zeros}
+use Rattle.worlds.specs.Worlds.{Entry, Table}
+use Rattle.worlds.specs.Outcomes.{Outcome, Goes, ◌>>=◌, refused_if, refused_by, ok_or}
+use Rattle.worlds.specs.declared.fault.CommandFault.TheVariants.{TooManyViews, TooBig, BadExtents, BadMapping}
+
+-- fewer than 64 views are live
+abbrev pub room : List (Entry Table) → Outcome (Unit {0})
+room views = refused_if (nat_le 64 (length views)) TooManyViews
+
+-- the words can be extents
+abbrev pub shaped : List ExtentWord → Outcome (Unit {0})
+shaped words = refused_by BadExtents (bad_shape words)
+
+-- the extents for the rows of a dataset, if there is one
+abbrev pub resolved : List ExtentWord → Option ℕ → Outcome (List ℕ)
+resolved words rows = do
+  fit ← refused_by BadExtents (bad_extents words rows)
+  Goes (extents_for words rows)
+
+-- the bits of the blobs of a table
+abbrev pub blob_bits : Table → ℕ
+blob_bits table = sum_by length (layout_by table.mapping table.extents table.fields)
+
+-- of all live views together
+abbrev pub live_bits : List (Entry Table) → ℕ
+live_bits views = sum_by (λ entry. blob_bits entry.held) views
+
+-- a table of zeros
+abbrev pub zeros_of : Fields → List ℕ → MapTerm → Table
+zeros_of fields extents mapping =
+    record { fields = fields; extents = extents; mapping = mapping; rows = zeros (length (indices extents)) (length (leaves fields)) }
+
+-- a table of zeros beside these views, where its mapping is one and no limit is passed: the slots, the bytes of its blobs, and those
+-- of all live views
+abbrev pub made : List (Entry Table) → Fields → List ℕ → MapTerm → Outcome Table
+made views fields extents mapping =
+    let table = zeros_of fields extents mapping in do
+      fit ← ok_or BadMapping (accepted mapping fields (leaf_cells (kinds_of fields)))
+      slots ← refused_if (nat_lt (2 ^ 24) (most_slots mapping extents)) TooBig
+      bytes ← refused_if (nat_lt (8 * 2 ^ 28) (blob_bits table)) TooBig
+      all ← refused_if (nat_lt (8 * 2 ^ 30) (live_bits views + blob_bits table)) TooBig
+      Goes table

@@ -1,0 +1,7 @@
+-- What commands write.
+use Rattle.std.specs.Prelude.{ℕ, ℤ, List, [], ◌∷◌, ◌++◌}
+use Rattle.layout_io.specs.Decimal.{decimal_text}
+
+-- a number as a line
+unfoldable pub number_line : ℤ → List ℕ
+number_line value = decimal_text value ++ 10 ∷ []

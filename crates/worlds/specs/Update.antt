@@ -1,0 +1,40 @@
+-- `update V where .. set .. = .., ..` stores values in each row where the filter is not 0.
+use Rattle.std.specs.Prelude.{ℕ, List, [], length, Option}
+use Rattle.line_grammar.specs.Sentences.{Value, Assignment}
+use Rattle.record_dim.specs.Trees.{Fields}
+use Rattle.row_updates.specs.Rows.{updated_rows}
+use Rattle.row_updates.specs.declared.fault.UpdateFault.{UpdateFault}
+use Rattle.row_updates.specs.declared.fault.UpdateKind.{UpdateKind}
+use Rattle.row_updates.specs.declared.fault.UpdateKind.TheVariants as kind
+use Rattle.worlds.specs.Worlds.{World, Table}
+use Rattle.worlds.specs.Outcomes.{Outcome, Goes, ◌>>=◌, Left, quiet, known, ok_or}
+use Rattle.worlds.specs.Names.{text_of_leaf, bound_filter, bound_sets, each_once, leaves_of}
+use Rattle.worlds.specs.Values.{answer_in}
+use Rattle.worlds.specs.Assign.{with_table}
+use Rattle.worlds.specs.declared.fault.CommandFault.{CommandFault}
+use Rattle.worlds.specs.declared.fault.CommandFault.TheVariants.{Range, Narrow, Overflow, DivideByZero}
+
+-- the fault of a row, with the path text of its leaf
+abbrev pub kind_fault : Fields → ℕ → UpdateKind → CommandFault
+kind_fault fields row kind.Overflow = Overflow row
+kind_fault fields row kind.DivideByZero = DivideByZero row
+kind_fault fields row (kind.Range leaf) = Range row (text_of_leaf fields leaf)
+kind_fault fields row (kind.Narrow leaf) = Narrow row (text_of_leaf fields leaf)
+
+abbrev pub update_fault : Fields → UpdateFault → CommandFault
+update_fault fields fault = kind_fault fields fault.row fault.kind
+
+-- the table with new values in the rows that pass a filter
+unfoldable pub updated : Table → Option Value → List Assignment → Outcome Table
+updated table filter sets = do
+  test ← bound_filter table.fields (length table.extents) filter
+  settings ← bound_sets table.fields (length table.extents) sets
+  once ← each_once table.fields [] (leaves_of settings)
+  rows ← ok_or (update_fault table.fields) (updated_rows (answer_in table) test settings table.extents table.rows (length table.rows))
+  Goes (record table { rows = rows })
+
+unfoldable pub update : World → List ℕ → Option Value → List Assignment → Outcome Left
+update world name filter sets = do
+  table ← known name world.views
+  new ← updated table filter sets
+  quiet (with_table world name new)

@@ -1,0 +1,74 @@
+use extents::BadExtents;
+use map_expr::BadMapping;
+use record_dim::{BadRecord, Name, Path, Text};
+
+/// Why a command or a script is refused. A `leaf` is the path text of a leaf.
+#[derive(Drop)]
+pub enum CommandFault {
+    /// The text is no line of the language. Columns are counted from 1.
+    Syntax { column: u64 },
+    /// An expression is more than 32 deep.
+    TooDeep,
+    /// The line has more than 4,096 bytes.
+    LineTooLong,
+    /// The script has more than 2^20 bytes or 65,536 lines.
+    ScriptTooLong,
+    /// A dataset, a view or all views together are over a limit.
+    TooBig,
+    /// The index has another rank or lies outside the extents, or there is no blob of this number.
+    BadIndex,
+    /// There is no least and no greatest value, since the view has no row.
+    Empty,
+    /// Two views have other records or other extents.
+    Mismatch,
+    /// The view counts no accesses.
+    NotCounted,
+    /// 64 views are live.
+    TooManyViews,
+    /// A name, a path or an index names nothing.
+    Unknown(UnknownName),
+    /// The name is defined already.
+    Taken(Name),
+    /// An update sets the leaf a second time.
+    Twice { leaf: Text },
+    /// No column of the dataset names the leaf.
+    MissingColumn { leaf: Text },
+    /// Two columns of the dataset name the leaf.
+    ColumnTwice { leaf: Text },
+    BadRecord(BadRecord),
+    BadExtents(BadExtents),
+    BadMapping(BadMapping),
+    BadKernel(BadKernel),
+    /// The row of the dataset has no field in the leaf's column.
+    ShortRow { row: u64, leaf: Text },
+    /// The field of the dataset is no number.
+    Number { row: u64, leaf: Text },
+    /// The value lies outside the declared range of the leaf.
+    Range { row: u64, leaf: Text },
+    /// The value lies in the declared range of the leaf and outside the range in which it is stored.
+    Narrow { row: u64, leaf: Text },
+    /// A result lies outside 128 bits.
+    Overflow { row: u64 },
+    DivideByZero { row: u64 },
+    /// The line has a command, a mapping form or an order that is not built yet.
+    NotBuilt,
+}
+
+/// A name, a path or an index that names nothing.
+#[derive(Drop)]
+pub enum UnknownName {
+    Name(Name),
+    Path(Path),
+    Index(u32),
+}
+
+/// Why a kernel is refused.
+#[derive(Clone, Copy)]
+pub enum BadKernel {
+    /// The number of lanes is not 1, 2, 4, 8 or 16.
+    Lanes,
+    /// The type of a leaf has more than 32 bits.
+    Wide,
+    /// A constant lies outside its range, or the least is above the greatest.
+    Constant,
+}
