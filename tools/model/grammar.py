@@ -1,0 +1,487 @@
+"""Lines of a script: tokens, and the grammar of docs/LANGUAGE.md read from left to right.
+
+A map, a record, a path and an expression are tuples whose first entry says which form they are.
+"""
+from collections import namedtuple
+
+LETTERS = b'ABCDEFGHIJKLMNOPQRSTUVWXYZabcdefghijklmnopqrstuvwxyz_'
+DIGITS = b'0123456789'
+SIGNS = ['==', '!=', '<=', '>=', '->'] + list('{}[]():,.=<>+-*/%?')
+RESERVED = {'and', 'or', 'not', 'min', 'max', 'i0', 'i1', 'i2', 'i3'}
+TYPES = {'bool', 'u8', 'u16', 'u32', 'u64', 'i8', 'i16', 'i32', 'i64'}
+COMPARISONS = {'==', '!=', '<', '<=', '>', '>='}
+GREATEST_NUMBER = 2 ** 127 - 1
+GREATEST_COUNT = 2 ** 32 - 1
+
+Token = namedtuple('Token', 'kind value begin end')
+
+
+class SyntaxFault(Exception):
+    """No line of the grammar has this text; the first useless token begins at this column."""
+
+    def __init__(self, column):
+        super().__init__(column)
+        self.column = column
+
+
+def end_of_run(line, at, alphabet):
+    while at < len(line) and line[at] in alphabet:
+        at += 1
+    return at
+
+
+def word_at(line, at):
+    end = end_of_run(line, at, LETTERS + DIGITS)
+    kind = 'word' if end - at <= 32 else 'bad'
+    return Token(kind, line[at:end].decode(), at, end)
+
+
+def number_at(line, at):
+    end = end_of_run(line, at, DIGITS)
+    value = int(line[at:end])
+    return Token('number' if value <= GREATEST_NUMBER else 'bad', value, at, end)
+
+
+def text_at(line, at):
+    end = at + 1
+    while end < len(line) and 0x20 <= line[end] <= 0x7E and line[end] not in b'"\\':
+        end += 1
+    closed = end < len(line) and line[end] == ord('"') and 1 <= end - at - 1 <= 200
+    return Token('text', line[at + 1:end].decode(), at, end + 1) if closed else Token('bad', None, at, at + 1)
+
+
+def sign_at(line, at, brackets):
+    for sign in SIGNS:
+        if line[at:at + len(sign)] == sign.encode():
+            kind = 'bad' if sign in '([{' and brackets == 64 else 'sign'
+            return Token(kind, sign, at, at + len(sign))
+    return Token('bad', None, at, at + 1)
+
+
+def token_at(line, at, brackets):
+    if line[at] in LETTERS:
+        return word_at(line, at)
+    if line[at] in DIGITS:
+        return number_at(line, at)
+    if line[at] == ord('"'):
+        return text_at(line, at)
+    return sign_at(line, at, brackets)
+
+
+def tokens_of(line):
+    """The tokens of a line, up to the first bad one."""
+    tokens, at, brackets = [], 0, 0
+    while True:
+        at = end_of_run(line, at, b' \t')
+        if at == len(line) or line[at] == ord('#'):
+            return tokens
+        token = token_at(line, at, brackets)
+        tokens.append(token)
+        if token.kind == 'bad':
+            return tokens
+        if token.kind == 'sign' and token.value in '([{':
+            brackets += 1
+        if token.kind == 'sign' and token.value in ')]}':
+            brackets = max(0, brackets - 1)
+        at = token.end
+
+
+class Reader:
+    """The tokens of a line, and how many of them were read."""
+
+    def __init__(self, tokens):
+        self.tokens = tokens
+        self.place = 0
+
+    def fail(self):
+        if self.place < len(self.tokens):
+            raise SyntaxFault(self.tokens[self.place].begin + 1)
+        raise SyntaxFault(self.tokens[-1].end + 1)
+
+    def stands(self, kind, values):
+        """Whether the next token is of this kind, with one of these values."""
+        token = self.tokens[self.place] if self.place < len(self.tokens) else None
+        return token is not None and token.kind == kind and token.value in values
+
+    def take(self):
+        self.place += 1
+        return self.tokens[self.place - 1].value
+
+    def sign(self, *values):
+        return self.take() if self.stands('sign', values) else self.fail()
+
+    def word(self, *values):
+        return self.take() if self.stands('word', values) else self.fail()
+
+    def of_kind(self, kind, test):
+        token = self.tokens[self.place] if self.place < len(self.tokens) else None
+        if token is None or token.kind != kind or not test(token.value):
+            self.fail()
+        return self.take()
+
+    def name(self):
+        return self.of_kind('word', lambda value: value not in RESERVED)
+
+    def count(self):
+        return self.of_kind('number', lambda value: value <= GREATEST_COUNT)
+
+    def number(self):
+        return self.of_kind('number', lambda value: True)
+
+    def text(self):
+        return self.of_kind('text', lambda value: True)
+
+
+def listed(reader, item):
+    """item (',' item)*"""
+    items = [item(reader)]
+    while reader.stands('sign', [',']):
+        reader.take()
+        items.append(item(reader))
+    return items
+
+
+def in_parens(reader, item):
+    reader.sign('(')
+    value = item(reader)
+    reader.sign(')')
+    return value
+
+
+# records
+
+def read_fields(reader):
+    reader.sign('{')
+    fields = listed(reader, read_field)
+    reader.sign('}')
+    return ('fields', fields)
+
+
+def read_field(reader):
+    name = reader.name()
+    if reader.stands('sign', ['{']):
+        inner = read_fields(reader)
+    else:
+        reader.sign(':')
+        inner = ('leaf', reader.word(*TYPES))
+    return (name, with_dims(inner, read_dims(reader)))
+
+
+def read_dims(reader):
+    dims = []
+    while reader.stands('sign', ['[']):
+        reader.take()
+        dims.append(reader.count())
+        reader.sign(']')
+    return dims
+
+
+def with_dims(inner, dims):
+    for length in reversed(dims):
+        inner = ('array', length, inner)
+    return inner
+
+
+# paths and maps
+
+def read_path(reader):
+    steps = [reader.name()]
+    while reader.stands('sign', ['.', '[']):
+        if reader.take() == '.':
+            steps.append(reader.name())
+        else:
+            steps.append(reader.count())
+            reader.sign(']')
+    return tuple(steps)
+
+
+def read_order(reader):
+    return reader.word('row', 'col', 'morton')
+
+
+def read_formed(*forms):
+    def read(reader):
+        form = reader.word(*forms)
+        reader.sign(',')
+        return (form, read_order(reader))
+    return read
+
+
+def read_counted(read_rest):
+    def read(reader):
+        count = reader.count()
+        reader.sign(',')
+        return (count, read_rest(reader))
+    return read
+
+
+def read_split(reader):
+    path = read_path(reader)
+    reader.sign(',')
+    first = read_map(reader)
+    reader.sign(',')
+    return (path, first, read_map(reader))
+
+
+def read_change(reader):
+    of = reader.word(*TYPES)
+    reader.sign('->')
+    to = reader.word(*(TYPES - {'bool'}))
+    reader.sign(',')
+    return (of, to, read_map(reader))
+
+
+def read_inner(reader):
+    return (read_map(reader),)
+
+
+FORMS = {
+    'aos': read_formed('packed', 'aligned', 'min'),
+    'soa': read_formed('single', 'aligned', 'multi'),
+    'aosoa': read_counted(read_order),
+    'bitaos': read_counted(read_order),
+    'bitsoa': read_counted(read_order),
+    'split': read_split,
+    'byteswap': read_inner,
+    'bytesplit': read_inner,
+    'change': read_change,
+    'count': read_inner,
+    'heat': read_counted(lambda reader: read_map(reader)),
+}
+
+
+def read_map(reader):
+    word = reader.name()
+    if word in FORMS and reader.stands('sign', ['(']):
+        return (word,) + in_parens(reader, FORMS[word])
+    return ('name', word)
+
+
+# expressions
+
+def read_chain(reader, kind, values, read_part):
+    """part (operator part)*, grouped to the left"""
+    left = read_part(reader)
+    while reader.stands(kind, values):
+        operator = reader.take()
+        left = ('binary', operator, left, read_part(reader))
+    return left
+
+
+def read_expr(reader):
+    return read_chain(reader, 'word', ['or'], read_conj)
+
+
+def read_conj(reader):
+    return read_chain(reader, 'word', ['and'], read_neg)
+
+
+def read_neg(reader):
+    if reader.stands('word', ['not']):
+        reader.take()
+        return ('not', read_neg(reader))
+    return read_comp(reader)
+
+
+def read_comp(reader):
+    left = read_sum(reader)
+    if reader.stands('sign', COMPARISONS):
+        operator = reader.take()
+        return ('binary', operator, left, read_sum(reader))
+    return left
+
+
+def read_sum(reader):
+    return read_chain(reader, 'sign', ['+', '-'], read_prod)
+
+
+def read_prod(reader):
+    return read_chain(reader, 'sign', ['*', '/', '%'], read_unary)
+
+
+def read_unary(reader):
+    if reader.stands('sign', ['-']):
+        reader.take()
+        return ('neg', read_unary(reader))
+    return read_atom(reader)
+
+
+def read_two(reader):
+    left = read_expr(reader)
+    reader.sign(',')
+    return (left, read_expr(reader))
+
+
+def read_atom(reader):
+    if reader.stands('word', ['min', 'max']):
+        operator = reader.take()
+        return ('binary', operator) + in_parens(reader, read_two)
+    if reader.stands('word', ['i0', 'i1', 'i2', 'i3']):
+        return ('index', int(reader.take()[1]))
+    if reader.stands('sign', ['(']):
+        return in_parens(reader, read_expr)
+    place = reader.place
+    if place < len(reader.tokens) and reader.tokens[place].kind == 'number':
+        return ('number', reader.number())
+    return ('path', read_path(reader))
+
+
+# commands
+
+def read_record(reader):
+    return {'name': reader.name(), 'record': read_fields(reader)}
+
+
+def read_mapping(reader):
+    name = reader.name()
+    reader.sign('=')
+    return {'name': name, 'map': read_map(reader)}
+
+
+def read_extent(reader):
+    if reader.stands('sign', ['?']):
+        return reader.take()
+    return reader.count()
+
+
+def read_new_view(reader, read_word):
+    name = reader.name()
+    reader.sign(':')
+    record = reader.name()
+    reader.sign('[')
+    words = listed(reader, read_word)
+    reader.sign(']')
+    reader.word('as')
+    return {'name': name, 'record': record, 'words': words, 'map': read_map(reader)}
+
+
+def read_view(reader):
+    return read_new_view(reader, Reader.count)
+
+
+def read_load(reader):
+    line = read_new_view(reader, read_extent)
+    reader.word('from')
+    return line | {'file': reader.text()}
+
+
+def read_one_set(reader):
+    path = read_path(reader)
+    reader.sign('=')
+    return (path, read_expr(reader))
+
+
+def read_set(reader):
+    name = reader.name()
+    reader.sign('[')
+    index = listed(reader, Reader.count)
+    reader.sign(']')
+    reader.sign('.')
+    path, value = read_one_set(reader)
+    return {'name': name, 'index': index, 'path': path, 'value': value}
+
+
+def read_update(reader):
+    name, where = reader.name(), None
+    if reader.stands('word', ['where']):
+        reader.take()
+        where = read_expr(reader)
+    reader.word('set')
+    return {'name': name, 'where': where, 'sets': listed(reader, read_one_set)}
+
+
+def read_const(reader):
+    if reader.stands('sign', ['-']):
+        reader.take()
+        return -reader.number()
+    return reader.number()
+
+
+def read_kern(reader):
+    kind = reader.word('axpy', 'clamp', 'sum', 'least', 'greatest', 'count_where')
+    parts = {
+        'axpy': [read_const, ',', read_path, ',', read_path],
+        'clamp': [read_path, ',', read_const, ',', read_const],
+        'count_where': [read_path, COMPARISONS, read_const],
+    }.get(kind, [read_path])
+    reader.sign('(')
+    for part in parts:
+        part(reader) if callable(part) else reader.sign(*part)
+    reader.sign(')')
+
+
+def read_kernel(reader):
+    reader.name()
+    read_kern(reader)
+    reader.word('lanes')
+    reader.count()
+    return {}
+
+
+def read_reduce(reader):
+    name, kind = reader.name(), reader.word('sum', 'min', 'max', 'count')
+    if kind == 'count':
+        reader.word('where')
+        return {'name': name, 'kind': kind, 'filter': read_expr(reader)}
+    return {'name': name, 'kind': kind, 'path': read_path(reader)}
+
+
+def read_copy(reader):
+    reader.name()
+    reader.word('to')
+    reader.name()
+    return {}
+
+
+def read_relayout(reader):
+    reader.name()
+    reader.word('as')
+    read_map(reader)
+    return {}
+
+
+def read_one(reader):
+    return {'name': reader.name()}
+
+
+def read_bytes(reader):
+    return {'name': reader.name(), 'blob': reader.count()}
+
+
+COMMANDS = {
+    'record': read_record, 'mapping': read_mapping, 'view': read_view, 'load': read_load, 'set': read_set,
+    'update': read_update, 'kernel': read_kernel, 'reduce': read_reduce, 'copy': read_copy,
+    'relayout': read_relayout, 'print': read_one, 'counts': read_one, 'heat': read_one, 'layout': read_one,
+    'drop': read_one, 'bytes': read_bytes,
+}
+
+
+def read_line(text):
+    """The command of a line as its word and its parts, or None where the line is blank."""
+    tokens = tokens_of(text)
+    if not tokens:
+        return None
+    reader = Reader(tokens)
+    command = reader.word(*COMMANDS)
+    line = COMMANDS[command](reader)
+    if reader.place < len(tokens):
+        reader.fail()
+    return (command, line)
+
+
+def depth(expr):
+    """How deep an expression is: 1 where it has no operand."""
+    operands = {'neg': expr[1:], 'not': expr[1:], 'binary': expr[2:]}.get(expr[0], ())
+    return 1 + max((depth(operand) for operand in operands), default=0)
+
+
+def expressions_of(command, line):
+    if command == 'set':
+        return [line['value']]
+    if command == 'update':
+        return [line['where']] * (line['where'] is not None) + [value for _, value in line['sets']]
+    return [line['filter']] if command == 'reduce' and line['kind'] == 'count' else []
+
+
+def path_text(path):
+    return ''.join(f'[{step}]' if isinstance(step, int) else f'.{step}' for step in path)[1:]

@@ -1,0 +1,440 @@
+#!/usr/bin/env python3
+"""A slow, plain model of llama: what the program's words, a script and datasets must print, and the status.
+
+usage: llama_model.py run FILE, in the folder of the datasets
+
+It follows the rules of docs/LANGUAGE.md and nothing else, so that it can say what llama owes. A view is a list of rows; no
+blob is kept.
+"""
+import os
+import sys
+
+from datasets import DatasetFault, records_of, table_of, without_mark
+from grammar import COMMANDS, SyntaxFault, depth, expressions_of, path_text, read_line
+from layouts import WIDTHS, blobs_of, image, lengths_of
+from values import ValueFault, value_of
+
+USAGE = b'usage: llama run FILE | llama gen N\n'
+BUILT = {'record', 'mapping', 'view', 'load', 'set', 'update', 'reduce', 'print', 'bytes', 'drop'}
+MOST_SCRIPT_BYTES, MOST_LINES, MOST_LINE_BYTES = 2 ** 20, 2 ** 16, 4096
+MOST_DEPTH, MOST_RECORD_DEPTH, MOST_LEAVES, MOST_VIEWS = 32, 8, 64, 64
+MOST_ROWS, MOST_VIEW_BYTES, MOST_LIVE_BYTES = 2 ** 24, 2 ** 28, 2 ** 30
+MOST_DATASET_BYTES, MOST_SHOWN_BYTES = 2 ** 28, 65536
+
+
+class Fault(Exception):
+    """A named fault, with its detail."""
+
+    def __init__(self, name, detail=''):
+        super().__init__(name + (' ' + detail if detail else ''))
+
+
+class CannotRead(Exception):
+    """A file that cannot be read."""
+
+
+class World:
+    """Records, mappings and views by their names."""
+
+    def __init__(self, folder):
+        self.folder = folder
+        self.records, self.mappings, self.views = {}, {}, {}
+
+
+class View:
+    """A table: its leaves as pairs of a path and a type, its extents and mapping, and the rows that are not all 0."""
+
+    def __init__(self, leaves, extents, mapping):
+        self.leaves, self.extents, self.mapping = leaves, extents, mapping
+        self.kept = {}
+
+    def count(self):
+        return product(self.extents)
+
+    def row(self, number):
+        return self.kept.get(number, [0] * len(self.leaves))
+
+    def rows(self):
+        return (self.row(number) for number in range(self.count()))
+
+    def index(self, row):
+        index = []
+        for extent in reversed(self.extents):
+            index.insert(0, row % extent)
+            row //= extent
+        return index
+
+    def lengths(self):
+        return lengths_of(self.mapping, self.count(), [kind for _, kind in self.leaves])
+
+
+def product(numbers):
+    result = 1
+    for number in numbers:
+        result *= number
+    return result
+
+
+def range_of(kind):
+    if kind == 'bool':
+        return (0, 1)
+    width = WIDTHS[kind]
+    return (0, 2 ** width - 1) if kind[0] == 'u' else (-2 ** (width - 1), 2 ** (width - 1) - 1)
+
+
+# names, paths and expressions
+
+def known(name, entries):
+    if name not in entries:
+        raise Fault('Unknown', name)
+    return entries[name]
+
+
+def free(name, entries):
+    if name in entries:
+        raise Fault('Taken', name)
+
+
+def nameless(world, mapping):
+    return known(mapping[1], world.mappings) if mapping[0] == 'name' else mapping
+
+
+def leaf_of(view, path):
+    text = path_text(path)
+    for number, (leaf, _) in enumerate(view.leaves):
+        if leaf == text:
+            return number
+    raise Fault('Unknown', text)
+
+
+def bound(view, expr):
+    """The expression with numbers of leaves for its paths; the first path or index that is not known refuses."""
+    if expr is None or expr[0] == 'number':
+        return expr
+    if expr[0] == 'path':
+        return ('leaf', leaf_of(view, expr[1]))
+    if expr[0] == 'index':
+        if expr[1] >= len(view.extents):
+            raise Fault('Unknown', f'i{expr[1]}')
+        return expr
+    return tuple(bound(view, part) if isinstance(part, tuple) else part for part in expr)
+
+
+def value_on(view, row, values, expr):
+    try:
+        return value_of(expr, values, view.index(row))
+    except ValueFault as fault:
+        raise Fault(str(fault), f'record {row}') from None
+
+
+def storable(view, row, leaf, value):
+    """Each form that is built holds the whole range of a leaf's type, so that no value is too wide for its place alone."""
+    path, kind = view.leaves[leaf]
+    least, greatest = range_of(kind)
+    if not least <= value <= greatest:
+        raise Fault('Range', f'record {row} leaf {path}')
+
+
+# records
+
+def parts_of(dim):
+    """The nodes of a record, itself among them."""
+    inner = [field for _, field in dim[1]] if dim[0] == 'fields' else [dim[2]] if dim[0] == 'array' else []
+    return [dim] + [node for part in inner for node in parts_of(part)]
+
+
+def record_depth(dim):
+    if dim[0] == 'leaf':
+        return 0
+    if dim[0] == 'array':
+        return 1 + record_depth(dim[2])
+    return 1 + max(record_depth(field) for _, field in dim[1])
+
+
+def leaf_count(dim):
+    if dim[0] == 'leaf':
+        return 1
+    if dim[0] == 'array':
+        return dim[1] * leaf_count(dim[2])
+    return sum(leaf_count(field) for _, field in dim[1])
+
+
+def leaves_of(dim, path=''):
+    if dim[0] == 'leaf':
+        return [(path, dim[1])]
+    if dim[0] == 'array':
+        return [leaf for at in range(dim[1]) for leaf in leaves_of(dim[2], f'{path}[{at}]')]
+    dot = '.' if path else ''
+    return [leaf for name, field in dim[1] for leaf in leaves_of(field, path + dot + name)]
+
+
+def names_twice(dim):
+    names = [name for name, _ in dim[1]] if dim[0] == 'fields' else []
+    return len(names) != len(set(names))
+
+
+def record(world, line):
+    free(line['name'], world.records)
+    dim = line['record']
+    if record_depth(dim) > MOST_RECORD_DEPTH:
+        raise Fault('BadRecord', 'TooDeep')
+    if any(names_twice(node) for node in parts_of(dim)):
+        raise Fault('BadRecord', 'Twice')
+    if any(node[0] == 'array' and node[1] == 0 for node in parts_of(dim)):
+        raise Fault('BadRecord', 'NoElements')
+    if leaf_count(dim) > MOST_LEAVES:
+        raise Fault('BadRecord', 'TooManyLeaves')
+    world.records[line['name']] = leaves_of(dim)
+
+
+# mappings and views
+
+def refuse_lanes(mapping):
+    if mapping[0] == 'aosoa' and not 1 <= mapping[1] <= 64:
+        raise Fault('BadMapping', 'Lanes')
+
+
+def mapping(world, line):
+    free(line['name'], world.mappings)
+    whole = nameless(world, line['map'])
+    refuse_lanes(whole)
+    world.mappings[line['name']] = whole
+
+
+def names_of_a_view(world, line):
+    """The leaves and the mapping that the names of a new view stand for."""
+    free(line['name'], world.views)
+    leaves = known(line['record'], world.records)
+    whole = nameless(world, line['map'])
+    if len(world.views) >= MOST_VIEWS:
+        raise Fault('TooManyViews')
+    return leaves, whole
+
+
+def refuse_words(words):
+    if not 1 <= len(words) <= 4:
+        raise Fault('BadExtents', 'Rank')
+    if words.count('?') > 1:
+        raise Fault('BadExtents', 'TwoRows')
+    if '?' in words and 0 in words:
+        raise Fault('BadExtents', 'RowsBesideZero')
+
+
+def resolved(words, rows):
+    """The extents of the words, where a dataset has so many rows, or of a view without one (None)."""
+    others = product(word for word in words if word != '?')
+    if '?' in words:
+        if rows % others != 0:
+            raise Fault('BadExtents', 'NotDivisible')
+        words = [rows // others if word == '?' else word for word in words]
+    elif rows is not None and others != rows:
+        raise Fault('BadExtents', 'NotEqual')
+    if product(words) > MOST_ROWS:
+        raise Fault('BadExtents', 'TooMany')
+    return words
+
+
+def made(world, leaves, extents, whole):
+    refuse_lanes(whole)
+    view = View(leaves, extents, whole)
+    live = sum(sum(other.lengths()) for other in world.views.values())
+    size = sum(view.lengths())
+    if size > MOST_VIEW_BYTES or live + size > MOST_LIVE_BYTES:
+        raise Fault('TooBig')
+    return view
+
+
+def new_view(world, line):
+    leaves, whole = names_of_a_view(world, line)
+    refuse_words(line['words'])
+    world.views[line['name']] = made(world, leaves, resolved(line['words'], None), whole)
+
+
+def read_file(world, name):
+    try:
+        with open(os.path.join(world.folder, name), 'rb') as file:
+            return file.read()
+    except OSError:
+        raise CannotRead(name) from None
+
+
+def load(world, line):
+    leaves, whole = names_of_a_view(world, line)
+    refuse_words(line['words'])
+    data = read_file(world, line['file'])
+    if len(data) > MOST_DATASET_BYTES:
+        raise Fault('TooBig')
+    records = records_of(data)
+    extents = resolved(line['words'], len(records[1:]))
+    view = made(world, leaves, extents, whole)
+    try:
+        table = table_of(records, [path for path, _ in leaves], [range_of(kind) for _, kind in leaves])
+    except DatasetFault as fault:
+        name, row, path = fault.args
+        raise Fault(name, path if row is None else f'record {row} leaf {path}') from None
+    view.kept = dict(enumerate(table))
+    world.views[line['name']] = view
+
+
+# the other commands
+
+def row_of_index(extents, index):
+    if len(index) != len(extents) or any(at >= extent for at, extent in zip(index, extents)):
+        raise Fault('BadIndex')
+    row = 0
+    for at, extent in zip(index, extents):
+        row = row * extent + at
+    return row
+
+
+def assign(world, line):
+    view = known(line['name'], world.views)
+    leaf = leaf_of(view, line['path'])
+    expr = bound(view, line['value'])
+    row = row_of_index(view.extents, line['index'])
+    value = value_on(view, row, view.row(row), expr)
+    storable(view, row, leaf, value)
+    view.kept[row] = replaced(view.row(row), leaf, value)
+
+
+def replaced(values, leaf, value):
+    return values[:leaf] + [value] + values[leaf + 1:]
+
+
+def update(world, line):
+    view = known(line['name'], world.views)
+    where = bound(view, line['where'])
+    sets = [(leaf_of(view, path), bound(view, value)) for path, value in line['sets']]
+    leaves = [leaf for leaf, _ in sets]
+    for place, leaf in enumerate(leaves):
+        if leaf in leaves[:place]:
+            raise Fault('Twice', view.leaves[leaf][0])
+    for row in range(view.count()):
+        update_row(view, row, where, sets)
+
+
+def update_row(view, row, where, sets):
+    old = view.row(row)
+    if where is not None and value_on(view, row, old, where) == 0:
+        return
+    new = old
+    for leaf, expr in sets:
+        value = value_on(view, row, old, expr)
+        storable(view, row, leaf, value)
+        new = replaced(new, leaf, value)
+    view.kept[row] = new
+
+
+def number_line(number):
+    return b'%d\n' % number
+
+
+def reduce(world, line):
+    view = known(line['name'], world.views)
+    if line['kind'] == 'count':
+        expr = bound(view, line['filter'])
+        return number_line(sum(value_on(view, row, values, expr) != 0 for row, values in enumerate(view.rows())))
+    leaf = leaf_of(view, line['path'])
+    values = [values[leaf] for values in view.rows()]
+    if line['kind'] == 'sum':
+        return number_line(sum(values))
+    if not values:
+        raise Fault('Empty')
+    return number_line(min(values) if line['kind'] == 'min' else max(values))
+
+
+def print_view(world, line):
+    view = known(line['name'], world.views)
+    header = ','.join(path for path, _ in view.leaves)
+    return ''.join(text + '\n' for text in [header] + [','.join(map(str, row)) for row in view.rows()]).encode()
+
+
+def bytes_of(world, line):
+    view = known(line['name'], world.views)
+    lengths = view.lengths()
+    if line['blob'] >= len(lengths):
+        raise Fault('BadIndex')
+    if sum(lengths) > MOST_SHOWN_BYTES:
+        raise Fault('TooBig')
+    blob = blobs_of(view.mapping, view.extents, [kind for _, kind in view.leaves])[line['blob']]
+    data = image(blob, lambda row, leaf: view.row(row)[leaf])
+    assert len(data) == lengths[line['blob']]
+    return ''.join(data[at:at + 16].hex(' ') + '\n' for at in range(0, len(data), 16)).encode()
+
+
+def drop(world, line):
+    known(line['name'], world.views)
+    del world.views[line['name']]
+
+
+DOES = {
+    'record': record, 'mapping': mapping, 'view': new_view, 'load': load, 'set': assign, 'update': update,
+    'reduce': reduce, 'print': print_view, 'bytes': bytes_of, 'drop': drop,
+}
+assert set(DOES) == BUILT < set(COMMANDS)
+
+
+# lines and the run
+
+def is_built_map(mapping):
+    return mapping[0] == 'name' or mapping[0] in ('aos', 'soa', 'aosoa') and mapping[-1] != 'morton'
+
+
+def step(world, text):
+    """What a line prints."""
+    if len(text) > MOST_LINE_BYTES:
+        raise Fault('LineTooLong')
+    try:
+        line = read_line(text)
+    except SyntaxFault as fault:
+        raise Fault('Syntax', f'column {fault.column}') from None
+    if line is None:
+        return b''
+    command, parts = line
+    if any(depth(expr) > MOST_DEPTH for expr in expressions_of(command, parts)):
+        raise Fault('TooDeep')
+    if command not in BUILT or 'map' in parts and not is_built_map(parts['map']):
+        raise Fault('NotBuilt')
+    return DOES[command](world, parts) or b''
+
+
+def lines_of(script):
+    lines = without_mark(script).split(b'\n')
+    if lines[-1] == b'':
+        lines.pop()
+    return [line[:-1] if line.endswith(b'\r') else line for line in lines]
+
+
+def run_lines(world, lines):
+    printed = b''
+    for number, text in enumerate(lines, 1):
+        try:
+            printed += step(world, text)
+        except Fault as fault:
+            return printed + f'line {number}: {fault}\n'.encode(), 1
+        except CannotRead as missing:
+            return printed + f'line {number}: cannot read {missing}\n'.encode(), 3
+    return printed, 0
+
+
+def run(words, folder):
+    """The bytes that are printed, and the status."""
+    if len(words) != 2 or words[0] != 'run':
+        return USAGE, 2
+    world = World(folder)
+    try:
+        script = read_file(world, words[1])
+    except CannotRead as missing:
+        return f'line 0: cannot read {missing}\n'.encode(), 3
+    lines = lines_of(script)
+    if len(script) > MOST_SCRIPT_BYTES or len(lines) > MOST_LINES:
+        return b'line 0: ScriptTooLong\n', 1
+    return run_lines(world, lines)
+
+
+sys.setrecursionlimit(100000)
+
+if __name__ == '__main__':
+    text, status = run(sys.argv[1:], '.')
+    sys.stdout.buffer.write(text)
+    sys.exit(status)

@@ -1,0 +1,108 @@
+#!/usr/bin/env python3
+"""Writes the cases of the tables as folders of script, datasets, stdout and status.
+
+usage: make_cases.py FOLDER           writes each case into FOLDER
+       make_cases.py --check FOLDER.. tells the cases that stand in none of the folders as they are written
+
+What is printed comes from the model, and must be what the table tells, which was worked out by hand.
+"""
+import filecmp
+import pathlib
+import re
+import shutil
+import subprocess
+import sys
+import tempfile
+
+import llama_model
+from tables import CASES
+
+
+def lines(text):
+    return ''.join(line + '\n' for line in text.split(' | ')).encode() if text else b''
+
+
+def status_of(printed):
+    """The status that goes with what is printed."""
+    last = printed.split(b'\n')[-2] if printed else b''
+    if re.match(rb'line \d+: cannot read ', last):
+        return 3
+    return 1 if re.match(rb'line \d+: ', last) else 0
+
+
+def write_inputs(case, folder):
+    folder.mkdir(parents=True)
+    files = dict(case.files or {})
+    if case.script is not None:
+        files['script.llama'] = case.script if isinstance(case.script, bytes) else lines(case.script)
+    if case.csv is not None:
+        files['d.csv'] = case.csv
+    if case.make is not None:
+        files['make'] = case.make.encode()
+    for name, data in files.items():
+        (folder / name).parent.mkdir(exist_ok=True)
+        (folder / name).write_bytes(data)
+
+
+def modelled(folder):
+    """What the model prints in a copy of the folder, where its big files are made."""
+    with tempfile.TemporaryDirectory() as room:
+        copy = pathlib.Path(room, 'case')
+        shutil.copytree(folder, copy)
+        if (copy / 'make').exists():
+            subprocess.run(['sh', 'make'], cwd=copy, check=True)
+        return llama_model.run(['run', 'script.llama'], copy)
+
+
+def agrees(printed, due):
+    if due.startswith('.. | '):
+        return printed.endswith(b'\n' + lines(due[5:]))
+    return printed == lines(due)
+
+
+def write_case(case, folder):
+    """Writes a case; tells whether the model and the table agree."""
+    if folder.exists():
+        shutil.rmtree(folder)
+    write_inputs(case, folder)
+    printed, status = (lines(case.due), status_of(lines(case.due))) if case.by_hand else modelled(folder)
+    if printed:
+        (folder / 'stdout').write_bytes(printed)
+    if status:
+        (folder / 'status').write_text(f'{status}\n')
+    if agrees(printed, case.due) and status == status_of(printed):
+        return True
+    print(f'{case.name}\n  table: {case.due}\n  model: {printed[-400:].decode()}({status})')
+    return False
+
+
+def is_same(one, other):
+    found = filecmp.dircmp(one, other)
+    if found.left_only or found.right_only or found.funny_files:
+        return False
+    _, differ, errors = filecmp.cmpfiles(one, other, found.common_files, shallow=False)
+    return not differ and not errors and all(is_same(one / name, other / name) for name in found.common_dirs)
+
+
+def check(folders):
+    with tempfile.TemporaryDirectory() as room:
+        fresh = pathlib.Path(room)
+        wrong = [case.name for case in CASES if not write_case(case, fresh / case.name) or not any(
+            (folder / case.name).is_dir() and is_same(fresh / case.name, folder / case.name) for folder in folders)]
+    for name in wrong:
+        print(f'not as the table and the model have it: {name}')
+    return not wrong
+
+
+def main(words):
+    names = [case.name for case in CASES]
+    assert len(names) == len(set(names)), sorted(name for name in set(names) if names.count(name) > 1)
+    if words[:1] == ['--check']:
+        good = check([pathlib.Path(word) for word in words[1:]])
+    else:
+        good = all([write_case(case, pathlib.Path(words[0], case.name)) for case in CASES])
+    print(f'model: {len(CASES)} cases of the tables')
+    return 0 if good else 1
+
+
+sys.exit(main(sys.argv[1:]))
