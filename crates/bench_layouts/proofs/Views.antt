@@ -6,7 +6,7 @@ use Rattle.record_dim.specs.Trees.{Fields}
 use Rattle.views.specs.declared.fault.MakeView.TheVariants.{TooBig}
 use Rattle.views.specs.Refusals.{IsNoView}
 use Rattle.bench_layouts.specs.declared.form.Form.{Form}
-use Rattle.bench_layouts.specs.declared.form.Form.TheVariants.{Aos, Soa, Aosoa}
+use Rattle.bench_layouts.specs.declared.form.Form.TheVariants.{Aos, Soa, Aosoa, AosByColumns, SoaByColumns, AosoaByColumns}
 use Rattle.bench_layouts.specs.Forms.{form_term}
 
 -- a flat array has as many rows as its extent says
@@ -18,3 +18,6 @@ pub too_many : (form : Form) (rows : ℕ) (fields : Fields) → 2 ^ 24 < rows �
 too_many Aos rows fields many = (refl, inl (omega (arith, flat_rows rows, many)))
 too_many Soa rows fields many = (refl, inl (omega (arith, flat_rows rows, many)))
 too_many Aosoa rows fields many = (refl, inl (omega (arith, flat_rows rows, many)))
+too_many AosByColumns rows fields many = (refl, inl (omega (arith, flat_rows rows, many)))
+too_many SoaByColumns rows fields many = (refl, inl (omega (arith, flat_rows rows, many)))
+too_many AosoaByColumns rows fields many = (refl, inl (omega (arith, flat_rows rows, many)))

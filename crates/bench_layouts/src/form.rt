@@ -1,5 +1,7 @@
 ghost use Rattle.std.specs.Prelude.{◌≡◌};
-ghost use Rattle.map_expr.specs.Terms.{term_of};
+ghost use Rattle.places.specs.declared.forms.AosForm.TheVariants.{Packed};
+ghost use Rattle.places.specs.declared.forms.SoaForm.TheVariants.{Aligned};
+ghost use Rattle.map_expr.specs.Terms.{term_of, Aos, Soa, Aosoa};
 ghost use Rattle.map_any.specs.Mappings.{IsBuiltTerm};
 ghost use Rattle.bench_layouts.specs.Forms.{form_named, form_term};
 
@@ -7,7 +9,8 @@ use extents::Order;
 use map_expr::MapExpr;
 use places::{AosForm, SoaForm};
 
-/// How the table lies in memory, row after row.
+/// How the table lies in memory, and in which order its slots follow the rows. Over one dimension both orders have the same places; by
+/// columns a view finds them the general way.
 #[derive(Clone, Copy, Debug, PartialEq, Eq)]
 pub enum Form {
     /// Packed records.
@@ -16,6 +19,12 @@ pub enum Form {
     Soa,
     /// Blocks of 8 rows, in each block 8 values of each leaf.
     Aosoa,
+    /// Packed records, by columns.
+    AosByColumns,
+    /// An array for each leaf, each aligned, by columns.
+    SoaByColumns,
+    /// Blocks of 8 rows, by columns.
+    AosoaByColumns,
 }
 
 impl Form {
@@ -27,6 +36,9 @@ impl Form {
             "aos" => Some(Form::Aos),
             "soa" => Some(Form::Soa),
             "aosoa" => Some(Form::Aosoa),
+            "aos_col" => Some(Form::AosByColumns),
+            "soa_col" => Some(Form::SoaByColumns),
+            "aosoa_col" => Some(Form::AosoaByColumns),
             _ => None,
         }
     }
@@ -36,17 +48,37 @@ impl Form {
         ensures term { term_of result ≡ form_term self }
         ensures built { IsBuiltTerm (term_of result) }
     {
-        let order = Order::Row;
         match self {
-            Form::Aos => MapExpr::Aos {
-                form: AosForm::Packed,
-                order,
-            },
-            Form::Soa => MapExpr::Soa {
-                form: SoaForm::Aligned,
-                order,
-            },
-            Form::Aosoa => MapExpr::Aosoa { lanes: 8, order },
+            Form::Aos => packed(Order::Row),
+            Form::Soa => arrays(Order::Row),
+            Form::Aosoa => blocks(Order::Row),
+            Form::AosByColumns => packed(Order::Col),
+            Form::SoaByColumns => arrays(Order::Col),
+            Form::AosoaByColumns => blocks(Order::Col),
         }
     }
+}
+
+fn packed(order: Order) -> MapExpr
+    ensures { term_of result ≡ Aos Packed order }
+{
+    MapExpr::Aos {
+        form: AosForm::Packed,
+        order,
+    }
+}
+
+fn arrays(order: Order) -> MapExpr
+    ensures { term_of result ≡ Soa Aligned order }
+{
+    MapExpr::Soa {
+        form: SoaForm::Aligned,
+        order,
+    }
+}
+
+fn blocks(order: Order) -> MapExpr
+    ensures { term_of result ≡ Aosoa 8 order }
+{
+    MapExpr::Aosoa { lanes: 8, order }
 }
