@@ -1,3 +1,5 @@
+pub mod Copied
+pub mod KernelRuns
 pub mod Rounds
 pub mod Sums
 pub mod TableSums

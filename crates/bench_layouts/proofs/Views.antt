@@ -1,5 +1,5 @@
 -- Views of the table: how many rows they have, and why there is none.
-use Rattle.std.proofs.Common.{◌≡◌, ℕ, ◌*◌, ◌^◌, ◌<◌, List, [], ◌∷◌, length, refl, ◌∙◌, inl, arith}
+use Rattle.std.proofs.Common.{◌≡◌, ℕ, ◌*◌, ◌^◌, ◌<◌, [], ◌∷◌, length, refl, ◌∙◌, inl, arith}
 use Rattle.extents.specs.Indices.{indices}
 use Rattle.extents.specs.IndicesLaws.{length-indices}
 use Rattle.record_dim.specs.Trees.{Fields}

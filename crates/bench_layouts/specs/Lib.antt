@@ -1,6 +1,8 @@
+pub mod Copies
 pub mod Faults
 pub mod Formula
 pub mod Forms
+pub mod KernelRuns
 pub mod Modes
 pub mod Rounds
 pub mod Samples

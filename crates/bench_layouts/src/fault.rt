@@ -1,4 +1,6 @@
 use expr_lang::EvalFault;
+use lane_kernels::KernelFault;
+use layout_copy::CopyFault;
 use std::alloc::AllocError;
 use views::{MakeView, StoreFault};
 
@@ -11,6 +13,10 @@ pub enum BenchFault {
     View(MakeView),
     /// A value was not stored.
     Store(StoreFault),
+    /// A table was not copied.
+    Copy(CopyFault),
+    /// A kernel stopped at a row.
+    Kernel(KernelFault),
     NoMemory,
 }
 
@@ -55,5 +61,27 @@ impl From<StoreFault> for BenchFault {
 
     fn from(fault: StoreFault) -> BenchFault {
         BenchFault::Store(fault)
+    }
+}
+
+impl From<CopyFault> for BenchFault {
+    ghost use Rattle.std.specs.Prelude.{◌≡◌};
+    ghost use Rattle.bench_layouts.specs.declared.fault.BenchFault.TheVariants.{Copy};
+
+    ghost from_gives = { λ fault e. e ≡ Copy fault };
+
+    fn from(fault: CopyFault) -> BenchFault {
+        BenchFault::Copy(fault)
+    }
+}
+
+impl From<KernelFault> for BenchFault {
+    ghost use Rattle.std.specs.Prelude.{◌≡◌};
+    ghost use Rattle.bench_layouts.specs.declared.fault.BenchFault.TheVariants.{Kernel};
+
+    ghost from_gives = { λ fault e. e ≡ Kernel fault };
+
+    fn from(fault: KernelFault) -> BenchFault {
+        BenchFault::Kernel(fault)
     }
 }

@@ -2,11 +2,13 @@
 #![tactic(auto)]
 
 mod adding;
+mod copying;
 mod count;
 mod evaluation;
 mod fault;
 mod form;
 mod formula;
+mod kernels;
 mod mode;
 mod record;
 mod sample;
@@ -24,7 +26,9 @@ const FAULT: u8 = 1;
 fn main(rt: HostRuntime) -> io::Result<ExitCode> {
     let words: Vec<String> = env::args(&rt)?.skip(1).collect(rt.alloc())?;
     let Some(mode) = Mode::of(words.as_slice()) else {
-        println!(rt; "usage: bench_layouts eval ROWS | table aos|soa|aosoa ROWS SETS GETS")?;
+        println!(rt;
+            "usage: bench_layouts eval ROWS | table FORM ROWS SETS GETS | copy FORM FORM ROWS AGAIN"
+        )?;
         return Ok(ExitCode::from(USAGE));
     };
     match mode.checksum(rt.alloc()) {

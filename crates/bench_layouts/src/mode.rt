@@ -1,11 +1,13 @@
 ghost use Rattle.std.specs.Prelude.{◌≡◌, IfOk, IfErr, IfSome, Ok, Some, map, option_map, string_bytes};
 ghost use Rattle.bench_layouts.specs.Faults.{IsFaultOf};
-ghost use Rattle.bench_layouts.specs.Modes.{behind_eval, behind_table, checksum_of, NamesMode};
+ghost use Rattle.bench_layouts.specs.Modes.{behind_eval, behind_word, checksum_of, NamesMode};
 
+use crate::copying::Copying;
 use crate::count::count_in;
 use crate::fault::BenchFault;
+use crate::kernels::Running;
 use crate::work::Work;
-use crate::{evaluation, table};
+use crate::{copying, evaluation, kernels, table};
 use std::alloc::Global;
 
 /// What is measured.
@@ -15,6 +17,10 @@ pub enum Mode {
     Eval { rows: u32 },
     /// The entries of a table that is written and read.
     Table(Work),
+    /// The entries of a table that is copied to another form.
+    Copy(Copying),
+    /// What a kernel gives and leaves of a table.
+    Kernel(Running),
 }
 
 impl Mode {
@@ -27,8 +33,16 @@ impl Mode {
             let rows = count_in(text)?;
             return Some(Mode::Eval { rows });
         }
-        let work = Work::of(behind_table(words)?)?;
-        Some(Mode::Table(work))
+        if let Some(behind) = behind_word("table", words) {
+            let work = Work::of(behind)?;
+            return Some(Mode::Table(work));
+        }
+        if let Some(behind) = behind_word("copy", words) {
+            let copying = Copying::of(behind)?;
+            return Some(Mode::Copy(copying));
+        }
+        let running = Running::of(behind_word("kernel", words)?)?;
+        Some(Mode::Kernel(running))
     }
 
     /// A number that is right only where all of the work was done.
@@ -39,6 +53,8 @@ impl Mode {
         match self {
             Mode::Eval { rows } => evaluation::total(alloc, rows),
             Mode::Table(work) => table::sum(alloc, work),
+            Mode::Copy(work) => copying::sum(alloc, work),
+            Mode::Kernel(work) => kernels::sum(alloc, work),
         }
     }
 }
@@ -53,12 +69,12 @@ fn behind_eval(words: &[String]) -> Option<&str>
     }
 }
 
-// What stands behind the word `table`.
-fn behind_table(words: &[String]) -> Option<&[String]>
-    ensures { option_map (λ behind. map string_bytes behind.now) result ≡ behind_table (map string_bytes words.now) }
+// What stands behind a first word.
+fn behind_word<'a>(first: &str, words: &'a [String]) -> Option<&'a [String]>
+    ensures { option_map (λ behind. map string_bytes behind.now) result ≡ behind_word first.now (map string_bytes words.now) }
 {
     match words {
-        [name, behind @ ..] if name.as_str() == "table" => Some(behind),
+        [name, behind @ ..] if name.as_str() == first => Some(behind),
         _ => None,
     }
 }

@@ -13,6 +13,7 @@ ghost use Rattle.bench_layouts.specs.Rounds.{AreSmall, HasEntries, IsMeasured, I
 ghost use Rattle.bench_layouts.specs.Tables.{entry_after, measured_fields, round_sum, row_sum, sum_read, value};
 
 use crate::fault::BenchFault;
+use crate::form::Form;
 use crate::record::measured_schema;
 use crate::work::Work;
 use extents::{ExtentWord, Extents, Shape};
@@ -29,20 +30,21 @@ pub fn sum(alloc: Global, work: Work) -> Result<i128, BenchFault>
     ensures sum { IfOk result (λ sum. Ok sum ≡ checksum_of (Table work)) }
     ensures fault { IfErr result (IsFaultOf (Table work)) }
 {
-    let mut view = new_view(alloc, work)?;
+    let mut view = new_view(alloc, work.form, work.rows)?;
     written_and_read::<Brand>(&mut view, work, Blank::new(1))
 }
 
-// The view of zeros.
-fn new_view(alloc: Global, work: Work) -> Result<View, MakeView>
+/// The view of zeros.
+pub fn new_view(alloc: Global, form: Form, rows: u32) -> Result<View, MakeView>
     ensures schema { IfOk result (λ view. schema_fields view.schema ≡ measured_fields) }
-    ensures expr { IfOk result (λ view. term_of view.expr ≡ form_term work.form) }
-    ensures table { IfOk result (λ view. view.table ≡ zeros work.rows 4) }
-    ensures refused { IfErr result (IsNoView (form_term work.form) (work.rows ∷ []) measured_fields) }
+    ensures extents { IfOk result (λ view. view.extents ≡ rows ∷ []) }
+    ensures expr { IfOk result (λ view. term_of view.expr ≡ form_term form) }
+    ensures table { IfOk result (λ view. view.table ≡ zeros rows 4) }
+    ensures refused { IfErr result (IsNoView (form_term form) (rows ∷ []) measured_fields) }
 {
     let schema = measured_schema(alloc)?;
-    let extents = extents_of(work.rows)?;
-    View::new(alloc, &schema, extents, &work.form.expr())
+    let extents = extents_of(rows)?;
+    View::new(alloc, &schema, extents, &form.expr())
 }
 
 // The extents of a flat array of so many rows. More than 2^24 are too many for every form.
@@ -76,9 +78,9 @@ fn written_and_read<L: Ledger>(
     Ok(read_rounds(view, work.rows, work.gets, &mut steps))
 }
 
-// Writes the whole table so many times. It is what is measured.
+/// Writes the whole table so many times. It is what is measured.
 #[inline(never)]
-fn write_rounds<L: Ledger>(
+pub fn write_rounds<L: Ledger>(
     view: &mut View,
     rows: u32,
     rounds: u32,
@@ -147,9 +149,9 @@ fn value(round: u32, row: u32, leaf: usize) -> i128
     i128::from(sum % 256) - 128
 }
 
-// The sum of all entries, read so many times. It is what is measured.
+/// The sum of all entries, read so many times. It is what is measured.
 #[inline(never)]
-fn read_rounds<L: Ledger>(view: &mut View, rows: u32, rounds: u32, steps: &mut Steps<L>) -> i128
+pub fn read_rounds<L: Ledger>(view: &mut View, rows: u32, rounds: u32, steps: &mut Steps<L>) -> i128
     requires leaves { leaf_count_of view.old ≡ 4 }
     requires rows { rows ≤ length view.old.table }
     requires small { AreSmall view.old }

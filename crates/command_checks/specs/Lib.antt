@@ -1,3 +1,4 @@
+pub mod AlikeLaws
 pub mod Bases
 pub mod BasesLaws
 pub mod Entries

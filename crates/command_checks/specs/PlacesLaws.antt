@@ -15,6 +15,7 @@ here entry_of name first rest same = record {
   is = λ d. rw same refl;
   gone = rw same refl;
   other = λ d e alike. rw (same, ← alike) refl;
+  changed = λ d held. rw same refl;
 }
 
 behind : {E A : Type 0} (entry_of : E → Entry A) (name : List ℕ) (first : E) (rest : List E) (place : ℕ) → same_name (entry_of first).name name ≡ false → IsAt entry_of name rest place
@@ -24,6 +25,7 @@ behind entry_of name first rest place other at = record {
   is = λ d. rw other (at.is d);
   gone = rw other (ap (λ xs. entry_of first ∷ xs) at.gone);
   other = λ d e alike. rw other (ap (λ xs. entry_of first ∷ xs) (at.other d e alike));
+  changed = λ d held. rw other (ap (λ xs. entry_of first ∷ xs) (at.changed d held));
 }
 
 -- a place that was found

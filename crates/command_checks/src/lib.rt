@@ -3,6 +3,7 @@
 
 mod entries;
 mod fault;
+mod kernels;
 mod leaves;
 mod mapping_entry;
 mod mappings;
@@ -11,6 +12,7 @@ mod tables;
 
 pub use entries::{MappingList, RecordEntry, RecordList, ViewEntry, ViewList};
 pub use fault::StepFault;
+pub use kernels::fit_kernel;
 pub use leaves::{bound, leaf_of, leaf_text};
 pub use mapping_entry::MappingEntry;
 pub use mappings::nameless;

@@ -14,6 +14,7 @@ use map_expr::MapExpr;
 use std::alloc::Global;
 
 /// A mapping expression with what its names stand for in their places.
+#[tactic(auto, using(crate::specs::BasesLaws::base_split, crate::specs::BasesLaws::split_built))]
 pub fn nameless(
     alloc: Global,
     mappings: &[MappingEntry],
@@ -28,9 +29,38 @@ pub fn nameless(
             let place = known_mapping(mappings, *name)?;
             Ok(mappings[place].expr.copy(alloc)?)
         }
-        MapExpr::Aos { form: _, order: _ }
-        | MapExpr::Soa { form: _, order: _ }
-        | MapExpr::Aosoa { lanes: _, order: _ } => Ok(expr.copy(alloc)?),
-        _ => unreachable!(),
+        MapExpr::Split { path, first, rest } => {
+            let first = nameless(alloc, mappings, first)?;
+            let rest = nameless(alloc, mappings, rest)?;
+            let path = path.copy(alloc)?;
+            let first = Box::new(alloc, first)?;
+            let rest = Box::new(alloc, rest)?;
+            Ok(MapExpr::Split { path, first, rest })
+        }
+        MapExpr::Byteswap(inner) => {
+            let inner = nameless(alloc, mappings, inner)?;
+            Ok(MapExpr::Byteswap(Box::new(alloc, inner)?))
+        }
+        MapExpr::Bytesplit(inner) => {
+            let inner = nameless(alloc, mappings, inner)?;
+            Ok(MapExpr::Bytesplit(Box::new(alloc, inner)?))
+        }
+        MapExpr::Change { from, to, inner } => {
+            let inner = nameless(alloc, mappings, inner)?;
+            let inner = Box::new(alloc, inner)?;
+            let (from, to) = (*from, *to);
+            Ok(MapExpr::Change { from, to, inner })
+        }
+        MapExpr::Count(inner) => {
+            let inner = nameless(alloc, mappings, inner)?;
+            Ok(MapExpr::Count(Box::new(alloc, inner)?))
+        }
+        MapExpr::Heat { granule, inner } => {
+            let inner = nameless(alloc, mappings, inner)?;
+            let inner = Box::new(alloc, inner)?;
+            let granule = *granule;
+            Ok(MapExpr::Heat { granule, inner })
+        }
+        _ => Ok(expr.copy(alloc)?),
     }
 }

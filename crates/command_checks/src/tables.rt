@@ -4,7 +4,7 @@ ghost use Rattle.extents.specs.Indices.{indices};
 ghost use Rattle.extents.specs.Shapes.{is_rows, IsShape};
 ghost use Rattle.map_expr.specs.Terms.{term_of};
 ghost use Rattle.record_dim.specs.Schemas.{schema_fields};
-ghost use Rattle.worlds.specs.Tables.{room, shaped, resolved, made, live_bits};
+ghost use Rattle.worlds.specs.Tables.{room, shaped, resolved, made, zeros_of, live_bits};
 ghost use Rattle.command_checks.specs.Bases.{is_base, rows_for};
 ghost use Rattle.command_checks.specs.Entries.{view_of, table_of};
 ghost use Rattle.command_checks.specs.Gives.{Gives};
@@ -22,7 +22,7 @@ use worlds::CommandFault;
 const MOST_VIEWS: usize = 64;
 
 /// The most bytes of the blobs of all live views.
-const MOST_BYTES: u64 = 1 << 30;
+const MOST_BYTES: u128 = 1 << 30;
 
 /// That a view more may live.
 pub fn has_room(views: &[ViewEntry]) -> Result<(), StepFault>
@@ -87,6 +87,7 @@ fn is_rows(word: &ExtentWord) -> bool
 }
 
 /// A view of zeros beside the views that live.
+#[tactic(auto, using(crate::specs::BasesLaws::base_built))]
 pub fn made(
     alloc: Global,
     views: &[ViewEntry],
@@ -95,13 +96,14 @@ pub fn made(
     expr: &MapExpr,
 ) -> Result<View, StepFault>
     requires base { is_base (term_of expr.now) ≡ true }
-    requires few { length views.now < 64 }
+    ensures zeros { IfOk result (λ view. table_of view ≡ zeros_of (schema_fields schema.now) extents (term_of expr.now)) }
     ensures made { Gives table_of result (made (map view_of views.now) (schema_fields schema.now) extents (term_of expr.now)) }
     ensures extents { IfOk result (λ view. view.extents ≡ extents) }
 {
     match View::new(alloc, schema, extents, expr) {
         Ok(view) => {
-            if live_bytes(views) + view.blob_bytes() > MOST_BYTES {
+            let bytes = live_bytes(views) + u128::from(view.blob_bytes());
+            if bytes > MOST_BYTES {
                 return Err(StepFault::Command(CommandFault::TooBig));
             }
             Ok(view)
@@ -115,14 +117,14 @@ pub fn made(
 }
 
 // The bytes of the blobs of all live views.
-fn live_bytes(views: &[ViewEntry]) -> u64
-    requires { length views.now < 64 }
+fn live_bytes(views: &[ViewEntry]) -> u128
     ensures sum { 8 * result ≡ live_bits (map view_of views.now) }
-    ensures few { result ≤ 2 ^ 34 }
+    ensures few { result ≤ 2 ^ 92 }
 {
+    let _count = views.len();
     let mut bytes = 0;
     for entry in views {
-        bytes += entry.view.blob_bytes();
+        bytes += u128::from(entry.view.blob_bytes());
     }
     bytes
 }

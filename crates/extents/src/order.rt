@@ -5,7 +5,6 @@ pub enum Order {
     Row,
     /// The first component of an index is the fastest.
     Col,
-    /// The binary digits of the components interleaved, the last component the lowest (the Z order). It is written and
-    /// read in scripts, and its slots are not computed yet.
+    /// The binary digits of the components interleaved, the last component the lowest (the Z order).
     Morton,
 }

@@ -1,14 +1,10 @@
-//! The tests of what no clause says and no script reaches. The crate has nothing else.
+//! The tests of what no clause says and no script reaches, below the mappings of run time. The crate has nothing else.
 #![tactic(auto)]
 
-#[cfg(test)]
-mod any_maps;
 #[cfg(test)]
 mod aos_places;
 #[cfg(test)]
 mod aosoa_places;
-#[cfg(test)]
-mod datasets;
 #[cfg(test)]
 mod expressions;
 #[cfg(test)]
@@ -19,8 +15,6 @@ mod lines;
 mod mapped;
 #[cfg(test)]
 mod mapping_exprs;
-#[cfg(test)]
-mod orders;
 #[cfg(test)]
 mod plain_bytes;
 #[cfg(test)]
@@ -33,5 +27,3 @@ mod rows_and_indices;
 mod sequences;
 #[cfg(test)]
 mod soa_places;
-#[cfg(test)]
-mod stored_values;

@@ -1,1 +1,3 @@
 pub mod SlotLemmas
+pub mod MortonLemmas
+pub mod SpreadLemmas

@@ -1,5 +1,5 @@
 -- What the loops over extents keep.
-use Rattle.std.proofs.Common.{◌≡◌, ℕ, zero, suc, ◌+◌, ◌*◌, ◌^◌, ◌<◌, ◌≤◌, min, List, [], ◌∷◌, length, get_or, take, Option, refl, sym, ap, subst, ◌∙◌, ⊎_elim, arith}
+use Rattle.std.proofs.Common.{◌≡◌, ℕ, zero, suc, ◌+◌, ◌*◌, ◌^◌, ◌<◌, ◌≤◌, min, List, [], ◌∷◌, length, get_or, take, Option, refl, sym, ap, subst, ◌∙◌, ◌⊎◌, ⊎_elim, arith}
 use Rattle.std.specs.Prelude.{reverse, IsSomeAnd, Some, slice_get}
 use Rattle.std.proofs.lemmas.List.Elements.{length_all_zip}
 use Rattle.extents.specs.RowLaws.{IsRowSoFar, row_turn}
@@ -10,10 +10,10 @@ use Rattle.std.proofs.lemmas.Nat.{mul-le}
 use Rattle.extents.specs.Indices.{indices, product, IsInside}
 use Rattle.extents.specs.IndicesLaws.{place, place_below, slice_get-place, length-indices, row_of_inside}
 use Rattle.extents.specs.ShapeLaws.{product-push}
-use Rattle.linearize.specs.Slots.{place_in, slot_count, slot_of, row_at, IsBuilt}
+use Rattle.linearize.specs.Slots.{place_in, slot_of, slot_count, row_at}
 use Rattle.linearize.specs.SlotsLaws.{place_in_is, row_at-slot_of}
 use Rattle.extents.specs.declared.order.Order.{Order}
-use Rattle.extents.specs.declared.order.Order.TheVariants.{Row, Col, Morton}
+use Rattle.extents.specs.declared.order.Order.TheVariants.{Row, Col}
 
 -- an index inside stands where its components lead
 pub place_is : (e i : List ℕ) → IsInside e i → place e i ≡ place_in (indices e) i
@@ -38,10 +38,10 @@ pub same_length : (e i : List ℕ) → IsInside e i → length i ≡ length e
 same_length e i h = length_all_zip (λ (x y : ℕ). x < y) i e h
 
 -- what the slot of an index says of its row
-pub row_of_slot : (o : Order) (e i : List ℕ) (s : ℕ) → IsBuilt o → IsInside e i → s ≡ slot_of o e i → IsSomeAnd (row_at o e s) (λ row. slice_get (indices e) row ≡ Some i)
-row_of_slot o e i s built h same =
+pub row_of_slot : (o : Order) (e i : List ℕ) (s : ℕ) → IsInside e i → s ≡ slot_of o e i → IsSomeAnd (row_at o e s) (λ row. slice_get (indices e) row ≡ Some i)
+row_of_slot o e i s h same =
     let w = row_of_inside e i h in
-    let at : row_at o e s ≡ Some w.0 = ap (row_at o e) same ∙ row_at-slot_of o e i w.0 built w.2 in
+    let at : row_at o e s ≡ Some w.0 = ap (row_at o e) same ∙ row_at-slot_of o e i w.0 w.2 in
     subst (λ (r : Option ℕ). IsSomeAnd r (λ row. slice_get (indices e) row ≡ Some i)) (sym at) w.2
 
 product-reverse : (e : List ℕ) → product (reverse e) ≡ product e
@@ -50,11 +50,12 @@ product-reverse (n ∷ e) =
     let turned : product (reverse (n ∷ e)) ≡ product (reverse e) * n = ap product (reverse_onto e n []) ∙ product-push (reverse e) n in
     omega (arith, turned, ap (λ p. p * n) (product-reverse e))
 
--- in each order that is built there are as many slots as the product of the extents
-pub slot_count_is : (o : Order) (e : List ℕ) → IsBuilt o → slot_count o e ≡ product e
-slot_count_is Row e built = length-indices e
-slot_count_is Col e built = length-indices (reverse e) ∙ product-reverse e
-slot_count_is Morton e built = absurd built
+-- by rows and by columns there are as many slots as the product of the extents
+pub product_count : (o : Order) (e : List ℕ) → (o ≡ Row) ⊎ (o ≡ Col) → slot_count o e ≡ product e
+product_count o e either =
+    ⊎_elim (λ (h : o ≡ Row). ap (λ x. slot_count x e) h ∙ length-indices e)
+    (λ (h : o ≡ Col). ap (λ x. slot_count x e) h ∙ length-indices (reverse e) ∙ product-reverse e)
+    either
 
 -- a product that stands still at a top above 0
 pub stops_at : (p v top : ℕ) → min (min p top * v) top ≡ min (p * v) top

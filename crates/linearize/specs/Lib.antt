@@ -1,4 +1,6 @@
 pub mod Slots
+pub mod MortonLaws
+pub mod Spreads
 pub mod SlotsLaws
 pub use Rattle.extents.specs.Indices
 pub use Rattle.extents.specs.IndicesLaws

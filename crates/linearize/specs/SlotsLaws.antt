@@ -1,4 +1,4 @@
--- The laws of slots, for any order that is built.
+-- The laws of slots, for any order.
 use Rattle.std.proofs.Common.{◌≡◌, ◌≢◌, ℕ, ◌<◌, Bool, cond, eqb, ltb, List, [], ◌∷◌, ◌++◌, length, get_or, Some, None, refl, sym, ap, subst, ◌∙◌, arith}
 use Rattle.std.specs.Prelude.{reverse, nat_eq, slice_get}
 use Rattle.std.specs.List.{position_or_len}
@@ -15,7 +15,8 @@ use Rattle.extents.specs.declared.order.Order.{Order}
 use Rattle.extents.specs.declared.order.Order.TheVariants.{Row, Col, Morton}
 use Rattle.extents.specs.Indices.{indices, IsInside}
 use Rattle.extents.specs.IndicesLaws.{same_row, row_of_inside, inside_of_entry}
-use Rattle.linearize.specs.Slots.{place_in, slot_of, slot_count, index_at, slot_at, row_at, IsBuilt}
+use Rattle.linearize.specs.Slots.{place_in, slot_of, slot_count, index_at, slot_at, row_at}
+use Rattle.linearize.specs.MortonLaws.{interleaved_below, same_from_interleaved}
 
 -- ---- places
 
@@ -52,11 +53,11 @@ IsInside-reverse (n ∷ e) (k ∷ i) h =
 -- ---- slots
 
 -- a slot is below their number
-pub slot_below : (o : Order) (e i : List ℕ) → IsBuilt o → IsInside e i → slot_of o e i < slot_count o e
-slot_below Row e i built inside = slice_get_within (indices e) (place_in (indices e) i) i (slice_get-place_in e i inside)
-slot_below Col e i built inside =
+pub slot_below : (o : Order) (e i : List ℕ) → IsInside e i → slot_of o e i < slot_count o e
+slot_below Row e i inside = slice_get_within (indices e) (place_in (indices e) i) i (slice_get-place_in e i inside)
+slot_below Col e i inside =
     slice_get_within (indices (reverse e)) (place_in (indices (reverse e)) (reverse i)) (reverse i) (slice_get-place_in (reverse e) (reverse i) (IsInside-reverse e i inside))
-slot_below Morton e i built inside = absurd built
+slot_below Morton e i inside = interleaved_below e i inside
 
 -- two entries at one place are one
 same_entry : (e i j : List ℕ) → IsInside e i → IsInside e j → place_in (indices e) i ≡ place_in (indices e) j → i ≡ j
@@ -64,12 +65,12 @@ same_entry e i j hi hj same =
     same_Some i j (sym (slice_get-place_in e i hi) ∙ ap (slice_get (indices e)) same ∙ slice_get-place_in e j hj)
 
 -- different indices have different slots
-pub same_index : (o : Order) (e i j : List ℕ) → IsBuilt o → IsInside e i → IsInside e j → slot_of o e i ≡ slot_of o e j → i ≡ j
-same_index Row e i j built hi hj same = same_entry e i j hi hj same
-same_index Col e i j built hi hj same =
+pub same_index : (o : Order) (e i j : List ℕ) → IsInside e i → IsInside e j → slot_of o e i ≡ slot_of o e j → i ≡ j
+same_index Row e i j hi hj same = same_entry e i j hi hj same
+same_index Col e i j hi hj same =
     let turned = same_entry (reverse e) (reverse i) (reverse j) (IsInside-reverse e i hi) (IsInside-reverse e j hj) same in
     sym (reverse-reverse i) ∙ ap reverse turned ∙ reverse-reverse j
-same_index Morton e i j built hi hj same = absurd built
+same_index Morton e i j hi hj same = same_from_interleaved e i j hi hj same
 
 -- ---- rows
 
@@ -80,24 +81,24 @@ pub index_at_inside : (e : List ℕ) (r : ℕ) → r < length (indices e) → Is
 index_at_inside e r h = inside_of_entry e r (index_at e r) (entry_of_row e r h)
 
 -- the slot of a row is below their number
-pub slot_at_below : (o : Order) (e : List ℕ) (r : ℕ) → IsBuilt o → r < length (indices e) → slot_at o e r < slot_count o e
-slot_at_below o e r built h = slot_below o e (index_at e r) built (index_at_inside e r h)
+pub slot_at_below : (o : Order) (e : List ℕ) (r : ℕ) → r < length (indices e) → slot_at o e r < slot_count o e
+slot_at_below o e r h = slot_below o e (index_at e r) (index_at_inside e r h)
 
 -- different rows have different slots
-pub same_row_of_slot : (o : Order) (e : List ℕ) (r r' : ℕ) → IsBuilt o → r < length (indices e) → r' < length (indices e) → slot_at o e r ≡ slot_at o e r' → r ≡ r'
-same_row_of_slot o e r r' built h h' same =
-    let index : index_at e r ≡ index_at e r' = same_index o e (index_at e r) (index_at e r') built (index_at_inside e r h) (index_at_inside e r' h') same in
+pub same_row_of_slot : (o : Order) (e : List ℕ) (r r' : ℕ) → r < length (indices e) → r' < length (indices e) → slot_at o e r ≡ slot_at o e r' → r ≡ r'
+same_row_of_slot o e r r' h h' same =
+    let index : index_at e r ≡ index_at e r' = same_index o e (index_at e r) (index_at e r') (index_at_inside e r h) (index_at_inside e r' h') same in
     same_row e (index_at e r') r r' (entry_of_row e r h ∙ ap Some index) (entry_of_row e r' h')
 
 -- the row at the slot of a row is that row
-pub row_at-slot_at : (o : Order) (e : List ℕ) (r : ℕ) → IsBuilt o → r < length (indices e) → row_at o e (slot_at o e r) ≡ Some r
+pub row_at-slot_at : (o : Order) (e : List ℕ) (r : ℕ) → r < length (indices e) → row_at o e (slot_at o e r) ≡ Some r
 unfolding row_at
-row_at-slot_at o e r built h =
+row_at-slot_at o e r h =
     let test : List ℕ → Bool = λ i. eqb (slot_of o e i) (slot_at o e r) in
     let first : position_or_len (λ i. eqb (slot_of o e i) (slot_at o e r)) (indices e) ≡ r =
     position_or_len_is (λ i. eqb (slot_of o e i) (slot_at o e r)) (indices e) r [] (omega arith)
     (λ k below. false_from_ne_true (eqb (slot_at o e k) (slot_at o e r)) (λ t.
-    let twice = same_row_of_slot o e k r built (omega arith) h ((Decides-eqb (slot_at o e k) (slot_at o e r)).0 t) in
+    let twice = same_row_of_slot o e k r (omega arith) h ((Decides-eqb (slot_at o e k) (slot_at o e r)).0 t) in
     absurd (omega arith)))
     (λ _. (Decides-eqb (slot_at o e r) (slot_at o e r)).1 refl) in
     ap (λ k. cond (ltb k (length (indices e))) (Some k) None) first ∙ sym (cond_below r (length (indices e)) (Some r) None h)
@@ -115,16 +116,16 @@ slot_at-row_at o e s r at =
     subst (λ k. (k < length (indices e)) × (slot_at o e k ≡ s)) parts.1 (within, same)
 
 -- a slot with no row is the slot of none
-pub none_at_slot : (o : Order) (e : List ℕ) (s r : ℕ) → IsBuilt o → row_at o e s ≡ None → r < length (indices e) → slot_at o e r ≢ s
-none_at_slot o e s r built none h same =
-    let some : row_at o e s ≡ Some r = ap (row_at o e) (sym same) ∙ row_at-slot_at o e r built h in
+pub none_at_slot : (o : Order) (e : List ℕ) (s r : ℕ) → row_at o e s ≡ None → r < length (indices e) → slot_at o e r ≢ s
+none_at_slot o e s r none h same =
+    let some : row_at o e s ≡ Some r = ap (row_at o e) (sym same) ∙ row_at-slot_at o e r h in
     cc
 
 -- the row at the slot of an index is that of the index
-pub row_at-slot_of : (o : Order) (e i : List ℕ) (r : ℕ) → IsBuilt o → slice_get (indices e) r ≡ Some i → row_at o e (slot_of o e i) ≡ Some r
-row_at-slot_of o e i r built at =
+pub row_at-slot_of : (o : Order) (e i : List ℕ) (r : ℕ) → slice_get (indices e) r ≡ Some i → row_at o e (slot_of o e i) ≡ Some r
+row_at-slot_of o e i r at =
     let same : index_at e r ≡ i = get_or_from_slice_get (indices e) r i [] at in
-    ap (λ x. row_at o e (slot_of o e x)) (sym same) ∙ row_at-slot_at o e r built (slice_get_within (indices e) r i at)
+    ap (λ x. row_at o e (slot_of o e x)) (sym same) ∙ row_at-slot_at o e r (slice_get_within (indices e) r i at)
 
 -- by rows a slot is its row
 pub slot_at_by_rows : (e : List ℕ) (r : ℕ) → r < length (indices e) → slot_at Row e r ≡ r

@@ -1,10 +1,13 @@
 //! Orders: where the index of an array stands among the slots of memory. Nothing here takes memory.
 #![tactic(auto)]
 
-ghost use Rattle.std.specs.Prelude.{◌≡◌, ◌-◌, ◌^◌, ◌<◌, ◌≤◌, ◌↔◌, ℕ, List, length, min, reverse, All, IfSome, IsNone, IsSomeAnd, Some, slice_get};
+ghost use Rattle.std.specs.Prelude.{◌≡◌, ◌-◌, ◌*◌, ◌^◌, ◌<◌, ◌≤◌, ◌↔◌, ℕ, List, length, fold, max, min, reverse, All, IfSome, IsNone, IsSomeAnd, Some, slice_get};
 ghost use Rattle.extents.specs.Indices.{indices, product, IsInside};
-ghost use Rattle.linearize.specs.Slots.{place_in, row_at, slot_count, slot_of, IsBuilt};
+ghost use Rattle.linearize.specs.Slots.{digits_for, interleaved, place_in, row_at, slot_count, slot_of};
 
+mod digits;
+
+use crate::digits::spread;
 pub use extents::Order;
 
 /// The greatest number of slots.
@@ -12,22 +15,17 @@ const MAX_SLOTS: u64 = 1 << 24;
 
 /// The number of slots over these extents, None where there are more than 2^24.
 pub fn slots<const R: usize>(order: Order, extents: &[u64; R]) -> Option<u64>
-    requires built { IsBuilt order }
     requires ranked { (0 < R) × (R ≤ 4) }
     requires narrow { All (λ n. n < 2 ^ 32) extents.now }
     ensures count { IfSome result (λ count. count ≡ slot_count order extents.now) }
     ensures too_many { IsNone result ↔ (2 ^ 24 < slot_count order extents.now) }
 {
-    let count = match order {
-        Order::Row | Order::Col => saturating_product(extents),
-        Order::Morton => unreachable!(),
-    };
+    let count = saturating_count(order, extents);
     if count > MAX_SLOTS { None } else { Some(count) }
 }
 
 /// The slot of an index inside extents with at most 2^24 slots.
 pub fn slot<const R: usize>(order: Order, extents: &[u64; R], index: &[u64; R]) -> u64
-    requires built { IsBuilt order }
     requires ranked { (0 < R) × (R ≤ 4) }
     requires narrow { All (λ n. n < 2 ^ 32) extents.now }
     requires few { slot_count order extents.now ≤ 2 ^ 24 }
@@ -40,8 +38,18 @@ pub fn slot<const R: usize>(order: Order, extents: &[u64; R], index: &[u64; R]) 
     place(order, extents, index)
 }
 
+fn saturating_count(order: Order, extents: &[u64]) -> u64
+    requires { length extents.now ≤ 4 }
+    ensures { result ≡ min (slot_count order extents.now) (2 ^ 64 - 1) }
+{
+    match order {
+        Order::Row | Order::Col => saturating_product(extents),
+        Order::Morton => saturating_power(extents.len() as u32 * digits_for(extents)),
+    }
+}
+
 fn place(order: Order, extents: &[u64], index: &[u64]) -> u64
-    requires built { IsBuilt order }
+    requires ranked { (0 < length extents.now) × (length extents.now ≤ 4) }
     requires few { slot_count order extents.now ≤ 2 ^ 24 }
     requires inside { IsInside extents.now index.now }
     ensures { result ≡ slot_of order extents.now index.now }
@@ -49,7 +57,7 @@ fn place(order: Order, extents: &[u64], index: &[u64]) -> u64
     match order {
         Order::Row => place_by_rows(extents, index),
         Order::Col => place_by_columns(extents, index),
-        Order::Morton => unreachable!(),
+        Order::Morton => place_by_digits(extents, index),
     }
 }
 
@@ -61,6 +69,39 @@ fn saturating_product(extents: &[u64]) -> u64
         count = count.saturating_mul(*extent);
     }
     count
+}
+
+fn saturating_power(exponent: u32) -> u64
+    ensures { result ≡ min (2 ^ exponent) (2 ^ 64 - 1) }
+{
+    if exponent < 64 {
+        1 << exponent
+    } else {
+        u64::MAX
+    }
+}
+
+/// The number of binary digits that the components of an index inside have room in.
+fn digits_for(extents: &[u64]) -> u32
+    ensures value { result ≡ digits_for extents.now }
+    ensures few { result ≤ 64 }
+{
+    let greatest = greatest(extents);
+    if greatest <= 1 {
+        0
+    } else {
+        (greatest - 1).ilog2() + 1
+    }
+}
+
+fn greatest(extents: &[u64]) -> u64
+    ensures { result ≡ fold max 0 extents.now }
+{
+    let mut greatest = 0u64;
+    for extent in extents {
+        greatest = greatest.max(*extent);
+    }
+    greatest
 }
 
 /// The place of an index, the last component the fastest.
@@ -85,6 +126,20 @@ fn place_by_columns(extents: &[u64], index: &[u64]) -> u64
     let mut place = 0;
     for d in (0..extents.len()).rev() {
         place = place * extents[d] + index[d];
+    }
+    place
+}
+
+/// The place of an index in Morton order: the digits of its components, each in its turn.
+fn place_by_digits(extents: &[u64], index: &[u64]) -> u64
+    requires ranked { (0 < length extents.now) × (length extents.now ≤ 4) }
+    requires few { 2 ^ (length extents.now * digits_for extents.now) ≤ 2 ^ 24 }
+    requires inside { IsInside extents.now index.now }
+    ensures { result ≡ interleaved index.now }
+{
+    let mut place = 0;
+    for (d, component) in index.iter().enumerate() {
+        place |= spread(*component, index.len()) << (index.len() - 1 - d);
     }
     place
 }

@@ -31,6 +31,12 @@ handed_on {T} {S} answer why h is =
     let e : TooBig ≡ why = subst (λ (r : Result T MakeMap). IsErrAnd r (λ (e : MakeMap). e ≡ why)) is h in
     ap (λ (e : MakeMap). let r : Result S MakeMap = Err e in r) (sym e)
 
+-- the same for any fault
+pub handed : {T S : Type 0} (answer : Result T MakeMap) (why fault : MakeMap) → IsErrAnd answer (λ e. e ≡ why) → answer ≡ Err fault → IsErrOf {T = S} (Err why) fault
+handed {T} {S} answer why fault h is =
+    let e : fault ≡ why = subst (λ (r : Result T MakeMap). IsErrAnd r (λ (e : MakeMap). e ≡ why)) is h in
+    ap (λ (e : MakeMap). let r : Result S MakeMap = Err e in r) (sym e)
+
 -- an accepted expression is refused for its size or for want of memory
 module _ (term : Term) (extents : List ℕ) (fields : Fields) (cells : List Cell) (is_accepted : accepted term fields cells ≡ Ok tt) where
   refusal : (why : MakeMap) → (why ≡ TooBig → IsTooBigFor term extents fields cells) → (why ≡ TooBig) ⊎ (why ≡ NoMemory) → IsRefusal term extents fields cells why

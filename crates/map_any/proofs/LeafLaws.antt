@@ -1,5 +1,5 @@
 -- What accesses to leaves go by: rules that are copied, and the short form of a rule by rows.
-use Rattle.std.proofs.Common.{◌≡◌, ℕ, ◌+◌, ◌^◌, ◌<◌, ◌≤◌, List, ◌∷◌, [], All, Bool, true, map, length, get_or, slice_index, sum_by, ℤ, ◌≤ℤ◌, refl, sym, ap, ◌∙◌, subst, arith}
+use Rattle.std.proofs.Common.{◌≡◌, ℕ, ◌+◌, ◌%◌, ◌^◌, ◌<◌, ◌≤◌, List, ◌∷◌, [], All, Bool, true, map, length, get_or, slice_index, sum_by, ℤ, ◌≤ℤ◌, refl, sym, ap, ◌∙◌, subst, arith}
 use Rattle.std.proofs.lemmas.List.{length-map}
 use Rattle.extents.specs.Indices.{indices}
 use Rattle.extents.specs.declared.order.Order.{Order}
@@ -37,6 +37,8 @@ rule_same layout extents cell width old new same h = record {
   blobs = subst (λ (ps : List PieceRule). All (λ (p : PieceRule). p.blob < length layout) ps) (sym same.pieces) h.blobs;
   bits = ap (λ (ps : List PieceRule). sum_by (λ (p : PieceRule). p.bits) ps) same.pieces ∙ h.bits;
   bounds = subst (λ (ps : List PieceRule). All (λ (p : PieceRule). p.base + p.bits < 2 ^ 64) ps) (sym same.pieces) h.bounds;
+  some = subst (λ (ps : List PieceRule). All (λ (p : PieceRule). 0 < p.bits) ps) (sym same.pieces) h.some;
+  whole = λ e. subst (λ (ps : List PieceRule). All (λ (p : PieceRule). p.bits % 8 ≡ 0) ps) (sym same.pieces) (h.whole e);
   places = λ row inside.
       let Located : List PieceRule → Order → Type 0 = λ ps o. IsLocated layout row cell width (pieces_in ps (slot_at o extents row)) in
       subst (λ (o : Order). Located new.pieces.items o) (sym same.order)

@@ -7,4 +7,7 @@ pub mod SplitRules
 pub mod ShortLaws
 pub mod LeafLaws
 pub mod PlanLaws
-pub mod SidesMore
+pub mod OrderLaws
+pub mod SwapRuleLaws
+pub mod JoinRuleLaws
+pub mod BytePlanLaws

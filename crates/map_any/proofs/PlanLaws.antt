@@ -9,7 +9,7 @@ use Rattle.extents.specs.declared.order.Order.{Order}
 use Rattle.linearize.specs.Slots.{row_at, slot_count}
 use Rattle.places.specs.Layout.{Owner}
 use Rattle.places.specs.Rules.{renamed, in_rows, recelled, numbers_of, split}
-use Rattle.places.specs.Holds.{widths_of, full_holds, IsTooBig}
+use Rattle.places.specs.Holds.{widths_of, IsTooBig}
 use Rattle.places.specs.declared.piece.Cell.{Cell}
 use Rattle.places.specs.declared.piece.Hold.{Hold}
 use Rattle.map_any.specs.declared.plan.Plan.{Plan}
@@ -17,9 +17,11 @@ use Rattle.map_any.specs.declared.rule.Rule.{Rule}
 use Rattle.record_dim.specs.declared.path.PathStep.{PathStep}
 use Rattle.record_dim.specs.Trees.{Fields}
 use Rattle.map_expr.specs.Terms.{Term, Split}
-use Rattle.map_any.specs.Sides.{side_of, cells_under, cells_beside, merged}
+use Rattle.map_any.specs.Sides.{side_of, cells_under, cells_beside}
 use Rattle.map_any.specs.TermLaws.{length-holds, cells_first, cells_rest}
-use Rattle.map_any.specs.SidesLaws.{map-merged}
+use Rattle.map_split.specs.Sides.{merged}
+use Rattle.map_split.specs.SidesLaws.{map-merged}
+use Rattle.map_split.specs.SizesLaws.{lengths-split, bits-split}
 use Rattle.map_any.specs.Splits.{AreSplitRules, LieWithin}
 use Rattle.map_any.specs.Mappings.{ordered, layout_of, holds_of, most_slots, IsTooBigFor}
 use Rattle.map_any.specs.Ruled.{HasLengths, IsRuled, IsRuleOf}
@@ -29,40 +31,20 @@ use Rattle.map_any.proofs.SplitRules.{split_ruled}
 
 -- a plan of a base mapping, by rows
 pub base_planned : (layout : ℕ → List ℕ → List (List Owner)) (order : Order) (extents : List ℕ) (cells : List Cell) (slots : ℕ) (made : List (List Owner))
-    (holds : List Hold) (plan : Plan) → slots ≡ slot_count order extents → made ≡ layout slots (widths_of cells) → holds ≡ full_holds cells
+    (holds stored : List Hold) (plan : Plan) → slots ≡ slot_count order extents → made ≡ layout slots (widths_of cells) → holds ≡ stored
     → (IsTooBig slots (layout slots (widths_of cells)) → ⊥) → plan.holds ≡ holds → HasLengths (in_rows (row_at order extents) made) plan.lengths
     → IsRuled (in_rows (row_at order extents) made) extents (map (λ (h : Hold). h.width) holds) plan.rules
-    → IsPlanFor (slot_count order extents) (ordered order extents (λ n. layout n (widths_of cells))) extents (full_holds cells) plan
-base_planned layout order extents cells slots made holds plan counted made_is holds_are fits held sized ruled =
+    → IsPlanFor (slot_count order extents) (ordered order extents (λ n. layout n (widths_of cells))) extents stored plan
+base_planned layout order extents cells slots made holds stored plan counted made_is holds_are fits held sized ruled =
     let same : in_rows (row_at order extents) made ≡ ordered order extents (λ n. layout n (widths_of cells)) =
     ap (in_rows (row_at order extents)) made_is ∙ by_rows layout order extents cells slots counted in
     record {
       held = held ∙ holds_are;
       sized = subst (λ (l : List (List Owner)). HasLengths l plan.lengths) same sized;
-      ruled = subst (λ (l : List (List Owner)). IsRuled l extents (map (λ (h : Hold). h.width) (full_holds cells)) plan.rules) same
+      ruled = subst (λ (l : List (List Owner)). IsRuled l extents (map (λ (h : Hold). h.width) stored) plan.rules) same
           (subst (λ (hs : List Hold). IsRuled (in_rows (row_at order extents) made) extents (map (λ (h : Hold). h.width) hs) plan.rules) holds_are ruled);
       fits = within layout order extents cells slots counted fits;
     }
-
--- blobs under other cell numbers keep their lengths
-lengths-recelled : (numbers : List ℕ) (layout : List (List Owner)) → map length (recelled numbers layout) ≡ map length layout
-lengths-recelled numbers [] = refl
-lengths-recelled numbers (blob ∷ blobs) =
-    ap (λ (n : ℕ). n ∷ map length (recelled numbers blobs)) (length-map blob _)
-    ∙ ap (λ (ns : List ℕ). length blob ∷ ns) (lengths-recelled numbers blobs)
-
-lengths-split : (side : List Bool) (first rest : List (List Owner)) → map length (split side first rest) ≡ map length first ++ map length rest
-lengths-split side first rest =
-    map-append (length {A = Owner}) (recelled (numbers_of side) first) (recelled (numbers_of (map not side)) rest)
-    ∙ ap (λ (ns : List ℕ). ns ++ map length (recelled (numbers_of (map not side)) rest)) (lengths-recelled (numbers_of side) first)
-    ∙ ap (λ (ns : List ℕ). map length first ++ ns) (lengths-recelled (numbers_of (map not side)) rest)
-
-pub bits-split : (side : List Bool) (first rest : List (List Owner)) → sum_by length (split side first rest) ≡ sum_by length first + sum_by length rest
-bits-split side first rest =
-    sym (sum-map (length {A = Owner}) (split side first rest))
-    ∙ ap (λ (ns : List ℕ). sum ns) (lengths-split side first rest ∙ sym (map-append (length {A = Owner}) first rest))
-    ∙ sum-map (length {A = Owner}) (first ++ rest)
-    ∙ sum_by-append (length {A = Owner}) first rest
 
 -- the bits and the bytes of all blobs
 eight : (ns : List ℕ) → sum (map (λ (n : ℕ). 8 * n) ns) ≡ 8 * sum ns

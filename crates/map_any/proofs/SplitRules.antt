@@ -1,5 +1,5 @@
 -- The rules of a split are those of its sides.
-use Rattle.std.proofs.Common.{◌≡◌, ℕ, ◌+◌, ◌^◌, ◌<◌, ◌≤◌, ⊎_elim, Bool, true, false, List, [], ◌∷◌, ◌++◌, length, get_or, map, slice_index, refl, sym, ap, ◌∙◌, subst, arith, All, length-append}
+use Rattle.std.proofs.Common.{◌≡◌, ℕ, ◌+◌, ◌%◌, ◌^◌, ◌<◌, ◌≤◌, ⊎_elim, Bool, true, false, List, [], ◌∷◌, ◌++◌, length, get_or, map, slice_index, refl, sym, ap, ◌∙◌, subst, arith, All, length-append}
 use Rattle.std.specs.Prelude.{not}
 use Rattle.std.specs.List.{count_by, sum, sum_by}
 use Rattle.std.proofs.lemmas.Bool.{cases_Bool}
@@ -18,11 +18,12 @@ use Rattle.places.specs.PlacesLaws.{relabel_located, left_located, right_located
 use Rattle.piece_rules.specs.PieceRules.{piece_in, pieces_in}
 use Rattle.piece_rules.specs.declared.rule.PieceRule.{PieceRule}
 use Rattle.map_any.specs.Ruled.{EachWith, IsRuleOf, IsRuled, pieces_of}
-use Rattle.map_any.specs.Splits.{shifted_rule, IsShifted, IsSplitRule, rank_first, rank_rest, AreSplitRules}
-use Rattle.map_any.specs.Sides.{merged}
+use Rattle.map_any.specs.Splits.{IsShifted, IsSplitRule, AreSplitRules}
+use Rattle.map_split.specs.Shifts.{shifted_rule}
+use Rattle.map_split.specs.Sides.{merged, rank_first, rank_rest}
 use Rattle.map_any.specs.declared.rule.Rule.{Rule}
 use Rattle.map_any.proofs.RuleLaws.{each_push}
-use Rattle.map_any.specs.SidesLaws.{number_first, number_rest, rank_first_in, rank_rest_in, merged_first, merged_rest, length-merged}
+use Rattle.map_split.specs.SidesLaws.{number_first, number_rest, rank_first_in, rank_rest_in, merged_first, merged_rest, length-merged}
 
 -- the pieces of a shifted rule
 pieces_shifted : (by : ℕ) (rule later : Rule) (extents : List ℕ) (row : ℕ) → IsShifted by rule later
@@ -56,6 +57,12 @@ placed_rule before layout behind extents numbers i c w by rule later h number mo
   bounds =
       subst (λ (ps : List PieceRule). All (λ (p : PieceRule). p.base + p.bits < 2 ^ 64) ps) (sym moved.1)
       (All-map (λ (p : PieceRule). p.base + p.bits < 2 ^ 64) (shifted_rule by) rule.pieces.items h.bounds);
+  some =
+      subst (λ (ps : List PieceRule). All (λ (p : PieceRule). 0 < p.bits) ps) (sym moved.1)
+      (All-map (λ (p : PieceRule). 0 < p.bits) (shifted_rule by) rule.pieces.items h.some);
+  whole = λ e.
+      subst (λ (ps : List PieceRule). All (λ (p : PieceRule). p.bits % 8 ≡ 0) ps) (sym moved.1)
+      (All-map (λ (p : PieceRule). p.bits % 8 ≡ 0) (shifted_rule by) rule.pieces.items (h.whole e));
   places = λ row inside.
       let name : ℕ → ℕ → ℕ → Owner = λ slot cell bit. Bit slot (get_or numbers cell 0) bit in
       let here = relabel_located name layout row i row c w (pieces_of rule extents row) (λ k l. ap (λ (x : ℕ). Bit row x k) number) (h.places row inside) in

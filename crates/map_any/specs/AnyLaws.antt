@@ -1,5 +1,5 @@
 -- The laws of a mapping that keeps how each leaf of its expression is stored.
-use Rattle.std.proofs.Common.{◌≡◌, ℕ, List, map, length, None, sym, ap, ◌∙◌, subst}
+use Rattle.std.proofs.Common.{◌≡◌, ℕ, List, map, length, false, None, sym, ap, ◌∙◌, subst}
 use Rattle.std.proofs.lemmas.List.{length-map}
 use Rattle.extents.specs.Indices.{indices}
 use Rattle.record_dim.specs.declared.leaf_type.LeafType.{LeafType}
@@ -11,14 +11,15 @@ use Rattle.places.specs.declared.piece.Hold.{Hold}
 use Rattle.map_expr.specs.Terms.{Term}
 use Rattle.map_expr.specs.Checks.{bad_number}
 use Rattle.map_any.specs.LeafCells.{leaf_cells_kinds}
-use Rattle.map_any.specs.Mappings.{leaf_cells, layout_by, holds_by, IsBuiltTerm}
+use Rattle.map_any.specs.Mappings.{leaf_cells, layout_by, holds_by, not_full, IsBuiltTerm}
 use Rattle.map_any.specs.TermLaws.{term_laws, good_numbers, length-holds}
 
 pub any_laws : (term : Term) (extents : List ℕ) (fields : Fields) (holds : List Hold) → IsBuiltTerm term → bad_number term ≡ None
-    → holds ≡ holds_by term fields → IsLaidOut (layout_by term extents fields) (length (indices extents)) (map (λ (h : Hold). h.width) holds)
-any_laws term extents fields holds built numbers held =
+    → not_full term fields (leaf_cells (kinds_of fields)) ≡ false → holds ≡ holds_by term fields
+    → IsLaidOut (layout_by term extents fields) (length (indices extents)) (map (λ (h : Hold). h.width) holds)
+any_laws term extents fields holds built numbers full held =
     subst (λ (hs : List Hold). IsLaidOut (layout_by term extents fields) (length (indices extents)) (map (λ (h : Hold). h.width) hs)) (sym held)
-    (term_laws term extents fields (leaf_cells (kinds_of fields)) built (good_numbers term numbers))
+    (term_laws term extents fields (leaf_cells (kinds_of fields)) built (good_numbers term numbers) full)
 
 -- there are as many cells as leaves
 pub length-leaf_cells : (kinds : List LeafType) → length (leaf_cells kinds) ≡ length kinds

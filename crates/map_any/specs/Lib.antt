@@ -1,5 +1,6 @@
 pub mod Sides
 pub mod Mappings
+pub mod InnerCells
 pub mod Faults
 pub mod Orders
 pub mod RowsLaws
@@ -8,9 +9,9 @@ pub mod TermLaws
 pub mod Ruled
 pub mod AnyLaws
 pub mod Splits
-pub mod SidesLaws
-pub mod SplitLaws
 pub mod Shorts
 pub mod LeafRules
 pub mod Maps
 pub mod Plans
+pub mod LeafOrders
+pub mod ByteRules

@@ -1,23 +1,25 @@
 -- What an expression means over the leaves of a schema and the extents of an array: the layout by rows, and how each leaf is stored.
-use Rattle.std.specs.Prelude.{ℕ, ◌≡◌, ⊤, max, Bool, true, false, not, ◌||◌, ◌==◌, List, [], map, Option, None, Result, Ok, Err}
-use Rattle.std.specs.List.{enumerate_from, count_by}
+use Rattle.std.specs.Prelude.{ℕ, ◌≡◌, ⊤, max, Bool, true, false, ◌||◌, List, [], map, Option, None, Result, Ok, Err}
+use Rattle.std.specs.List.{enumerate_from}
 use Rattle.record_dim.specs.LeafTypes.{width_of}
 use Rattle.record_dim.specs.declared.leaf_type.LeafType.{LeafType}
 use Rattle.record_dim.specs.Trees.{Fields}
 use Rattle.record_dim.specs.Leaves.{kinds_of}
-use Rattle.linearize.specs.Slots.{row_at, slot_count, IsBuilt}
+use Rattle.linearize.specs.Slots.{row_at, slot_count}
 use Rattle.extents.specs.declared.order.Order.{Order}
-use Rattle.places.specs.Layout.{Owner, aosoa}
-use Rattle.places.specs.Rules.{in_rows, split}
-use Rattle.places.specs.Holds.{widths_of, full_holds, IsTooBig}
+use Rattle.places.specs.Layout.{Owner, aosoa, bit_aos, bit_soa}
+use Rattle.places.specs.Rules.{in_rows, split, byteswap, bytesplit}
+use Rattle.places.specs.Holds.{widths_of, full_holds, narrow_holds, IsTooBig}
 use Rattle.places.specs.declared.piece.Cell.{Cell}
 use Rattle.places.specs.declared.piece.Hold.{Hold}
 use Rattle.places.specs.Forms.{aos_layout, soa_layout}
-use Rattle.map_expr.specs.Terms.{Term, Aos, Soa, Aosoa, Split, Count}
-use Rattle.map_expr.specs.Checks.{checked, bad_lanes}
+use Rattle.map_expr.specs.Terms.{Term, Aos, Soa, Aosoa, BitAos, BitSoa, Split, Byteswap, Bytesplit, Change, Count, Heat, Named}
+use Rattle.map_expr.specs.Checks.{checked, bad_lanes, bad_width, bad_granule}
 use Rattle.map_expr.specs.declared.check.BadMapping.{BadMapping}
-use Rattle.map_expr.specs.declared.check.BadMapping.TheVariants.{Side}
-use Rattle.map_any.specs.Sides.{side_of, cells_under, cells_beside, merged}
+use Rattle.map_expr.specs.declared.check.BadMapping.TheVariants.{Side, NotFull}
+use Rattle.map_bytes.specs.Cells.{bytes_of, changed, differ}
+use Rattle.map_split.specs.Sides.{merged, is_one_sided}
+use Rattle.map_any.specs.Sides.{side_of, cells_under, cells_beside}
 use Rattle.map_any.specs.declared.fault.MakeMap.{MakeMap}
 use Rattle.map_any.specs.declared.fault.MakeMap.TheVariants.{Bad, TooBig, NoMemory}
 
@@ -25,20 +27,32 @@ use Rattle.map_any.specs.declared.fault.MakeMap.TheVariants.{Bad, TooBig, NoMemo
 abbrev pub leaf_cells : List LeafType → List Cell
 leaf_cells kinds = map (λ e. record { leaf = e.0; kind = e.1 }) (enumerate_from 0 kinds)
 
--- the nodes and orders that are built
+-- the nodes that are built
 abbrev pub IsBuiltTerm : Term → Type 0
-IsBuiltTerm (Aos form order) = IsBuilt order
-IsBuiltTerm (Soa form order) = IsBuilt order
-IsBuiltTerm (Aosoa lanes order) = IsBuilt order
+IsBuiltTerm (Aos form order) = ⊤
+IsBuiltTerm (Soa form order) = ⊤
+IsBuiltTerm (Aosoa lanes order) = ⊤
+IsBuiltTerm (BitAos width order) = ⊤
+IsBuiltTerm (BitSoa width order) = ⊤
 IsBuiltTerm (Split path first rest) = IsBuiltTerm first × IsBuiltTerm rest
+IsBuiltTerm (Byteswap inner) = IsBuiltTerm inner
+IsBuiltTerm (Bytesplit inner) = IsBuiltTerm inner
+IsBuiltTerm (Change from to inner) = IsBuiltTerm inner
 IsBuiltTerm (Count inner) = IsBuiltTerm inner
+IsBuiltTerm (Heat granule inner) = IsBuiltTerm inner
 IsBuiltTerm _ = ⊥
 
 -- every number in it is in its range
 abbrev pub HasNumbers : Term → Type 0
 HasNumbers (Aosoa lanes order) = bad_lanes lanes ≡ None
+HasNumbers (BitAos width order) = bad_width width ≡ None
+HasNumbers (BitSoa width order) = bad_width width ≡ None
 HasNumbers (Split path first rest) = HasNumbers first × HasNumbers rest
+HasNumbers (Byteswap inner) = HasNumbers inner
+HasNumbers (Bytesplit inner) = HasNumbers inner
+HasNumbers (Change from to inner) = HasNumbers inner
 HasNumbers (Count inner) = HasNumbers inner
+HasNumbers (Heat granule inner) = (bad_granule granule ≡ None) × HasNumbers inner
 HasNumbers _ = ⊤
 
 -- a layout over the slots of an order, by rows
@@ -50,16 +64,26 @@ abbrev pub layout_of : Term → List ℕ → Fields → List Cell → List (List
 layout_of (Aos form order) extents fields cells = ordered order extents (λ slots. aos_layout form slots (widths_of cells))
 layout_of (Soa form order) extents fields cells = ordered order extents (λ slots. soa_layout form slots (widths_of cells))
 layout_of (Aosoa lanes order) extents fields cells = ordered order extents (λ slots. aosoa lanes slots (widths_of cells))
+layout_of (BitAos width order) extents fields cells = ordered order extents (λ slots. bit_aos width slots (widths_of cells))
+layout_of (BitSoa width order) extents fields cells = ordered order extents (λ slots. bit_soa width slots (widths_of cells))
 layout_of (Split path first rest) extents fields cells =
     split (side_of fields path cells) (layout_of first extents fields (cells_under fields path cells)) (layout_of rest extents fields (cells_beside fields path cells))
+layout_of (Byteswap inner) extents fields cells = byteswap (widths_of cells) (layout_of inner extents fields cells)
+layout_of (Bytesplit inner) extents fields cells = bytesplit (widths_of cells) (layout_of inner extents fields (bytes_of cells))
+layout_of (Change from to inner) extents fields cells = layout_of inner extents fields (changed from to cells)
 layout_of (Count inner) extents fields cells = layout_of inner extents fields cells
-layout_of _ extents fields cells = []
+layout_of (Heat granule inner) extents fields cells = layout_of inner extents fields cells
+layout_of (Named name) extents fields cells = []
 
 -- how each cell is stored
 abbrev pub holds_of : Term → Fields → List Cell → List Hold
+holds_of (BitAos width order) fields cells = narrow_holds width cells
+holds_of (BitSoa width order) fields cells = narrow_holds width cells
 holds_of (Split path first rest) fields cells =
     merged (side_of fields path cells) (holds_of first fields (cells_under fields path cells)) (holds_of rest fields (cells_beside fields path cells))
+holds_of (Change from to inner) fields cells = holds_of inner fields (changed from to cells)
 holds_of (Count inner) fields cells = holds_of inner fields cells
+holds_of (Heat granule inner) fields cells = holds_of inner fields cells
 holds_of _ fields cells = full_holds cells
 
 -- the greatest number of slots of a base mapping in it
@@ -67,34 +91,51 @@ abbrev pub most_slots : Term → List ℕ → ℕ
 most_slots (Aos form order) extents = slot_count order extents
 most_slots (Soa form order) extents = slot_count order extents
 most_slots (Aosoa lanes order) extents = slot_count order extents
+most_slots (BitAos width order) extents = slot_count order extents
+most_slots (BitSoa width order) extents = slot_count order extents
 most_slots (Split path first rest) extents = max (most_slots first extents) (most_slots rest extents)
+most_slots (Byteswap inner) extents = most_slots inner extents
+most_slots (Bytesplit inner) extents = most_slots inner extents
+most_slots (Change from to inner) extents = most_slots inner extents
 most_slots (Count inner) extents = most_slots inner extents
-most_slots _ extents = 0
+most_slots (Heat granule inner) extents = most_slots inner extents
+most_slots (Named name) extents = 0
 
 -- a base mapping has more than 2^24 slots, or all blobs together have more than 2^28 bytes
 abbrev pub IsTooBigFor : Term → List ℕ → Fields → List Cell → Type 0
 IsTooBigFor term extents fields cells = IsTooBig (most_slots term extents) (layout_of term extents fields cells)
-
--- no cell, or every cell, goes to the first side
-abbrev pub is_one_sided : List Bool → Bool
-is_one_sided side = (count_by (λ s. s) side == 0) || (count_by not side == 0)
 
 -- some split in it has all its cells on one side
 abbrev pub bad_side : Term → Fields → List Cell → Bool
 bad_side (Split path first rest) fields cells =
     is_one_sided (side_of fields path cells)
     || (bad_side first fields (cells_under fields path cells) || bad_side rest fields (cells_beside fields path cells))
+bad_side (Byteswap inner) fields cells = bad_side inner fields cells
+bad_side (Bytesplit inner) fields cells = bad_side inner fields (bytes_of cells)
+bad_side (Change from to inner) fields cells = bad_side inner fields (changed from to cells)
 bad_side (Count inner) fields cells = bad_side inner fields cells
+bad_side (Heat granule inner) fields cells = bad_side inner fields cells
 bad_side _ fields cells = false
 
--- the first of the causes, those of the expression alone before those of its cells
-abbrev pub refused_sides : Result Unit BadMapping → Bool → Result Unit BadMapping
-refused_sides (Err bad) sides = Err bad
-refused_sides (Ok x) true = Err Side
-refused_sides (Ok x) false = Ok x
+-- some part of it under byteswap or bytesplit stores a cell in another sign or width than the cell's type has
+abbrev pub not_full : Term → Fields → List Cell → Bool
+not_full (Split path first rest) fields cells = not_full first fields (cells_under fields path cells) || not_full rest fields (cells_beside fields path cells)
+not_full (Byteswap inner) fields cells = differ (holds_of inner fields cells) (full_holds cells) || not_full inner fields cells
+not_full (Bytesplit inner) fields cells = differ (holds_of inner fields (bytes_of cells)) (full_holds (bytes_of cells)) || not_full inner fields (bytes_of cells)
+not_full (Change from to inner) fields cells = not_full inner fields (changed from to cells)
+not_full (Count inner) fields cells = not_full inner fields cells
+not_full (Heat granule inner) fields cells = not_full inner fields cells
+not_full _ fields cells = false
 
+-- a cause that counts where it holds and no earlier one does
+abbrev pub else_for : BadMapping → Bool → Result Unit BadMapping → Result Unit BadMapping
+else_for bad holds (Err earlier) = Err earlier
+else_for bad true (Ok x) = Err bad
+else_for bad false (Ok x) = Ok x
+
+-- the first of the causes: those of the expression alone, then a split with an empty side, then a part that is not full
 abbrev pub accepted : Term → Fields → List Cell → Result Unit BadMapping
-accepted term fields cells = refused_sides (checked term) (bad_side term fields cells)
+accepted term fields cells = else_for NotFull (not_full term fields cells) (else_for Side (bad_side term fields cells) (checked term))
 
 -- an answer that is no mapping: the expression is refused so, or is accepted and over a limit; want of memory is free
 abbrev pub IsRefusal : Term → List ℕ → Fields → List Cell → MakeMap → Type 0

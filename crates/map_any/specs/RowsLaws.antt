@@ -1,4 +1,4 @@
--- The laws of a layout by rows, for any order that is built: its bits and places are those of the layout by slots.
+-- The laws of a layout by rows, for any order: its bits and places are those of the layout by slots.
 use Rattle.std.proofs.Common.{◌≡◌, ℕ, ◌%◌, ◌<◌, List, [], ◌∷◌, map, length, sum_by, get_or, All, refl, sym, ap, ◌∙◌, subst, arith}
 use Rattle.std.specs.Prelude.{Option, Some, None}
 use Rattle.std.proofs.lemmas.List.{get_or-map, length-map}
@@ -6,7 +6,7 @@ use Rattle.std.proofs.lemmas.List.Sums.{sum_by-cons}
 use Rattle.std.proofs.lemmas.List.Elements.{All-map}
 use Rattle.extents.specs.Indices.{indices}
 use Rattle.extents.specs.declared.order.Order.{Order}
-use Rattle.linearize.specs.Slots.{slot_at, slot_count, row_at, IsBuilt}
+use Rattle.linearize.specs.Slots.{slot_at, slot_count, row_at}
 use Rattle.linearize.specs.SlotsLaws.{row_at-slot_at, slot_at-row_at, slot_at_below}
 use Rattle.places.specs.Layout.{Owner, Bit}
 use Rattle.places.specs.Rules.{renamed, in_rows, bit_in_row}
@@ -32,12 +32,12 @@ in_row (Some row) c k r c' k' e =
     record { row_is = ap Some same; cell_is = (cc); bit_is = (cc) }
 
 -- where the bit of a row came from
-back_in_slots : (order : Order) (extents widths : List ℕ) → IsBuilt order
+back_in_slots : (order : Order) (extents widths : List ℕ)
     → Back (IsBitOf (slot_count order extents) widths) (IsBitOf (length (indices extents)) widths) (by_row order extents)
     (λ r c k. slot_at order extents r) (λ r c k. c) (λ r c k. k)
-back_in_slots order extents widths built = record {
-  from = λ r c k h. record { slot_in = slot_at_below order extents r built h.slot_in; cell_in = h.cell_in; bit_in = h.bit_in };
-  to = λ r c k h. ap (λ (row : Option ℕ). bit_in_row row c k) (row_at-slot_at order extents r built h.slot_in);
+back_in_slots order extents widths = record {
+  from = λ r c k h. record { slot_in = slot_at_below order extents r h.slot_in; cell_in = h.cell_in; bit_in = h.bit_in };
+  to = λ r c k h. ap (λ (row : Option ℕ). bit_in_row row c k) (row_at-slot_at order extents r h.slot_in);
   out = λ s c k r c' k' h e.
       let from = in_row (row_at order extents s) c k r c' k' e in
       let at = slot_at-row_at order extents s r from.row_is in
@@ -70,25 +70,25 @@ sum-blobs row (blob ∷ blobs) =
     omega (arith, sum_by-cons (length {A = Owner}) (map name blob) (in_rows row blobs), sum_by-cons (length {A = Owner}) blob blobs)
 
 -- every bit of every row has exactly one place
-pub rows_laid : (order : Order) (extents widths : List ℕ) (layout : List (List Owner)) → IsBuilt order
+pub rows_laid : (order : Order) (extents widths : List ℕ) (layout : List (List Owner))
     → IsLaidOut layout (slot_count order extents) widths → IsLaidOut (in_rows (row_at order extents) layout) (length (indices extents)) widths
-rows_laid order extents widths layout built laid =
+rows_laid order extents widths layout laid =
     let name : Owner → Owner = renamed (by_row order extents) in
     let bytes : All (λ (blob : List Owner). length (map name blob) % 8 ≡ 0) layout =
     λ k d inside. ap (λ (n : ℕ). n % 8) (length-map (get_or layout k d) name) ∙ laid.whole_bytes k d inside in
     laid_out
     (relabel_lays_out (by_row order extents) (λ r c k. slot_at order extents r) (λ r c k. c) (λ r c k. k) layout
-    (back_in_slots order extents widths built) (lays_out laid))
+    (back_in_slots order extents widths) (lays_out laid))
     (All-map (λ (blob : List Owner). length blob % 8 ≡ 0) (map name) layout bytes)
     laid.narrow laid.wide
 
 -- the places of a cell in a row are those in its slot
-pub row_located : (order : Order) (extents : List ℕ) (layout : List (List Owner)) (row cell width : ℕ) (pieces : List Piece) → IsBuilt order
+pub row_located : (order : Order) (extents : List ℕ) (layout : List (List Owner)) (row cell width : ℕ) (pieces : List Piece)
     → row < length (indices extents) → IsLocated layout (slot_at order extents row) cell width pieces
     → IsLocated (in_rows (row_at order extents) layout) row cell width pieces
-row_located order extents layout row cell width pieces built inside h =
+row_located order extents layout row cell width pieces inside h =
     relabel_located (by_row order extents) layout (slot_at order extents row) cell row cell width pieces
-    (λ k l. ap (λ (r : Option ℕ). bit_in_row r cell k) (row_at-slot_at order extents row built inside))
+    (λ k l. ap (λ (r : Option ℕ). bit_in_row r cell k) (row_at-slot_at order extents row inside))
     h
 
 pub lengths-rows : (row : ℕ → Option ℕ) (layout : List (List Owner)) → map length (in_rows row layout) ≡ map length layout

@@ -1,5 +1,5 @@
 -- What rules say of the cells of a layout by rows.
-use Rattle.std.specs.Prelude.{ℕ, ◌≡◌, ◌+◌, ◌*◌, ◌^◌, ◌<◌, ◌≤◌, All, List, length, map, slice_index, slice_index_or, sum_by}
+use Rattle.std.specs.Prelude.{ℕ, ◌≡◌, ◌+◌, ◌*◌, ◌%◌, ◌^◌, ◌<◌, ◌≤◌, All, List, length, map, slice_index, slice_index_or, sum_by}
 use Rattle.extents.specs.Indices.{indices}
 use Rattle.linearize.specs.Slots.{slot_at, slot_count}
 use Rattle.places.specs.Layout.{Owner}
@@ -22,6 +22,8 @@ pub record IsRuleOf (layout : List (List Owner)) (extents : List ℕ) (cell widt
   pub blobs : All (λ piece. piece.blob < length layout) rule.pieces.items
   pub bits : sum_by (λ piece. piece.bits) rule.pieces.items ≡ width
   pub bounds : All (λ piece. piece.base + piece.bits < 2 ^ 64) rule.pieces.items
+  pub some : All (λ piece. 0 < piece.bits) rule.pieces.items
+  pub whole : width % 8 ≡ 0 → All (λ piece. piece.bits % 8 ≡ 0) rule.pieces.items
   pub places : (row : ℕ) → row < length (indices extents) → IsLocated layout row cell width (pieces_of rule extents row)
 
 -- there is a rule for each cell

@@ -1,5 +1,5 @@
 -- The two sides of a split: which cells go to the first.
-use Rattle.std.specs.Prelude.{ℕ, Bool, true, false, not, List, [], ◌∷◌, map, filter}
+use Rattle.std.specs.Prelude.{Bool, not, List, map, filter}
 use Rattle.record_dim.specs.declared.path.PathStep.{PathStep}
 use Rattle.record_dim.specs.Trees.{Fields}
 use Rattle.record_dim.specs.Nodes.{is_under}
@@ -14,9 +14,3 @@ cells_under fields path cells = filter (λ cell. is_under fields path cell.leaf)
 
 abbrev pub cells_beside : Fields → List PathStep → List Cell → List Cell
 cells_beside fields path cells = filter (λ cell. not (is_under fields path cell.leaf)) cells
-
--- items for the cells of both sides, in the order of the whole
-abbrev pub merged : {X : Type 0} → List Bool → List X → List X → List X
-merged (true ∷ side) (x ∷ xs) ys = x ∷ merged side xs ys
-merged (false ∷ side) xs (y ∷ ys) = y ∷ merged side xs ys
-merged _ _ _ = []

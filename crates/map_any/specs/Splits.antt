@@ -1,21 +1,9 @@
 -- How the rules of a split are made of those of its sides.
-use Rattle.std.specs.Prelude.{ℕ, ◌≡◌, ◌+◌, ◌^◌, ◌<◌, All, Bool, true, false, not, List, [], ◌∷◌, length, map, take, slice_index_or}
-use Rattle.std.specs.List.{count_by}
-use Rattle.piece_rules.specs.declared.rule.PieceRule.{PieceRule}
+use Rattle.std.specs.Prelude.{ℕ, ◌≡◌, ◌+◌, ◌^◌, ◌<◌, All, Bool, true, false, List, length, map, slice_index_or}
+use Rattle.map_split.specs.Shifts.{shifted_rule}
+use Rattle.map_split.specs.Sides.{rank_first, rank_rest}
 use Rattle.map_any.specs.declared.rule.Rule.{Rule}
 use Rattle.map_any.specs.Ruled.{EachWith}
-
--- a piece of later blobs, which stand behind `by` others
-abbrev pub shifted_rule : ℕ → PieceRule → PieceRule
-shifted_rule by rule = record {
-  blob = rule.blob + by;
-  base = rule.base;
-  lanes = rule.lanes;
-  block = rule.block;
-  lane = rule.lane;
-  bits = rule.bits;
-  some = rule.some;
-}
 
 -- a rule whose pieces are those of another, in blobs that stand behind `by` others
 abbrev pub IsShifted : ℕ → Rule → Rule → Type 0
@@ -28,13 +16,6 @@ HasRoom by rule = All (λ piece. piece.blob + by < 2 ^ 64) rule.pieces.items
 -- the pieces of a rule lie in so many blobs
 abbrev pub LieWithin : ℕ → Rule → Type 0
 LieWithin blobs rule = All (λ piece. piece.blob < blobs) rule.pieces.items
-
--- how many of the cells before this one go to the first side, and how many do not
-abbrev pub rank_first : List Bool → ℕ → ℕ
-rank_first side cell = count_by (λ s. s) (take cell side)
-
-abbrev pub rank_rest : List Bool → ℕ → ℕ
-rank_rest side cell = count_by not (take cell side)
 
 -- each cell's rule is that of its side; the blobs of the rest stand behind `by` others
 pub record IsSplitRule (side : List Bool) (by : ℕ) (first rest : List Rule) (cell : ℕ) (rule : Rule) : Type 0 where

@@ -1,6 +1,6 @@
 -- The laws of the layout of an expression.
 use Rattle.std.proofs.Common.{◌≡◌, ℕ, ◌<◌, ◌≤◌, List, map, length, Bool, true, false, Option, None, Some, refl, sym, ap, ◌∙◌, subst, arith}
-use Rattle.std.specs.Prelude.{◌&&◌, not, nat_le, if◌then◌else◌}
+use Rattle.std.specs.Prelude.{◌&&◌, ◌||◌, not, nat_le, if◌then◌else◌}
 use Rattle.std.specs.List.{count_by}
 use Rattle.std.specs.Option.{option_or}
 use Rattle.std.proofs.lemmas.Bool.{leb-true}
@@ -8,13 +8,14 @@ use Rattle.std.proofs.lemmas.List.{length-map}
 use Rattle.std.proofs.lemmas.List.Sums.{length-filter}
 use Rattle.extents.specs.Indices.{indices}
 use Rattle.extents.specs.declared.order.Order.{Order}
-use Rattle.linearize.specs.Slots.{slot_count, IsBuilt}
+use Rattle.linearize.specs.Slots.{slot_count}
 use Rattle.record_dim.specs.declared.path.PathStep.{PathStep}
 use Rattle.record_dim.specs.Trees.{Fields}
 use Rattle.record_dim.specs.Nodes.{is_under}
-use Rattle.places.specs.Layout.{Owner, aosoa}
+use Rattle.places.specs.Layout.{Owner, aosoa, bit_aos, bit_soa}
 use Rattle.places.specs.Laws.{IsLaidOut}
-use Rattle.places.specs.Holds.{widths_of, full_holds, hold_of}
+use Rattle.places.specs.CellWidthsLaws.{length-full}
+use Rattle.places.specs.Holds.{widths_of, full_holds, narrow_holds}
 use Rattle.places.specs.declared.piece.Cell.{Cell}
 use Rattle.places.specs.declared.piece.Hold.{Hold}
 use Rattle.places.specs.Forms.{aos_layout}
@@ -23,13 +24,20 @@ use Rattle.places.specs.Forms.{soa_layout}
 use Rattle.map_soa.specs.SoaLaws.{soa_laws}
 use Rattle.map_aosoa.specs.AosoaLaws.{aosoa_laws}
 use Rattle.map_expr.specs.declared.check.BadMapping.{BadMapping}
-use Rattle.map_expr.specs.declared.check.BadMapping.TheVariants.{Lanes}
+use Rattle.map_expr.specs.declared.check.BadMapping.TheVariants.{Lanes, Width}
 use Rattle.map_expr.specs.Terms.{Term, Aos, Soa, Aosoa, BitAos, BitSoa, Split, Byteswap, Bytesplit, Change, Count, Heat, Named}
-use Rattle.map_expr.specs.Checks.{bad_number, bad_lanes}
-use Rattle.map_any.specs.Sides.{side_of, cells_under, cells_beside, merged}
-use Rattle.map_any.specs.SidesLaws.{length-merged, map-merged, count-mapped}
-use Rattle.map_any.specs.SplitLaws.{split_laid}
-use Rattle.map_any.specs.Mappings.{layout_of, holds_of, ordered, IsBuiltTerm, HasNumbers}
+use Rattle.map_expr.specs.Checks.{bad_number, bad_lanes, bad_width, bad_granule}
+use Rattle.map_bits.specs.NarrowLaws.{length-narrow}
+use Rattle.map_bits.specs.BitLaws.{bit_aos_laws, bit_soa_laws}
+use Rattle.map_bytes.specs.Cells.{bytes_of, changed, differ}
+use Rattle.map_bytes.specs.FullLaws.{differ_none}
+use Rattle.map_bytes.specs.SwapLaws.{byteswap_laws}
+use Rattle.map_bytes.specs.BytesplitLaws.{bytesplit_laws}
+use Rattle.map_bytes.specs.ChangeLaws.{length-changed}
+use Rattle.map_any.specs.Sides.{side_of, cells_under, cells_beside}
+use Rattle.map_split.specs.SidesLaws.{length-merged, count-mapped}
+use Rattle.map_split.specs.SplitLaws.{split_laws}
+use Rattle.map_any.specs.Mappings.{layout_of, holds_of, not_full, ordered, IsBuiltTerm, HasNumbers}
 use Rattle.map_any.specs.RowsLaws.{rows_laid}
 
 -- as many cells on each side as its truths say
@@ -48,9 +56,6 @@ module _ (fields : Fields) (path : List PathStep) (cells : List Cell) where
   length-side = length-map cells (λ (cell : Cell). is_under fields path cell.leaf)
 
 -- each cell is stored
-length-full : (cells : List Cell) → length (full_holds cells) ≡ length cells
-length-full cells = length-map cells (λ (cell : Cell). hold_of cell.kind)
-
 pub length-holds : (term : Term) (fields : Fields) (cells : List Cell) → length (holds_of term fields cells) ≡ length cells
 length-holds (Split path first rest) fields cells =
     let one : length (holds_of first fields (cells_under fields path cells)) ≡ length (cells_under fields path cells) =
@@ -64,57 +69,79 @@ length-holds (Count inner) fields cells = length-holds inner fields cells
 length-holds (Aos form order) fields cells = length-full cells
 length-holds (Soa form order) fields cells = length-full cells
 length-holds (Aosoa lanes order) fields cells = length-full cells
-length-holds (BitAos width order) fields cells = length-full cells
-length-holds (BitSoa width order) fields cells = length-full cells
+length-holds (BitAos width order) fields cells = length-narrow width cells
+length-holds (BitSoa width order) fields cells = length-narrow width cells
 length-holds (Byteswap inner) fields cells = length-full cells
 length-holds (Bytesplit inner) fields cells = length-full cells
-length-holds (Change from to inner) fields cells = length-full cells
-length-holds (Heat granule inner) fields cells = length-full cells
+length-holds (Change from to inner) fields cells = length-holds inner fields (changed from to cells) ∙ length-changed from to cells
+length-holds (Heat granule inner) fields cells = length-holds inner fields cells
 length-holds (Named name) fields cells = length-full cells
 
-within_lanes : (low high : Bool) → (if low && high then None else Some Lanes) ≡ None → low ≡ true
-within_lanes true high e = cc
-within_lanes false high e = cc
+-- a number in its range is at least 1
+at_least : (bad : BadMapping) (low high : Bool) → (if low && high then None else Some bad) ≡ None → low ≡ true
+at_least bad true high e = cc
+at_least bad false high e = cc
 
 some_lanes : (lanes : ℕ) → bad_lanes lanes ≡ None → 0 < lanes
 some_lanes lanes e =
-    let low : 1 ≤ lanes = leb-true 1 lanes (within_lanes (nat_le 1 lanes) (nat_le lanes 64) e) in
+    let low : 1 ≤ lanes = leb-true 1 lanes (at_least Lanes (nat_le 1 lanes) (nat_le lanes 64) e) in
     omega arith
 
+some_width : (width : ℕ) → bad_width width ≡ None → 0 < width
+some_width width e =
+    let low : 1 ≤ width = leb-true 1 width (at_least Width (nat_le 1 width) (nat_le width 64) e) in
+    omega arith
+
+-- where neither holds
+pub neither_of : (one two : Bool) → (one || two) ≡ false → (one ≡ false) × (two ≡ false)
+neither_of true two e = cc
+neither_of false two e = (refl, e)
+
+-- holds that differ from those of the types nowhere
+held_whole : (term : Term) (fields : Fields) (cells : List Cell) → differ (holds_of term fields cells) (full_holds cells) ≡ false
+    → holds_of term fields cells ≡ full_holds cells
+held_whole term fields cells e = differ_none (holds_of term fields cells) (full_holds cells) (length-holds term fields cells ∙ sym (length-full cells)) e
+
 -- every bit of every row has exactly one place
-pub term_laws : (term : Term) (extents : List ℕ) (fields : Fields) (cells : List Cell) → IsBuiltTerm term → HasNumbers term
+pub term_laws : (term : Term) (extents : List ℕ) (fields : Fields) (cells : List Cell) → IsBuiltTerm term → HasNumbers term → not_full term fields cells ≡ false
     → IsLaidOut (layout_of term extents fields cells) (length (indices extents)) (map (λ (h : Hold). h.width) (holds_of term fields cells))
-term_laws (Aos form order) extents fields cells built numbers =
-    rows_laid order extents (map (λ (h : Hold). h.width) (full_holds cells)) (aos_layout form (slot_count order extents) (widths_of cells)) built
+term_laws (Aos form order) extents fields cells built numbers full =
+    rows_laid order extents (map (λ (h : Hold). h.width) (full_holds cells)) (aos_layout form (slot_count order extents) (widths_of cells))
     (aos_laws form (slot_count order extents) cells)
-term_laws (Soa form order) extents fields cells built numbers =
-    rows_laid order extents (map (λ (h : Hold). h.width) (full_holds cells)) (soa_layout form (slot_count order extents) (widths_of cells)) built
+term_laws (Soa form order) extents fields cells built numbers full =
+    rows_laid order extents (map (λ (h : Hold). h.width) (full_holds cells)) (soa_layout form (slot_count order extents) (widths_of cells))
     (soa_laws form (slot_count order extents) cells)
-term_laws (Aosoa lanes order) extents fields cells built numbers =
-    rows_laid order extents (map (λ (h : Hold). h.width) (full_holds cells)) (aosoa lanes (slot_count order extents) (widths_of cells)) built
+term_laws (Aosoa lanes order) extents fields cells built numbers full =
+    rows_laid order extents (map (λ (h : Hold). h.width) (full_holds cells)) (aosoa lanes (slot_count order extents) (widths_of cells))
     (aosoa_laws lanes (slot_count order extents) cells (some_lanes lanes numbers))
-term_laws (Split path first rest) extents fields cells built numbers =
+term_laws (BitAos width order) extents fields cells built numbers full =
+    rows_laid order extents (map (λ (h : Hold). h.width) (narrow_holds width cells)) (bit_aos width (slot_count order extents) (widths_of cells))
+    (bit_aos_laws width (slot_count order extents) cells (some_width width numbers))
+term_laws (BitSoa width order) extents fields cells built numbers full =
+    rows_laid order extents (map (λ (h : Hold). h.width) (narrow_holds width cells)) (bit_soa width (slot_count order extents) (widths_of cells))
+    (bit_soa_laws width (slot_count order extents) cells (some_width width numbers))
+term_laws (Split path first rest) extents fields cells built numbers full =
     let side : List Bool = side_of fields path cells in
     let under : List Cell = cells_under fields path cells in
     let beside : List Cell = cells_beside fields path cells in
-    let hs : List Hold = holds_of first fields under in
-    let gs : List Hold = holds_of rest fields beside in
-    let width : Hold → ℕ = λ (h : Hold). h.width in
-    let one = term_laws first extents fields under built.0 numbers.0 in
-    let two = term_laws rest extents fields beside built.1 numbers.1 in
-    let left : length (map width hs) ≡ count_by (λ (s : Bool). s) side = length-map hs width ∙ length-holds first fields under ∙ cells_first fields path cells in
-    let right : length (map width gs) ≡ count_by not side = length-map gs width ∙ length-holds rest fields beside ∙ cells_rest fields path cells in
-    subst (λ (ws : List ℕ). IsLaidOut (layout_of (Split path first rest) extents fields cells) (length (indices extents)) ws) (sym (map-merged width side hs gs))
-    (split_laid side (layout_of first extents fields under) (layout_of rest extents fields beside) (length (indices extents)) (map width hs) (map width gs) one two
-    left right)
-term_laws (BitAos width order) extents fields cells built numbers = absurd built
-term_laws (BitSoa width order) extents fields cells built numbers = absurd built
-term_laws (Byteswap inner) extents fields cells built numbers = absurd built
-term_laws (Bytesplit inner) extents fields cells built numbers = absurd built
-term_laws (Change from to inner) extents fields cells built numbers = absurd built
-term_laws (Count inner) extents fields cells built numbers = term_laws inner extents fields cells built numbers
-term_laws (Heat granule inner) extents fields cells built numbers = absurd built
-term_laws (Named name) extents fields cells built numbers = absurd built
+    let both = neither_of (not_full first fields under) (not_full rest fields beside) full in
+    split_laws side (layout_of first extents fields under) (layout_of rest extents fields beside) (length (indices extents)) (length (indices extents))
+    (holds_of first fields under) (holds_of rest fields beside) (term_laws first extents fields under built.0 numbers.0 both.0)
+    (term_laws rest extents fields beside built.1 numbers.1 both.1) refl (length-holds first fields under ∙ cells_first fields path cells)
+    (length-holds rest fields beside ∙ cells_rest fields path cells)
+term_laws (Byteswap inner) extents fields cells built numbers full =
+    let both = neither_of (differ (holds_of inner fields cells) (full_holds cells)) (not_full inner fields cells) full in
+    byteswap_laws (layout_of inner extents fields cells) (length (indices extents)) cells (holds_of inner fields cells) (held_whole inner fields cells both.0)
+    (term_laws inner extents fields cells built numbers both.1)
+term_laws (Bytesplit inner) extents fields cells built numbers full =
+    let bytes : List Cell = bytes_of cells in
+    let both = neither_of (differ (holds_of inner fields bytes) (full_holds bytes)) (not_full inner fields bytes) full in
+    bytesplit_laws (layout_of inner extents fields bytes) (length (indices extents)) cells (holds_of inner fields bytes) (held_whole inner fields bytes both.0)
+    (term_laws inner extents fields bytes built numbers both.1)
+term_laws (Change from to inner) extents fields cells built numbers full = term_laws inner extents fields (changed from to cells) built numbers full
+term_laws (Count inner) extents fields cells built numbers full = term_laws inner extents fields cells built numbers full
+term_laws (Heat granule inner) extents fields cells built numbers full = term_laws inner extents fields cells built numbers.1 full
+term_laws (Named name) extents fields cells built numbers full = absurd built
 
 -- where no number is out of its range, every number is in its range
 first_none : (one two : Option BadMapping) → option_or one two ≡ None → one ≡ None
@@ -129,13 +156,14 @@ pub good_numbers : (term : Term) → bad_number term ≡ None → HasNumbers ter
 good_numbers (Aos form order) e = tt
 good_numbers (Soa form order) e = tt
 good_numbers (Aosoa lanes order) e = e
-good_numbers (BitAos width order) e = tt
-good_numbers (BitSoa width order) e = tt
+good_numbers (BitAos width order) e = e
+good_numbers (BitSoa width order) e = e
 good_numbers (Split path first rest) e =
     (good_numbers first (first_none (bad_number first) (bad_number rest) e), good_numbers rest (then_none (bad_number first) (bad_number rest) e))
-good_numbers (Byteswap inner) e = tt
-good_numbers (Bytesplit inner) e = tt
-good_numbers (Change from to inner) e = tt
+good_numbers (Byteswap inner) e = good_numbers inner e
+good_numbers (Bytesplit inner) e = good_numbers inner e
+good_numbers (Change from to inner) e = good_numbers inner e
 good_numbers (Count inner) e = good_numbers inner e
-good_numbers (Heat granule inner) e = tt
+good_numbers (Heat granule inner) e =
+    (first_none (bad_granule granule) (bad_number inner) e, good_numbers inner (then_none (bad_granule granule) (bad_number inner) e))
 good_numbers (Named name) e = tt

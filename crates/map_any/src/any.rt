@@ -1,10 +1,10 @@
-ghost use Rattle.std.specs.Prelude.{◌≡◌, None};
+ghost use Rattle.std.specs.Prelude.{◌≡◌, false, None};
 ghost use Rattle.record_dim.specs.Leaves.{kinds_of};
 ghost use Rattle.record_dim.specs.Schemas.{schema_fields};
 ghost use Rattle.map_expr.specs.Terms.{term_of};
 ghost use Rattle.map_expr.specs.Checks.{bad_number};
 ghost use Rattle.map_any.specs.LeafRules.{AreRuled};
-ghost use Rattle.map_any.specs.Mappings.{layout_by, holds_by, IsBuiltTerm};
+ghost use Rattle.map_any.specs.Mappings.{layout_by, holds_by, leaf_cells, not_full, IsBuiltTerm};
 ghost use Rattle.map_any.specs.Orders.{IsBuiltTerm-prop};
 ghost use Rattle.map_any.specs.Ruled.{HasLengths};
 
@@ -28,6 +28,7 @@ pub struct AnyMap {
     pub(crate) rules: RuleList,
     ghost built: { IsBuiltTerm (term_of expr) } by { IsBuiltTerm-prop (term_of expr) },
     ghost numbers: { bad_number (term_of expr) ≡ None },
+    ghost full: { not_full (term_of expr) (schema_fields schema) (leaf_cells (kinds_of (schema_fields schema))) ≡ false },
     ghost held: { holds ≡ holds_by (term_of expr) (schema_fields schema) },
     ghost sized: { HasLengths (layout_by (term_of expr) extents (schema_fields schema)) lengths },
     ghost ruled: { AreRuled (layout_by (term_of expr) extents (schema_fields schema)) extents (kinds_of (schema_fields schema)) holds rules },

@@ -19,6 +19,7 @@ use crate::fault::MakeMap;
 use crate::leaf_rule::LeafRule;
 use crate::leaf_rules::leaf_rules;
 use crate::make::make_plan;
+use crate::not_full::has_part_not_full;
 use crate::orders::slot_of_row;
 use crate::rule::Rule;
 use crate::short::ShortRule;
@@ -56,6 +57,9 @@ impl AnyMap {
         let cells = cells_of(alloc, schema)?;
         if has_bad_side(alloc, schema, &cells, expr)? {
             return Err(MakeMap::Bad(BadMapping::Side));
+        }
+        if has_part_not_full(alloc, schema, &cells, expr)? {
+            return Err(MakeMap::Bad(BadMapping::NotFull));
         }
         let plan = make_plan(alloc, schema, &cells, extents, expr)?;
         let rules = leaf_rules(alloc, schema, plan.holds.as_slice(), plan.rules.as_slice())?;
@@ -167,7 +171,7 @@ impl Mapping for AnyMap {
         pieces_in(&rule.pieces, slot_of_row(rule.order, &self.extents, slot))
     }
 
-    ghost laws = { λ m. any_laws (term_of m.expr) m.extents (schema_fields m.schema) m.holds m.built m.numbers m.held };
+    ghost laws = { λ m. any_laws (term_of m.expr) m.extents (schema_fields m.schema) m.holds m.built m.numbers m.full m.held };
 
     ghost holds_cells = { λ m. holds_cells (term_of m.expr) (schema_fields m.schema) m.holds m.held };
 }

@@ -1,5 +1,5 @@
 ghost use Rattle.std.specs.Prelude.{ℕ, ◌≡◌, ◌^◌, ◌≤◌, IfOk, map};
-ghost use Rattle.linearize.specs.Slots.{row_at, slot_count, IsBuilt};
+ghost use Rattle.linearize.specs.Slots.{row_at, slot_count};
 ghost use Rattle.places.specs.Rules.{in_rows};
 ghost use Rattle.map_any.specs.Ruled.{HasLengths, IsRuled};
 
@@ -18,13 +18,13 @@ pub fn base_plan<M: Ruled>(
     order: Order,
     extents: &Extents,
 ) -> Result<Plan, NoMemory>
-    requires built { IsBuilt order }
     requires counted { M.slot_count mapping.now ≡ slot_count order extents.now }
     requires few { slot_count order extents.now ≤ 2 ^ 24 }
     ensures holds { IfOk result (λ plan. plan.holds ≡ M.hold_list mapping.now) }
     ensures lengths { IfOk result (λ plan. HasLengths (in_rows (row_at order extents.now) (M.layout mapping.now)) plan.lengths) }
     ensures rules { IfOk result (λ plan. IsRuled (in_rows (row_at order extents.now) (M.layout mapping.now)) extents.now
         (map (λ h. h.width) (M.hold_list mapping.now)) plan.rules) }
+    ensures orders { IfOk result (λ plan. map (λ rule. rule.order) plan.rules ≡ map (λ cell. order) (M.cell_list mapping.now)) }
 {
     let holds = holds_of(alloc, mapping)?;
     let lengths = lengths_of(alloc, mapping)?;
@@ -65,11 +65,11 @@ fn rules_of<M: Ruled>(
     order: Order,
     extents: &Extents,
 ) -> Result<PlanRules, NoMemory>
-    requires built { IsBuilt order }
     requires counted { M.slot_count mapping.now ≡ slot_count order extents.now }
     requires few { slot_count order extents.now ≤ 2 ^ 24 }
-    ensures { IfOk result (λ rules. IsRuled (in_rows (row_at order extents.now) (M.layout mapping.now)) extents.now
+    ensures rules { IfOk result (λ rules. IsRuled (in_rows (row_at order extents.now) (M.layout mapping.now)) extents.now
         (map (λ h. h.width) (M.hold_list mapping.now)) rules) }
+    ensures orders { IfOk result (λ rules. map (λ rule. rule.order) rules ≡ map (λ cell. order) (M.cell_list mapping.now)) }
 {
     let mut rules = PlanRules::new(alloc);
     for cell in 0..mapping.cells() {

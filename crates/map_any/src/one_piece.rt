@@ -1,5 +1,4 @@
 ghost use Rattle.std.specs.Prelude.{◌≡◌, [], ◌∷◌};
-ghost use Rattle.linearize.specs.Slots.{IsBuilt};
 ghost use Rattle.map_any.specs.LeafRules.{IsSameRule};
 
 use crate::rule::Rule;
@@ -9,7 +8,6 @@ use piece_rules::{PieceRule, PieceRules};
 impl Rule {
     /// The rule of a cell that has one piece.
     pub fn of_piece(order: Order, piece: PieceRule) -> Rule
-        requires { IsBuilt order }
         ensures order { result.order ≡ order }
         ensures pieces { result.pieces.items ≡ piece ∷ [] }
     {

@@ -1,6 +1,6 @@
 ghost use Rattle.std.specs.Prelude.{ℕ, ◌≡◌, ◌<◌, ◌≤◌, ◌^◌, All, IfOk, IfErr, OnOk, length};
 ghost use Rattle.extents.specs.Indices.{indices, IsInside};
-ghost use Rattle.linearize.specs.Slots.{slot_at, slot_count, slot_of, IsBuilt};
+ghost use Rattle.linearize.specs.Slots.{slot_at, slot_count, slot_of};
 
 use crate::fault::MakeMap;
 use extents::Extents;
@@ -20,7 +20,6 @@ fn sizes<const R: usize>(extents: &Extents) -> [u64; R]
 
 /// The number of slots over these extents. `TooBig` comes exactly where there are more than 2^24.
 pub fn count_slots(order: Order, extents: &Extents) -> Result<u64, MakeMap>
-    requires { IsBuilt order }
     ensures count { IfOk result (λ count. count ≡ slot_count order extents.now) }
     ensures few { OnOk result (slot_count order extents.now ≤ 2 ^ 24) }
     ensures too_many { IfErr result (λ e. (e ≡ MakeMap.TooBig) × (2 ^ 24 < slot_count order extents.now)) }
@@ -36,7 +35,6 @@ pub fn count_slots(order: Order, extents: &Extents) -> Result<u64, MakeMap>
 
 /// The slot of an index, where there are `R` extents.
 fn slot_of_array<const R: usize>(order: Order, extents: &Extents, index: &[u64]) -> u64
-    requires built { IsBuilt order }
     requires ranked { (0 < R) × (R ≤ 4) }
     requires rank { length extents.now ≡ R }
     requires narrow { All (λ n. n < 2 ^ 32) extents.now }
@@ -51,7 +49,6 @@ fn slot_of_array<const R: usize>(order: Order, extents: &Extents, index: &[u64])
 
 /// The slot of an index inside the extents.
 fn slot_of_index(order: Order, extents: &Extents, index: &[u64]) -> u64
-    requires built { IsBuilt order }
     requires few { slot_count order extents.now ≤ 2 ^ 24 }
     requires inside { IsInside extents.now index.now }
     ensures { result ≡ slot_of order extents.now index.now }
@@ -67,7 +64,6 @@ fn slot_of_index(order: Order, extents: &Extents, index: &[u64]) -> u64
 // The slot of a row by its index. It is kept out of the way by rows, which needs no index.
 #[inline(never)]
 fn slot_by_index(order: Order, extents: &Extents, row: u64) -> u64
-    requires built { IsBuilt order }
     requires few { slot_count order extents.now ≤ 2 ^ 24 }
     requires row_in { row < length (indices extents.now) }
     ensures slot { result ≡ slot_at order extents.now row }
@@ -79,7 +75,6 @@ fn slot_by_index(order: Order, extents: &Extents, row: u64) -> u64
 /// The slot of a row. By rows it is the row, with no division.
 #[inline(always)]
 pub fn slot_of_row(order: Order, extents: &Extents, row: u64) -> u64
-    requires built { IsBuilt order }
     requires few { slot_count order extents.now ≤ 2 ^ 24 }
     requires row_in { row < length (indices extents.now) }
     ensures slot { result ≡ slot_at order extents.now row }

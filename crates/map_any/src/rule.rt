@@ -1,6 +1,3 @@
-ghost use Rattle.linearize.specs.Slots.{IsBuilt};
-ghost use Rattle.map_any.specs.Orders.{IsBuilt-prop};
-
 use linearize::Order;
 use lists::Sequence;
 use piece_rules::PieceRules;
@@ -10,7 +7,6 @@ use piece_rules::PieceRules;
 pub struct Rule {
     pub order: Order,
     pub pieces: PieceRules,
-    ghost built: { IsBuilt order } by { IsBuilt-prop order },
 }
 
 /// A rule for each cell of a plan, in order.

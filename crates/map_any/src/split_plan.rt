@@ -1,6 +1,6 @@
 ghost use Rattle.std.specs.Prelude.{ℕ, ◌≡◌, ◌⊎◌, ◌<◌, ◌≤◌, ◌^◌, ◌↔◌, ◌++◌, All, IsTrue, IfOk, IfErr, OnOk, IsErrOf, length, not};
 ghost use Rattle.std.specs.List.{count_by, sum};
-ghost use Rattle.map_any.specs.Sides.{merged};
+ghost use Rattle.map_split.specs.Sides.{merged};
 ghost use Rattle.map_any.specs.Splits.{AreSplitRules, LieWithin};
 
 use crate::fault::MakeMap;
@@ -41,7 +41,7 @@ fn join_lengths(alloc: Global, first: &[u64], rest: &[u64]) -> Result<LengthList
 }
 
 /// How the cells of both sides are stored, in the order of the whole.
-fn merge_holds(
+pub fn merge_holds(
     alloc: Global,
     side: &[bool],
     first: &[Hold],

@@ -1,25 +1,10 @@
-ghost use Rattle.std.specs.Prelude.{ℕ, ◌≡◌, ◌+◌, ◌^◌, ◌<◌, All, IfOk, length, not};
+ghost use Rattle.std.specs.Prelude.{◌≡◌, All, IfOk, length, not};
 ghost use Rattle.std.specs.List.{count_by};
-ghost use Rattle.map_any.specs.Splits.{AreSplitRules, HasRoom, IsShifted, shifted_rule};
+ghost use Rattle.map_any.specs.Splits.{AreSplitRules, HasRoom, IsShifted};
 
 use crate::rule::{PlanRules, Rule};
-use piece_rules::{PieceRule, PieceRules};
+use map_split::shift_rules;
 use std::alloc::{AllocError as NoMemory, Global};
-
-/// The same piece in blobs that stand behind `by` others.
-fn shifted_piece(piece: &PieceRule, by: usize) -> PieceRule
-    requires room { piece.now.blob + by < 2 ^ 64 }
-    ensures { result ≡ shifted_rule by piece.now }
-{
-    PieceRule {
-        blob: piece.blob + by,
-        base: piece.base,
-        lanes: piece.lanes,
-        block: piece.block,
-        lane: piece.lane,
-        bits: piece.bits,
-    }
-}
 
 impl Rule {
     /// The same rule in blobs that stand behind `by` others.
@@ -27,13 +12,9 @@ impl Rule {
         requires room { HasRoom by self.now }
         ensures { IsShifted by self.now result }
     {
-        let mut pieces = PieceRules::new();
-        for piece in self.pieces.as_slice() {
-            pieces.push(shifted_piece(piece, by));
-        }
         Rule {
             order: self.order,
-            pieces,
+            pieces: shift_rules(&self.pieces, by),
         }
     }
 }

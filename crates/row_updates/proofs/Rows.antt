@@ -13,7 +13,8 @@ use Rattle.views.specs.Seen.{Seen, answer_of}
 use Rattle.views.specs.declared.fault.StoreFault.{StoreFault}
 use Rattle.row_updates.specs.declared.fault.UpdateFault.{UpdateFault}
 use Rattle.row_updates.specs.declared.update.Assign.{Assign}
-use Rattle.row_updates.specs.Rows.{Answer, Setting, setting_of, each, in_row, store_kind, value_of, passes, new_value, with_values, updated_row, updated_rows, counted, ◌>>=◌}
+use Rattle.views.specs.Stores.{Answer}
+use Rattle.row_updates.specs.Rows.{Setting, setting_of, each, in_row, store_kind, value_of, passes, new_value, with_values, updated_row, updated_rows, counted, ◌>>=◌}
 use Rattle.row_updates.proofs.Each.{each_push, each_stop, each_at, rows_push, rows_stop, with_values_push}
 use mir.Val.{bool_byte}
 

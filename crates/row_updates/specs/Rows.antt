@@ -10,6 +10,7 @@ use Rattle.expr_lang.specs.Terms.{Term}
 use Rattle.expr_lang.specs.Values.{outcome_of, is_true}
 use Rattle.linearize.specs.Slots.{index_at}
 use Rattle.views.specs.Seen.{Seen, leaf_count_of, answer_of}
+use Rattle.views.specs.Stores.{Answer}
 use Rattle.views.specs.declared.fault.StoreFault.{StoreFault}
 use Rattle.views.specs.declared.fault.StoreFault.TheVariants as store
 use Rattle.row_updates.specs.declared.fault.UpdateFault.{UpdateFault}
@@ -28,10 +29,6 @@ setting_of set = record { leaf = set.leaf; value = bound_term set.value }
 -- the term of a filter, where there is one
 abbrev pub filter_term : Option (Bor Bound) → Option (Term ℕ)
 filter_term filter = option_map (λ bound. bound_term bound.now) filter
-
--- what a store of a value in a leaf answers
-abbrev pub Answer : Type 0
-Answer = ℕ → ℤ → Result Unit StoreFault
 
 -- one thing after another: after a fault comes nothing
 infixl 10 ◌>>=◌

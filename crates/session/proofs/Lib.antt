@@ -1,4 +1,5 @@
 pub mod Exits
+pub mod Copies
 pub mod Indexing
 pub mod Reading
 pub mod Reductions

@@ -12,7 +12,7 @@ use Rattle.worlds.specs.declared.fault.CommandFault.TheVariants.{TooBig}
 use Rattle.command_checks.specs.Gives.{Gives, GivesUp}
 use Rattle.command_checks.specs.declared.fault.StepFault.{StepFault}
 use Rattle.command_checks.specs.declared.fault.StepFault.TheVariants as step
-use Rattle.session.specs.Loads.{Loads, IsUnread, filled_table}
+use Rattle.session.specs.Loads.{Loads, IsUnread, UnreadOnly, filled_table}
 
 -- a file of this name is there
 pub file_there : (told : Option (List File)) (files : List File) (name : List ℕ) (P : List ℕ → Type 0) → told ≡ Some files → HasFile told name P → (bytes : List ℕ) × (file_of files name ≡ Some bytes) × P bytes
@@ -79,3 +79,23 @@ unfolding loaded
 not_long views whole words bytes short =
     let within : nat_lt (2 ^ 28) (length bytes) ≡ false = grind (arith, nat_tests) in
     rw within refl
+
+-- a test that gives up tells no file as unread
+pub unread_test : (A : Type 0) {B X : Type 0} (first : Outcome X) (outcome : List File → Bool → Outcome B) (fault : StepFault) → GivesUp first fault → UnreadOnly {A = A} outcome (Err fault)
+unread_test A first outcome (step.Command refusal) gives = tt
+unread_test A first outcome step.NoMemory gives = tt
+unread_test A first outcome step.Source gives = absurd gives
+unread_test A first outcome step.Sink gives = tt
+
+-- nor does a command that reads none
+pub unread_gives : (A : Type 0) {B C : Type 0} (view : A → B) (first : Outcome B) (outcome : List File → Bool → Outcome C) (result : Result A StepFault) → Gives view result first → UnreadOnly outcome result
+unread_gives A view first outcome (Ok x) gives = tt
+unread_gives A view first outcome (Err fault) gives = unread_test A first outcome fault gives
+
+-- what comes behind a load
+pub unread_after : (A : Type 0) {B C D : Type 0} (outcome : List File → Bool → Outcome B) (rest : B → D) (fault : StepFault) (result : Result C StepFault) →
+    result ≡ Err fault → UnreadOnly {A = A} outcome (Err fault) → UnreadOnly (λ files unread. outcome files unread >>= (λ x. Goes (rest x))) result
+unread_after A outcome rest (step.Command refusal) result is unread = rw is tt
+unread_after A outcome rest step.NoMemory result is unread = rw is tt
+unread_after A outcome rest step.Sink result is unread = rw is tt
+unread_after A outcome rest step.Source result is unread = rw is (λ files. ((unread files).0, rw (unread files).1 refl))

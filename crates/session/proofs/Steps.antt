@@ -15,10 +15,11 @@ use Rattle.command_checks.specs.Gives.{Gives}
 use Rattle.command_checks.specs.declared.fault.StepFault.{StepFault}
 use Rattle.command_checks.specs.declared.fault.StepFault.TheVariants as fault
 use Rattle.session.specs.Answers.{Answers, StepsTo, StepCause}
-use Rattle.session.specs.Loads.{Loads, LoadCause}
+use Rattle.session.specs.Loads.{Loads, LoadCause, UnreadOnly}
 use Rattle.session.specs.Stands.{Stands, left_of}
 use Rattle.session.specs.declared.session.Session.{Session}
 use Rattle.session.proofs.Exits.{refused, starved}
+use Rattle.session.proofs.Reading.{unread_gives}
 
 -- a line that is built is done by its command
 pub step_is : (world : World) (sentence : Sentence) (files : List File) (unread : Bool) → is_built sentence ≡ true → step world sentence files unread ≡ command world sentence files unread
@@ -96,3 +97,23 @@ cause_load faults old files before now (Err fault.NoMemory) cause = (cause, omeg
 pub step_not : (world : World) (sentence : Sentence) (files : List File) (unread : Bool) → is_built sentence ≡ false → step world sentence files unread ≡ Faults NotBuilt
 unfolding step
 step_not world sentence files unread none = rw none refl
+
+-- a command that reads no file tells none as unread
+pub unread_quiet : (world : World) (sentence : Sentence) (outcome : Outcome Left) (result : Result Session StepFault) → Gives left_of result outcome → UnreadOnly (step world sentence) result
+unread_quiet world sentence outcome result gives = unread_gives Session left_of outcome (step world sentence) result gives
+
+pub unread_shown : {K : Type 0} (taken : K → Option (List ℕ)) (faults : K → ℕ) (old new : K) (world : World) (sentence : Sentence) (outcome : Outcome Left) (result : Result Session StepFault) →
+    Answers Stands taken faults old new outcome result → UnreadOnly (step world sentence) result
+unread_shown taken faults old new world sentence outcome (Ok next) answers = tt
+unread_shown taken faults old new world sentence outcome (Err (fault.Command refusal)) answers = tt
+unread_shown taken faults old new world sentence outcome (Err fault.Source) answers = absurd answers
+unread_shown taken faults old new world sentence outcome (Err fault.Sink) answers = tt
+unread_shown taken faults old new world sentence outcome (Err fault.NoMemory) answers = tt
+
+-- the same outcomes, said otherwise
+pub unread_by : (whole outcome : List File → Bool → Outcome Left) (result : Result Session StepFault) → ((files : List File) (unread : Bool) → whole files unread ≡ outcome files unread) → UnreadOnly outcome result → UnreadOnly whole result
+unread_by whole outcome (Ok next) same unread = tt
+unread_by whole outcome (Err (fault.Command refusal)) same unread = tt
+unread_by whole outcome (Err fault.Source) same unread = λ files. ((unread files).0, same files true ∙ (unread files).1)
+unread_by whole outcome (Err fault.Sink) same unread = tt
+unread_by whole outcome (Err fault.NoMemory) same unread = tt

@@ -1,11 +1,11 @@
 -- The parts of commands.
-use Rattle.std.specs.Prelude.{◌≡◌, ℕ, ℤ, List, [], length, slice_index_or, Option}
+use Rattle.std.specs.Prelude.{◌≡◌, ℕ, ℤ, List, [], length, slice_index_or, slice_set, Option}
 use Rattle.expr_lang.specs.Terms.{Term}
 use Rattle.piece_bits.specs.Tables.{with_entry}
 use Rattle.record_dim.specs.Trees.{Fields}
 use Rattle.map_expr.specs.Terms.{Term as MapTerm}
 use Rattle.map_expr.specs.Checks.{checked}
-use Rattle.worlds.specs.Worlds.{World, Table, added}
+use Rattle.worlds.specs.Worlds.{World, Entry, Table, added}
 use Rattle.worlds.specs.Outcomes.{Outcome, Goes, ◌>>=◌, ok_or}
 use Rattle.csv_rows.specs.declared.fault.RowFault.{RowFault}
 use Rattle.csv_rows.specs.declared.fault.RowFault.TheVariants as rows
@@ -16,7 +16,12 @@ use Rattle.worlds.specs.Values.{value_on, storable, answer_in}
 use Rattle.command_checks.specs.declared.fault.StepFault.{StepFault}
 use Rattle.command_checks.specs.declared.fault.StepFault.TheVariants as step
 use Rattle.worlds.specs.declared.fault.CommandFault.{CommandFault}
-use Rattle.worlds.specs.declared.fault.CommandFault.TheVariants.{BadMapping}
+use Rattle.worlds.specs.declared.fault.CommandFault.TheVariants.{BadMapping, Mismatch}
+use Rattle.layout_copy.specs.declared.fault.CopyFault.{CopyFault}
+use Rattle.layout_copy.specs.declared.fault.CopyFault.TheVariants as copy
+use Rattle.worlds.specs.Copy.{copied, narrow_fault}
+use Rattle.worlds.specs.Kernel.{Ran}
+use Rattle.worlds.specs.Tables.{made, zeros_of}
 
 -- an expression that can be a mapping, whatever its cells are
 abbrev pub mapping_fits : MapTerm → Outcome (Unit {0})
@@ -57,3 +62,25 @@ abbrev pub rows_updated : Table → Option (Term ℕ) → List Setting → Outco
 rows_updated table test settings = do
   rows ← ok_or (update_fault table.fields) (updated_rows (answer_in table) test settings table.extents table.rows (length table.rows))
   Goes (record table { rows = rows })
+
+-- the tables beside one another, that at a place as a copy of another one
+abbrev pub copied_at : List (Entry Table) → ℕ → Entry Table → Entry Table → Outcome (List (Entry Table))
+copied_at views place source target = do
+  new ← copied source.held target.held
+  Goes (slice_set views place (record { name = target.name; held = new }))
+
+-- a table of zeros of the record and the extents of another one, and its making beside these
+abbrev pub zeros_like : Table → MapTerm → Table
+zeros_like table term = zeros_of table.fields table.extents term
+
+abbrev pub made_like : List (Entry Table) → Table → MapTerm → Outcome Table
+made_like views table term = made views table.fields table.extents term
+
+-- the fault of a copy, or want of memory
+abbrev pub TellsCopy : Fields → CopyFault → StepFault → Type 0
+TellsCopy fields copy.Mismatch told = Tells Mismatch told
+TellsCopy fields (copy.Narrow row leaf) told = Tells (narrow_fault fields (record { row = row; leaf = leaf })) told
+
+-- what a kernel leaves: a table and a number
+abbrev pub ran_to : Table → Option ℤ → Ran
+ran_to table number = record { table = table; number = number }

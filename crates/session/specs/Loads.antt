@@ -47,3 +47,8 @@ LoadCause files old new (Err (fault.Command refusal)) = new ≡ old
 LoadCause files old new (Err fault.Source) = (Rose old new ⊎ IsSome files) × (old ≤ new)
 LoadCause files old new (Err fault.Sink) = ⊥
 LoadCause files old new (Err fault.NoMemory) = old ≤ new
+
+-- a file is told as unread only where, if reading fails, the outcome is that it can't be read, whatever files there are
+abbrev pub UnreadOnly : {A B : Type 0} → (List File → Bool → Outcome B) → Result A StepFault → Type 0
+UnreadOnly outcome (Err fault.Source) = (files : List File) → (name : List ℕ) × (outcome files true ≡ CannotRead name)
+UnreadOnly outcome _ = Unit {0}

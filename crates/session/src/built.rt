@@ -2,9 +2,8 @@
 ghost use Rattle.std.specs.Prelude.{◌≡◌};
 ghost use Rattle.line_grammar.specs.Sentences.{sentence_of};
 ghost use Rattle.map_expr.specs.Terms.{term_of};
-ghost use Rattle.worlds.specs.Built.{is_built, is_built_map, is_built_order};
+ghost use Rattle.worlds.specs.Built.{is_built, is_built_map};
 
-use extents::Order;
 use line_grammar::Line;
 use map_expr::MapExpr;
 
@@ -27,7 +26,7 @@ pub fn is_built(line: &Line) -> bool
             expr,
             file: _,
         } => is_built_map(expr),
-        Line::Kernel { .. } | Line::Copy { .. } | Line::Relayout { .. } => false,
+        Line::Relayout { view: _, expr } => is_built_map(expr),
         Line::Counts(_) | Line::Heat(_) | Line::Layout(_) => false,
         _ => true,
     }
@@ -37,19 +36,19 @@ fn is_built_map(expr: &MapExpr) -> bool
     ensures { result ≡ is_built_map (term_of expr.now) }
 {
     match expr {
-        MapExpr::Aos { form: _, order } => is_built_order(*order),
-        MapExpr::Soa { form: _, order } => is_built_order(*order),
-        MapExpr::Aosoa { lanes: _, order } => is_built_order(*order),
-        MapExpr::Named(_) => true,
-        _ => false,
-    }
-}
-
-fn is_built_order(order: Order) -> bool
-    ensures { result ≡ is_built_order order }
-{
-    match order {
-        Order::Row | Order::Col => true,
-        Order::Morton => false,
+        MapExpr::Split {
+            path: _,
+            first,
+            rest,
+        } => is_built_map(first) && is_built_map(rest),
+        MapExpr::Byteswap(inner) => is_built_map(inner),
+        MapExpr::Bytesplit(inner) => is_built_map(inner),
+        MapExpr::Change {
+            from: _,
+            to: _,
+            inner,
+        } => is_built_map(inner),
+        MapExpr::Count(_) | MapExpr::Heat { .. } => false,
+        _ => true,
     }
 }

@@ -78,6 +78,7 @@ fn new_schema(alloc: Global, dim: &Dim) -> Result<Schema, StepFault>
 }
 
 // That an expression can be a mapping, whatever its cells are.
+#[tactic(auto, using(command_checks::specs::BasesLaws::base_nameless))]
 fn fits(expr: &MapExpr) -> Result<(), StepFault>
     requires { is_base (term_of expr.now) ≡ true }
     ensures { Gives (λ done. tt) result (mapping_fits (term_of expr.now)) }

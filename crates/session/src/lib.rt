@@ -3,9 +3,13 @@
 
 mod assign;
 mod built;
+mod copy;
 mod define;
+mod kernel;
 mod load;
+mod numbers;
 mod reduce;
+mod relayout;
 mod session;
 mod show;
 mod update;

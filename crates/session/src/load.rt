@@ -14,7 +14,7 @@ ghost use Rattle.command_checks.specs.Bases.{is_base};
 ghost use Rattle.command_checks.specs.Entries.{table_of, view_of};
 ghost use Rattle.command_checks.specs.Gives.{Gives};
 ghost use Rattle.session.specs.Changes.{TellsRow};
-ghost use Rattle.session.specs.Loads.{named_of, filled_table, Loads, LoadCause};
+ghost use Rattle.session.specs.Loads.{named_of, filled_table, Loads, LoadCause, UnreadOnly};
 
 use crate::session::Session;
 use crate::view::{Found, named};
@@ -54,6 +54,7 @@ impl Session {
             (Rose (H.faults shelf.old) (H.faults shelf.new)) result }
         ensures files { H.files shelf.new ≡ H.files shelf.old }
         ensures cause { LoadCause (H.files shelf.old) (H.faults shelf.old) (H.faults shelf.new) result }
+        ensures unread { UnreadOnly (load (world_of self) name schema words.now (term_of expr.now) file.now) result }
     {
         let view = loaded_view(
             self.alloc,
@@ -95,6 +96,7 @@ fn loaded_view<H: Shelf, L: Ledger>(
         (Rose (H.faults shelf.old) (H.faults shelf.new)) result }
     ensures files { H.files shelf.new ≡ H.files shelf.old }
     ensures cause { LoadCause (H.files shelf.old) (H.faults shelf.old) (H.faults shelf.new) result }
+    ensures unread { UnreadOnly (loaded_table (world_in records.now mappings.now views.now) name schema words.now (term_of expr.now) file.now) result }
 {
     let found = named(alloc, records, mappings, views, name, schema, words, expr)?;
     match read_all(alloc, shelf, file.as_str(), DATASET_BYTES) {

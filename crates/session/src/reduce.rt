@@ -1,21 +1,19 @@
 // `reduce V sum|min|max path` and `reduce V count where ..`.
-ghost use Rattle.std.specs.Prelude.{◌≡◌, ◌<◌, ◌≤◌, ◌+◌, ◌^◌, length, take, pos, flat_map};
+ghost use Rattle.std.specs.Prelude.{◌≡◌, ◌<◌, ◌≤◌, ◌+◌, ◌^◌, length, take};
 ghost use Rattle.expr_lang.specs.Terms.{term_of};
-ghost use Rattle.layout_io.specs.Parts.{text_of_part};
-ghost use Rattle.layout_io.specs.Writing.{Writes};
 ghost use Rattle.views.specs.Seen.{leaf_count_of};
 ghost use Rattle.worlds.specs.Outcomes.{Goes};
 ghost use Rattle.worlds.specs.Reduce.{reduce, reduced, reduction, column, count, counting};
-ghost use Rattle.worlds.specs.Texts.{number_line};
 ghost use Rattle.command_checks.specs.Entries.{table_of};
 ghost use Rattle.command_checks.specs.Gives.{Gives};
 ghost use Rattle.session.specs.Columns.{combined, IsSmall};
 
+use crate::numbers::{write_count, write_number};
 use crate::session::Session;
 use crate::update::update_fault;
 use command_checks::{StepFault, bound, known_view, leaf_of};
 use expr_lang::Expr;
-use layout_io::{Failed, Part, Sink, TextBuffer};
+use layout_io::Sink;
 use line_grammar::ReduceKind;
 use record_dim::{Name, Path};
 use row_updates::count_where;
@@ -101,30 +99,6 @@ fn counting<L: Ledger>(
         Ok(rows) => Ok(rows),
         Err(fault) => Err(update_fault(alloc, view, fault)),
     }
-}
-
-// The count as a line.
-#[tactic(auto, unfolding(worlds::specs::Texts::number_line))]
-fn write_count<K: Sink>(count: u64, out: &mut K) -> Result<(), Failed>
-    ensures { Writes K.taken K.faults out.old out.new result (number_line (pos count)) }
-{
-    write_line(&[Part::Count(count), Part::Text(b"\n")], out)
-}
-
-// The number as a line.
-#[tactic(auto, unfolding(worlds::specs::Texts::number_line))]
-fn write_number<K: Sink>(value: i128, out: &mut K) -> Result<(), Failed>
-    ensures { Writes K.taken K.faults out.old out.new result (number_line value) }
-{
-    write_line(&[Part::Number(value), Part::Text(b"\n")], out)
-}
-
-fn write_line<K: Sink>(parts: &[Part<'_>], out: &mut K) -> Result<(), Failed>
-    ensures { Writes K.taken K.faults out.old out.new result (flat_map text_of_part parts.now) }
-{
-    let mut buffer = TextBuffer::new();
-    buffer.put_parts(parts, out)?;
-    buffer.flush(out)
 }
 
 // The sum, the least or the greatest of the values of a leaf in all rows.

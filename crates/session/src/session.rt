@@ -26,6 +26,7 @@ pub struct Session {
 impl Session {
     ghost use Rattle.session.specs.Stands.{Stands, world_of};
     ghost use Rattle.session.specs.Answers.{StepsTo, StepCause, IsFit};
+    ghost use Rattle.session.specs.Loads.{UnreadOnly};
 
     /// A session that holds nothing.
     pub fn new(alloc: Global) -> Session
@@ -39,7 +40,8 @@ impl Session {
         }
     }
 
-    /// Does one line of a script: where the shelf tells its files, the answer is that of the model. On every refusal the session is gone.
+    /// Does one line of a script: where the shelf tells its files, the answer is that of the model. `Source` comes only of a line that reads
+    /// a file, and whose outcome is that the file can't be read where reading fails. On every refusal the session is gone.
     pub fn step<H: Shelf, K: Sink, L: Ledger>(
         self,
         line: &Line,
@@ -53,6 +55,7 @@ impl Session {
             (Rose (H.faults shelf.old) (H.faults shelf.new)) result }
         ensures files { H.files shelf.new ≡ H.files shelf.old }
         ensures cause { StepCause (H.files shelf.old) (H.faults shelf.old) (H.faults shelf.new) (K.faults out.old) (K.faults out.new) result }
+        ensures unread { UnreadOnly (step (world_of self) (sentence_of line.now)) result }
     {
         if !is_built(line) {
             return Err(StepFault::Command(CommandFault::NotBuilt));
@@ -83,6 +86,13 @@ impl Session {
             Line::Update { view, filter, sets } => {
                 self.update(*view, filter, sets.as_slice(), steps)
             }
+            Line::Kernel {
+                view,
+                kernel,
+                lanes,
+            } => self.kernel(*view, kernel, *lanes, out, steps),
+            Line::Copy { source, target } => self.copy(*source, *target, steps),
+            Line::Relayout { view, expr } => self.relayout(*view, expr, steps),
             Line::Reduce { view, kind, path } => self.reduce(*view, *kind, path, out, steps),
             Line::Count { view, filter } => self.count(*view, filter, out, steps),
             Line::Print(view) => self.print(*view, out, steps),
@@ -92,3 +102,6 @@ impl Session {
         }
     }
 }
+
+#[cfg(test)]
+mod tests;

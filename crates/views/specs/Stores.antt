@@ -24,6 +24,10 @@ store_answer kind hold value =
     then (if is_between (least_in hold.signed hold.width) (greatest_in hold.signed hold.width) value then Ok tt else Err Narrow)
     else Err Range
 
+-- what a store of a value in a leaf answers
+abbrev pub Answer : Type 0
+Answer = ℕ → ℤ → Result Unit StoreFault
+
 -- a value lies in the declared range of its leaf and in the range of its hold
 pub record Fits (kind : LeafType) (hold : Hold) (value : ℤ) : Type 0 where
   pub declared : IsDeclared kind value

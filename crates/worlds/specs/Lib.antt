@@ -12,6 +12,8 @@ pub mod Load
 pub mod Assign
 pub mod Update
 pub mod Reduce
+pub mod Copy
+pub mod Kernel
 pub mod Show
 pub mod Built
 pub mod Step

@@ -12,6 +12,8 @@ use Rattle.worlds.specs.Load.{load}
 use Rattle.worlds.specs.Assign.{assign}
 use Rattle.worlds.specs.Update.{update}
 use Rattle.worlds.specs.Reduce.{reduce, count}
+use Rattle.worlds.specs.Copy.{copy, relayout}
+use Rattle.worlds.specs.Kernel.{kernel}
 use Rattle.worlds.specs.Show.{print, bytes, drop_view}
 use Rattle.worlds.specs.declared.fault.CommandFault.TheVariants.{NotBuilt}
 
@@ -26,6 +28,9 @@ command world (line.Assign name index path value) files unread = assign world na
 command world (line.Update name filter sets) files unread = update world name filter sets
 command world (line.Reduce name kind path) files unread = reduce world name kind path
 command world (line.Count name filter) files unread = count world name filter
+command world (line.Kernel name text lanes) files unread = kernel world name text lanes
+command world (line.Copy name target) files unread = copy world name target
+command world (line.Relayout name term) files unread = relayout world name term
 command world (line.Print name) files unread = print world name
 command world (line.Bytes name blob) files unread = bytes world name blob
 command world (line.Drop name) files unread = drop_view world name

@@ -7,8 +7,7 @@ use Rattle.expr_lang.specs.declared.fault.EvalFault.{EvalFault}
 use Rattle.expr_lang.specs.declared.fault.EvalFault.TheVariants as eval
 use Rattle.map_any.specs.Mappings.{holds_by}
 use Rattle.piece_bits.specs.Tables.{hold_at}
-use Rattle.row_updates.specs.Rows.{Answer}
-use Rattle.views.specs.Stores.{kind_at, store_answer}
+use Rattle.views.specs.Stores.{Answer, kind_at, store_answer}
 use Rattle.views.specs.declared.fault.StoreFault.{StoreFault}
 use Rattle.views.specs.declared.fault.StoreFault.TheVariants as store
 use Rattle.worlds.specs.Worlds.{Table}

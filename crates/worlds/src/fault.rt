@@ -50,7 +50,7 @@ pub enum CommandFault {
     /// A result lies outside 128 bits.
     Overflow { row: u64 },
     DivideByZero { row: u64 },
-    /// The line has a command, a mapping form or an order that is not built yet.
+    /// The line has a command or a mapping form that is not built yet.
     NotBuilt,
 }
 

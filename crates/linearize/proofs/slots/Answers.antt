@@ -1,19 +1,12 @@
 use Rattle.std.proofs.Common.{refl, sym, arith}
 use Rattle.std.proofs.lemmas.Bool.{false≢true}
-use Rattle.linearize.proofs.SlotLemmas.{slot_count_is}
 use Rattle.linearize.proofs.slots.Goals as goal
 
 pub returns-then-count-gt-MAX_SLOTS-clause-too_many : goal.returns-then-count-gt-MAX_SLOTS-clause-too_many
-returns-then-count-gt-MAX_SLOTS-clause-too_many g c =
-    let same = slot_count_is c.args.order c.args.extents.now c.requires.built in
-    ((λ _. omega arith), (λ _. refl))
+returns-then-count-gt-MAX_SLOTS-clause-too_many g c = ((λ _. omega arith), (λ _. refl))
 
 pub returns-else-count-gt-MAX_SLOTS-clause-count : goal.returns-else-count-gt-MAX_SLOTS-clause-count
-returns-else-count-gt-MAX_SLOTS-clause-count g c =
-    let same = slot_count_is c.args.order c.args.extents.now c.requires.built in
-    omega arith
+returns-else-count-gt-MAX_SLOTS-clause-count g c = omega arith
 
 pub returns-else-count-gt-MAX_SLOTS-clause-too_many : goal.returns-else-count-gt-MAX_SLOTS-clause-too_many
-returns-else-count-gt-MAX_SLOTS-clause-too_many g c =
-    let same = slot_count_is c.args.order c.args.extents.now c.requires.built in
-    ((λ e. absurd (false≢true (sym e))), (λ h. absurd (omega arith)))
+returns-else-count-gt-MAX_SLOTS-clause-too_many g c = ((λ e. absurd (false≢true (sym e))), (λ h. absurd (omega arith)))

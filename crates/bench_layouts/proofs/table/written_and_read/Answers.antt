@@ -1,4 +1,4 @@
-use Rattle.std.proofs.Common.{◌≡◌, Ok, ℤ, List, length, ◌∙◌, ap, sym, rules}
+use Rattle.std.proofs.Common.{◌≡◌, ℤ, List, length, ◌∙◌, ap, rules}
 use Rattle.std.proofs.lemmas.List.{length-replicate}
 use Rattle.bench_layouts.specs.Tables.{entry_after, sum_read}
 use Rattle.bench_layouts.proofs.Rounds.{same_read, small_entries}

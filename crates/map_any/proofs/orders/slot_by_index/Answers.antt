@@ -14,5 +14,5 @@ returns c =
     record {
       slot = is;
       below = subst (λ (n : ℕ). n < slot_count c.args.order c.args.extents.now) (sym is)
-          (slot_at_below c.args.order c.args.extents.now c.args.row c.requires.built c.requires.row_in);
+          (slot_at_below c.args.order c.args.extents.now c.args.row c.requires.row_in);
     }

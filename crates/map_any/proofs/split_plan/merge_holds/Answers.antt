@@ -2,12 +2,11 @@ use Rattle.std.proofs.Common.{◌≡◌, ◌+◌, ◌<◌, ◌∙◌, ◌∷◌,
 use Rattle.std.specs.Prelude.{not}
 use Rattle.std.specs.List.{count_by}
 use Rattle.std.proofs.lemmas.Option.{get_or_from_slice_get}
-use Rattle.map_any.specs.Sides.{merged}
 use Rattle.std.proofs.lemmas.List.Sums.{count_by_more_yes, count_by_more_no}
 use Rattle.places.specs.declared.piece.Hold.{Hold}
-use Rattle.map_any.specs.Splits.{rank_first, rank_rest}
-use Rattle.map_any.specs.SidesLaws.{rank_first_in, rank_rest_in}
-use Rattle.map_any.proofs.SidesMore.{merged_more_first, merged_more_rest}
+use Rattle.map_split.specs.Sides.{merged, rank_first, rank_rest}
+use Rattle.map_split.specs.SidesLaws.{rank_first_in, rank_rest_in}
+use Rattle.map_split.specs.MoreLaws.{merged_more_first, merged_more_rest}
 use Rattle.map_any.proofs.split_plan.merge_holds.Goals as goal
 use Rattle.map_any.proofs.split_plan.merge_holds.Goals.{then-is_first+in_ok-push, else-is_first+in_ok-push-2}
 

@@ -1,7 +1,6 @@
 -- the holds so far, and how many of each side
 use Rattle.std.proofs.Common.{◌≡◌, take}
-use Rattle.map_any.specs.Sides.{merged}
-use Rattle.map_any.specs.Splits.{rank_first, rank_rest}
+use Rattle.map_split.specs.Sides.{merged, rank_first, rank_rest}
 use Rattle.map_any.proofs.split_plan.merge_holds.Given as goal
 
 abbrev pub invariant-loop-is_first : goal.invariant-loop-is_first

@@ -3,8 +3,8 @@ use Rattle.std.specs.Prelude.{not}
 use Rattle.std.specs.List.{count_by}
 use Rattle.std.proofs.lemmas.List.Sums.{count_by_more_yes, count_by_more_no}
 use Rattle.map_any.specs.declared.rule.Rule.{Rule}
-use Rattle.map_any.specs.Splits.{rank_first, rank_rest}
-use Rattle.map_any.specs.SidesLaws.{rank_first_in, rank_rest_in}
+use Rattle.map_split.specs.Sides.{rank_first, rank_rest}
+use Rattle.map_split.specs.SidesLaws.{rank_first_in, rank_rest_in}
 use Rattle.map_any.proofs.SplitRules.{more_first, more_rest}
 use Rattle.map_any.proofs.split_rules.split_rules.Goals as goal
 use Rattle.map_any.proofs.split_rules.split_rules.Goals.{then-is_first+in_ok-push, else-is_first+in_ok-push-2}

@@ -1,7 +1,8 @@
 -- the rules so far, and how many of each side
 use Rattle.std.proofs.Common.{◌≡◌, length}
 use Rattle.map_any.specs.Ruled.{EachWith}
-use Rattle.map_any.specs.Splits.{IsSplitRule, rank_first, rank_rest}
+use Rattle.map_any.specs.Splits.{IsSplitRule}
+use Rattle.map_split.specs.Sides.{rank_first, rank_rest}
 use Rattle.map_any.proofs.split_rules.split_rules.Given as goal
 
 abbrev pub invariant-loop-is_first : goal.invariant-loop-is_first

@@ -1,14 +1,17 @@
-use Rattle.std.proofs.Common.{rules, ◌≡◌, ◌⊎◌, ◌<◌, ◌^◌, ◌∙◌, Bool, List, ℕ, length, map, Some, None, inl, inr, ⊎_elim, sym, ap, subst}
+use Rattle.std.proofs.Common.{rules, ◌≡◌, ◌⊎◌, ◌<◌, ◌^◌, ◌∙◌, Bool, List, ℕ, length, map, Some, None, Err, refl, inl, inr, ⊎_elim, sym, ap, subst}
 use Rattle.layout_io.specs.Faults.{Rose}
 use Rattle.layout_io.specs.Files.{file_of, IsMissing}
 use Rattle.worlds.specs.Load.{loaded_table, loaded, read}
 use Rattle.worlds.specs.Outcomes.{Outcome, ◌>>=◌}
 use Rattle.worlds.specs.View.{Named}
 use Rattle.worlds.specs.Worlds.{Table}
+use Rattle.map_expr.specs.Terms.{term_of}
+use Rattle.views.specs.Seen.{Seen}
+use Rattle.session.specs.Stands.{world_in}
 use Rattle.command_checks.specs.Entries.{table_of, view_of}
 use Rattle.command_checks.specs.Gives.{Gives}
 use Rattle.session.specs.Loads.{named_of, filled_table}
-use Rattle.session.proofs.Reading.{file_there, file_missing, before_reading, was_read, was_unread, was_long, not_long}
+use Rattle.session.proofs.Reading.{file_there, file_missing, before_reading, was_read, was_unread, was_long, not_long, unread_test, unread_gives}
 use Rattle.session.proofs.load.loaded_view.Goals as goal
 
 pub returns-in_err-found-clause-loads : goal.returns-in_err-found-clause-loads
@@ -46,3 +49,15 @@ returns-in-TooLong-clause-loads g c = λ files told.
     let long = rw c.as_str.ensures.value at (rw c.in-TooLong.is at c.in-Err.ensures.whole) in
     let there = file_there _ files name (λ file. 2 ^ 28 < length file) told long.0 in
     was_long _ (named_of c.in_ok-found.found) files name there.0 (map view_of c.args.views.now) c.args.words.now c.in_ok-found.ensures.named there.1 there.2
+
+pub returns-in_err-found-clause-unread : goal.returns-in_err-found-clause-unread
+returns-in_err-found-clause-unread g c =
+    let is : c.from_residual.result ≡ Err c.in_err-found.field-0.0 = search rules in
+    rw is (unread_test Seen _ (λ files unread. loaded_table (world_in c.args.records.now c.args.mappings.now c.args.views.now) c.args.name c.args.schema c.args.words.now (term_of c.args.expr.now) c.args.file.now files unread) c.in_err-found.field-0.0 c.in_err-found.ensures.named)
+
+pub returns-in-Ok-clause-unread : goal.returns-in-Ok-clause-unread
+returns-in-Ok-clause-unread g c = unread_gives Seen table_of _ (λ files unread. loaded_table (world_in c.args.records.now c.args.mappings.now c.args.views.now) c.args.name c.args.schema c.args.words.now (term_of c.args.expr.now) c.args.file.now files unread) c.filled_view.result c.filled_view.ensures
+
+pub returns-in-Failed-clause-unread : goal.returns-in-Failed-clause-unread
+unfolding loaded_table
+returns-in-Failed-clause-unread g c = λ files. (c.args.file.now, rw c.in_ok-found.ensures.named refl)

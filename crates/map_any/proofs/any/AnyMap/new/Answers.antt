@@ -1,4 +1,4 @@
-use Rattle.std.proofs.Common.{◌≡◌, ◌∙◌, ℕ, List, Ok, map, length, refl, ap, subst, sym, rules}
+use Rattle.std.proofs.Common.{◌≡◌, ◌∙◌, ℕ, List, Ok, false, map, length, refl, ap, subst, sym, rules}
 use Rattle.record_dim.specs.Schemas.{schema_fields}
 use Rattle.record_dim.specs.Leaves.{kinds_of}
 use Rattle.record_dim.specs.Trees.{Fields}
@@ -6,7 +6,7 @@ use Rattle.places.specs.declared.piece.Cell.{Cell}
 use Rattle.places.specs.declared.piece.Hold.{Hold}
 use Rattle.map_expr.specs.Terms.{Term, term_of}
 use Rattle.map_expr.specs.Checks.{checked, bad_number}
-use Rattle.map_any.specs.Mappings.{leaf_cells, layout_of, layout_by, holds_by, IsBuiltTerm}
+use Rattle.map_any.specs.Mappings.{leaf_cells, layout_of, layout_by, holds_by, not_full, IsBuiltTerm}
 use Rattle.map_any.specs.LeafRules.{AreLeafRules}
 use Rattle.map_any.specs.Ruled.{IsRuled}
 use Rattle.map_any.specs.declared.rule.Rule.{Rule}
@@ -44,6 +44,7 @@ invariant_of-result c =
     let extents : List ℕ = c.args.extents.now in
     let plan = c.in_ok-plan.plan in
     let is_checked : checked term ≡ Ok tt = search rules in
+    let is_full : not_full term (schema_fields c.args.schema.now) c.in_ok-cells.cells ≡ false = search rules in
     let same : copy ≡ term = c.in_ok-expr.ensures in
     let trees : schema_fields c.args.schema.now ≡ fields = sym c.in_ok-schema.ensures in
     let one = subst (λ (cs : List Cell). IsPlanOf term extents (schema_fields c.args.schema.now) cs plan) c.in_ok-cells.ensures c.in_ok-plan.ensures.plan in
@@ -53,6 +54,10 @@ invariant_of-result c =
     record {
       built = subst IsBuiltTerm (sym same) c.requires.built;
       numbers = ap bad_number same ∙ accepted_numbers term is_checked;
+      full =
+          subst (λ (t : Term). not_full t fields (leaf_cells (kinds_of fields)) ≡ false) (sym same)
+          (subst (λ (f : Fields). not_full term f (leaf_cells (kinds_of f)) ≡ false) trees
+          (subst (λ (cs : List Cell). not_full term (schema_fields c.args.schema.now) cs ≡ false) c.in_ok-cells.ensures is_full));
       held = planned.held;
       sized = planned.sized;
       ruled = leaves_ruled (layout_by copy extents fields) extents (kinds_of fields) plan.holds plan.rules c.in_ok-rules.rules

@@ -1,5 +1,6 @@
-use Rattle.std.proofs.Common.{rules, ◌≡◌, ◌∙◌, [], false, Err, refl, sym, ap, subst}
+use Rattle.std.proofs.Common.{rules, ◌≡◌, ◌∙◌, Bool, List, [], false, Err, refl, sym, ap, subst}
 use Rattle.layout_io.specs.Faults.{Rose}
+use Rattle.layout_io.specs.Files.{File}
 use Rattle.views.specs.Seen.{Seen}
 use Rattle.map_expr.specs.Terms.{term_of}
 use Rattle.worlds.specs.Load.{load, loaded_table}
@@ -8,9 +9,9 @@ use Rattle.worlds.specs.View.{with_view}
 use Rattle.worlds.specs.Worlds.{World, Table}
 use Rattle.command_checks.specs.Entries.{table_of}
 use Rattle.command_checks.specs.GivesLaws.{goes_then}
-use Rattle.session.specs.Loads.{Loads}
+use Rattle.session.specs.Loads.{Loads, UnreadOnly}
 use Rattle.session.specs.Stands.{left_of, world_in, world_of}
-use Rattle.session.proofs.Reading.{after_load}
+use Rattle.session.proofs.Reading.{after_load, unread_after}
 use Rattle.session.proofs.session.Session.load.Goals as goal
 
 pub returns-in_err-view-clause-loads : goal.returns-in_err-view-clause-loads
@@ -31,3 +32,13 @@ returns-clause-loads g c = λ files told.
     let lists : world_in c.as_slice.result.now c.as_slice-2.result.now c.as_slice-3.result.now ≡ world_of c.args.self = rw (c.as_slice.ensures.value, c.as_slice-2.ensures.value, c.as_slice-3.ensures.value) refl in
     let made = subst (λ (world : World). table world false ≡ Goes (table_of c.in_ok-view.view)) lists (c.in_ok-view.ensures.loads files told) in
     goes_then _ _ _ made ∙ ap (λ (world : World). Goes (record { world = world; text = [] })) (sym c.in_ok-next.ensures.added)
+
+pub returns-in_err-view-clause-unread : goal.returns-in_err-view-clause-unread
+unfolding load
+returns-in_err-view-clause-unread g c =
+    let fault = c.in_err-view.field-0.0 in
+    let table = λ (world : World) (files : List File) (unread : Bool). loaded_table world c.args.name c.args.schema c.args.words.now (term_of c.args.expr.now) c.args.file.now files unread in
+    let lists : world_in c.as_slice.result.now c.as_slice-2.result.now c.as_slice-3.result.now ≡ world_of c.args.self = rw (c.as_slice.ensures.value, c.as_slice-2.ensures.value, c.as_slice-3.ensures.value) refl in
+    let unread = subst (λ (world : World). UnreadOnly {A = Seen} (table world) (Err fault)) lists c.in_err-view.ensures.unread in
+    unread_after Seen (table (world_of c.args.self))
+    (λ (made : Table). record { world = with_view (world_of c.args.self) c.args.name made; text = [] }) fault c.from_residual.result (search rules) unread

@@ -7,18 +7,20 @@ use Rattle.line_grammar.specs.declared.line.Line.{Line}
 use Rattle.map_expr.specs.Terms.{term_of}
 use Rattle.record_dim.specs.Trees.{tree_of}
 use Rattle.worlds.specs.Assign.{assign}
+use Rattle.worlds.specs.Copy.{copy, relayout}
 use Rattle.worlds.specs.Define.{define}
+use Rattle.worlds.specs.Kernel.{kernel}
 use Rattle.worlds.specs.Load.{load}
 use Rattle.worlds.specs.Mapping.{mapping}
 use Rattle.worlds.specs.Reduce.{reduce, count}
 use Rattle.worlds.specs.Show.{print, bytes, drop_view}
-use Rattle.worlds.specs.Step.{command}
+use Rattle.worlds.specs.Step.{step, command}
 use Rattle.worlds.specs.Update.{update}
 use Rattle.worlds.specs.View.{view}
 use Rattle.worlds.specs.declared.fault.CommandFault.TheVariants.{NotBuilt}
 use Rattle.session.specs.Stands.{left_of, world_of}
 use Rattle.session.proofs.Exits.{refused}
-use Rattle.session.proofs.Steps.{step_is, step_not, steps_by, steps_quiet, steps_shown, steps_load}
+use Rattle.session.proofs.Steps.{step_is, step_not, steps_by, steps_quiet, steps_shown, steps_load, unread_quiet, unread_shown, unread_by}
 use Rattle.session.proofs.session.Session.step.Goals as goal
 
 pub returns-then-not-is_built-clause-step : goal.returns-then-not-is_built-clause-step
@@ -120,3 +122,74 @@ returns-in-Bytes-clause-step g c = λ files told.
     steps_by g.K.Sink.taken g.K.Sink.faults c.args.out.now c.bytes.new.out _ (λ (unread : Bool). bytes (world_of c.args.self) c.in-Bytes.view c.in-Bytes.blob) _ c.bytes.result
     (λ unread. step_is (world_of c.args.self) (sentence_of c.args.line.now) files unread built ∙ ap (λ (line : Line). command (world_of c.args.self) (sentence_of line) files unread) c.in-Bytes.is)
     (steps_shown g.K.Sink.taken g.K.Sink.faults c.args.out.now c.bytes.new.out (bytes (world_of c.args.self) c.in-Bytes.view c.in-Bytes.blob) _ c.bytes.result c.bytes.ensures)
+
+pub returns-in-Kernel-clause-step : goal.returns-in-Kernel-clause-step
+returns-in-Kernel-clause-step g c = λ files told.
+    let on : c.is_built.result ≡ true = search (rules, tests) in
+    let built = sym c.is_built.ensures ∙ on in
+    steps_by g.K.Sink.taken g.K.Sink.faults c.args.out.now c.kernel.new.out _ (λ (unread : Bool). kernel (world_of c.args.self) c.in-Kernel.view c.in-Kernel.kernel c.in-Kernel.lanes) _ c.kernel.result
+    (λ unread. step_is (world_of c.args.self) (sentence_of c.args.line.now) files unread built ∙ ap (λ (line : Line). command (world_of c.args.self) (sentence_of line) files unread) c.in-Kernel.is)
+    (steps_shown g.K.Sink.taken g.K.Sink.faults c.args.out.now c.kernel.new.out (kernel (world_of c.args.self) c.in-Kernel.view c.in-Kernel.kernel c.in-Kernel.lanes) _ c.kernel.result c.kernel.ensures)
+
+pub returns-in-Copy-clause-step : goal.returns-in-Copy-clause-step
+returns-in-Copy-clause-step g c = λ files told.
+    let on : c.is_built.result ≡ true = search (rules, tests) in
+    let built = sym c.is_built.ensures ∙ on in
+    steps_by g.K.Sink.taken g.K.Sink.faults c.args.out.now c.args.out.now _ (λ (unread : Bool). copy (world_of c.args.self) c.in-Copy.source c.in-Copy.target) _ c.copy.result
+    (λ unread. step_is (world_of c.args.self) (sentence_of c.args.line.now) files unread built ∙ ap (λ (line : Line). command (world_of c.args.self) (sentence_of line) files unread) c.in-Copy.is)
+    (steps_quiet g.K.Sink.taken g.K.Sink.faults c.args.out.now (copy (world_of c.args.self) c.in-Copy.source c.in-Copy.target) _ c.copy.result c.copy.ensures)
+
+pub returns-in-Relayout-clause-step : goal.returns-in-Relayout-clause-step
+returns-in-Relayout-clause-step g c = λ files told.
+    let on : c.is_built.result ≡ true = search (rules, tests) in
+    let built = sym c.is_built.ensures ∙ on in
+    steps_by g.K.Sink.taken g.K.Sink.faults c.args.out.now c.args.out.now _ (λ (unread : Bool). relayout (world_of c.args.self) c.in-Relayout.view (term_of c.in-Relayout.expr)) _ c.relayout.result
+    (λ unread. step_is (world_of c.args.self) (sentence_of c.args.line.now) files unread built ∙ ap (λ (line : Line). command (world_of c.args.self) (sentence_of line) files unread) c.in-Relayout.is)
+    (steps_quiet g.K.Sink.taken g.K.Sink.faults c.args.out.now (relayout (world_of c.args.self) c.in-Relayout.view (term_of c.in-Relayout.expr)) _ c.relayout.result c.relayout.ensures)
+
+pub returns-in-Define-clause-unread : goal.returns-in-Define-clause-unread
+returns-in-Define-clause-unread g c = unread_quiet (world_of c.args.self) (sentence_of c.args.line.now) _ c.define.result c.define.ensures
+
+pub returns-in-Mapping-clause-unread : goal.returns-in-Mapping-clause-unread
+returns-in-Mapping-clause-unread g c = unread_quiet (world_of c.args.self) (sentence_of c.args.line.now) _ c.mapping.result c.mapping.ensures
+
+pub returns-in-View-clause-unread : goal.returns-in-View-clause-unread
+returns-in-View-clause-unread g c = unread_quiet (world_of c.args.self) (sentence_of c.args.line.now) _ c.view.result c.view.ensures
+
+pub returns-in-Assign-clause-unread : goal.returns-in-Assign-clause-unread
+returns-in-Assign-clause-unread g c = unread_quiet (world_of c.args.self) (sentence_of c.args.line.now) _ c.assign.result c.assign.ensures
+
+pub returns-in-Update-clause-unread : goal.returns-in-Update-clause-unread
+returns-in-Update-clause-unread g c = unread_quiet (world_of c.args.self) (sentence_of c.args.line.now) _ c.update.result c.update.ensures
+
+pub returns-in-Copy-clause-unread : goal.returns-in-Copy-clause-unread
+returns-in-Copy-clause-unread g c = unread_quiet (world_of c.args.self) (sentence_of c.args.line.now) _ c.copy.result c.copy.ensures
+
+pub returns-in-Relayout-clause-unread : goal.returns-in-Relayout-clause-unread
+returns-in-Relayout-clause-unread g c = unread_quiet (world_of c.args.self) (sentence_of c.args.line.now) _ c.relayout.result c.relayout.ensures
+
+pub returns-in-Drop-clause-unread : goal.returns-in-Drop-clause-unread
+returns-in-Drop-clause-unread g c = unread_quiet (world_of c.args.self) (sentence_of c.args.line.now) _ c.drop_view.result c.drop_view.ensures
+
+pub returns-in-Kernel-clause-unread : goal.returns-in-Kernel-clause-unread
+returns-in-Kernel-clause-unread g c = unread_shown g.K.Sink.taken g.K.Sink.faults c.args.out.now c.kernel.new.out (world_of c.args.self) (sentence_of c.args.line.now) _ c.kernel.result c.kernel.ensures
+
+pub returns-in-Reduce-clause-unread : goal.returns-in-Reduce-clause-unread
+returns-in-Reduce-clause-unread g c = unread_shown g.K.Sink.taken g.K.Sink.faults c.args.out.now c.reduce.new.out (world_of c.args.self) (sentence_of c.args.line.now) _ c.reduce.result c.reduce.ensures
+
+pub returns-in-Count-clause-unread : goal.returns-in-Count-clause-unread
+returns-in-Count-clause-unread g c = unread_shown g.K.Sink.taken g.K.Sink.faults c.args.out.now c.count.new.out (world_of c.args.self) (sentence_of c.args.line.now) _ c.count.result c.count.ensures
+
+pub returns-in-Print-clause-unread : goal.returns-in-Print-clause-unread
+returns-in-Print-clause-unread g c = unread_shown g.K.Sink.taken g.K.Sink.faults c.args.out.now c.print.new.out (world_of c.args.self) (sentence_of c.args.line.now) _ c.print.result c.print.ensures
+
+pub returns-in-Bytes-clause-unread : goal.returns-in-Bytes-clause-unread
+returns-in-Bytes-clause-unread g c = unread_shown g.K.Sink.taken g.K.Sink.faults c.args.out.now c.bytes.new.out (world_of c.args.self) (sentence_of c.args.line.now) _ c.bytes.result c.bytes.ensures
+
+pub returns-in-Load-clause-unread : goal.returns-in-Load-clause-unread
+returns-in-Load-clause-unread g c =
+    let on : c.is_built.result ≡ true = search (rules, tests) in
+    let built = sym c.is_built.ensures ∙ on in
+    unread_by (step (world_of c.args.self) (sentence_of c.args.line.now)) (load (world_of c.args.self) c.in-Load.name c.in-Load.schema c.as_slice-in-Load.result.now (term_of c.in-Load.expr) c.in-Load.file) c.load.result
+    (λ files unread. step_is (world_of c.args.self) (sentence_of c.args.line.now) files unread built ∙ ap (λ (line : Line). command (world_of c.args.self) (sentence_of line) files unread) c.in-Load.is ∙ ap (λ words. load (world_of c.args.self) c.in-Load.name c.in-Load.schema words (term_of c.in-Load.expr) c.in-Load.file files unread) (sym c.as_slice-in-Load.ensures))
+    c.load.ensures.unread

@@ -32,3 +32,14 @@ returns-clause-table c =
     (lawful_there mapping c.laws_of.ensures.lawful) paired (within_copied c.args.extents c.in_ok-expr.ensures c.in_ok-schema.ensures made.fits)
     (laid_there mapping c.in_ok-blobs.blobs.items c.in_ok-blobs.ensures.laid) c.in_ok-blobs.ensures.zero
     ∙ ap (zeros (length (indices c.args.extents))) (paired ∙ kind_count fields ∙ ap (λ (f : Fields). length (leaves f)) c.in_ok-schema.ensures)
+
+-- a mapping that is dropped is one still
+pub invariant_of-map-in_err-expr : goal.invariant_of-map-in_err-expr
+invariant_of-map-in_err-expr c =
+    let m = c.in_ok-map.map in
+    record { built = m.built; numbers = m.numbers; full = m.full; held = m.held; sized = m.sized; ruled = m.ruled }
+
+pub invariant_of-map-in_err-blobs : goal.invariant_of-map-in_err-blobs
+invariant_of-map-in_err-blobs c =
+    let m = c.in_ok-map.map in
+    record { built = m.built; numbers = m.numbers; full = m.full; held = m.held; sized = m.sized; ruled = m.ruled }

@@ -1,0 +1,154 @@
+// A table over which a kernel is run.
+ghost use Rattle.std.specs.Prelude.{◌≡◌, [], ◌∷◌, ◌<◌, IfSome, IfOk, IfErr, OnOk, Ok, Some, map, string_bytes};
+ghost use Rattle.record_dim.specs.Schemas.{schema_fields};
+ghost use Rattle.map_expr.specs.Terms.{term_of};
+ghost use Rattle.piece_bits.specs.Tables.{zeros};
+ghost use Rattle.views.specs.Seen.{answer_of};
+ghost use Rattle.lane_kernels.specs.Kernels.{IsKernelOf};
+ghost use Rattle.bench_layouts.specs.declared.mode.Mode.TheVariants.{Kernel as Runs};
+ghost use Rattle.bench_layouts.specs.Faults.{IsFaultOf};
+ghost use Rattle.bench_layouts.specs.Forms.{form_term};
+ghost use Rattle.bench_layouts.specs.KernelRuns.{all_given, kernel_called, kernel_named, table_after, IsRefusedRun, IsSumOfRuns};
+ghost use Rattle.bench_layouts.specs.Modes.{checksum_of, IsRunning};
+ghost use Rattle.bench_layouts.specs.Tables.{measured_fields};
+
+use crate::count::count_in;
+use crate::fault::BenchFault;
+use crate::form::Form;
+use crate::table::{new_view, write_rounds};
+use lane_kernels::{Compare, Kernel, KernelFault, run_plain};
+use std::alloc::Global;
+use std::marker::Brand;
+use std::sync::ledger::{Blank, Ledger};
+use steps::Steps;
+use views::View;
+
+/// A kernel over the leaves b and c of the record.
+#[derive(Clone, Copy, Debug, PartialEq, Eq)]
+pub enum KernelName {
+    Axpy,
+    Clamp,
+    Sum,
+    Least,
+    Greatest,
+    Count,
+}
+
+impl KernelName {
+    /// The kernel of this name.
+    fn of(text: &str) -> Option<KernelName>
+        ensures { result ≡ kernel_named text.now }
+    {
+        match text {
+            "axpy" => Some(KernelName::Axpy),
+            "clamp" => Some(KernelName::Clamp),
+            "sum" => Some(KernelName::Sum),
+            "least" => Some(KernelName::Least),
+            "greatest" => Some(KernelName::Greatest),
+            "count" => Some(KernelName::Count),
+            _ => None,
+        }
+    }
+
+    /// The kernel itself.
+    fn kernel(self) -> Kernel
+        ensures { result ≡ kernel_called self }
+    {
+        match self {
+            KernelName::Axpy => Kernel::Axpy { a: 3, x: 1, y: 2 },
+            KernelName::Clamp => Kernel::Clamp {
+                x: 2,
+                lo: -100,
+                hi: 100,
+            },
+            KernelName::Sum => Kernel::Sum { x: 2 },
+            KernelName::Least => Kernel::Least { x: 2 },
+            KernelName::Greatest => Kernel::Greatest { x: 2 },
+            KernelName::Count => Kernel::CountWhere {
+                x: 2,
+                op: Compare::Ge,
+                c: 4,
+            },
+        }
+    }
+}
+
+/// A table of so many rows that is written once, and over which a kernel is run so many times.
+#[derive(Clone, Copy, Debug, PartialEq, Eq)]
+pub struct Running {
+    pub name: KernelName,
+    pub form: Form,
+    pub rows: u32,
+    pub rounds: u32,
+}
+
+impl Running {
+    /// The runs that the words name.
+    pub fn of(words: &[String]) -> Option<Running>
+        ensures named { IfSome result (IsRunning (map string_bytes words.now)) }
+        ensures only { (running : Running) → IsRunning (map string_bytes words.now) running → result ≡ Some running }
+    {
+        let [name, form, rows, rounds] = words else {
+            return None;
+        };
+        Some(Running {
+            name: KernelName::of(name.as_str())?,
+            form: Form::of(form.as_str())?,
+            rows: count_in(rows.as_str())?,
+            rounds: count_in(rounds.as_str())?,
+        })
+    }
+}
+
+/// The sum of what all runs give, and of the leaf c after them.
+pub fn sum(alloc: Global, work: Running) -> Result<i128, BenchFault>
+    ensures sum { IfOk result (λ sum. Ok sum ≡ checksum_of (Runs work)) }
+    ensures fault { IfErr result (IsFaultOf (Runs work)) }
+{
+    let mut view = new_view(alloc, work.form, work.rows)?;
+    written_and_run::<Brand>(&mut view, work, Blank::new(1))
+}
+
+// Does the work on a view of zeros.
+fn written_and_run<L: Ledger>(
+    view: &mut View,
+    work: Running,
+    blank: Blank,
+) -> Result<i128, BenchFault>
+    requires name { blank.name ≡ L.name }
+    requires parts { blank.parts ≡ L.parts }
+    requires some { 0 < blank.parts }
+    requires schema { schema_fields view.old.schema ≡ measured_fields }
+    requires expr { term_of view.old.expr ≡ form_term work.form }
+    requires table { view.old.table ≡ zeros work.rows 4 }
+    ensures sum { IfOk result (λ sum. Ok sum ≡ checksum_of (Runs work)) }
+    ensures fault { IfErr result (IsFaultOf (Runs work)) }
+{
+    let mut steps = Steps::<L>::new(blank);
+    write_rounds(view, work.rows, 1, &mut steps)?;
+    let given = run_rounds(view, &work.name.kernel(), work.rounds, &mut steps)?;
+    let left = run_rounds(view, &KernelName::Sum.kernel(), 1, &mut steps)?;
+    Ok(given + left)
+}
+
+// Runs the kernel so many times. It is what is measured.
+#[inline(never)]
+fn run_rounds<L: Ledger>(
+    view: &mut View,
+    kernel: &Kernel,
+    rounds: u32,
+    steps: &mut Steps<L>,
+) -> Result<i128, KernelFault>
+    requires { IsKernelOf view.old kernel.now }
+    ensures given { IfOk result (λ given. given ≡ all_given kernel.now rounds view.old.table) }
+    ensures bound { IfOk result (IsSumOfRuns rounds) }
+    ensures table { OnOk result (view.new ≡ record view.old { table = table_after kernel.now rounds view.old.table }) }
+    ensures refused { IfErr result (IsRefusedRun (answer_of view.old) kernel.now rounds view.old.table) }
+{
+    let mut total = 0i128;
+    for _round in 0..rounds {
+        let number = run_plain(view, kernel, steps)?;
+        total += i128::from(number.unwrap_or(0));
+    }
+    Ok(total)
+}

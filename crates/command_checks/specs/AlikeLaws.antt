@@ -1,0 +1,94 @@
+-- Laws of tables that are alike: the tests of the model hold exactly where the records are one tree and the extents the same.
+use Rattle.std.proofs.Common.{◌≡◌, ◌⊎◌, ◌∙◌, ℕ, Bool, true, false, nat_eq, List, [], ◌∷◌, refl, sym, ap, subst, ⊎_elim, arith}
+use Rattle.std.specs.Prelude.{◌&&◌, if◌then◌else◌}
+use Rattle.std.specs.Cmp.Lexicographic.{pointwise}
+use Rattle.std.proofs.lemmas.Bool.{false≢true, cases_Bool, eqb-true, eq-eqb}
+use Rattle.record_dim.specs.NameBytesLaws.{both, same_text, text_self}
+use Rattle.record_dim.specs.declared.leaf_type.LeafType.{LeafType}
+use Rattle.record_dim.specs.declared.leaf_type.LeafType.TheVariants.{Bool as Truth, U8, U16, U32, U64, I8, I16, I32, I64}
+use Rattle.record_dim.specs.Trees.{Tree, Fields, Single, Record, Array, End, Field}
+use Rattle.map_bytes.specs.Cells.{kind_number}
+use Rattle.layout_copy.specs.Copies.{AreAlike}
+use Rattle.views.specs.Seen.{Seen}
+use Rattle.worlds.specs.Copy.{same_tree, same_fields, are_alike}
+use Rattle.command_checks.specs.Entries.{table_of}
+
+-- a type by its number
+abbrev kind_by : ℕ → LeafType
+kind_by number =
+    if nat_eq number 1 then U8
+    else (if nat_eq number 2 then U16
+    else (if nat_eq number 3 then U32
+    else (if nat_eq number 4 then U64
+    else (if nat_eq number 5 then I8
+    else (if nat_eq number 6 then I16
+    else (if nat_eq number 7 then I32
+    else (if nat_eq number 8 then I64
+    else Truth)))))))
+
+kind_back : (kind : LeafType) → kind_by (kind_number kind) ≡ kind
+kind_back Truth = refl
+kind_back U8 = refl
+kind_back U16 = refl
+kind_back U32 = refl
+kind_back U64 = refl
+kind_back I8 = refl
+kind_back I16 = refl
+kind_back I32 = refl
+kind_back I64 = refl
+
+same_kind : (kind other : LeafType) → nat_eq (kind_number kind) (kind_number other) ≡ true → kind ≡ other
+same_kind kind other e = sym (kind_back kind) ∙ ap kind_by (eqb-true (kind_number kind) (kind_number other) e) ∙ kind_back other
+
+mutual
+  tree_is : (tree other : Tree) → same_tree tree other ≡ true → tree ≡ other
+  tree_is (Single kind) (Single other) e = ap (λ k. Single k) (same_kind kind other e)
+  tree_is (Single kind) (Record others) e = absurd (false≢true e)
+  tree_is (Single kind) (Array len other) e = absurd (false≢true e)
+  tree_is (Record fields) (Single other) e = absurd (false≢true e)
+  tree_is (Record fields) (Record others) e = ap (λ f. Record f) (fields_are fields others e)
+  tree_is (Record fields) (Array len other) e = absurd (false≢true e)
+  tree_is (Array len element) (Single other) e = absurd (false≢true e)
+  tree_is (Array len element) (Record others) e = absurd (false≢true e)
+  tree_is (Array len element) (Array other_len other) e =
+      let parts = both (nat_eq len other_len) (same_tree element other) e in
+      let lens : len ≡ other_len = eqb-true len other_len parts.0 in
+      let elements : element ≡ other = tree_is element other parts.1 in
+      ap (λ n. Array n element) lens ∙ ap (λ t. Array other_len t) elements
+
+  fields_are : (fields others : Fields) → same_fields fields others ≡ true → fields ≡ others
+  fields_are End End e = refl
+  fields_are End (Field name tree rest) e = absurd (false≢true e)
+  fields_are (Field name tree rest) End e = absurd (false≢true e)
+  fields_are (Field name tree rest) (Field other_name other more) e =
+      let parts = both (pointwise nat_eq name other_name) (same_tree tree other && same_fields rest more) e in
+      let below = both (same_tree tree other) (same_fields rest more) parts.1 in
+      let names : name ≡ other_name = same_text name other_name parts.0 in
+      let trees : tree ≡ other = tree_is tree other below.0 in
+      let rests : rest ≡ more = fields_are rest more below.1 in
+      ap (λ n. Field n tree rest) names ∙ ap (λ t. Field other_name t rest) trees ∙ ap (λ f. Field other_name other f) rests
+
+mutual
+  tree_self : (tree : Tree) → same_tree tree tree ≡ true
+  tree_self (Single kind) = eq-eqb (kind_number kind) (kind_number kind) refl
+  tree_self (Record fields) = fields_self fields
+  tree_self (Array len element) = rw (eq-eqb len len refl) (tree_self element)
+
+  fields_self : (fields : Fields) → same_fields fields fields ≡ true
+  fields_self End = refl
+  fields_self (Field name tree rest) = rw (text_self name, tree_self tree) (fields_self rest)
+
+-- views of one record over the same extents are alike, and no others
+pub alike : (source target : Seen) → AreAlike source target → are_alike (table_of source) (table_of target) ≡ true
+alike source target are =
+    let fields = (table_of target).fields in
+    let extents = target.extents in
+    rw (are.0, are.1, fields_self fields, text_self extents) refl
+
+pub not_alike : (source target : Seen) → (AreAlike source target → ⊥) → are_alike (table_of source) (table_of target) ≡ false
+not_alike source target differ = ⊎_elim
+    (λ (e : are_alike (table_of source) (table_of target) ≡ true).
+    let parts = both (same_fields (table_of source).fields (table_of target).fields) (pointwise nat_eq source.extents target.extents) e in
+    absurd (differ (fields_are (table_of source).fields (table_of target).fields parts.0, same_text source.extents target.extents parts.1)))
+    (λ (e : are_alike (table_of source) (table_of target) ≡ false). e)
+    (cases_Bool (are_alike (table_of source) (table_of target)))

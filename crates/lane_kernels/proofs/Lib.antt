@@ -1,0 +1,4 @@
+pub mod Changed
+pub mod Numbers
+pub mod Products
+pub mod Rows

@@ -1,0 +1,12 @@
+use Rattle.std.proofs.Common.{◌≡◌, ◌+◌, take}
+use Rattle.lane_kernels.specs.Kernels.{column}
+use Rattle.lane_kernels.specs.Reductions.{reduced, IsSmall}
+use Rattle.lane_kernels.proofs.reductions.reduced.Given as goal
+
+abbrev pub invariant-loop-row : goal.invariant-loop-row
+invariant-loop-row g l = record {
+  same : l.view ≡ l.initial.view;
+  small : IsSmall l.row l.number;
+  so_far : l.number ≡ reduced l.reduction (take l.row (column l.leaf l.initial.view.table));
+  counted : l.steps ≡ l.initial.steps + l.row;
+}

@@ -1,0 +1,136 @@
+-- What a kernel makes of the rows of a table, row by row, and which number it gives.
+use Rattle.std.specs.Prelude.{ℕ, ◌+◌, ◌*◌, ◌^◌, ◌<◌, ◌≤◌, ◌≡◌, Bool, not, ℤ, pos, neg_ℤ, ◌+ℤ◌, ◌*ℤ◌, ◌≤ℤ◌, ◌<ℤ◌, int_lt, int_le, List, [], ◌∷◌, ◌++◌, length, map, take, drop, fold, slice_index_or, slice_set, Option, Some, None, Result, Ok, Err}
+use Rattle.std.specs.Int.{int_min, int_max}
+use Rattle.std.specs.List.{count_by}
+use Rattle.std.specs.Option.{option_or}
+use Rattle.std.specs.Ordering.{int_eq}
+use Rattle.record_dim.specs.LeafTypes.{width_of}
+use Rattle.views.specs.Seen.{Seen, leaf_count_of, leaf_type_of, answer_of}
+use Rattle.views.specs.Stores.{Answer}
+use Rattle.views.specs.declared.fault.StoreFault.TheVariants as store
+use Rattle.views.specs.declared.fault.StoreFault.{StoreFault}
+use Rattle.lane_kernels.specs.declared.fault.KernelFault.{KernelFault}
+use Rattle.lane_kernels.specs.declared.fault.KernelFault.TheVariants.{Empty, Range, Narrow}
+use Rattle.lane_kernels.specs.declared.kernel.Compare.{Compare}
+use Rattle.lane_kernels.specs.declared.kernel.Compare.TheVariants.{Eq, Ne, Lt, Le, Gt, Ge}
+use Rattle.lane_kernels.specs.declared.kernel.Kernel.{Kernel}
+use Rattle.lane_kernels.specs.declared.kernel.Kernel.TheVariants.{Axpy, Clamp, Sum, Least, Greatest, CountWhere}
+
+-- whether a value compares so with a constant
+abbrev pub compares : Compare → ℤ → ℤ → Bool
+compares Eq value c = int_eq value c
+compares Ne value c = not (int_eq value c)
+compares Lt value c = int_lt value c
+compares Le value c = int_le value c
+compares Gt value c = int_lt c value
+compares Ge value c = int_le c value
+
+-- the value of a leaf in a row, and its values in all rows
+abbrev pub in_leaf : ℕ → List ℤ → ℤ
+in_leaf leaf row = slice_index_or row leaf (pos 0)
+
+abbrev pub column : ℕ → List (List ℤ) → List ℤ
+column leaf rows = map (in_leaf leaf) rows
+
+-- what a kernel stores in a row: a leaf and its value
+pub record Store : Type 0 where
+  pub leaf : ℕ
+  pub value : ℤ
+
+-- `axpy` stores a * x + y in y, and `clamp` in x its value brought into lo to hi; the other kernels store nothing
+abbrev pub stored : Kernel → List ℤ → Option Store
+stored (Axpy a x y) row = Some (record { leaf = y; value = a *ℤ in_leaf x row +ℤ in_leaf y row })
+stored (Clamp x lo hi) row = Some (record { leaf = x; value = int_max lo (int_min (in_leaf x row) hi) })
+stored _ row = None
+
+-- a row after a store
+abbrev pub with_store : List ℤ → Option Store → List ℤ
+with_store row None = row
+with_store row (Some store) = slice_set row store.leaf store.value
+
+-- the first so many rows after the kernel, the others as they were
+abbrev pub run_rows : Kernel → ℕ → List (List ℤ) → List (List ℤ)
+run_rows kernel count rows = map (λ row. with_store row (stored kernel row)) (take count rows) ++ drop count rows
+
+-- the fault of a store that the row of this number does not take
+abbrev pub answer_fault : ℕ → ℕ → Result Unit StoreFault → Option KernelFault
+answer_fault row leaf (Ok done) = None
+answer_fault row leaf (Err store.Range) = Some (Range row leaf)
+answer_fault row leaf (Err store.Narrow) = Some (Narrow row leaf)
+
+abbrev pub store_fault : Answer → ℕ → Option Store → Option KernelFault
+store_fault answer row None = None
+store_fault answer row (Some store) = answer_fault row store.leaf (answer store.leaf store.value)
+
+-- the fault of the first of these rows, whose numbers begin with this one, that does not take the kernel's store
+abbrev pub first_fault : Answer → Kernel → ℕ → List (List ℤ) → Option KernelFault
+first_fault answer kernel row [] = None
+first_fault answer kernel row (values ∷ rows) = option_or (store_fault answer row (stored kernel values)) (first_fault answer kernel (row + 1) rows)
+
+-- no row has a least and a greatest value
+abbrev pub empty_fault : Kernel → List (List ℤ) → Option KernelFault
+empty_fault (Least x) [] = Some Empty
+empty_fault (Greatest x) [] = Some Empty
+empty_fault _ rows = None
+
+-- the fault of a kernel on a table
+abbrev pub kernel_fault : Answer → Kernel → List (List ℤ) → Option KernelFault
+kernel_fault answer kernel rows = option_or (empty_fault kernel rows) (first_fault answer kernel 0 rows)
+
+-- the least and the greatest of some values
+abbrev pub extreme : (ℤ → ℤ → ℤ) → List ℤ → Option ℤ
+extreme pick [] = None
+extreme pick (value ∷ values) = Some (fold pick value values)
+
+-- the number that a kernel gives; those that store give none
+abbrev pub number_of : Kernel → List (List ℤ) → Option ℤ
+number_of (Axpy a x y) rows = None
+number_of (Clamp x lo hi) rows = None
+number_of (Sum x) rows = Some (fold (λ a b. a +ℤ b) (pos 0) (column x rows))
+number_of (Least x) rows = extreme int_min (column x rows)
+number_of (Greatest x) rows = extreme int_max (column x rows)
+number_of (CountWhere x op c) rows = Some (pos (count_by (λ value. compares op value c) (column x rows)))
+
+-- how many rows were done before a fault
+abbrev pub rows_before : KernelFault → ℕ
+rows_before Empty = 0
+rows_before (Range row leaf) = row
+rows_before (Narrow row leaf) = row
+
+-- what a kernel answers on a view, which becomes `new`; after a fault exactly the rows before it are changed
+abbrev pub IsRun : Seen → Seen → Kernel → Result (Option ℤ) KernelFault → Type 0
+IsRun old new kernel (Ok number) =
+    (kernel_fault (answer_of old) kernel old.table ≡ None) × (number ≡ number_of kernel old.table)
+    × (new ≡ record old { table = run_rows kernel (length old.table) old.table })
+IsRun old new kernel (Err fault) =
+    (kernel_fault (answer_of old) kernel old.table ≡ Some fault) × (new ≡ record old { table = run_rows kernel (rows_before fault) old.table })
+
+-- a leaf of a view, of at most 32 bits
+pub record IsNarrowLeaf (seen : Seen) (leaf : ℕ) : Type 0 where
+  pub inside : leaf < leaf_count_of seen
+  pub narrow : width_of (leaf_type_of seen leaf) ≤ 32
+
+-- a factor from -2^31 to 2^31 - 1, and any other constant from -2^31 to 2^32 - 1
+abbrev pub IsFactor : ℤ → Type 0
+IsFactor a = (neg_ℤ (pos (2 ^ 31)) ≤ℤ a) × (a <ℤ pos (2 ^ 31))
+
+abbrev pub IsConstant : ℤ → Type 0
+IsConstant c = (neg_ℤ (pos (2 ^ 31)) ≤ℤ c) × (c <ℤ pos (2 ^ 32))
+
+-- a kernel that can run on a view
+abbrev pub IsKernelOf : Seen → Kernel → Type 0
+IsKernelOf seen (Axpy a x y) = IsFactor a × IsNarrowLeaf seen x × IsNarrowLeaf seen y
+IsKernelOf seen (Clamp x lo hi) = IsNarrowLeaf seen x × IsConstant lo × IsConstant hi × (lo ≤ℤ hi)
+IsKernelOf seen (Sum x) = IsNarrowLeaf seen x
+IsKernelOf seen (Least x) = IsNarrowLeaf seen x
+IsKernelOf seen (Greatest x) = IsNarrowLeaf seen x
+IsKernelOf seen (CountWhere x op c) = IsNarrowLeaf seen x × IsConstant c
+
+-- the most steps of a kernel for each row, and over so many rows; one more is left for a kernel that ends
+abbrev pub row_cost : Kernel → ℕ
+row_cost (Axpy a x y) = 3
+row_cost (Clamp x lo hi) = 2
+row_cost _ = 1
+
+abbrev pub plain_cost : Kernel → ℕ → ℕ
+plain_cost kernel rows = row_cost kernel * rows + 1

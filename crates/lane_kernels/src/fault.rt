@@ -1,0 +1,15 @@
+use thiserror::Error;
+
+/// Why a kernel ends. The fault is the first one, in the order of rows.
+#[derive(Clone, Copy, Debug, PartialEq, Eq, Error)]
+pub enum KernelFault {
+    /// No row has a least or a greatest value.
+    #[error("Empty")]
+    Empty,
+    /// The value lies outside of the declared range of its leaf.
+    #[error("Range record {row} leaf {leaf}")]
+    Range { row: u64, leaf: usize },
+    /// The value lies in the declared range and not in that of how the leaf is stored.
+    #[error("Narrow record {row} leaf {leaf}")]
+    Narrow { row: u64, leaf: usize },
+}

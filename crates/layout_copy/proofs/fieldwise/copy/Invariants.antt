@@ -1,0 +1,12 @@
+use Rattle.std.proofs.Common.{◌≡◌, ◌+◌, ◌*◌, ◌≤◌, length}
+use Rattle.views.specs.Seen.{leaf_count_of}
+use Rattle.layout_copy.proofs.Rows.{AreCopied}
+use Rattle.layout_copy.proofs.fieldwise.copy.Given as goal
+
+abbrev pub invariant-loop-row : goal.invariant-loop-row
+invariant-loop-row g l = record {
+  source : l.source ≡ l.initial.source;
+  values : length l.values ≡ leaf_count_of l.initial.source;
+  copied : AreCopied l.initial.source l.initial.target l.target l.row;
+  steps : l.steps ≤ l.initial.steps + 2 * (l.row * leaf_count_of l.initial.source);
+}

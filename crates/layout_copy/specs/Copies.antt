@@ -1,0 +1,40 @@
+-- What a copy of a table into another view answers, and what it leaves.
+use Rattle.std.specs.Prelude.{ℕ, ◌+◌, ◌≡◌, ℤ, List, [], ◌∷◌, ◌++◌, take, drop, Option, Some, None, Result, Ok, Err, is_ok, if◌then◌else◌}
+use Rattle.record_dim.specs.Schemas.{schema_fields}
+use Rattle.views.specs.Seen.{Seen, answer_of}
+use Rattle.views.specs.Stores.{Answer}
+use Rattle.layout_copy.specs.declared.fault.CopyFault.{CopyFault}
+use Rattle.layout_copy.specs.declared.fault.CopyFault.TheVariants.{Mismatch, Narrow}
+
+-- a row and a leaf
+pub record Spot : Type 0 where
+  pub row : ℕ
+  pub leaf : ℕ
+
+-- the first leaf of a row, from this one on, that does not take its value
+abbrev pub refusing : Answer → ℕ → List ℤ → Option ℕ
+refusing answer leaf [] = None
+refusing answer leaf (value ∷ values) = if is_ok (answer leaf value) then refusing answer (leaf + 1) values else Some leaf
+
+-- this leaf of a row, or else what comes later
+abbrev pub spot_or : ℕ → Option ℕ → Option Spot → Option Spot
+spot_or row (Some leaf) later = Some (record { row = row; leaf = leaf })
+spot_or row None later = later
+
+-- the first of these rows, whose numbers begin with this one, that has such a leaf, and the first of its leaves
+abbrev pub refused_at : Answer → ℕ → List (List ℤ) → Option Spot
+refused_at answer row [] = None
+refused_at answer row (values ∷ rows) = spot_or row (refusing answer 0 values) (refused_at answer (row + 1) rows)
+
+-- one schema and the same extents
+abbrev pub AreAlike : Seen → Seen → Type 0
+AreAlike source target = (schema_fields source.schema ≡ schema_fields target.schema) × (source.extents ≡ target.extents)
+
+-- a copy of `source` into `old`, which becomes `new`: its table, or that of the rows before the first that has a value which is not held
+abbrev pub IsCopied : Seen → Seen → Seen → Result Unit CopyFault → Type 0
+IsCopied source old new (Ok done) =
+    AreAlike source old × (refused_at (answer_of old) 0 source.table ≡ None) × (new ≡ record old { table = source.table })
+IsCopied source old new (Err Mismatch) = (AreAlike source old → ⊥) × (new ≡ old)
+IsCopied source old new (Err (Narrow row leaf)) =
+    AreAlike source old × (refused_at (answer_of old) 0 source.table ≡ Some (record { row = row; leaf = leaf }))
+    × (new ≡ record old { table = take row source.table ++ drop row old.table })

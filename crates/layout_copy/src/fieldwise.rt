@@ -1,0 +1,118 @@
+// A copy that goes by the leaves of one row after another.
+ghost use Rattle.std.specs.Prelude.{◌≡◌, ◌+◌, ◌*◌, ◌<◌, ◌≤◌, ◌↔◌, [], IsTrue, IfNone, IfSome, IsErrOf, None, length, slice_index_or, slice_set};
+ghost use Rattle.views.specs.Seen.{leaf_count_of, answer_of};
+ghost use Rattle.layout_copy.specs.Copies.{AreAlike, IsCopied, refusing};
+
+use crate::fault::CopyFault;
+use std::sync::ledger::Ledger;
+use steps::Steps;
+use views::View;
+
+/// Makes the table of a view that of another. `Mismatch` comes exactly where they have other schemas or other extents, and then nothing
+/// changes. `Narrow` comes exactly where a value does not fit the target, and names the first by rows, then leaves; exactly the rows before
+/// it are copied. It takes at most two steps for each leaf of each row, and no memory.
+pub fn copy<L: Ledger>(
+    source: &mut View,
+    target: &mut View,
+    steps: &mut Steps<L>,
+) -> Result<(), CopyFault>
+    ensures copied { IsCopied source.old target.old target.new result }
+    ensures source { source.new ≡ source.old }
+    ensures steps { steps.new ≤ steps.old + 2 * (length source.old.table * leaf_count_of source.old) }
+    ensures none { IsErrOf result CopyFault.Mismatch → steps.new ≡ steps.old }
+{
+    if !are_alike(source, target) {
+        return Err(CopyFault::Mismatch);
+    }
+    let mut buffer = [0; 64];
+    let values = &mut buffer[..source.schema().leaf_count()];
+    for row in 0..source.extents().count() {
+        if let Some(leaf) = copy_row(source, target, row, values, steps) {
+            return Err(CopyFault::Narrow { row, leaf });
+        }
+    }
+    Ok(())
+}
+
+/// A copy of a view onto itself: its table stands.
+pub fn copy_self(view: &mut View)
+    ensures { view.new ≡ view.old }
+{}
+
+// Whether two views have one schema and the same extents, and so as many rows.
+fn are_alike(source: &View, target: &View) -> bool
+    ensures value { IsTrue result ↔ AreAlike source.now target.now }
+    ensures rows { IsTrue result → length source.now.table ≡ length target.now.table }
+{
+    source.schema().same(target.schema()) && source.extents() == target.extents()
+}
+
+// Copies a row, or leaves it and names the first leaf whose value the target does not hold. The values are kept in `values`.
+fn copy_row<L: Ledger>(
+    source: &mut View,
+    target: &mut View,
+    row: u64,
+    values: &mut [i128],
+    steps: &mut Steps<L>,
+) -> Option<usize>
+    requires source_row { row < length source.old.table }
+    requires target_row { row < length target.old.table }
+    requires leaves { leaf_count_of target.old ≡ leaf_count_of source.old }
+    requires values { length values.old ≡ leaf_count_of source.old }
+    ensures refused { result ≡ refusing (answer_of target.old) 0 (slice_index_or source.old.table row []) }
+    ensures stored { IfNone result (target.new ≡ record target.old {
+      table = slice_set target.old.table row (slice_index_or source.old.table row []);
+    }) }
+    ensures kept { IfSome result (λ _. target.new ≡ target.old) }
+    ensures source { source.new ≡ source.old }
+    ensures steps { steps.new ≤ steps.old + 2 * leaf_count_of source.old }
+    ensures count { length values.new ≡ length values.old }
+{
+    if let Some(leaf) = read_row(source, target, row, values, steps) {
+        return Some(leaf);
+    }
+    store_row(target, row, values, steps);
+    None
+}
+
+// Reads the values of a row up to the first leaf whose value the target does not hold, and names that leaf.
+fn read_row<L: Ledger>(
+    source: &mut View,
+    target: &View,
+    row: u64,
+    values: &mut [i128],
+    steps: &mut Steps<L>,
+) -> Option<usize>
+    requires row_in { row < length source.old.table }
+    requires leaves { leaf_count_of target.now ≡ leaf_count_of source.old }
+    requires values { length values.old ≡ leaf_count_of source.old }
+    ensures refused { result ≡ refusing (answer_of target.now) 0 (slice_index_or source.old.table row []) }
+    ensures read { IfNone result (values.new ≡ slice_index_or source.old.table row []) }
+    ensures source { source.new ≡ source.old }
+    ensures steps { steps.new ≤ steps.old + leaf_count_of source.old }
+    ensures count { length values.new ≡ length values.old }
+{
+    let _leaves = source.schema();
+    for leaf in 0..values.len() {
+        let value = source.get(row, leaf, steps);
+        if target.fits(leaf, value).is_err() {
+            return Some(leaf);
+        }
+        values[leaf] = value;
+    }
+    None
+}
+
+// Stores values that fit as a row.
+fn store_row<L: Ledger>(target: &mut View, row: u64, values: &[i128], steps: &mut Steps<L>)
+    requires row_in { row < length target.old.table }
+    requires values { length values.now ≡ leaf_count_of target.old }
+    requires fit { refusing (answer_of target.old) 0 values.now ≡ None }
+    ensures stored { target.new ≡ record target.old { table = slice_set target.old.table row values.now } }
+    ensures steps { steps.new ≡ steps.old + leaf_count_of target.old }
+{
+    let _leaves = target.schema();
+    for leaf in 0..values.len() {
+        let _stored = target.set(row, leaf, values[leaf], steps);
+    }
+}

@@ -1,0 +1,132 @@
+-- How many binary digits there are, and what the loop over components keeps of them.
+use Rattle.std.proofs.Common.{◌≡◌, ◌≢◌, ℕ, zero, suc, ◌+◌, ◌-◌, ◌*◌, ◌/◌, ◌%◌, ◌^◌, ◌<◌, ◌≤◌, max, cond, eqb, ltb, List, length, get_or, sym, ap, ◌∙◌, ⊎_elim, arith, lit<}
+use Rattle.std.specs.Prelude.{fold, nat_le, bit_or}
+use Rattle.std.specs.Int.{bit_at}
+use Rattle.std.specs.List.{position_or_len, range_with_len}
+use Rattle.std.proofs.lemmas.Bool.{cases_lt, cases_eq, cond-true, cond-false, lt-leb, le-leb, lt-ltb, le-ltb, eq-eqb, ne_eqb}
+use Rattle.std.proofs.lemmas.List.Elements.{length_all_zip}
+use Rattle.std.proofs.lemmas.List.FromFn.{length-range_with_len}
+use Rattle.std.proofs.lemmas.List.Sums.{position_or_len_is}
+use Rattle.std.proofs.lemmas.Nat.{div-add-mod', div-mul-add, mod-mul-add, mod_below, mul-le, le-div, pow_pos, pow_below}
+use Rattle.std.proofs.lemmas.Nat.Bits.{bit_at-zero, bit_at_or, same_from_bits}
+use Rattle.std.proofs.lemmas.Grind.{pow_more}
+use Rattle.std.proofs.Math.Nat.{pow-le-pow_right, mod-eq_of_lt}
+use Rattle.extents.specs.Indices.{IsInside}
+use Rattle.linearize.specs.Slots.{interleaved, digits_for}
+use Rattle.linearize.specs.Spreads.{IsSpread}
+use Rattle.linearize.specs.MortonLaws.{self_lt_pow, at_own_place, component_fits, digits_enough, digit_of, bit_at-interleaved}
+use Rattle.linearize.proofs.SpreadLemmas.{shifted_low, shifted_high}
+
+-- ---- how many digits
+
+digits_within : (m q : ℕ) → ((b : ℕ) → b < q → 2 ^ b < m) → q ≤ m
+digits_within m zero short = omega arith
+digits_within m (suc b) short = omega (arith, short b (omega arith), self_lt_pow b)
+
+least_digits : (m q : ℕ) → m ≤ 2 ^ q → ((b : ℕ) → b < q → 2 ^ b < m) → position_or_len (λ b. nat_le m (2 ^ b)) (range_with_len 0 m) ≡ q
+least_digits m q enough short =
+    let within = digits_within m q short in
+    let long : length (range_with_len 0 m) ≡ m = length-range_with_len 0 m in
+    position_or_len_is (λ b. nat_le m (2 ^ b)) (range_with_len 0 m) q 0 (omega (arith, within, long))
+    (λ k l. ap (λ b. nat_le m (2 ^ b)) (at_own_place m k (omega (arith, l, within))) ∙ lt-leb m (2 ^ k) (short k l))
+    (λ l. ap (λ b. nat_le m (2 ^ b)) (at_own_place m q (omega (arith, l, long))) ∙ le-leb m (2 ^ q) enough)
+
+-- the digits are as many as give room, and no fewer do
+pub digits_for_is : (e : List ℕ) (m q : ℕ) → m ≡ fold max 0 e → m ≤ 2 ^ q → ((b : ℕ) → b < q → 2 ^ b < m) → q ≡ digits_for e
+unfolding digits_for
+digits_for_is e m q greatest enough short =
+    sym (least_digits m q enough short) ∙ ap (λ x. position_or_len (λ b. nat_le x (2 ^ b)) (range_with_len 0 x)) greatest
+
+-- the digits are one more than the logarithm of the greatest extent less one
+pub digits_from_log : (e : List ℕ) (m r : ℕ) → m ≡ fold max 0 e → 2 ^ r ≤ m - 1 → m - 1 < 2 * 2 ^ r → r + 1 ≡ digits_for e
+digits_from_log e m r greatest low high =
+    digits_for_is e m (r + 1) greatest (omega (arith, high, pow_more 2 r)) (λ b h.
+    let most : 2 ^ b ≤ 2 ^ r = pow-le-pow_right {n = 2} (lit< tt) (omega arith) in
+    omega (arith, low, most, pow_pos r))
+
+-- ---- room
+
+-- a component inside extents with few slots has no more digits than are its own
+pub component_narrow : (e i : List ℕ) (d : ℕ) → 0 < length i → 2 ^ (length e * digits_for e) ≤ 2 ^ 24 → IsInside e i → get_or i d 0 < 2 ^ (24 / length i)
+component_narrow e i d some few inside =
+    let long : length i ≡ length e = length_all_zip (λ (x y : ℕ). x < y) i e inside in
+    let all : length e * digits_for e ≤ 24 =
+    ⊎_elim (λ (h : 24 < length e * digits_for e). absurd (omega (arith, few, pow_below 24 (length e * digits_for e) h))) (λ (h : length e * digits_for e ≤ 24). h)
+    (cases_lt 24 (length e * digits_for e)) in
+    let each : digits_for e ≤ 24 / length i = le-div (digits_for e) 24 (length i) some (omega (arith, all, ap (λ x. x * digits_for e) long)) in
+    let room : 2 ^ digits_for e ≤ 2 ^ (24 / length i) = pow-le-pow_right {n = 2} (lit< tt) each in
+    omega (arith, room, component_fits e i 0 (digits_for e) d inside (digits_enough e))
+
+-- ---- a slot by its components
+
+-- the digits of the first n components stand where they belong, and all others are 0
+abbrev pub IsFront : List ℕ → ℕ → ℕ → Type 0
+IsFront index n place = (k : ℕ) → bit_at place k ≡ cond (ltb (length index - 1 - k % length index) n) (digit_of index k) 0
+
+pub front_none : (i : List ℕ) → IsFront i 0 0
+front_none i = λ k.
+    bit_at-zero k ∙ sym (cond-false (ltb (length i - 1 - k % length i) 0) (digit_of i k) 0 (le-ltb (length i - 1 - k % length i) 0 (omega arith)))
+
+-- a digit of a component that is spread and shifted
+own_digit : (rank x z t k : ℕ) → t < rank → IsSpread rank x z → k % rank ≡ t → bit_at (z * 2 ^ t) k ≡ bit_at x (k / rank)
+own_digit rank x z t k within spread same =
+    let split = div-add-mod' k rank in
+    let from : t ≤ k = omega (arith, split, same) in
+    let block : k - t ≡ k / rank * rank + 0 = omega (arith, split, same) in
+    let even : (k - t) % rank ≡ 0 = ap (λ n. n % rank) block ∙ mod-mul-add (k / rank) rank 0 (omega arith) in
+    let digit : (k - t) / rank ≡ k / rank = ap (λ n. n / rank) block ∙ div-mul-add (k / rank) rank 0 (omega arith) in
+    shifted_high z t k from
+    ∙ spread (k - t)
+    ∙ cond-true (eqb ((k - t) % rank) 0) (bit_at x ((k - t) / rank)) 0 (eq-eqb ((k - t) % rank) 0 even)
+    ∙ ap (bit_at x) digit
+
+-- and where another component has its digit, there is 0
+other_digit : (rank x z t k : ℕ) → t < rank → IsSpread rank x z → k % rank ≢ t → bit_at (z * 2 ^ t) k ≡ 0
+other_digit rank x z t k within spread apart =
+    ⊎_elim (λ (l : k < t). shifted_low z t k l)
+    (λ (l : t ≤ k).
+    shifted_high z t k l
+    ∙ spread (k - t)
+    ∙ cond-false (eqb ((k - t) % rank) 0) (bit_at x ((k - t) / rank)) 0 (ne_eqb ((k - t) % rank) 0 (λ even.
+    let block : k ≡ (k - t) / rank * rank + t = omega (arith, div-add-mod' (k - t) rank, even, l) in
+    apart (ap (λ n. n % rank) block ∙ mod-mul-add ((k - t) / rank) rank t within))))
+    (cases_lt k t)
+
+-- one component more
+pub front_more : (i : List ℕ) (d place z : ℕ) → d < length i → length i ≤ 4 → z < 2 ^ 24 → IsFront i d place → IsSpread (length i) (get_or i d 0) z
+    → IsFront i (d + 1) (bit_or place (z * 2 ^ (length i - 1 - d) % 2 ^ 64))
+front_more i d place z within few small front spread = λ k.
+    let short : length i - 1 - d ≤ 3 = omega arith in
+    let top : 2 ^ (length i - 1 - d) ≤ 2 ^ 3 = pow-le-pow_right {n = 2} (lit< tt) short in
+    let whole : z * 2 ^ (length i - 1 - d) < 2 ^ 64 = omega (arith, small, mul-le z (2 ^ (length i - 1 - d)) (2 ^ 24) (2 ^ 3) (omega (arith, small)) top) in
+    let low : k % length i < length i = mod_below k (length i) (omega arith) in
+    ap (λ y. bit_at (bit_or place y) k) (mod-eq_of_lt whole)
+    ∙ bit_at_or place (z * 2 ^ (length i - 1 - d)) k
+    ∙ ⊎_elim (λ (same : k % length i ≡ length i - 1 - d).
+    let own : length i - 1 - k % length i ≡ d = omega arith in
+    let before : bit_at place k ≡ 0 = front k ∙ cond-false (ltb (length i - 1 - k % length i) d) (digit_of i k) 0 (le-ltb (length i - 1 - k % length i) d (omega arith)) in
+    let here : bit_at (z * 2 ^ (length i - 1 - d)) k ≡ digit_of i k =
+    own_digit (length i) (get_or i d 0) z (length i - 1 - d) k (omega arith) spread same ∙ ap (λ c. bit_at (get_or i c 0) (k / length i)) (sym own) in
+    let sum : max (bit_at place k) (bit_at (z * 2 ^ (length i - 1 - d)) k) ≡ digit_of i k = omega (arith, before, here) in
+    sum ∙ sym (cond-true (ltb (length i - 1 - k % length i) (d + 1)) (digit_of i k) 0 (lt-ltb (length i - 1 - k % length i) (d + 1) (omega arith))))
+    (λ (apart : k % length i ≢ length i - 1 - d).
+    let here : bit_at (z * 2 ^ (length i - 1 - d)) k ≡ 0 = other_digit (length i) (get_or i d 0) z (length i - 1 - d) k (omega arith) spread apart in
+    let sum : max (bit_at place k) (bit_at (z * 2 ^ (length i - 1 - d)) k) ≡ bit_at place k = omega (arith, here) in
+    sum
+    ∙ front k
+    ∙ ⊎_elim (λ (l : length i - 1 - k % length i < d).
+    cond-true (ltb (length i - 1 - k % length i) d) (digit_of i k) 0 (lt-ltb (length i - 1 - k % length i) d l)
+    ∙ sym (cond-true (ltb (length i - 1 - k % length i) (d + 1)) (digit_of i k) 0 (lt-ltb (length i - 1 - k % length i) (d + 1) (omega arith))))
+    (λ (l : d ≤ length i - 1 - k % length i).
+    cond-false (ltb (length i - 1 - k % length i) d) (digit_of i k) 0 (le-ltb (length i - 1 - k % length i) d l)
+    ∙ sym (cond-false (ltb (length i - 1 - k % length i) (d + 1)) (digit_of i k) 0 (le-ltb (length i - 1 - k % length i) (d + 1) (omega (arith, l, apart, low)))))
+    (cases_lt (length i - 1 - k % length i) d))
+    (cases_eq (k % length i) (length i - 1 - d))
+
+-- all components give the slot
+pub front_all : (i : List ℕ) (n place : ℕ) → 0 < length i → length i ≤ n → IsFront i n place → place ≡ interleaved i
+front_all i n place some all front =
+    same_from_bits place (interleaved i) (λ k.
+    front k
+    ∙ cond-true (ltb (length i - 1 - k % length i) n) (digit_of i k) 0 (lt-ltb (length i - 1 - k % length i) n (omega arith))
+    ∙ sym (bit_at-interleaved i k))

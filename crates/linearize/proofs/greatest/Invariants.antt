@@ -1,0 +1,5 @@
+use Rattle.std.proofs.Common.{◌≡◌, fold, max, take}
+use Rattle.linearize.proofs.greatest.Given as goal
+
+abbrev pub invariant-loop-extent : goal.invariant-loop-extent
+invariant-loop-extent l = l.greatest ≡ fold max 0 (take l.extent-index l.extents)

@@ -1,0 +1,226 @@
+-- An array of structs packed to the bit: its length, and the places of a cell.
+use Rattle.std.proofs.Common.{◌≡◌, ℕ, zero, suc, ◌+◌, ◌-◌, ◌*◌, ◌/◌, ◌%◌, ◌^◌, ◌<◌, ◌≤◌, inr, ⊎_elim, List, [], ◌∷◌, ◌++◌, map, min, length, sum_by, replicate, get_or, slice_index, take, refl, sym, ap, ◌∙◌, subst, arith, length-append}
+use Rattle.std.specs.List.{flat_map, range_with_len, enumerate_from, sum}
+use Rattle.std.proofs.lemmas.Bool.{cases_lt}
+use Rattle.std.proofs.lemmas.Nat.{mul-le}
+use Rattle.std.proofs.lemmas.List.{take_all, get_or_append_left, get_or-append-add}
+use Rattle.std.proofs.lemmas.List.FromFn.{length-map-range_with_len, get_or-map-range_with_len, map-range_with_len_more}
+use Rattle.std.proofs.lemmas.List.Sums.{sum_by-cons, sum_by_more, sum_by-take-le}
+use Rattle.record_dim.specs.LeafTypes.{width_of}
+use Rattle.places.specs.Layout.{Owner, Pad, Bit, owner_at, cells_of, field, fields, padded_to, bit_aos}
+use Rattle.places.specs.Laws.{IsLocated}
+use Rattle.places.specs.Holds.{widths_of, narrow_holds, IsTooBig}
+use Rattle.places.specs.declared.piece.Cell.{Cell}
+use Rattle.places.specs.declared.piece.Hold.{Hold}
+use Rattle.places.specs.declared.piece.Piece.{Piece}
+use Rattle.places.specs.ExactLaws.{within, field_at, length-field}
+use Rattle.places.specs.SlotsLaws.{length-parts, slot_at}
+use Rattle.places.specs.StackedLaws.{up, length-padded}
+use Rattle.places.specs.PlacesLaws.{one_piece}
+use Rattle.map_bits.specs.Bits.{IsStored, narrow_widths, packed_slots, bits_aos}
+use Rattle.map_bits.specs.NarrowLaws.{length-narrow_widths}
+use Rattle.map_bits.specs.BitLaws.{bit_aos_laws}
+use Rattle.map_bits.proofs.Widths.{IsTaken, taken_at}
+
+-- the length of the cells that are numbered from n on
+fields_size : (slot n : ℕ) (widths : List ℕ) → length (flat_map (field slot) (enumerate_from n widths)) ≡ sum widths
+fields_size slot n [] = refl
+fields_size slot n (w ∷ widths) =
+    let first : List Owner = field slot (n, w) in
+    let rest : List Owner = flat_map (field slot) (enumerate_from (n + 1) widths) in
+    let both : length (first ++ rest) ≡ length first + length rest = length-append first rest in
+    let one : length first ≡ w = length-field slot n w in
+    let others : length rest ≡ sum widths = fields_size slot (n + 1) widths in
+    let joined : length (first ++ rest) ≡ w + sum widths = omega arith in
+    joined ∙ sym (sum_by-cons (λ (x : ℕ). x) w widths)
+
+-- bit k of cell c
+fields_at : (slot n : ℕ) (widths : List ℕ) (c k : ℕ) → c < length widths → k < slice_index widths c
+    → get_or (flat_map (field slot) (enumerate_from n widths)) (sum (take c widths) + k) Pad ≡ Bit slot (n + c) k
+fields_at slot n [] c k inside low = let none : ⊥ = omega arith in absurd none
+fields_at slot n (w ∷ widths) zero k inside low =
+    let first : List Owner = field slot (n, w) in
+    let rest : List Owner = flat_map (field slot) (enumerate_from (n + 1) widths) in
+    let one : length first ≡ w = length-field slot n w in
+    let place : sum (take zero (w ∷ widths)) + k ≡ k = omega arith in
+    let number : n ≡ n + zero = omega arith in
+    ap (λ (p : ℕ). get_or (first ++ rest) p Pad) place
+    ∙ get_or_append_left first rest Pad k (omega arith)
+    ∙ field_at slot n w k low
+    ∙ ap (λ (i : ℕ). Bit slot i k) number
+fields_at slot n (w ∷ widths) (suc c) k inside low =
+    let first : List Owner = field slot (n, w) in
+    let rest : List Owner = flat_map (field slot) (enumerate_from (n + 1) widths) in
+    let one : length first ≡ w = length-field slot n w in
+    let all : sum (w ∷ take c widths) ≡ w + sum (take c widths) = sum_by-cons (λ (x : ℕ). x) w (take c widths) in
+    let place : sum (w ∷ take c widths) + k ≡ length first + (sum (take c widths) + k) = omega arith in
+    let number : n + 1 + c ≡ n + suc c = omega arith in
+    ap (λ (p : ℕ). get_or (first ++ rest) p Pad) place
+    ∙ get_or-append-add first rest (sum (take c widths) + k) Pad
+    ∙ fields_at slot (n + 1) widths c k (omega arith) low
+    ∙ ap (λ (i : ℕ). Bit slot i k) number
+
+slot_size : (widths : List ℕ) (slot : ℕ) → length (fields slot (cells_of widths)) ≡ sum widths
+slot_size widths slot = fields_size slot 0 widths
+
+-- the length of the blob in bits
+pub blob_size : (slots : ℕ) (widths : List ℕ) → length (padded_to 64 (packed_slots slots widths)) ≡ up 64 (slots * sum widths)
+blob_size slots widths =
+    length-padded 64 (packed_slots slots widths)
+    ∙ ap (up 64) (length-parts (λ slot. fields slot (cells_of widths)) (sum widths) (slot_size widths) 0 slots)
+
+-- the places of a cell's bits
+pub cell_at : (slots : ℕ) (widths : List ℕ) (slot cell bit : ℕ) → slot < slots → cell < length widths → bit < slice_index widths cell
+    → owner_at (bits_aos slots widths) 0 (slot * sum widths + (sum (take cell widths) + bit)) ≡ Bit slot cell bit
+cell_at slots widths slot cell bit slot_in cell_in bit_in =
+    let owners : List Owner = packed_slots slots widths in
+    let part : List Owner = fields slot (cells_of widths) in
+    let j : ℕ = sum (take cell widths) + bit in
+    let place : ℕ = slot * sum widths + j in
+    let number : 0 + cell ≡ cell = omega arith in
+    let here : get_or part j Pad ≡ Bit slot cell bit = fields_at slot 0 widths cell bit cell_in bit_in ∙ ap (λ (i : ℕ). Bit slot i bit) number in
+    let low : j < length part = within part j slot cell bit here in
+    let size : length part ≡ sum widths = slot_size widths slot in
+    let at : get_or owners place Pad ≡ Bit slot cell bit =
+    slot_at Pad (λ slot. fields slot (cells_of widths)) (sum widths) (slot_size widths) slots slot j slot_in (omega arith) ∙ here in
+    get_or_append_left owners (replicate ((64 - length owners % 64) % 64) Pad) Pad place (within owners place slot cell bit at) ∙ at
+
+-- the places of a cell are one piece
+pub located_is : (width slots : ℕ) (cells : List Cell) (stride slot cell : ℕ) (piece : Piece) → IsTaken width cells cell piece.bits
+    → stride ≡ sum (narrow_widths width cells) → slots * stride ≤ 2 ^ 31 → slot < slots
+    → piece.blob ≡ 0 → piece.bit ≡ sum (take cell (narrow_widths width cells)) + slot * stride
+    → IsLocated (bit_aos width slots (widths_of cells)) slot cell (slice_index (map (λ (h : Hold). h.width) (narrow_holds width cells)) cell) (piece ∷ [])
+located_is width slots cells stride slot cell piece taken ends bound slot_in blob bit =
+    let widths : List ℕ = narrow_widths width cells in
+    let layout : List (List Owner) = bits_aos slots widths in
+    let owners : List Owner = padded_to 64 (packed_slots slots widths) in
+    let last : ℕ = piece.bits - 1 in
+    let some : 1 ≤ piece.bits = taken.some in
+    let narrow : piece.bits ≤ 64 = taken.low in
+    let before : slot * stride ≡ slot * sum widths = ap (λ (n : ℕ). slot * n) ends in
+    let each : (k : ℕ) → k < piece.bits → owner_at layout 0 (piece.bit + k) ≡ Bit slot cell k = λ k l.
+    let place : piece.bit + k ≡ slot * sum widths + (sum (take cell widths) + k) = omega arith in
+    ap (λ (p : ℕ). owner_at layout 0 p) place ∙ cell_at slots widths slot cell k slot_in taken.inside (subst (λ (n : ℕ). k < n) taken.same l) in
+    let end : piece.bit + last < length owners = within owners (piece.bit + last) slot cell last (each last (omega arith)) in
+    let size : length owners ≡ up 64 (slots * sum widths) = blob_size slots widths in
+    let total : slots * stride ≡ slots * sum widths = ap (λ (n : ℕ). slots * n) ends in
+    let one : IsLocated layout slot cell piece.bits (piece ∷ []) =
+    one_piece layout slot cell piece.bits piece refl (omega arith) (omega arith)
+    (λ k l. ap (λ (b : ℕ). owner_at layout b (piece.bit + k)) blob ∙ each k l) in
+    subst (λ (n : ℕ). IsLocated layout slot cell n (piece ∷ [])) (sym taken.hold) one
+
+-- the bits of all slots, as the mapping keeps them
+total_is : (slots : ℕ) (widths offsets : List ℕ) (stride : ℕ) → (0 < slots → IsStored widths offsets stride) → slots * stride ≡ slots * sum widths
+total_is slots widths offsets stride h =
+    ⊎_elim
+    (λ (filled : 0 < slots). let stored : IsStored widths offsets stride = h filled in ap (λ (n : ℕ). slots * n) stored.ends)
+    (λ (none : slots ≤ 0).
+    let empty : slots ≡ 0 = omega arith in
+    ap (λ (n : ℕ). n * stride) empty ∙ (let e : 0 * stride ≡ 0 * sum widths = omega arith in e) ∙ ap (λ (n : ℕ). n * sum widths) (sym empty))
+    (cases_lt 0 slots)
+
+-- the length of the one blob in bytes
+pub blob_bytes_is : (width slots : ℕ) (cells : List Cell) (offsets : List ℕ) (stride blob bits : ℕ) → 0 < width
+    → (0 < slots → IsStored (narrow_widths width cells) offsets stride) → bits ≡ up 64 (slots * stride)
+    → blob < length (bit_aos width slots (widths_of cells)) → 8 * (bits / 8) ≡ length (get_or (bit_aos width slots (widths_of cells)) blob [])
+blob_bytes_is width slots cells offsets stride blob bits some h padded inside =
+    let layout : List (List Owner) = bit_aos width slots (widths_of cells) in
+    let first : blob ≡ 0 = omega arith in
+    let here : length (get_or layout blob []) ≡ up 64 (slots * sum (narrow_widths width cells)) =
+    ap (λ (b : ℕ). length (get_or layout b [])) first ∙ blob_size slots (narrow_widths width cells) in
+    let total : slots * stride ≡ slots * sum (narrow_widths width cells) = total_is slots (narrow_widths width cells) offsets stride h in
+    let same : bits ≡ length (get_or layout blob []) = padded ∙ ap (up 64) total ∙ sym here in
+    let whole : length (get_or layout blob []) % 8 ≡ 0 = (bit_aos_laws width slots cells some).whole_bytes blob [] inside in
+    omega arith
+
+-- where a cell begins, as it is kept
+pub begin_at : (widths offsets : List ℕ) (stride cell d : ℕ) → IsStored widths offsets stride → cell < length widths
+    → get_or offsets cell d ≡ sum (take cell widths)
+begin_at widths offsets stride cell d h inside =
+    let number : 0 + cell ≡ cell = omega arith in
+    ap (λ (xs : List ℕ). get_or xs cell d) h.begins
+    ∙ get_or-map-range_with_len (λ (c : ℕ). sum (take c widths)) 0 (length widths) cell cell d inside number
+
+pub begins_each : (widths offsets : List ℕ) (stride : ℕ) → IsStored widths offsets stride → length offsets ≡ length widths
+begins_each widths offsets stride h =
+    ap (λ (xs : List ℕ). length xs) h.begins ∙ length-map-range_with_len (λ (c : ℕ). sum (take c widths)) 0 (length widths)
+
+-- it fits its type
+pub begin_fits : (slots : ℕ) (widths : List ℕ) (stride cell : ℕ) → stride ≡ sum widths → slots * stride ≤ 2 ^ 31 → 0 < slots → sum (take cell widths) ≤ 2 ^ 31
+begin_fits slots widths stride cell ends bound filled =
+    let before : sum (take cell widths) ≤ sum widths = sum_by-take-le (λ (x : ℕ). x) widths cell in
+    let grows : 1 * stride ≤ slots * stride = mul-le 1 stride slots stride (omega arith) (omega arith) in
+    omega arith
+
+-- the limits
+layout_size : (slots : ℕ) (widths : List ℕ) → sum_by length (bits_aos slots widths) ≡ up 64 (slots * sum widths)
+layout_size slots widths =
+    let blob : List Owner = padded_to 64 (packed_slots slots widths) in
+    let one : sum_by length (blob ∷ []) ≡ length blob = omega arith in
+    one ∙ blob_size slots widths
+
+-- a slot that is too long makes the blob too long
+pub big_slot : (slots : ℕ) (widths : List ℕ) → 0 < slots → 2 ^ 31 < sum widths → IsTooBig slots (bits_aos slots widths)
+big_slot slots widths filled long =
+    let size : sum_by length (bits_aos slots widths) ≡ up 64 (slots * sum widths) = layout_size slots widths in
+    let grows : 1 * sum widths ≤ slots * sum widths = mul-le 1 (sum widths) slots (sum widths) (omega arith) (omega arith) in
+    inr (omega arith)
+
+pub big_blob : (slots : ℕ) (widths offsets : List ℕ) (stride : ℕ) → IsStored widths offsets stride → 2 ^ 31 < up 64 (slots * stride)
+    → IsTooBig slots (bits_aos slots widths)
+big_blob slots widths offsets stride h long =
+    let size : sum_by length (bits_aos slots widths) ≡ up 64 (slots * sum widths) = layout_size slots widths in
+    let same : up 64 (slots * stride) ≡ up 64 (slots * sum widths) = ap (λ (n : ℕ). up 64 (slots * n)) h.ends in
+    inr (omega arith)
+
+pub not_too_big : (slots : ℕ) (widths offsets : List ℕ) (stride : ℕ) → (0 < slots → IsStored widths offsets stride) → slots ≤ 2 ^ 24
+    → up 64 (slots * stride) ≤ 2 ^ 31 → IsTooBig slots (bits_aos slots widths) → ⊥
+not_too_big slots widths offsets stride h few small big =
+    let size : sum_by length (bits_aos slots widths) ≡ up 64 (slots * sum widths) = layout_size slots widths in
+    let same : up 64 (slots * stride) ≡ up 64 (slots * sum widths) = ap (up 64) (total_is slots widths offsets stride h) in
+    ⊎_elim
+    (λ (many : 2 ^ 24 < slots). let none : ⊥ = omega arith in none)
+    (λ (long : 8 * 2 ^ 28 < sum_by length (bits_aos slots widths)). let none : ⊥ = omega arith in none)
+    big
+
+-- no slot is not too many
+pub none_fits : (slots : ℕ) (widths : List ℕ) → slots ≡ 0 → IsTooBig slots (bits_aos slots widths) → ⊥
+none_fits slots widths none =
+    let product : slots * 0 ≡ 0 = omega arith in
+    not_too_big slots widths [] 0 (λ filled. let never : ⊥ = omega arith in absurd never) (omega arith) (omega arith)
+
+-- one cell more, as the code reads it
+pub end_next : (width : ℕ) (cells : List Cell) (i : ℕ) (d : Cell) (end taken bits : ℕ) → i < length cells → taken ≡ min width (width_of (get_or cells i d).kind) → bits ≡ taken
+    → end ≡ sum (take i (narrow_widths width cells)) → end + bits ≡ sum (take (i + 1) (narrow_widths width cells))
+end_next width cells i d end taken bits inside t b was =
+    let widths : List ℕ = narrow_widths width cells in
+    let size : length widths ≡ length cells = length-narrow_widths width cells in
+    let here : taken ≡ get_or widths i 0 = taken_at width cells i d taken inside t in
+    let more : sum (take (i + 1) widths) ≡ sum (take i widths) + get_or widths i 0 = sum_by_more (λ (x : ℕ). x) widths i 0 (omega arith) in
+    omega arith
+
+-- one more that begins behind those before it
+pub begins_more : (widths old new : List ℕ) (i end : ℕ) → old ≡ map (λ c. sum (take c widths)) (range_with_len 0 i) → end ≡ sum (take i widths)
+    → new ≡ old ++ end ∷ [] → new ≡ map (λ c. sum (take c widths)) (range_with_len 0 (i + 1))
+begins_more widths old new i end each last pushed =
+    pushed
+    ∙ ap (λ (xs : List ℕ). xs ++ end ∷ []) each
+    ∙ ap (λ (n : ℕ). map (λ (c : ℕ). sum (take c widths)) (range_with_len 0 i) ++ n ∷ []) last
+    ∙ sym (map-range_with_len_more (λ (c : ℕ). sum (take c widths)) 0 i i (let e : 0 + i ≡ i = omega arith in e))
+
+-- all cells are laid out
+pub stored_all : (width : ℕ) (cells : List Cell) (i : ℕ) (offsets : List ℕ) (end : ℕ) → i ≤ length cells → length cells ≤ i
+    → offsets ≡ map (λ c. sum (take c (narrow_widths width cells))) (range_with_len 0 i) → end ≡ sum (take i (narrow_widths width cells))
+    → IsStored (narrow_widths width cells) offsets end
+stored_all width cells i offsets end low high begins ends =
+    let widths : List ℕ = narrow_widths width cells in
+    let size : length widths ≡ length cells = length-narrow_widths width cells in
+    let all : i ≡ length widths = omega arith in
+    record {
+      begins = begins ∙ ap (λ (n : ℕ). map (λ (c : ℕ). sum (take c widths)) (range_with_len 0 n)) all;
+      ends = ends ∙ ap (λ (ws : List ℕ). sum ws) (take_all i widths (omega arith));
+    }
+
+-- the cells so far take no more than all
+pub end_below : (width : ℕ) (cells : List Cell) (i : ℕ) → sum (take i (narrow_widths width cells)) ≤ sum (narrow_widths width cells)
+end_below width cells i = sum_by-take-le (λ (x : ℕ). x) (narrow_widths width cells) i

@@ -1,0 +1,8 @@
+use Rattle.std.proofs.Common.{arith}
+use Rattle.map_bits.proofs.Arrays.{blob_count_is}
+use Rattle.map_bits.proofs.bit_soa.BitSoaMapping.blob_count.Goals as goal
+
+pub returns : goal.returns
+returns c =
+    let m = c.args.self.now in
+    omega (arith, c.len.ensures, blob_count_is m.width m.slots m.cells.items, m.cells.ok.0)

@@ -1,0 +1,6 @@
+-- those of the next so far
+use Rattle.std.proofs.Common.{◌≡◌, ◌++◌, take}
+use Rattle.map_bytes.proofs.join.join_pieces.Given as goal
+
+abbrev pub invariant-loop-piece : goal.invariant-loop-piece
+invariant-loop-piece l = l.pieces.items ≡ l.initial.pieces.items ++ take l.piece-index l.next.items

@@ -1,0 +1,6 @@
+-- those of the next so far
+use Rattle.std.proofs.Common.{◌≡◌, ◌++◌, take}
+use Rattle.map_bytes.proofs.join.join_rules.Given as goal
+
+abbrev pub invariant-loop-rule : goal.invariant-loop-rule
+invariant-loop-rule l = l.rules.items ≡ l.initial.rules.items ++ take l.rule-index l.next.items

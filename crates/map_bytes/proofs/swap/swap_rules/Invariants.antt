@@ -1,0 +1,11 @@
+-- the bytes so far, and those of them in reverse order
+use Rattle.std.proofs.Common.{◌≡◌, take, drop, reverse}
+use Rattle.std.specs.List.{flat_map}
+use Rattle.map_bytes.specs.Cuts.{rule_bytes}
+use Rattle.map_bytes.proofs.swap.swap_rules.Given as goal
+
+abbrev pub invariant-loop-rule : goal.invariant-loop-rule
+invariant-loop-rule l = l.bytes.items ≡ flat_map rule_bytes (take l.rule-index l.inner.items)
+
+abbrev pub invariant-loop-at : goal.invariant-loop-at
+invariant-loop-at l = l.swapped.items ≡ reverse (drop l.at l.bytes.items)

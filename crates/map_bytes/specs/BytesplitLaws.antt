@@ -1,0 +1,115 @@
+-- Every bit has exactly one place where the bytes of each cell are cells of their own.
+use Rattle.std.proofs.Common.{◌≡◌, ℕ, ◌+◌, ◌*◌, ◌/◌, ◌%◌, ◌<◌, ◌≤◌, List, map, length, get_or, All, sym, ap, ◌∙◌, subst, arith}
+use Rattle.std.specs.List.{sum_by}
+use Rattle.std.proofs.lemmas.List.{length-map}
+use Rattle.std.proofs.lemmas.List.Elements.{All-map}
+use Rattle.places.specs.Layout.{Owner, Bit}
+use Rattle.places.specs.Rules.{renamed, byte_cells, bytesplit}
+use Rattle.places.specs.Laws.{IsBitOf, IsLaidOut}
+use Rattle.places.specs.Holds.{widths_of, full_holds}
+use Rattle.places.specs.declared.piece.Cell.{Cell}
+use Rattle.places.specs.declared.piece.Hold.{Hold}
+use Rattle.places.specs.WidthsLaws.{widths_whole, widths_wide, widths_narrow, widths_full}
+use Rattle.places.specs.ComposeLaws.{Back, relabel_lays_out, laid_out, lays_out}
+use Rattle.places.specs.CellWidthsLaws.{length-widths}
+use Rattle.map_bytes.specs.Cells.{bytes_of}
+use Rattle.map_bytes.specs.ByteCellsLaws.{bytes_before, IsByteCell, byte_cell_at, byte_cell_of, byte_within, byte_count_is, length-bytes, widths_of_bytes}
+
+module _ (layout : List (List Owner)) (n : ℕ) (ws es : List ℕ) (laid : IsLaidOut layout n es) (eights : All (λ w. w ≡ 8) es)
+    (each : length es ≡ sum_by (λ (w : ℕ). w / 8) ws) (whole : All (λ w. w % 8 ≡ 0) ws) where
+  abbrev named : ℕ → ℕ → ℕ → Owner
+  named slot cell bit = Bit slot (get_or (byte_cells ws) cell (0, 0)).0 (8 * (get_or (byte_cells ws) cell (0, 0)).1 + bit)
+
+  -- the cell of the byte that has a bit
+  abbrev byte_cell : ℕ → ℕ → ℕ
+  byte_cell c k = bytes_before ws c + k / 8
+
+  byte_low : (s c k : ℕ) → IsBitOf n ws s c k → k / 8 < get_or ws c 0 / 8
+  byte_low s c k h =
+      let low : k < get_or ws c 0 = h.bit_in in
+      let bytes : get_or ws c 0 % 8 ≡ 0 = whole c 0 h.cell_in in
+      omega arith
+
+  from : (s c k : ℕ) → IsBitOf n ws s c k → IsBitOf n es s (byte_cell c k) (k % 8)
+  from s c k h =
+      let within : byte_cell c k < sum_by (λ (w : ℕ). w / 8) ws = byte_within ws c (k / 8) h.cell_in (byte_low s c k h) in
+      let cell_in : byte_cell c k < length es = omega arith in
+      let width : get_or es (byte_cell c k) 0 ≡ 8 = eights (byte_cell c k) 0 cell_in in
+      let bit_in : k % 8 < get_or es (byte_cell c k) 0 = omega arith in
+      record { slot_in = h.slot_in; cell_in = cell_in; bit_in = bit_in }
+
+  to : (s c k : ℕ) → IsBitOf n ws s c k → named s (byte_cell c k) (k % 8) ≡ Bit s c k
+  to s c k h =
+      let bit : 8 * (k / 8) + k % 8 ≡ k = omega arith in
+      ap (λ (p : ℕ × ℕ). Bit s p.0 (8 * p.1 + k % 8)) (byte_cell_at ws c (k / 8) h.cell_in (byte_low s c k h)) ∙ ap (Bit s c) bit
+
+  -- which bit of which cell a bit of a byte is
+  found : (s n' k : ℕ) → IsBitOf n es s n' k → (c : ℕ) × (j : ℕ) × IsByteCell ws n' c j
+  found s n' k h =
+      let inside : n' < length es = h.cell_in in
+      byte_cell_of ws n' (omega arith)
+
+  name_is : (s n' k : ℕ) (h : IsBitOf n es s n' k) → named s n' k ≡ Bit s (found s n' k h).0 (8 * (found s n' k h).1 + k)
+  name_is s n' k h =
+      let f = found s n' k h in
+      let at : IsByteCell ws n' f.0 f.1 = f.2 in
+      ap (λ (p : ℕ × ℕ). Bit s p.0 (8 * p.1 + k))
+      (ap (λ (i : ℕ). get_or (byte_cells ws) i (0, 0)) at.place ∙ byte_cell_at ws f.0 f.1 at.cell_in at.byte_in)
+
+  is_bit : (s n' k : ℕ) (h : IsBitOf n es s n' k) → IsBitOf n ws s (found s n' k h).0 (8 * (found s n' k h).1 + k)
+  is_bit s n' k h =
+      let f = found s n' k h in
+      let at : IsByteCell ws n' f.0 f.1 = f.2 in
+      let width : get_or es n' 0 ≡ 8 = eights n' 0 h.cell_in in
+      let low : k < get_or es n' 0 = h.bit_in in
+      let byte : f.1 < get_or ws f.0 0 / 8 = at.byte_in in
+      let bit_in : 8 * f.1 + k < get_or ws f.0 0 = omega arith in
+      record { slot_in = h.slot_in; cell_in = at.cell_in; bit_in = bit_in }
+
+  back : Back (IsBitOf n es) (IsBitOf n ws) named (λ s c k. s) (λ s c k. byte_cell c k) (λ s c k. k % 8)
+  back = record {
+    from = from;
+    to = to;
+    out = λ s n' k s' c' k' h e.
+        let f = found s n' k h in
+        let is : Bit s f.0 (8 * f.1 + k) ≡ Bit s' c' k' = sym (name_is s n' k h) ∙ e in
+        let slots : s ≡ s' = cc in
+        let cells : f.0 ≡ c' = cc in
+        let bits : 8 * f.1 + k ≡ k' = cc in
+        subst (λ (x : ℕ). IsBitOf n ws x c' k') slots
+        (subst (λ (x : ℕ). IsBitOf n ws s x k') cells (subst (λ (x : ℕ). IsBitOf n ws s f.0 x) bits (is_bit s n' k h)));
+    back = λ s n' k s' c' k' h e.
+        let f = found s n' k h in
+        let at : IsByteCell ws n' f.0 f.1 = f.2 in
+        let is : Bit s f.0 (8 * f.1 + k) ≡ Bit s' c' k' = sym (name_is s n' k h) ∙ e in
+        let slots : s ≡ s' = cc in
+        let cells : f.0 ≡ c' = cc in
+        let bits : 8 * f.1 + k ≡ k' = cc in
+        let width : get_or es n' 0 ≡ 8 = eights n' 0 h.cell_in in
+        let low : k < get_or es n' 0 = h.bit_in in
+        let place : n' ≡ bytes_before ws f.0 + f.1 = at.place in
+        let byte : f.1 ≡ k' / 8 = omega arith in
+        let bit : k ≡ k' % 8 = omega arith in
+        (slots, place ∙ ap (λ (x : ℕ). bytes_before ws x + f.1) cells ∙ ap (λ (x : ℕ). bytes_before ws c' + x) byte, bit);
+  }
+
+  pub bytesplit_laid : All (λ w. w ≤ 64) ws → All (λ w. 1 ≤ w) ws → IsLaidOut (bytesplit ws layout) n ws
+  bytesplit_laid narrow wide =
+      let name : Owner → Owner = renamed named in
+      laid_out
+      (relabel_lays_out named (λ s c k. s) (λ s c k. byte_cell c k) (λ s c k. k % 8) layout back (lays_out laid))
+      (All-map (λ (blob : List Owner). length blob % 8 ≡ 0) (map name) layout
+      (λ k d inside. ap (λ (x : ℕ). x % 8) (length-map (get_or layout k d) name) ∙ laid.whole_bytes k d inside))
+      narrow wide
+
+-- the laws, over bytes that are stored whole
+pub bytesplit_laws : (layout : List (List Owner)) (slots : ℕ) (cells : List Cell) (holds : List Hold) → holds ≡ full_holds (bytes_of cells)
+    → IsLaidOut layout slots (map (λ (h : Hold). h.width) holds) → IsLaidOut (bytesplit (widths_of cells) layout) slots (map (λ (h : Hold). h.width) (full_holds cells))
+bytesplit_laws layout slots cells holds full laid =
+    let same : map (λ (h : Hold). h.width) holds ≡ widths_of (bytes_of cells) =
+    ap (λ (hs : List Hold). map (λ (h : Hold). h.width) hs) full ∙ widths_full (bytes_of cells) in
+    let each : length (widths_of (bytes_of cells)) ≡ sum_by (λ (w : ℕ). w / 8) (widths_of cells) =
+    length-widths (bytes_of cells) ∙ length-bytes cells ∙ byte_count_is cells in
+    subst (λ (ws : List ℕ). IsLaidOut (bytesplit (widths_of cells) layout) slots ws) (sym (widths_full cells))
+    (bytesplit_laid layout slots (widths_of cells) (widths_of (bytes_of cells)) (subst (IsLaidOut layout slots) same laid) (widths_of_bytes cells) each
+    (widths_whole cells) (widths_narrow cells) (widths_wide cells))

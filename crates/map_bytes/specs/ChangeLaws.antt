@@ -1,0 +1,16 @@
+-- Cells that are stored as other types: as many as before.
+use Rattle.std.proofs.Common.{◌≡◌, List, length, ◌∙◌}
+use Rattle.std.specs.Prelude.{◌==◌, if◌then◌else◌}
+use Rattle.std.proofs.lemmas.List.{length-map}
+use Rattle.record_dim.specs.declared.leaf_type.LeafType.{LeafType}
+use Rattle.places.specs.declared.piece.Cell.{Cell}
+use Rattle.places.specs.declared.piece.Hold.{Hold}
+use Rattle.map_bytes.specs.Cells.{kind_number, changed}
+
+pub length-changed : (from to : LeafType) (cells : List Cell) → length (changed from to cells) ≡ length cells
+length-changed from to cells = length-map cells (λ (cell : Cell). let c : Cell = record { leaf = cell.leaf; kind = if kind_number cell.kind == kind_number from then to else cell.kind } in c)
+
+-- each cell has a hold, where each changed one has
+pub changed_holds : (inner : List Cell) (holds : List Hold) (cells : List Cell) → length inner ≡ length cells → length holds ≡ length inner
+    → length holds ≡ length cells
+changed_holds inner holds cells each held = held ∙ each

@@ -1,0 +1,10 @@
+pub mod Cells
+pub mod Cuts
+pub mod CutLaws
+pub mod FullLaws
+pub mod SwapLaws
+pub mod SwapPiecesLaws
+pub mod ByteCellsLaws
+pub mod BytesplitLaws
+pub mod JoinLaws
+pub mod ChangeLaws

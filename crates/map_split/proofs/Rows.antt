@@ -1,0 +1,53 @@
+-- One more item of a list that is mapped, and how a cell of a split is stored.
+use Rattle.std.proofs.Common.{◌≡◌, ℕ, ◌+◌, ◌<◌, ◌≤◌, Bool, true, false, List, [], ◌∷◌, ◌++◌, map, length, get_or, slice_get, Some, take, sym, ap, ◌∙◌, arith}
+use Rattle.std.specs.Prelude.{not}
+use Rattle.std.specs.List.{count_by}
+use Rattle.std.proofs.lemmas.List.{length-map, take_more, map_push}
+use Rattle.std.proofs.lemmas.Option.{slice_get-get_or, get_or_from_slice_get}
+use Rattle.places.specs.declared.piece.Hold.{Hold}
+use Rattle.map_split.specs.Sides.{merged, rank_first, rank_rest}
+use Rattle.map_split.specs.SidesLaws.{map-merged, merged_first, merged_rest, length-merged}
+
+pub one_more : {X : Type 0} (f : X → X) (items old new : List X) (i : ℕ) (item made : X) → i < length items → item ≡ get_or items i item
+    → old ≡ map f (take i items) → made ≡ f item → new ≡ old ++ made ∷ [] → new ≡ map f (take (i + 1) items)
+one_more {X} f items old new i item made inside read so_far is pushed =
+    pushed
+    ∙ ap (λ (xs : List X). xs ++ made ∷ []) so_far
+    ∙ ap (λ (x : X). map f (take i items) ++ x ∷ []) is
+    ∙ sym (map_push f (take i items) item)
+    ∙ sym (ap (map f) (take_more items i item inside ∙ ap (λ (x : X). take i items ++ x ∷ []) (sym read)))
+
+module _ (side : List Bool) (hs gs : List Hold) (cell : ℕ) (inside : cell < length side) (left : length hs ≡ count_by (λ (s : Bool). s) side)
+    (right : length gs ≡ count_by not side) where
+  abbrev width : Hold → ℕ
+  width hold = hold.width
+
+  -- its hold is the one on its side
+  pub held_first : (hold : Hold) → get_or side cell false ≡ true → slice_get hs (rank_first side cell) ≡ Some hold → slice_get (merged side hs gs) cell ≡ Some hold
+  held_first hold goes e =
+      let size : length (merged side hs gs) ≡ length side = length-merged side hs gs (omega (arith, left)) (omega (arith, right)) in
+      slice_get-get_or (merged side hs gs) cell hold (omega arith)
+      ∙ ap Some (merged_first hold side hs gs cell inside goes (omega (arith, left)) (omega (arith, right))
+      ∙ get_or_from_slice_get hs (rank_first side cell) hold hold e)
+
+  pub held_rest : (hold : Hold) → get_or side cell false ≡ false → slice_get gs (rank_rest side cell) ≡ Some hold → slice_get (merged side hs gs) cell ≡ Some hold
+  held_rest hold stays e =
+      let size : length (merged side hs gs) ≡ length side = length-merged side hs gs (omega (arith, left)) (omega (arith, right)) in
+      slice_get-get_or (merged side hs gs) cell hold (omega arith)
+      ∙ ap Some (merged_rest hold side hs gs cell inside stays (omega (arith, left)) (omega (arith, right))
+      ∙ get_or_from_slice_get gs (rank_rest side cell) hold hold e)
+
+  -- and so is its width
+  pub width_first : get_or side cell false ≡ true → get_or (map width hs) (rank_first side cell) 0 ≡ get_or (map width (merged side hs gs)) cell 0
+  width_first goes =
+      let one : length (map width hs) ≡ length hs = length-map hs width in
+      let two : length (map width gs) ≡ length gs = length-map gs width in
+      sym (ap (λ (ws : List ℕ). get_or ws cell 0) (map-merged width side hs gs)
+      ∙ merged_first 0 side (map width hs) (map width gs) cell inside goes (omega (arith, left)) (omega (arith, right)))
+
+  pub width_rest : get_or side cell false ≡ false → get_or (map width gs) (rank_rest side cell) 0 ≡ get_or (map width (merged side hs gs)) cell 0
+  width_rest stays =
+      let one : length (map width hs) ≡ length hs = length-map hs width in
+      let two : length (map width gs) ≡ length gs = length-map gs width in
+      sym (ap (λ (ws : List ℕ). get_or ws cell 0) (map-merged width side hs gs)
+      ∙ merged_rest 0 side (map width hs) (map width gs) cell inside stays (omega (arith, left)) (omega (arith, right)))

@@ -1,0 +1,128 @@
+// `copy V to W`.
+ghost use Rattle.std.specs.Prelude.{◌≡◌, ◌+◌, ◌<◌, length, map, slice_index_or};
+ghost use Rattle.record_dim.specs.Schemas.{schema_fields};
+ghost use Rattle.worlds.specs.Copy.{copy, copied};
+ghost use Rattle.worlds.specs.Outcomes.{Goes};
+ghost use Rattle.command_checks.specs.Entries.{table_of, view_of};
+ghost use Rattle.command_checks.specs.Gives.{Gives};
+ghost use Rattle.command_checks.specs.declared.entries.ViewEntry.{ViewEntry};
+ghost use Rattle.session.specs.Changes.{copied_at, TellsCopy};
+
+use crate::session::Session;
+use command_checks::{StepFault, ViewList, known_view, leaf_text};
+use layout_copy::{CopyFault, copy_self};
+use record_dim::Name;
+use std::alloc::Global;
+use std::sync::ledger::Ledger;
+use steps::Steps;
+use views::View;
+use worlds::CommandFault;
+
+impl Session {
+    ghost use Rattle.session.specs.Stands.{left_of, world_of};
+
+    /// Makes the table of one view that of another.
+    #[tactic(auto, unfolding(worlds::specs::Copy::copy))]
+    pub fn copy<L: Ledger>(
+        mut self,
+        source: Name,
+        target: Name,
+        steps: &mut Steps<L>,
+    ) -> Result<Session, StepFault>
+        ensures { Gives left_of result (copy (world_of self) source target) }
+    {
+        let source = known_view(self.views.as_slice(), source)?;
+        let target = known_view(self.views.as_slice(), target)?;
+        copy_between(self.alloc, &mut self.views, source, target, steps)?;
+        Ok(self)
+    }
+}
+
+// The table at one place, copied to another place, which may be the same.
+fn copy_between<L: Ledger>(
+    alloc: Global,
+    views: &mut ViewList,
+    source: usize,
+    target: usize,
+    steps: &mut Steps<L>,
+) -> Result<(), StepFault>
+    requires source { source < length views.old.items }
+    requires target { target < length views.old.items }
+    ensures { (d : ViewEntry) → Gives (λ done. map view_of views.new.items) result (copied_at (map view_of views.old.items) target
+        (view_of (slice_index_or views.old.items source d)) (view_of (slice_index_or views.old.items target d))) }
+{
+    if source == target {
+        keep(&mut views[target].view);
+        Ok(())
+    } else {
+        copy_apart(alloc, views, source, target, steps)
+    }
+}
+
+// The same of two places. The target is taken out of the list while its rows are copied.
+fn copy_apart<L: Ledger>(
+    alloc: Global,
+    views: &mut ViewList,
+    source: usize,
+    target: usize,
+    steps: &mut Steps<L>,
+) -> Result<(), StepFault>
+    requires source { source < length views.old.items }
+    requires target { target < length views.old.items }
+    requires apart { source ≡ target → ⊥ }
+    ensures { (d : ViewEntry) → Gives (λ done. map view_of views.new.items) result (copied_at (map view_of views.old.items) target
+        (view_of (slice_index_or views.old.items source d)) (view_of (slice_index_or views.old.items target d))) }
+{
+    let mut entry = views.remove(target);
+    let place = place_without(source, target);
+    copy_into(alloc, &mut views[place].view, &mut entry.view, steps)?;
+    views.insert(target, entry)?;
+    Ok(())
+}
+
+// A place in a list that one element is gone from.
+fn place_without(place: usize, gone: usize) -> usize
+    requires { place ≡ gone → ⊥ }
+    ensures before { place < gone → result ≡ place }
+    ensures behind { gone < place → result + 1 ≡ place }
+{
+    if place < gone { place } else { place - 1 }
+}
+
+// A copy of a view onto itself, which has all of its own values.
+fn keep(view: &mut View)
+    ensures same { view.new ≡ view.old }
+    ensures copied { copied (table_of view.old) (table_of view.old) ≡ Goes (table_of view.old) }
+{
+    let _table = view.schema();
+    copy_self(view);
+}
+
+/// The table of a view, copied into another one.
+pub fn copy_into<L: Ledger>(
+    alloc: Global,
+    source: &mut View,
+    target: &mut View,
+    steps: &mut Steps<L>,
+) -> Result<(), StepFault>
+    ensures copied { Gives (λ done. table_of target.new) result (copied (table_of source.old) (table_of target.old)) }
+    ensures source { source.new ≡ source.old }
+{
+    match layout_copy::copy(source, target, steps) {
+        Ok(()) => Ok(()),
+        Err(fault) => Err(copy_fault(alloc, target, fault)),
+    }
+}
+
+// The fault of a copy, with the path text of its leaf.
+fn copy_fault(alloc: Global, target: &View, fault: CopyFault) -> StepFault
+    ensures { TellsCopy (schema_fields target.now.schema) fault result }
+{
+    match fault {
+        CopyFault::Mismatch => StepFault::Command(CommandFault::Mismatch),
+        CopyFault::Narrow { row, leaf } => match leaf_text(alloc, target, leaf) {
+            Ok(leaf) => StepFault::Command(CommandFault::Narrow { row, leaf }),
+            Err(fault) => fault,
+        },
+    }
+}

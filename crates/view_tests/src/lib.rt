@@ -1,0 +1,11 @@
+//! The tests of mappings of run time, of views and of datasets that no clause says and no script reaches. The crate has nothing else.
+#![tactic(auto)]
+
+#[cfg(test)]
+mod any_maps;
+#[cfg(test)]
+mod datasets;
+#[cfg(test)]
+mod orders;
+#[cfg(test)]
+mod stored_values;

@@ -1,0 +1,69 @@
+-- `copy V to W` makes the table of W that of V, and `relayout V as ..` lays a table out anew.
+use Rattle.std.specs.Prelude.{ℕ, ℤ, ◌&&◌, Bool, true, false, not, nat_eq, List}
+use Rattle.std.specs.Cmp.Lexicographic.{pointwise}
+use Rattle.record_dim.specs.Trees.{Tree, Fields, Single, Record, Array, End, Field}
+use Rattle.map_expr.specs.Terms.{Term as MapTerm}
+use Rattle.map_bytes.specs.Cells.{kind_number}
+use Rattle.layout_copy.specs.Copies.{Spot, refused_at}
+use Rattle.worlds.specs.Worlds.{World, Entry, Table}
+use Rattle.worlds.specs.Outcomes.{Outcome, Goes, ◌>>=◌, Left, quiet, known, refused_if, refused_by}
+use Rattle.worlds.specs.Names.{nameless, text_of_leaf}
+use Rattle.worlds.specs.Tables.{made}
+use Rattle.worlds.specs.Values.{answer_in}
+use Rattle.worlds.specs.Assign.{with_table}
+use Rattle.worlds.specs.declared.fault.CommandFault.{CommandFault}
+use Rattle.worlds.specs.declared.fault.CommandFault.TheVariants.{Mismatch, Narrow}
+
+-- whether two records are one tree, names included
+abbrev mutual
+  pub same_tree : Tree → Tree → Bool
+  same_tree (Single kind) (Single other) = nat_eq (kind_number kind) (kind_number other)
+  same_tree (Record fields) (Record others) = same_fields fields others
+  same_tree (Array len element) (Array other_len other) = nat_eq len other_len && same_tree element other
+  same_tree _ _ = false
+
+  pub same_fields : Fields → Fields → Bool
+  same_fields End End = true
+  same_fields (Field name tree rest) (Field other_name other more) =
+      pointwise nat_eq name other_name && (same_tree tree other && same_fields rest more)
+  same_fields _ _ = false
+
+-- one record over the same extents
+abbrev pub are_alike : Table → Table → Bool
+are_alike source target = same_fields source.fields target.fields && pointwise nat_eq source.extents target.extents
+
+-- the fault of a value that is not held
+abbrev pub narrow_fault : Fields → Spot → CommandFault
+narrow_fault fields spot = Narrow spot.row (text_of_leaf fields spot.leaf)
+
+-- a table with the rows of another, where it holds them
+unfoldable pub with_rows : Table → List (List ℤ) → Outcome Table
+with_rows table rows = do
+  held ← refused_by (narrow_fault table.fields) (refused_at (answer_in table) 0 rows)
+  Goes (record table { rows = rows })
+
+-- the target with the rows of the source
+unfoldable pub copied : Table → Table → Outcome Table
+copied source target = do
+  alike ← refused_if (not (are_alike source target)) Mismatch
+  with_rows target source.rows
+
+unfoldable pub copy : World → List ℕ → List ℕ → Outcome Left
+copy world name target_name = do
+  source ← known name world.views
+  target ← known target_name world.views
+  new ← copied source target
+  quiet (with_table world target_name new)
+
+-- the same rows under a new mapping, in a table beside all of these, the old one among them
+unfoldable pub laid_anew : List (Entry Table) → Table → MapTerm → Outcome Table
+laid_anew views table mapping = do
+  zeros ← made views table.fields table.extents mapping
+  with_rows zeros table.rows
+
+unfoldable pub relayout : World → List ℕ → MapTerm → Outcome Left
+relayout world name term = do
+  table ← known name world.views
+  whole ← nameless world.mappings term
+  new ← laid_anew world.views table whole
+  quiet (with_table world name new)

@@ -1,0 +1,127 @@
+-- `kernel V .. lanes N` runs a kernel over the rows of a table, and writes the number of those that give one.
+use Rattle.std.specs.Prelude.{ℕ, ◌^◌, ◌&&◌, ◌||◌, Bool, true, not, ℤ, pos, neg_ℤ, int_le, int_lt, nat_eq, nat_lt, List, [], ◌∷◌, length, Option, Some, None}
+use Rattle.std.specs.List.{list_any}
+use Rattle.expr_lang.specs.declared.expr.BinOp.{BinOp}
+use Rattle.expr_lang.specs.declared.expr.BinOp.TheVariants as op
+use Rattle.record_dim.specs.declared.path.PathStep.{PathStep}
+use Rattle.record_dim.specs.LeafTypes.{width_of}
+use Rattle.record_dim.specs.Leaves.{kinds_of}
+use Rattle.record_dim.specs.Trees.{Fields}
+use Rattle.views.specs.Stores.{kind_at}
+use Rattle.line_grammar.specs.declared.line.KernelText.{KernelText}
+use Rattle.line_grammar.specs.declared.line.KernelText.TheVariants as text
+use Rattle.lane_kernels.specs.declared.fault.KernelFault.{KernelFault}
+use Rattle.lane_kernels.specs.declared.fault.KernelFault.TheVariants as kernel_fault
+use Rattle.lane_kernels.specs.declared.kernel.Compare.{Compare}
+use Rattle.lane_kernels.specs.declared.kernel.Compare.TheVariants.{Eq, Ne, Lt, Le, Gt, Ge}
+use Rattle.lane_kernels.specs.declared.kernel.Kernel.{Kernel}
+use Rattle.lane_kernels.specs.declared.kernel.Kernel.TheVariants.{Axpy, Clamp, Sum, Least, Greatest, CountWhere}
+use Rattle.lane_kernels.specs.Kernels as kernels
+use Rattle.worlds.specs.Worlds.{World, Table}
+use Rattle.worlds.specs.Outcomes.{Outcome, Goes, ◌>>=◌, Left, shows, known, refused_if, refused_by}
+use Rattle.worlds.specs.Names.{leaf_of, text_of_leaf}
+use Rattle.worlds.specs.Texts.{number_line}
+use Rattle.worlds.specs.Values.{answer_in}
+use Rattle.worlds.specs.Assign.{with_table}
+use Rattle.worlds.specs.declared.fault.BadKernel.TheVariants.{Lanes, Wide, Constant}
+use Rattle.worlds.specs.declared.fault.CommandFault.{CommandFault}
+use Rattle.worlds.specs.declared.fault.CommandFault.TheVariants.{BadKernel, Empty, Range, Narrow}
+
+-- a comparison by its sign; the grammar lets no other operator stand here
+abbrev pub compare_of : BinOp → Compare
+compare_of op.Ne = Ne
+compare_of op.Lt = Lt
+compare_of op.Le = Le
+compare_of op.Gt = Gt
+compare_of op.Ge = Ge
+compare_of _ = Eq
+
+-- blocks have 1, 2, 4, 8 or 16 lanes
+abbrev pub are_lanes : ℕ → Bool
+are_lanes lanes = list_any (nat_eq lanes) (1 ∷ 2 ∷ 4 ∷ 8 ∷ 16 ∷ [])
+
+-- the type of a leaf has more than 32 bits
+abbrev pub is_wide : Fields → ℕ → Bool
+is_wide fields leaf = nat_lt 32 (width_of (kind_at (kinds_of fields) leaf))
+
+-- from -2^31 to below 2^31, and to below 2^32
+abbrev pub is_factor : ℤ → Bool
+is_factor a = int_le (neg_ℤ (pos (2 ^ 31))) a && int_lt a (pos (2 ^ 31))
+
+abbrev pub is_constant : ℤ → Bool
+is_constant c = int_le (neg_ℤ (pos (2 ^ 31))) c && int_lt c (pos (2 ^ 32))
+
+abbrev pub are_bounds : ℤ → ℤ → Bool
+are_bounds lo hi = is_constant lo && (is_constant hi && int_le lo hi)
+
+-- a number of lanes, leaves of which some is wide or none, and constants that are in their ranges or not
+abbrev pub fits : ℕ → Bool → Bool → Outcome (Unit {0})
+fits lanes wide constants = do
+  even ← refused_if (not (are_lanes lanes)) (BadKernel Lanes)
+  narrow ← refused_if wide (BadKernel Wide)
+  refused_if (not constants) (BadKernel Constant)
+
+-- the number of the one leaf of a kernel
+abbrev pub fit_leaf : Fields → List PathStep → ℕ → Bool → Outcome ℕ
+fit_leaf fields path lanes constants = do
+  leaf ← leaf_of fields path
+  fit ← fits lanes (is_wide fields leaf) constants
+  Goes leaf
+
+-- a kernel that can run on a table of this record: the numbers of its leaves stand in place of their paths
+abbrev pub fit_kernel : Fields → KernelText → ℕ → Outcome Kernel
+fit_kernel fields (text.Axpy a x y) lanes = do
+  from ← leaf_of fields x
+  to ← leaf_of fields y
+  fit ← fits lanes (is_wide fields from || is_wide fields to) (is_factor a)
+  Goes (Axpy a from to)
+fit_kernel fields (text.Clamp x lo hi) lanes = do
+  leaf ← fit_leaf fields x lanes (are_bounds lo hi)
+  Goes (Clamp leaf lo hi)
+fit_kernel fields (text.Sum x) lanes = do
+  leaf ← fit_leaf fields x lanes true
+  Goes (Sum leaf)
+fit_kernel fields (text.Least x) lanes = do
+  leaf ← fit_leaf fields x lanes true
+  Goes (Least leaf)
+fit_kernel fields (text.Greatest x) lanes = do
+  leaf ← fit_leaf fields x lanes true
+  Goes (Greatest leaf)
+fit_kernel fields (text.CountWhere x op c) lanes = do
+  leaf ← fit_leaf fields x lanes (is_constant c)
+  Goes (CountWhere leaf (compare_of op) c)
+
+-- the fault of a row, with the path text of its leaf
+abbrev pub run_fault : Fields → KernelFault → CommandFault
+run_fault fields kernel_fault.Empty = Empty
+run_fault fields (kernel_fault.Range row leaf) = Range row (text_of_leaf fields leaf)
+run_fault fields (kernel_fault.Narrow row leaf) = Narrow row (text_of_leaf fields leaf)
+
+-- what a kernel leaves: a table, and a number where it gives one
+pub record Ran : Type 0 where
+  pub table : Table
+  pub number : Option ℤ
+
+abbrev pub run : Table → Kernel → Outcome Ran
+run table kernel = do
+  done ← refused_by (run_fault table.fields) (kernels.kernel_fault (answer_in table) kernel table.rows)
+  Goes (record {
+    table = record table { rows = kernels.run_rows kernel (length table.rows) table.rows };
+    number = kernels.number_of kernel table.rows;
+  })
+
+unfoldable pub kernel_run : Table → KernelText → ℕ → Outcome Ran
+kernel_run table text lanes = do
+  fit ← fit_kernel table.fields text lanes
+  run table fit
+
+-- the number as a line, where there is one
+abbrev pub number_text : Option ℤ → List ℕ
+number_text None = []
+number_text (Some number) = number_line number
+
+unfoldable pub kernel : World → List ℕ → KernelText → ℕ → Outcome Left
+kernel world name text lanes = do
+  table ← known name world.views
+  done ← kernel_run table text lanes
+  shows (with_table world name done.table) (number_text done.number)
