@@ -88,21 +88,21 @@ def columns_of(header, paths):
     return columns
 
 
-def table_of(records, paths, ranges):
-    """The rows of a dataset, or its first fault."""
+def table_of(records, paths, refusal):
+    """The rows of a dataset, or its first fault. `refusal` names what refuses a value of a leaf, by its number, or is None."""
     columns = columns_of(records[0] if records else [], paths)
-    return [row_of(number, fields, columns, paths, ranges) for number, fields in enumerate(records[1:])]
+    return [row_of(number, fields, columns, paths, refusal) for number, fields in enumerate(records[1:])]
 
 
-def row_of(number, fields, columns, paths, ranges):
+def row_of(number, fields, columns, paths, refusal):
     row = []
-    for path, column, (least, greatest) in zip(paths, columns, ranges):
+    for leaf, (path, column) in enumerate(zip(paths, columns)):
         if column >= len(fields):
             raise DatasetFault('ShortRow', number, path)
         value = number_in(fields[column])
         if value is None:
             raise DatasetFault('Number', number, path)
-        if not least <= value <= greatest:
-            raise DatasetFault('Range', number, path)
+        if refusal(leaf, value):
+            raise DatasetFault(refusal(leaf, value), number, path)
         row.append(value)
     return row

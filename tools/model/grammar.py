@@ -405,17 +405,15 @@ def read_kern(reader):
         'count_where': [read_path, COMPARISONS, read_const],
     }.get(kind, [read_path])
     reader.sign('(')
-    for part in parts:
-        part(reader) if callable(part) else reader.sign(*part)
+    values = [part(reader) if callable(part) else reader.sign(*part) for part in parts]
     reader.sign(')')
+    return (kind,) + tuple(value for value in values if value != ',')
 
 
 def read_kernel(reader):
-    reader.name()
-    read_kern(reader)
+    name, kernel = reader.name(), read_kern(reader)
     reader.word('lanes')
-    reader.count()
-    return {}
+    return {'name': name, 'kernel': kernel, 'lanes': reader.count()}
 
 
 def read_reduce(reader):
@@ -427,17 +425,15 @@ def read_reduce(reader):
 
 
 def read_copy(reader):
-    reader.name()
+    name = reader.name()
     reader.word('to')
-    reader.name()
-    return {}
+    return {'name': name, 'target': reader.name()}
 
 
 def read_relayout(reader):
-    reader.name()
+    name = reader.name()
     reader.word('as')
-    read_map(reader)
-    return {}
+    return {'name': name, 'map': read_map(reader)}
 
 
 def read_one(reader):

@@ -9,16 +9,18 @@ blob is kept.
 import os
 import sys
 
+import built
 from datasets import DatasetFault, records_of, table_of, without_mark
 from grammar import COMMANDS, SyntaxFault, depth, expressions_of, path_text, read_line
-from layouts import WIDTHS, blobs_of, image, lengths_of
+from kernels import bad_kernel, number_of, stored
+from layouts import BLOBS, image, product
+from mappings import Cell, bad_alone, bad_mapping, blobs_of, full, holds_of, inner_of, lengths_of, most_slots, nodes_of, range_of
 from values import ValueFault, value_of
 
 USAGE = b'usage: llama run FILE | llama gen N\n'
-BUILT = {'record', 'mapping', 'view', 'load', 'set', 'update', 'reduce', 'print', 'bytes', 'drop'}
 MOST_SCRIPT_BYTES, MOST_LINES, MOST_LINE_BYTES = 2 ** 20, 2 ** 16, 4096
 MOST_DEPTH, MOST_RECORD_DEPTH, MOST_LEAVES, MOST_VIEWS = 32, 8, 64, 64
-MOST_ROWS, MOST_VIEW_BYTES, MOST_LIVE_BYTES = 2 ** 24, 2 ** 28, 2 ** 30
+MOST_ROWS, MOST_SLOTS, MOST_VIEW_BYTES, MOST_LIVE_BYTES = 2 ** 24, 2 ** 24, 2 ** 28, 2 ** 30
 MOST_DATASET_BYTES, MOST_SHOWN_BYTES = 2 ** 28, 65536
 
 
@@ -42,10 +44,12 @@ class World:
 
 
 class View:
-    """A table: its leaves as pairs of a path and a type, its extents and mapping, and the rows that are not all 0."""
+    """A table: its record, extents and mapping, and the rows that are not all 0."""
 
-    def __init__(self, leaves, extents, mapping):
-        self.leaves, self.extents, self.mapping = leaves, extents, mapping
+    def __init__(self, record, extents, mapping):
+        self.record, self.extents, self.mapping = record, extents, mapping
+        self.leaves = leaves_of(record)
+        self.holds = holds_of(mapping, self.leaves)
         self.kept = {}
 
     def count(self):
@@ -65,21 +69,22 @@ class View:
         return index
 
     def lengths(self):
-        return lengths_of(self.mapping, self.count(), [kind for _, kind in self.leaves])
+        return lengths_of(self.mapping, self.leaves, self.extents)
+
+    def refusal(self, leaf, value):
+        """What refuses a value: it is outside of the leaf's type, or of what the mapping holds of it. None where it fits."""
+        if not is_within(value, declared_range(self.leaves[leaf])):
+            return 'Range'
+        return None if is_within(value, range_of(self.holds[leaf])) else 'Narrow'
 
 
-def product(numbers):
-    result = 1
-    for number in numbers:
-        result *= number
-    return result
+def is_within(value, limits):
+    least, greatest = limits
+    return least <= value <= greatest
 
 
-def range_of(kind):
-    if kind == 'bool':
-        return (0, 1)
-    width = WIDTHS[kind]
-    return (0, 2 ** width - 1) if kind[0] == 'u' else (-2 ** (width - 1), 2 ** (width - 1) - 1)
+def declared_range(leaf):
+    return (0, 1) if leaf.kind == 'bool' else range_of(full(leaf))
 
 
 # names, paths and expressions
@@ -96,13 +101,17 @@ def free(name, entries):
 
 
 def nameless(world, mapping):
-    return known(mapping[1], world.mappings) if mapping[0] == 'name' else mapping
+    """The mapping with what its names stand for in their places; names are looked at from left to right."""
+    if mapping[0] == 'name':
+        return known(mapping[1], world.mappings)
+    inner = [nameless(world, part) for part in inner_of(mapping)]
+    return mapping[:len(mapping) - len(inner)] + tuple(inner)
 
 
 def leaf_of(view, path):
     text = path_text(path)
-    for number, (leaf, _) in enumerate(view.leaves):
-        if leaf == text:
+    for number, leaf in enumerate(view.leaves):
+        if leaf.path == text:
             return number
     raise Fault('Unknown', text)
 
@@ -128,11 +137,9 @@ def value_on(view, row, values, expr):
 
 
 def storable(view, row, leaf, value):
-    """Each form that is built holds the whole range of a leaf's type, so that no value is too wide for its place alone."""
-    path, kind = view.leaves[leaf]
-    least, greatest = range_of(kind)
-    if not least <= value <= greatest:
-        raise Fault('Range', f'record {row} leaf {path}')
+    fault = view.refusal(leaf, value)
+    if fault:
+        raise Fault(fault, f'record {row} leaf {view.leaves[leaf].path}')
 
 
 # records
@@ -161,7 +168,7 @@ def leaf_count(dim):
 
 def leaves_of(dim, path=''):
     if dim[0] == 'leaf':
-        return [(path, dim[1])]
+        return [Cell(path, dim[1])]
     if dim[0] == 'array':
         return [leaf for at in range(dim[1]) for leaf in leaves_of(dim[2], f'{path}[{at}]')]
     dot = '.' if path else ''
@@ -184,31 +191,27 @@ def record(world, line):
         raise Fault('BadRecord', 'NoElements')
     if leaf_count(dim) > MOST_LEAVES:
         raise Fault('BadRecord', 'TooManyLeaves')
-    world.records[line['name']] = leaves_of(dim)
+    world.records[line['name']] = dim
 
 
 # mappings and views
 
-def refuse_lanes(mapping):
-    if mapping[0] == 'aosoa' and not 1 <= mapping[1] <= 64:
-        raise Fault('BadMapping', 'Lanes')
-
-
 def mapping(world, line):
     free(line['name'], world.mappings)
     whole = nameless(world, line['map'])
-    refuse_lanes(whole)
+    if bad_alone(whole):
+        raise Fault('BadMapping', bad_alone(whole))
     world.mappings[line['name']] = whole
 
 
 def names_of_a_view(world, line):
-    """The leaves and the mapping that the names of a new view stand for."""
+    """The record and the mapping that the names of a new view stand for."""
     free(line['name'], world.views)
-    leaves = known(line['record'], world.records)
+    dim = known(line['record'], world.records)
     whole = nameless(world, line['map'])
     if len(world.views) >= MOST_VIEWS:
         raise Fault('TooManyViews')
-    return leaves, whole
+    return dim, whole
 
 
 def refuse_words(words):
@@ -234,20 +237,23 @@ def resolved(words, rows):
     return words
 
 
-def made(world, leaves, extents, whole):
-    refuse_lanes(whole)
-    view = View(leaves, extents, whole)
+def made(world, dim, extents, whole):
+    """A view of zeros beside the live ones."""
+    fault = bad_mapping(whole, leaves_of(dim))
+    if fault:
+        raise Fault('BadMapping', fault)
+    view = View(dim, extents, whole)
     live = sum(sum(other.lengths()) for other in world.views.values())
     size = sum(view.lengths())
-    if size > MOST_VIEW_BYTES or live + size > MOST_LIVE_BYTES:
+    if most_slots(whole, extents) > MOST_SLOTS or size > MOST_VIEW_BYTES or live + size > MOST_LIVE_BYTES:
         raise Fault('TooBig')
     return view
 
 
 def new_view(world, line):
-    leaves, whole = names_of_a_view(world, line)
+    dim, whole = names_of_a_view(world, line)
     refuse_words(line['words'])
-    world.views[line['name']] = made(world, leaves, resolved(line['words'], None), whole)
+    world.views[line['name']] = made(world, dim, resolved(line['words'], None), whole)
 
 
 def read_file(world, name):
@@ -259,16 +265,16 @@ def read_file(world, name):
 
 
 def load(world, line):
-    leaves, whole = names_of_a_view(world, line)
+    dim, whole = names_of_a_view(world, line)
     refuse_words(line['words'])
     data = read_file(world, line['file'])
     if len(data) > MOST_DATASET_BYTES:
         raise Fault('TooBig')
     records = records_of(data)
     extents = resolved(line['words'], len(records[1:]))
-    view = made(world, leaves, extents, whole)
+    view = made(world, dim, extents, whole)
     try:
-        table = table_of(records, [path for path, _ in leaves], [range_of(kind) for _, kind in leaves])
+        table = table_of(records, [leaf.path for leaf in view.leaves], view.refusal)
     except DatasetFault as fault:
         name, row, path = fault.args
         raise Fault(name, path if row is None else f'record {row} leaf {path}') from None
@@ -308,7 +314,7 @@ def update(world, line):
     leaves = [leaf for leaf, _ in sets]
     for place, leaf in enumerate(leaves):
         if leaf in leaves[:place]:
-            raise Fault('Twice', view.leaves[leaf][0])
+            raise Fault('Twice', view.leaves[leaf].path)
     for row in range(view.count()):
         update_row(view, row, where, sets)
 
@@ -323,6 +329,31 @@ def update_row(view, row, where, sets):
         storable(view, row, leaf, value)
         new = replaced(new, leaf, value)
     view.kept[row] = new
+
+
+def bound_kernel(view, kernel):
+    """The kernel with numbers of leaves for its paths."""
+    return tuple(leaf_of(view, part) if isinstance(part, tuple) else part for part in kernel)
+
+
+def kernel(world, line):
+    view = known(line['name'], world.views)
+    whole = bound_kernel(view, line['kernel'])
+    fault = bad_kernel(whole, line['lanes'], [leaf.kind for leaf in view.leaves])
+    if fault:
+        raise Fault('BadKernel', fault)
+    if whole[0] in ('axpy', 'clamp'):
+        return run_kernel(view, whole)
+    if whole[0] in ('least', 'greatest') and view.count() == 0:
+        raise Fault('Empty')
+    return number_line(number_of(whole, view.rows()))
+
+
+def run_kernel(view, whole):
+    for row in range(view.count()):
+        leaf, value = stored(whole, view.row(row))
+        storable(view, row, leaf, value)
+        view.kept[row] = replaced(view.row(row), leaf, value)
 
 
 def number_line(number):
@@ -343,9 +374,30 @@ def reduce(world, line):
     return number_line(min(values) if line['kind'] == 'min' else max(values))
 
 
+def copy(world, line):
+    source, target = known(line['name'], world.views), known(line['target'], world.views)
+    if (source.record, source.extents) != (target.record, target.extents):
+        raise Fault('Mismatch')
+    copy_rows(source, target)
+
+
+def copy_rows(source, target):
+    for row in sorted(source.kept):
+        for leaf, value in enumerate(source.row(row)):
+            storable(target, row, leaf, value)
+    target.kept = dict(source.kept)
+
+
+def relayout(world, line):
+    old = known(line['name'], world.views)
+    new = made(world, old.record, old.extents, nameless(world, line['map']))
+    copy_rows(old, new)
+    world.views[line['name']] = new
+
+
 def print_view(world, line):
     view = known(line['name'], world.views)
-    header = ','.join(path for path, _ in view.leaves)
+    header = ','.join(leaf.path for leaf in view.leaves)
     return ''.join(text + '\n' for text in [header] + [','.join(map(str, row)) for row in view.rows()]).encode()
 
 
@@ -356,7 +408,7 @@ def bytes_of(world, line):
         raise Fault('BadIndex')
     if sum(lengths) > MOST_SHOWN_BYTES:
         raise Fault('TooBig')
-    blob = blobs_of(view.mapping, view.extents, [kind for _, kind in view.leaves])[line['blob']]
+    blob = blobs_of(view.mapping, view.leaves, view.extents)[line['blob']]
     data = image(blob, lambda row, leaf: view.row(row)[leaf])
     assert len(data) == lengths[line['blob']]
     return ''.join(data[at:at + 16].hex(' ') + '\n' for at in range(0, len(data), 16)).encode()
@@ -369,15 +421,20 @@ def drop(world, line):
 
 DOES = {
     'record': record, 'mapping': mapping, 'view': new_view, 'load': load, 'set': assign, 'update': update,
-    'reduce': reduce, 'print': print_view, 'bytes': bytes_of, 'drop': drop,
+    'kernel': kernel, 'reduce': reduce, 'copy': copy, 'relayout': relayout, 'print': print_view, 'bytes': bytes_of, 'drop': drop,
 }
-assert set(DOES) == BUILT < set(COMMANDS)
+assert built.COMMANDS == set(DOES) < set(COMMANDS)
 
 
 # lines and the run
 
-def is_built_map(mapping):
-    return mapping[0] == 'name' or mapping[0] in ('aos', 'soa', 'aosoa') and mapping[-1] != 'morton'
+def is_built_node(node):
+    return node[0] in built.FORMS and (node[0] not in BLOBS or node[2] in built.ORDERS)
+
+
+def is_built(command, parts):
+    nodes = nodes_of(parts['map']) if 'map' in parts else []
+    return command in built.COMMANDS and all(map(is_built_node, nodes))
 
 
 def step(world, text):
@@ -393,7 +450,7 @@ def step(world, text):
     command, parts = line
     if any(depth(expr) > MOST_DEPTH for expr in expressions_of(command, parts)):
         raise Fault('TooDeep')
-    if command not in BUILT or 'map' in parts and not is_built_map(parts['map']):
+    if not is_built(command, parts):
         raise Fault('NotBuilt')
     return DOES[command](world, parts) or b''
 

@@ -19,7 +19,37 @@ DIVIDED = 'record P { a:i32 } | load V : P [?] as aos(packed, row) from "d.csv" 
 EMPTY = ('record P { a:u64 } | view V : P [2] as soa(multi, row) | update V set a = 18446744073709551615 | reduce V sum a'
          ' | view W : P [0] as soa(multi, row) | reduce W min a')
 SQUARE = PAIR + ' | view V : P [4097, 4097] as soa(multi, row)'
+KERNELS = ('record P { x:i32, y:i32 } | view V : P [5] as aosoa(2, row) | update V set x = i0, y = 10 | kernel V axpy(-3, x, y) lanes 4'
+           ' | kernel V sum(y) lanes 2 | kernel V least(y) lanes 8 | kernel V clamp(y, 0, 5) lanes 16'
+           ' | kernel V count_where(y >= 4) lanes 1 | print V | kernel V axpy(2147483647, x, y) lanes 4')
+SPLIT = ('record S { pos { x:u8, y:u8 }, m:u32 } | view V : S [2] as split(pos, soa(multi, row), aos(packed, row))'
+         ' | update V set pos.x = 1 + 3 * i0, pos.y = 2 + 3 * i0, m = 3 + 3 * i0 | bytes V 0 | bytes V 1 | bytes V 2'
+         ' | relayout V as aosoa(2, col) | print V | relayout V as split(q, soa(multi, row), aos(packed, row))')
+SAME = 'record R { a:u8, b:i16 } | view V : R [2, 2] as {} | update V set a = 2 * i0 + i1 + 1 | update V set b = -a * 10 | print V'
+CURVE = 'record P { a:u8 } | view V : P [2, 3] as aos(packed, morton) | update V set a = 1 + 3 * i0 + i1 | bytes V 0'
+SHARED = ('record P { a:u16, b:u16 } | view V : P [3] as bitaos(12, row) | set V[0].a = 2748 | set V[0].b = 291 | set V[1].b = 4095'
+          ' | bytes V 0')
+SIGNED = ('record P { a:i8 } | view V : P [4] as bitsoa(4, row) | set V[0].a = -1 | set V[1].a = -8 | set V[2].a = 7 | bytes V 0 | print V'
+          ' | set V[3].a = ')
+WIDE = ('record P { u:u64, s:i64 } | view V : P [1] as bitaos(64, row) | set V[0].u = 18446744073709551615'
+        ' | set V[0].s = -9223372036854775808 | bytes V 0 | print V')
+FLAGS = ('record P { f:bool } | view V : P [3] as bitaos(1, row) | set V[0].f = 1 | set V[2].f = 1 | bytes V 0 | set V[1].f = 2')
+ACROSS = ('record P { t:u64 } | view V : P [2] as bitaos(33, row) | set V[1].t = 8589934591 | bytes V 0 | set V[0].t = 8589934592')
+SWAPPED = ('record P { a:u32 } | view V : P [1] as byteswap(aos(packed, row)) | set V[0].a = 16909060 | bytes V 0'
+           ' | relayout V as bytesplit(soa(multi, row)) | bytes V 0 | bytes V 1 | bytes V 2 | bytes V 3 | print V')
+CHANGED = ('record P { a:i32 } | view V : P [1] as change(i32->i16, byteswap(aos(packed, row))) | set V[0].a = 258 | bytes V 0'
+           ' | set V[0].a = 40000')
+NOT_FULL = 'record P { a:i32 } | view V : P [1] as byteswap(change(i32->i16, aos(packed, row)))'
+SIDES = ('record S { pos { x:u8, y:u8 }, m:u32 } | view V : S [2, 2] as split(pos, soa(multi, col), bitaos(20, row))'
+         ' | update V set pos.x = 2 * i0 + i1 + 1, pos.y = 16, m = i1 | bytes V 0 | bytes V 1 | bytes V 2')
+UNHELD = ('record P { a:u8, b:u16 } | view V : P [5] as aosoa(4, row) | update V set a = i0, b = 300 + i0 | relayout V as bitsoa(8, row)')
+DEEP = PAIR + ' | mapping M = ' + 8 * 'byteswap(' + 'aos(packed, row)' + 8 * ')'
 SIX = b'a,b\n' + 6 * b'0,0\n'
+
+
+Z = ' 00'
+EVERYWHERE = ['aos(aligned, col)', 'soa(multi, row)', 'aosoa(3, col)', 'bitaos(7, morton)', 'bytesplit(byteswap(aos(packed, row)))',
+              'split(b, bitsoa(7, row), soa(single, morton))', 'change(i16->i64, aos(min, row))']
 
 
 def three(mapping):
@@ -67,7 +97,23 @@ EXAMPLES = [
     ('#' * 4097, b'', 'line 1: LineTooLong', 1),
     (LOADED, b'a,b\n+01, -5\n255,0007\n', 'a,b | 1,-5 | 255,7', 0),
     (LOADED, b'a,b\n0,0\n256,0\n', 'line 2: Range record 1 leaf a', 1),
-]
+    (KERNELS, b'', '20 | -2 | 3 | x,y | 0,5 | 1,5 | 2,4 | 3,1 | 4,0 | line 10: Range record 1 leaf y', 1),
+    (SPLIT, b'', '01 04 | 02 05 | 03 00 00 00 06 00 00 00 | pos.x,pos.y,m | 1,2,3 | 4,5,6 | line 9: BadMapping Side', 1),
+    (CURVE, b'', '01 02 04 05 03 00 06' + 9 * Z, 0),
+    (SHARED, b'', 'bc 3a 12 00 f0 ff' + 10 * Z, 0),
+    (SIGNED + '8', b'', '8f 07' + 6 * Z + ' | a | -1 | -8 | 7 | 0 | line 8: Narrow record 3 leaf a', 1),
+    (SIGNED + '200', b'', '8f 07' + 6 * Z + ' | a | -1 | -8 | 7 | 0 | line 8: Range record 3 leaf a', 1),
+    (WIDE, b'', 'ff ff ff ff ff ff ff ff 00 00 00 00 00 00 00 80 | u,s | 18446744073709551615,-9223372036854775808', 0),
+    (FLAGS, b'', '05' + 7 * Z + ' | line 6: Range record 1 leaf f', 1),
+    (ACROSS, b'', '00 00 00 00 fe ff ff ff 03' + 7 * Z + ' | line 5: Narrow record 0 leaf t', 1),
+    (SWAPPED, b'', '01 02 03 04 | 04 | 03 | 02 | 01 | a | 16909060', 0),
+    (CHANGED, b'', '01 02 | line 5: Narrow record 0 leaf a', 1),
+    (NOT_FULL, b'', 'line 2: BadMapping NotFull', 1),
+    (SIDES, b'', '01 03 02 04 | 10 10 10 10 | 00 00 10 00 00 00 00 10' + 8 * Z, 0),
+    (UNHELD, b'', 'line 4: Narrow record 0 leaf b', 1),
+    (DEEP, b'', 'line 2: BadMapping TooDeep', 1),
+    (DEEP.replace('byteswap(', '', 1).replace(')', '', 1), b'', '', 0),
+] + [(SAME.replace('{}', form), b'', 'a,b | 1,-10 | 2,-20 | 3,-30 | 4,-40', 0) for form in EVERYWHERE]
 
 # words, printed, status
 WORDS = [(words, 'usage: llama run FILE | llama gen N\n', 2) for words in (

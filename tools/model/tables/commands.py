@@ -53,6 +53,7 @@ LAYOUTS = [
     ('soa_aligned', 'soa(aligned, row)', '01 ff 00 00 02 01 00 00 ff ff ff ff 03 00 00 00'),
     ('soa_multi', 'soa(multi, row)', '01 ff'),
     ('aosoa', 'aosoa(2, row)', '01 ff 02 01 00 00 ff ff ff ff 03 00 00 00'),
+    ('split', 'split(b, soa(multi, row), aos(packed, row))', '02 01 00 00 ff ff ff ff'),
 ]
 
 MAPPINGS = [Case(f'view_as_{name}', TRIPLE + f'view V : Q [2] as {text} | ' + FILLED + 'bytes V 0', due)

@@ -116,18 +116,13 @@ READ = [
          'i,i4,i00 | 1,0,0'),
 ]
 
-KERNELS = ['axpy(-3, x, y)', 'clamp(y, 0, 5)', 'sum(y)', 'least(y)', 'greatest(y)', 'count_where(y >= -4)']
-UNBUILT_MAPS = [
-    ('bitaos', 'bitaos(12, row)'), ('bitsoa', 'bitsoa(7, col)'), ('split', 'split(a, soa(multi, row), aos(packed, row))'), ('byteswap', 'byteswap(aos(packed, row))'),
-    ('bytesplit', 'bytesplit(soa(multi, row))'), ('change', 'change(i32->i16, aos(min, row))'), ('count', 'count(soa(multi, row))'),
-    ('heat', 'heat(64, soa(multi, row))'), ('aos_in_morton_order', 'aos(packed, morton)'), ('soa_in_morton_order', 'soa(multi, morton)'),
-    ('aosoa_in_morton_order', 'aosoa(8, morton)'),
-]
-OTHERS = [('copy', 'copy V to W'), ('relayout', 'relayout V as soa(multi, row)'), ('counts', 'counts V'), ('heat', 'heat V'), ('layout', 'layout V')]
-NOT_BUILT = [Case(f'not_built_kernel_{text.split("(")[0]}', f'kernel V {text} lanes 4', 'line 1: NotBuilt') for text in KERNELS] + [
+UNBUILT_MAPS = [('count', 'count(soa(multi, row))'), ('heat', 'heat(64, soa(multi, row))')]
+OTHERS = [('counts', 'counts V'), ('heat', 'heat V'), ('layout', 'layout V')]
+NOT_BUILT = [
     Case(f'not_built_mapping_{name}', f'mapping M = {text}', 'line 1: NotBuilt') for name, text in UNBUILT_MAPS] + [
     Case(f'not_built_view_{name}', BOTH + f'view W : P [1] as {text}', 'line 3: NotBuilt') for name, text in UNBUILT_MAPS] + [
     Case(f'not_built_load_{name}', PAIR + f'load W : P [?] as {text} from "d.csv"', 'line 2: NotBuilt', b'a,b\n') for name, text in UNBUILT_MAPS] + [
+    Case(f'not_built_relayout_{name}', BOTH + f'relayout V as {text}', 'line 3: NotBuilt') for name, text in UNBUILT_MAPS] + [
     Case(f'not_built_{name}', BOTH + text, 'line 3: NotBuilt') for name, text in OTHERS]
 
 MARK = b'\xef\xbb\xbf'
