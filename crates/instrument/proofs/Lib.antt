@@ -1,1 +1,6 @@
 pub mod Entries
+pub mod Rounding
+pub mod Warming
+pub mod Touches
+pub mod Numbered
+pub mod Lines

@@ -4,6 +4,8 @@
 #[cfg(test)]
 mod any_maps;
 #[cfg(test)]
+mod counters;
+#[cfg(test)]
 mod datasets;
 #[cfg(test)]
 mod orders;

@@ -1,0 +1,6 @@
+use Rattle.std.proofs.Common.{◌≡◌, ◌+◌, ◌^◌, take}
+use Rattle.instrument.specs.Counters.{granules_in}
+use Rattle.instrument.proofs.granules.are_few.Given as goal
+
+abbrev pub invariant-loop-bytes : goal.invariant-loop-bytes
+invariant-loop-bytes l = l.left + granules_in l.granule (take l.bytes-index l.blob_bytes) ≡ 2 ^ 24

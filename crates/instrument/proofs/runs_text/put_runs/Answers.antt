@@ -1,0 +1,14 @@
+use Rattle.std.proofs.Common.{rules, IsErr}
+use Rattle.record_dim.specs.Schemas.{schema_fields}
+use Rattle.record_dim.specs.Leaves.{texts_of}
+use Rattle.layout_io.specs.GatheringLaws.{Puts-loop_err}
+use Rattle.instrument.specs.CounterTexts.{run_line}
+use Rattle.places.specs.declared.piece.Run.{Run}
+use Rattle.places.specs.declared.piece.RunOwner.TheVariants.{Pad}
+use Rattle.instrument.proofs.runs_text.put_runs.Goals as goal
+
+pub returns-in_err-put_run : goal.returns-in_err-put_run
+returns-in_err-put_run g c =
+    let err : IsErr c.from_residual.result = search rules in
+    let nowhere : Run = record { blob = 0; bit = 0; bits = 0; owner = Pad } in
+    Puts-loop_err c.from_residual.result (run_line (texts_of (schema_fields c.args.schema.now))) c.args.runs.now c.loop-run.run-index nowhere c.loop-run-test.true err c.loop-run.invariant c.in_err-put_run.ensures

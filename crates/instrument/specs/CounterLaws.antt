@@ -1,0 +1,130 @@
+-- The numbers that are shown: a count that began with 0 is the number of the entries that touch its place, or 2^64 - 1 where there are more.
+use Rattle.std.specs.Prelude.{◌≡◌, ℕ, ◌+◌, ◌-◌, ◌^◌, ◌<◌, ◌≤◌, ◌==◌, min, Bool, true, false, List, [], ◌∷◌, length, map, replicate, get_or, slice_index, slice_index_or, if◌then◌else◌}
+use Rattle.std.specs.List.{fold, count_by}
+use Rattle.std.proofs.Common.{refl, ap, sym, ◌∙◌, arith, ⊎_elim, cond}
+use Rattle.std.proofs.lemmas.Bool.{cases_Bool, cases_eq, eq-eqb, ne_eqb}
+use Rattle.std.proofs.lemmas.List.{length-set, length-map, length-replicate, get_or-set_same, get_or-set_other, get_or-replicate, get_or-map}
+use Rattle.std.proofs.lemmas.List.Sums.{sum_by-cons}
+use Rattle.std.proofs.lemmas.List.Folds.{fold-map}
+use Rattle.places.specs.declared.piece.Piece.{Piece}
+use Rattle.instrument.specs.Counters.{HeatCounts, next, counted, granules_of, no_heat, warmed, is_touched, heated_by}
+use Rattle.instrument.specs.WarmingLaws.{length-warmed, length-heated, get-warmed, get-warmed_blob}
+
+-- one entry before others
+capped_more : (count others : ℕ) → min (next count + others) (2 ^ 64 - 1) ≡ min (count + (1 + others)) (2 ^ 64 - 1)
+capped_more count others = omega arith
+
+capped_same : (count others : ℕ) → min (count + others) (2 ^ 64 - 1) ≡ min (count + (0 + others)) (2 ^ 64 - 1)
+capped_same count others = omega arith
+
+capped_none : (count : ℕ) → count ≤ 2 ^ 64 - 1 → count ≡ min (count + 0) (2 ^ 64 - 1)
+capped_none count bound = omega arith
+
+from_zero : (number : ℕ) → min (0 + number) (2 ^ 64 - 1) ≡ min number (2 ^ 64 - 1)
+from_zero number = omega arith
+
+next_bound : (count : ℕ) → next count ≤ 2 ^ 64 - 1
+next_bound count = omega arith
+
+-- an entry touches a place or does not
+counts_by : {X : Type 0} (touches : X → Bool) (entry : X) (entries : List X) (count new : ℕ) → new ≡ (if touches entry then next count else count)
+    → min (new + count_by touches entries) (2 ^ 64 - 1) ≡ min (count + count_by touches (entry ∷ entries)) (2 ^ 64 - 1)
+counts_by touches entry entries count new is =
+    let more = sum_by-cons (λ x. cond (touches x) 1 0) entry entries in
+    ⊎_elim
+    (λ (yes : touches entry ≡ true).
+    ap (λ n. min (n + count_by touches entries) (2 ^ 64 - 1)) (is ∙ ap (λ (b : Bool). if b then next count else count) yes) ∙ capped_more count (count_by touches entries)
+    ∙ ap (λ (b : Bool). min (count + (cond b 1 0 + count_by touches entries)) (2 ^ 64 - 1)) (sym yes) ∙ ap (λ n. min (count + n) (2 ^ 64 - 1)) (sym more))
+    (λ (no : touches entry ≡ false).
+    ap (λ n. min (n + count_by touches entries) (2 ^ 64 - 1)) (is ∙ ap (λ (b : Bool). if b then next count else count) no) ∙ capped_same count (count_by touches entries)
+    ∙ ap (λ (b : Bool). min (count + (cond b 1 0 + count_by touches entries)) (2 ^ 64 - 1)) (sym no) ∙ ap (λ n. min (count + n) (2 ^ 64 - 1)) (sym more))
+    (cases_Bool (touches entry))
+
+new_bound : (touched : Bool) (count new : ℕ) → count ≤ 2 ^ 64 - 1 → new ≡ (if touched then next count else count) → new ≤ 2 ^ 64 - 1
+new_bound true count new bound is = omega (arith, is)
+new_bound false count new bound is = omega (arith, is)
+
+-- a place after one touch of some place
+counted_at : (counts : List ℕ) (touch place : ℕ) → place < length counts
+    → get_or (counted counts touch) place 0 ≡ (if touch == place then next (get_or counts place 0) else get_or counts place 0)
+counted_at counts touch place small =
+    ⊎_elim
+    (λ (here : touch ≡ place).
+    let new = next (get_or counts place 0) in
+    ap (λ t. get_or (counted counts t) place 0) here ∙ get_or-set_same counts place new 0 small ∙ ap (λ (b : Bool). if b then new else get_or counts place 0) (sym (eq-eqb touch place here)))
+    (λ (other : touch ≡ place → ⊥).
+    get_or-set_other counts touch place (next (get_or counts touch 0)) 0 (λ same. other (sym same))
+    ∙ ap (λ (b : Bool). if b then next (get_or counts place 0) else get_or counts place 0) (sym (ne_eqb touch place other)))
+    (cases_eq touch place)
+
+counted_long : (counts : List ℕ) (touch : ℕ) → length (counted counts touch) ≡ length counts
+counted_long counts touch = length-set counts touch (next (get_or counts touch 0))
+
+-- as many counts as before
+pub length-counts : (touches counts : List ℕ) → length (fold counted counts touches) ≡ length counts
+length-counts [] counts = refl
+length-counts (touch ∷ touches) counts = length-counts touches (counted counts touch) ∙ counted_long counts touch
+
+-- any count is the one before and the number of the entries that touch its place, up to the end of its type
+pub count-after : (touches counts : List ℕ) (leaf : ℕ) → leaf < length counts → get_or counts leaf 0 ≤ 2 ^ 64 - 1
+    → slice_index (fold counted counts touches) leaf ≡ min (slice_index counts leaf + count_by (λ touch. touch == leaf) touches) (2 ^ 64 - 1)
+count-after [] counts leaf small bound = capped_none (get_or counts leaf 0) bound
+count-after (touch ∷ touches) counts leaf small bound =
+    let new = counted_at counts touch leaf small in
+    count-after touches (counted counts touch) leaf (omega (arith, counted_long counts touch)) (new_bound (touch == leaf) (get_or counts leaf 0) (get_or (counted counts touch) leaf 0) bound new)
+    ∙ counts_by (λ touch. touch == leaf) touch touches (get_or counts leaf 0) (get_or (counted counts touch) leaf 0) new
+
+-- the count of a leaf is the number of the entries that touch it, or 2^64 - 1 where there are more
+pub count-from_zero : (leaves : ℕ) (touches : List ℕ) (leaf : ℕ) → leaf < leaves
+    → slice_index (fold counted (replicate leaves 0) touches) leaf ≡ min (count_by (λ touch. touch == leaf) touches) (2 ^ 64 - 1)
+count-from_zero leaves touches leaf small =
+    let zero_there : get_or (replicate {A = ℕ} leaves 0) leaf 0 ≡ 0 = get_or-replicate leaves leaf 0 0 small in
+    count-after touches (replicate leaves 0) leaf (omega (arith, length-replicate {A = ℕ} leaves 0)) (omega (arith, zero_there))
+    ∙ ap (λ n. min (n + count_by (λ touch. touch == leaf) touches) (2 ^ 64 - 1)) zero_there ∙ from_zero (count_by (λ touch. touch == leaf) touches)
+
+-- a granule after one access
+warmed_at : (hot : ℕ → ℕ → Bool) (blobs : List (List ℕ)) (blob at : ℕ) → blob < length blobs → at < length (get_or blobs blob [])
+    → get_or (get_or (warmed hot blobs) blob []) at 0 ≡ (if hot blob at then next (get_or (get_or blobs blob []) at 0) else get_or (get_or blobs blob []) at 0)
+warmed_at hot blobs blob at blob_in at_in = ap (λ counts. get_or counts at 0) (get-warmed hot blobs blob blob_in) ∙ get-warmed_blob (hot blob) (get_or blobs blob []) at at_in
+
+-- the same for a granule, where each access is the test of the granules that it touches
+pub heat-after : (accesses : List (ℕ → ℕ → Bool)) (blobs : List (List ℕ)) (blob at : ℕ) → blob < length blobs → at < length (get_or blobs blob [])
+    → get_or (get_or blobs blob []) at 0 ≤ 2 ^ 64 - 1
+    → slice_index (slice_index_or (fold (λ blobs hot. warmed hot blobs) blobs accesses) blob []) at
+    ≡ min (slice_index (slice_index_or blobs blob []) at + count_by (λ hot. hot blob at) accesses) (2 ^ 64 - 1)
+heat-after [] blobs blob at blob_in at_in bound = capped_none (get_or (get_or blobs blob []) at 0) bound
+heat-after (hot ∷ accesses) blobs blob at blob_in at_in bound =
+    let count = get_or (get_or blobs blob []) at 0 in
+    let new = warmed_at hot blobs blob at blob_in at_in in
+    heat-after accesses (warmed hot blobs) blob at (omega (arith, length-warmed hot blobs)) (omega (arith, length-heated hot blobs blob blob_in))
+    (new_bound (hot blob at) count (get_or (get_or (warmed hot blobs) blob []) at 0) bound new)
+    ∙ counts_by (λ hot. hot blob at) hot accesses count (get_or (get_or (warmed hot blobs) blob []) at 0) new
+
+-- the number of a granule is that of the accesses that touch it, or 2^64 - 1 where there are more
+pub heat-from_zero : (granule : ℕ) (bytes : List ℕ) (accesses : List (ℕ → ℕ → Bool)) (blob at : ℕ) → blob < length bytes → at < granules_of granule (slice_index bytes blob)
+    → slice_index (slice_index_or (fold (λ blobs hot. warmed hot blobs) (no_heat granule bytes).blobs accesses) blob []) at
+    ≡ min (count_by (λ hot. hot blob at) accesses) (2 ^ 64 - 1)
+heat-from_zero granule bytes accesses blob at blob_in at_in =
+    let blobs = (no_heat granule bytes).blobs in
+    let counts : get_or blobs blob [] ≡ replicate (granules_of granule (get_or bytes blob 0)) 0 = get_or-map (λ len. replicate (granules_of granule len) 0) bytes blob 0 [] blob_in in
+    let zero_there : get_or (get_or blobs blob []) at 0 ≡ 0 = ap (λ counts. get_or counts at 0) counts ∙ get_or-replicate (granules_of granule (get_or bytes blob 0)) at 0 0 at_in in
+    let long : length (get_or blobs blob []) ≡ granules_of granule (get_or bytes blob 0) = ap length counts ∙ length-replicate {A = ℕ} (granules_of granule (get_or bytes blob 0)) 0 in
+    let many : length blobs ≡ length bytes = length-map bytes (λ len. replicate (granules_of granule len) 0) in
+    heat-after accesses blobs blob at (omega (arith, many)) (omega (arith, long)) (omega (arith, zero_there))
+    ∙ ap (λ n. min (n + count_by (λ hot. hot blob at) accesses) (2 ^ 64 - 1)) zero_there ∙ from_zero (count_by (λ hot. hot blob at) accesses)
+
+-- accesses to pieces are such accesses
+heat-accesses : (entries : List (List Piece)) (heat : HeatCounts)
+    → (fold (λ heat pieces. heated_by pieces heat) heat entries).blobs ≡ fold (λ blobs pieces. warmed (is_touched heat.granule pieces) blobs) heat.blobs entries
+heat-accesses [] heat = refl
+heat-accesses (pieces ∷ entries) heat = heat-accesses entries (heated_by pieces heat)
+
+-- so the number of a granule is that of the accesses to pieces of which one has a bit in it, or 2^64 - 1 where there are more
+pub heat-of_pieces : (granule : ℕ) (bytes : List ℕ) (entries : List (List Piece)) (blob at : ℕ) → blob < length bytes → at < granules_of granule (slice_index bytes blob)
+    → slice_index (slice_index_or (fold (λ heat pieces. heated_by pieces heat) (no_heat granule bytes) entries).blobs blob []) at
+    ≡ min (count_by (λ pieces. is_touched granule pieces blob at) entries) (2 ^ 64 - 1)
+heat-of_pieces granule bytes entries blob at blob_in at_in =
+    ap (λ blobs. slice_index (slice_index_or blobs blob []) at)
+    (heat-accesses entries (no_heat granule bytes) ∙ sym (fold-map (λ blobs hot. warmed hot blobs) (is_touched granule) (no_heat granule bytes).blobs entries))
+    ∙ heat-from_zero granule bytes (map (is_touched granule) entries) blob at blob_in at_in
+    ∙ ap (λ n. min n (2 ^ 64 - 1)) (fold-map (λ n hot. n + cond (hot blob at) 1 0) (is_touched granule) 0 entries)

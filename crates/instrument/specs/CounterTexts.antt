@@ -1,0 +1,52 @@
+-- The texts of counts by leaf, of counts by granule, and of runs.
+use Rattle.std.specs.Prelude.{ℕ, ◌<◌, ◌==◌, List, [], ◌∷◌, ◌++◌, codes, slice_index, slice_index_or, if◌then◌else◌}
+use Rattle.std.specs.List.{flat_map, enumerate_from}
+use Rattle.layout_io.specs.Decimal.{digits_text}
+use Rattle.places.specs.declared.piece.Run.{Run}
+use Rattle.places.specs.declared.piece.RunOwner.{RunOwner}
+use Rattle.places.specs.declared.piece.RunOwner.TheVariants.{Pad, Leaf}
+use Rattle.instrument.specs.Counters.{LeafCounts, HeatCounts}
+
+-- fields as a line, with a comma between each two
+abbrev pub line_of : List (List ℕ) → List ℕ
+line_of [] = 10 ∷ []
+line_of (first ∷ []) = first ++ 10 ∷ []
+line_of (first ∷ second ∷ fields) = first ++ 44 ∷ line_of (second ∷ fields)
+
+-- a leaf by its number and its path text, with its reads and its writes
+abbrev pub leaf_line : LeafCounts → ℕ × List ℕ → List ℕ
+leaf_line counts leaf = line_of (leaf.1 ∷ digits_text (slice_index counts.reads leaf.0) ∷ digits_text (slice_index counts.writes leaf.0) ∷ [])
+
+-- the counts of leaves that have these path texts
+unfoldable pub counts_text : List (List ℕ) → LeafCounts → List ℕ
+counts_text names counts = line_of (codes "leaf" ∷ codes "reads" ∷ codes "writes" ∷ []) ++ flat_map (leaf_line counts) (enumerate_from 0 names)
+
+-- a granule of a blob by its number, with its count; one without accesses is left out
+abbrev pub granule_line : ℕ → ℕ × ℕ → List ℕ
+granule_line blob granule = if granule.1 == 0 then [] else line_of (digits_text blob ∷ digits_text granule.0 ∷ digits_text granule.1 ∷ [])
+
+-- the granules of a blob by its number
+abbrev pub blob_lines : ℕ × List ℕ → List ℕ
+blob_lines blob = flat_map (granule_line blob.0) (enumerate_from 0 blob.1)
+
+-- the counts of granules
+unfoldable pub heat_text : HeatCounts → List ℕ
+heat_text heat = line_of (codes "blob" ∷ codes "granule" ∷ codes "accesses" ∷ []) ++ flat_map blob_lines (enumerate_from 0 heat.blobs)
+
+-- the record, the leaf's path text and its lowest bit, or a dash for each
+abbrev pub owner_fields : List (List ℕ) → RunOwner → List (List ℕ)
+owner_fields names Pad = codes "-" ∷ codes "-" ∷ codes "-" ∷ []
+owner_fields names (Leaf row leaf low) = digits_text row ∷ slice_index_or names leaf [] ∷ digits_text low ∷ []
+
+-- a run, and whose it is
+abbrev pub run_line : List (List ℕ) → Run → List ℕ
+run_line names run = line_of (digits_text run.blob ∷ digits_text run.bit ∷ digits_text run.bits ∷ owner_fields names run.owner)
+
+-- the runs of leaves that have these path texts
+unfoldable pub runs_text : List (List ℕ) → List Run → List ℕ
+runs_text names runs = line_of (codes "blob" ∷ codes "bit" ∷ codes "bits" ∷ codes "record" ∷ codes "leaf" ∷ codes "low" ∷ []) ++ flat_map (run_line names) runs
+
+-- an owner whose leaf is one of so many
+abbrev pub IsOwnerBelow : ℕ → RunOwner → Type 0
+IsOwnerBelow leaves Pad = Unit {0}
+IsOwnerBelow leaves (Leaf row leaf low) = leaf < leaves

@@ -1,0 +1,82 @@
+-- Counts of accesses, by leaf and by granule of a blob's bytes.
+use Rattle.std.specs.Prelude.{◌≡◌, ℕ, ◌+◌, ◌-◌, ◌*◌, ◌/◌, ◌^◌, ◌<◌, ◌≤◌, ◌==◌, ◌&&◌, nat_lt, min, max, Bool, if◌then◌else◌}
+use Rattle.std.specs.Prelude.{List, [], length, map, replicate, slice_index, slice_index_or, slice_set, sum_by}
+use Rattle.std.specs.List.{enumerate_from, list_any}
+use Rattle.places.specs.declared.piece.Piece.{Piece}
+use Rattle.instrument.specs.declared.counts.Counts.{Counts}
+use Rattle.instrument.specs.declared.heat.Heat.{Heat}
+
+-- one more; a count stands still at the end of its type
+abbrev pub next : ℕ → ℕ
+next count = min (count + 1) (2 ^ 64 - 1)
+
+-- one more in a place
+abbrev pub counted : List ℕ → ℕ → List ℕ
+counted counts place = slice_set counts place (next (slice_index counts place))
+
+-- the reads and the writes of each leaf
+pub record LeafCounts : Type 0 where
+  pub reads : List ℕ
+  pub writes : List ℕ
+
+-- counts of so many leaves
+pub record HasLeaves (counts : LeafCounts) (leaves : ℕ) : Type 0 where
+  pub reads : length counts.reads ≡ leaves
+  pub writes : length counts.writes ≡ leaves
+
+-- what a `Counts` means
+abbrev pub leaf_counts : Counts → LeafCounts
+leaf_counts counts = record { reads = counts.reads.items; writes = counts.writes.items }
+
+-- the counts of so many leaves, each 0
+abbrev pub no_counts : ℕ → LeafCounts
+no_counts leaves = record { reads = replicate leaves 0; writes = replicate leaves 0 }
+
+-- the accesses to each granule of each blob; a granule has so many bytes, the last of a blob perhaps fewer
+pub record HeatCounts : Type 0 where
+  pub granule : ℕ
+  pub blobs : List (List ℕ)
+
+-- what a `Heat` means
+abbrev pub heat_counts : Heat → HeatCounts
+heat_counts heat = record { granule = heat.granule; blobs = map (λ blob. blob.items) heat.blobs.items }
+
+-- how many granules some bytes have
+abbrev pub granules_of : ℕ → ℕ → ℕ
+granules_of granule bytes = (bytes + (granule - 1)) / granule
+
+-- those of blobs of so many bytes, together
+abbrev pub granules_in : ℕ → List ℕ → ℕ
+granules_in granule bytes = sum_by (granules_of granule) bytes
+
+-- the counts of the granules of blobs of so many bytes, each 0
+abbrev pub no_heat : ℕ → List ℕ → HeatCounts
+no_heat granule bytes = record { granule = granule; blobs = map (λ len. replicate (granules_of granule len) 0) bytes }
+
+-- one more in each granule that is hot; a granule has the number of its blob and its own
+abbrev pub warmed_blob : (ℕ → Bool) → List ℕ → List ℕ
+warmed_blob hot counts = map (λ at. if hot at.0 then next at.1 else at.1) (enumerate_from 0 counts)
+
+-- the same in each blob
+abbrev pub warmed : (ℕ → ℕ → Bool) → List (List ℕ) → List (List ℕ)
+warmed hot blobs = map (λ blob. warmed_blob (hot blob.0) blob.1) (enumerate_from 0 blobs)
+
+-- whether a granule holds a bit of a piece
+abbrev pub is_in_granule : ℕ → ℕ → ℕ → Piece → Bool
+is_in_granule granule blob at piece =
+    piece.blob == blob && nat_lt (max piece.bit (8 * granule * at)) (min (piece.bit + piece.bits) (8 * granule * (at + 1)))
+
+-- whether it holds one of any of these pieces
+abbrev pub is_touched : ℕ → List Piece → ℕ → ℕ → Bool
+is_touched granule pieces blob at = list_any (is_in_granule granule blob at) pieces
+
+-- the counts after one access to all of these pieces
+abbrev pub heated_by : List Piece → HeatCounts → HeatCounts
+heated_by pieces heat = record heat { blobs = warmed (is_touched heat.granule pieces) heat.blobs }
+
+-- a piece that is not empty, whose bytes lie in granules that are counted
+pub record IsInside (heat : HeatCounts) (piece : Piece) : Type 0 where
+  pub blob_in : piece.blob < length heat.blobs
+  pub some : 0 < piece.bits
+  pub within : piece.bit + piece.bits ≤ 8 * heat.granule * length (slice_index_or heat.blobs piece.blob [])
+  pub bound : piece.bit + piece.bits < 2 ^ 64

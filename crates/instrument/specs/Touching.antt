@@ -1,0 +1,13 @@
+-- What the steps of one access leave.
+use Rattle.std.specs.Prelude.{ℕ, ◌&&◌, not, List, [], slice_index_or, slice_set}
+use Rattle.places.specs.declared.piece.Piece.{Piece}
+use Rattle.instrument.specs.Counters.{HeatCounts, counted, warmed, is_in_granule, is_touched}
+
+-- one more in one granule of a blob
+abbrev pub warmed_at : ℕ → ℕ → HeatCounts → HeatCounts
+warmed_at blob at heat = record heat { blobs = slice_set heat.blobs blob (counted (slice_index_or heat.blobs blob []) at) }
+
+-- one more in each granule that holds a bit of a piece and none of these others
+abbrev pub heated_besides : List Piece → Piece → HeatCounts → HeatCounts
+heated_besides others piece heat =
+    record heat { blobs = warmed (λ blob at. is_in_granule heat.granule blob at piece && not (is_touched heat.granule others blob at)) heat.blobs }

@@ -1,0 +1,70 @@
+-- Laws of counts by granule: their number stays, and which of them have one more.
+use Rattle.std.specs.Prelude.{◌≡◌, ℕ, ◌+◌, ◌-◌, ◌*◌, ◌/◌, ◌^◌, ◌<◌, ◌≤◌, Bool, List, [], length, get_or, map, replicate, slice_index, if◌then◌else◌}
+use Rattle.std.specs.List.{enumerate_from}
+use Rattle.std.proofs.Common.{ap, subst, sym, ◌∙◌, arith}
+use Rattle.std.proofs.lemmas.List.{length-map, length-replicate, get_or-map}
+use Rattle.std.proofs.lemmas.List.FromFn.{get_or-enumerate_from, length-enumerate_from}
+use Rattle.std.proofs.lemmas.Nat.{div-add-mod', mod_below}
+use Rattle.std.proofs.Math.Nat.{mul_comm, mul_assoc}
+use Rattle.places.specs.declared.piece.Piece.{Piece}
+use Rattle.instrument.specs.Counters.{HeatCounts, IsInside, next, granules_of, no_heat, warmed_blob, warmed, is_touched, heated_by}
+
+-- a function of each entry and its number
+length_numbered : {X Y : Type 0} (f : ℕ × X → Y) (xs : List X) → length (map f (enumerate_from 0 xs)) ≡ length xs
+length_numbered f xs = length-map (enumerate_from 0 xs) f ∙ length-enumerate_from 0 xs
+
+get_numbered : {X Y : Type 0} (f : ℕ × X → Y) (xs : List X) (i : ℕ) (d : X) (e : Y) → i < length xs → get_or (map f (enumerate_from 0 xs)) i e ≡ f (i, get_or xs i d)
+get_numbered f xs i d e small =
+    let within : i < length (enumerate_from 0 xs) = omega (arith, length-enumerate_from 0 xs) in
+    let number : 0 + i ≡ i = omega arith in
+    get_or-map f (enumerate_from 0 xs) i (0, d) e within ∙ ap f (get_or-enumerate_from 0 xs i (0, d) small ∙ ap (λ (n : ℕ). (n, get_or xs i d)) number)
+
+-- as many as before
+pub length-warmed_blob : (hot : ℕ → Bool) (counts : List ℕ) → length (warmed_blob hot counts) ≡ length counts
+length-warmed_blob hot counts = length_numbered (λ at. if hot at.0 then next at.1 else at.1) counts
+
+pub length-warmed : (hot : ℕ → ℕ → Bool) (blobs : List (List ℕ)) → length (warmed hot blobs) ≡ length blobs
+length-warmed hot blobs = length_numbered (λ blob. warmed_blob (hot blob.0) blob.1) blobs
+
+-- a count, and the counts of a blob
+pub get-warmed_blob : (hot : ℕ → Bool) (counts : List ℕ) (at : ℕ) → at < length counts → get_or (warmed_blob hot counts) at 0 ≡ (if hot at then next (get_or counts at 0) else get_or counts at 0)
+get-warmed_blob hot counts at small = get_numbered (λ at. if hot at.0 then next at.1 else at.1) counts at 0 0 small
+
+pub get-warmed : (hot : ℕ → ℕ → Bool) (blobs : List (List ℕ)) (blob : ℕ) → blob < length blobs → get_or (warmed hot blobs) blob [] ≡ warmed_blob (hot blob) (get_or blobs blob [])
+get-warmed hot blobs blob small = get_numbered (λ blob. warmed_blob (hot blob.0) blob.1) blobs blob [] [] small
+
+-- what is inside stays inside
+pub length-heated : (hot : ℕ → ℕ → Bool) (blobs : List (List ℕ)) (blob : ℕ) → blob < length blobs → length (get_or (warmed hot blobs) blob []) ≡ length (get_or blobs blob [])
+length-heated hot blobs blob small = ap length (get-warmed hot blobs blob small) ∙ length-warmed_blob (hot blob) (get_or blobs blob [])
+
+pub inside_kept : (heat : HeatCounts) (pieces : List Piece) (piece : Piece) → IsInside heat piece → IsInside (heated_by pieces heat) piece
+inside_kept heat pieces piece inside =
+    let blobs = length-warmed (is_touched heat.granule pieces) heat.blobs in
+    let long = length-heated (is_touched heat.granule pieces) heat.blobs piece.blob inside.blob_in in
+    record {
+      blob_in = omega (arith, blobs, inside.blob_in);
+      some = inside.some;
+      within = subst (λ n. piece.bit + piece.bits ≤ 8 * heat.granule * n) (sym long) inside.within;
+      bound = inside.bound;
+    }
+
+-- what lies in the bytes of a blob lies in their granules
+pub bytes-in_granules : (granule bytes : ℕ) → 1 ≤ granule → bytes ≤ granule * granules_of granule bytes
+bytes-in_granules granule bytes some =
+    omega (arith, div-add-mod' (bytes + (granule - 1)) granule, mod_below (bytes + (granule - 1)) granule (omega arith), mul_comm ((bytes + (granule - 1)) / granule) granule)
+
+pub inside_new : (granule : ℕ) (bytes : List ℕ) (piece : Piece) → 1 ≤ granule → piece.blob < length bytes → 0 < piece.bits → piece.bit + piece.bits ≤ 8 * slice_index bytes piece.blob
+    → piece.bit + piece.bits < 2 ^ 64 → IsInside (no_heat granule bytes) piece
+inside_new granule bytes piece granule_some blob_in some within bound =
+    let many = length-map bytes (λ (len : ℕ). replicate {A = ℕ} (granules_of granule len) 0) in
+    let long : length (get_or (no_heat granule bytes).blobs piece.blob []) ≡ granules_of granule (get_or bytes piece.blob 0) =
+    ap length (get_or-map (λ (len : ℕ). replicate {A = ℕ} (granules_of granule len) 0) bytes piece.blob 0 [] blob_in) ∙ length-replicate {A = ℕ} (granules_of granule (get_or bytes piece.blob 0)) 0 in
+    let covered = bytes-in_granules granule (get_or bytes piece.blob 0) granule_some in
+    let whole : piece.bit + piece.bits ≤ 8 * granule * granules_of granule (get_or bytes piece.blob 0) =
+    omega (arith, covered, mul_assoc 8 granule (granules_of granule (get_or bytes piece.blob 0))) in
+    record {
+      blob_in = omega (arith, many);
+      some = some;
+      within = subst (λ n. piece.bit + piece.bits ≤ 8 * granule * n) (sym long) whole;
+      bound = bound;
+    }

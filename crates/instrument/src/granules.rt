@@ -1,0 +1,65 @@
+// Which granules of a blob's bytes pieces have bits in.
+ghost use Rattle.std.specs.Prelude.{◌≡◌, ◌+◌, ◌-◌, ◌*◌, ◌/◌, ◌<◌, ◌≤◌, ◌^◌, nat_le, All};
+ghost use Rattle.instrument.specs.Counters.{granules_in, is_in_granule, is_touched};
+
+use places::Piece;
+
+/// The most granules of a view.
+pub const MAX_GRANULES: u64 = 1 << 24;
+
+/// Whether blobs of so many bytes have at most 2^24 granules together.
+pub(crate) fn are_few(granule: u32, blob_bytes: &[u64]) -> bool
+    requires { 1 ≤ granule }
+    ensures { result ≡ nat_le (granules_in granule blob_bytes.now) (2 ^ 24) }
+{
+    let mut left = MAX_GRANULES;
+    for bytes in blob_bytes {
+        let granules = bytes.div_ceil(u64::from(granule));
+        if granules > left {
+            return false;
+        }
+        left -= granules;
+    }
+    true
+}
+
+/// The first granule that holds a bit of a piece that is not empty, and the one behind the last.
+pub(crate) fn granules_of(piece: &Piece, granule: u32) -> (u64, u64)
+    requires some { 0 < piece.now.bits }
+    requires bound { piece.now.bit + piece.now.bits < 2 ^ 64 }
+    requires granule { 1 ≤ granule }
+    ensures first { result.0 ≡ piece.now.bit / (8 * granule) }
+    ensures past { result.1 ≡ (piece.now.bit + piece.now.bits - 1) / (8 * granule) + 1 }
+{
+    let bits = 8 * u64::from(granule);
+    let end = piece.bit + u64::from(piece.bits);
+    (piece.bit / bits, (end - 1) / bits + 1)
+}
+
+/// Whether one of these pieces has a bit in a granule of a blob.
+pub(crate) fn is_touched(pieces: &[Piece], granule: u32, blob: usize, number: u64) -> bool
+    requires some { All (λ piece. 0 < piece.bits) pieces.now }
+    requires bound { All (λ piece. piece.bit + piece.bits < 2 ^ 64) pieces.now }
+    requires granule { 1 ≤ granule }
+    ensures { result ≡ is_touched granule pieces.now blob number }
+{
+    for piece in pieces {
+        if is_in_granule(piece, granule, blob, number) {
+            return true;
+        }
+    }
+    false
+}
+
+fn is_in_granule(piece: &Piece, granule: u32, blob: usize, number: u64) -> bool
+    requires some { 0 < piece.now.bits }
+    requires bound { piece.now.bit + piece.now.bits < 2 ^ 64 }
+    requires granule { 1 ≤ granule }
+    ensures { result ≡ is_in_granule granule blob number piece.now }
+{
+    if piece.blob != blob {
+        return false;
+    }
+    let (first, past) = granules_of(piece, granule);
+    first <= number && number < past
+}
