@@ -1,12 +1,15 @@
 pub mod Clips
+pub mod ColumnNames
 pub mod Commas
 pub mod CsvReads
 pub mod Cutting
 pub mod Headers
 pub mod Leaves
 pub mod Numbers
+pub mod PathTexts
 pub mod PlainCounts
 pub mod PlainLines
+pub mod PlainTexts
 pub mod PrintedAgain
 pub mod PrintedBytes
 pub mod PrintedColumns

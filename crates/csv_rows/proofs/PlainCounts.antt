@@ -1,13 +1,12 @@
 -- Records, counted line by line.
 use Rattle.std.proofs.Common.{◌≡◌, ℕ, suc, ◌+◌, ◌-◌, ◌<◌, ◌≤◌, Bool, true, false, List, [], ◌∷◌, length, take, drop, refl, sym, ap, ◌∙◌, arith}
 use Rattle.std.specs.Prelude.{if◌then◌else◌}
-use Rattle.std.specs.List.{slice_split}
 use Rattle.std.proofs.lemmas.List.{length-drop, length-take}
 use Rattle.csv.specs.Reading.{strip_bom}
 use Rattle.csv.specs.declared.parser.State.TheVariants as st
 use Rattle.csv_rows.specs.Readers.{rows_from}
 use Rattle.csv_rows.specs.Datasets.{records_of, rows_of}
-use Rattle.csv_rows.specs.Plain.{is_comma, is_line_end, plain_records, HasNoQuote, first_part, line_start}
+use Rattle.csv_rows.specs.Plain.{is_line_end, plain_records, HasNoQuote, first_part, line_start}
 use Rattle.csv_rows.proofs.Cutting.{plain_start, plain_next, line_some}
 use Rattle.csv_rows.proofs.PlainLines.{is_plain}
 

@@ -12,7 +12,7 @@ use Rattle.views.specs.Stores.{AllFit}
 use Rattle.csv_rows.specs.Loads.{dataset_of}
 use Rattle.layout_io.specs.Decimal.{decimal_text}
 use Rattle.csv_rows.specs.Datasets.{◌>>=◌, records_of, with_columns, table_from, dataset_table}
-use Rattle.csv_rows.specs.Printed.{AreColumnNames, is_plain_text}
+use Rattle.csv_rows.proofs.PlainTexts.{AreColumnNames, is_plain_text}
 use Rattle.csv_rows.specs.Texts.{print_text}
 use Rattle.csv_rows.specs.declared.fault.RowFault.{RowFault}
 use Rattle.csv_rows.proofs.PrintedBytes.{and_both}

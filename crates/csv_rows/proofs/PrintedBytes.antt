@@ -3,6 +3,7 @@ use Rattle.std.proofs.Common.{◌≡◌, ℕ, suc, ◌+◌, ◌*◌, ◌/◌, �
 use Rattle.std.specs.Prelude.{All, if◌then◌else◌, option_map}
 use Rattle.std.specs.List.{list_all}
 use Rattle.std.specs.Char.{is_ascii_digit, digit_value}
+use Rattle.std.specs.Fmt.{decimal}
 use Rattle.std.specs.Str.Parse.{digits_value, digits_value_after}
 use Rattle.std.proofs.lemmas.Bool.Decides.{nat_tests}
 use Rattle.std.proofs.lemmas.Fmt.{decimal_by_steps_wide}
@@ -10,18 +11,20 @@ use Rattle.std.proofs.lemmas.List.{reverse-reverse, reverse-append}
 use Rattle.std.proofs.lemmas.List.Folds.{list_all-append}
 use Rattle.std.proofs.lemmas.List.Sums.{AllPass-from_list_all}
 use Rattle.std.proofs.lemmas.Str.{digit_value_digit}
+use Rattle.record_dim.specs.Names.{continues_name}
+use Rattle.record_dim.specs.NameBytesLaws.{both}
 use Rattle.layout_io.specs.Decimal.{digits_text, decimal_text}
 use Rattle.layout_io.specs.DecimalLaws.{decimal-digits_text}
 use Rattle.csv_rows.specs.Datasets.{is_blank, behind_blanks, before_blanks, unspaced, all_digits, digits_number, number_of}
 use Rattle.csv_rows.specs.Plain.{is_comma, is_line_end}
-use Rattle.csv_rows.specs.Printed.{is_plain_byte, is_plain_text}
-
-pub and_parts : (a b : Bool) → (a && b) ≡ true → (a ≡ true) × (b ≡ true)
-and_parts true b e = (refl, e)
-and_parts false b e = cc e
+use Rattle.csv_rows.proofs.PlainTexts.{is_plain_byte, is_plain_text}
 
 pub and_both : (a b : Bool) → a ≡ true → b ≡ true → (a && b) ≡ true
 and_both a b e f = rw (e, f) refl
+
+-- what each byte of two texts is, each of both together is
+pub all_joined : (test : ℕ → Bool) (xs ys : List ℕ) → list_all test xs ≡ true → list_all test ys ≡ true → list_all test (xs ++ ys) ≡ true
+all_joined test xs ys a b = list_all-append test xs ys ∙ and_both (list_all test xs) (list_all test ys) a b
 
 -- what a plain byte is not
 pub record IsPlainByte (c : ℕ) : Type 0 where
@@ -54,14 +57,14 @@ plain_bytes P of xs plain = λ k d small. of (get_or xs k d) (plain_byte (get_or
 all_reversed : (xs : List ℕ) → list_all is_plain_byte xs ≡ true → list_all is_plain_byte (reverse xs) ≡ true
 all_reversed [] plain = refl
 all_reversed (c ∷ xs) plain =
-    let (one, rest) = and_parts (is_plain_byte c) (list_all is_plain_byte xs) plain in
-    ap (list_all is_plain_byte) (reverse-append (c ∷ []) xs) ∙ list_all-append is_plain_byte (reverse xs) (c ∷ [])
-    ∙ and_both (list_all is_plain_byte (reverse xs)) (is_plain_byte c && true) (all_reversed xs rest) (and_both (is_plain_byte c) true one refl)
+    let (one, rest) = both (is_plain_byte c) (list_all is_plain_byte xs) plain in
+    ap (list_all is_plain_byte) (reverse-append (c ∷ []) xs)
+    ∙ all_joined is_plain_byte (reverse xs) (c ∷ []) (all_reversed xs rest) (and_both (is_plain_byte c) true one refl)
 
 front_same : (xs : List ℕ) → list_all is_plain_byte xs ≡ true → behind_blanks xs ≡ xs
 front_same [] plain = refl
 front_same (c ∷ xs) plain =
-    let no : is_blank c ≡ false = (plain_byte c (and_parts (is_plain_byte c) (list_all is_plain_byte xs) plain).0).blank in
+    let no : is_blank c ≡ false = (plain_byte c (both (is_plain_byte c) (list_all is_plain_byte xs) plain).0).blank in
     ap (λ (b : Bool). if b then behind_blanks xs else c ∷ xs) no
 
 -- no blank stands at its ends
@@ -99,19 +102,22 @@ digits_more : (n : ℕ) (text : List ℕ) → 10 ≤ n → AreDigits (n / 10) te
 digits_more n text long front =
     let low : n % 10 < 10 = omega arith in
     record {
-      all = list_all-append is_ascii_digit text ((48 + n % 10) ∷ []) ∙ and_both (list_all is_ascii_digit text) (is_ascii_digit (48 + n % 10) && true) front.all (and_both (is_ascii_digit (48 + n % 10)) true (digit_is (n % 10) low) refl);
+      all = all_joined is_ascii_digit text ((48 + n % 10) ∷ []) front.all (and_both (is_ascii_digit (48 + n % 10)) true (digit_is (n % 10) low) refl);
       value = value_push 0 text (48 + n % 10) ∙ omega (arith, front.value, digit_worth (n % 10) low);
       first = front.first;
       rest = front.rest ++ (48 + n % 10) ∷ [];
       is = ap (λ (t : List ℕ). t ++ (48 + n % 10) ∷ []) front.is;
     }
 
-pub digits_are : (n : ℕ) → n < 10 ^ 64 → AreDigits n (digits_text n)
-digits_are n small = subst (AreDigits n) (decimal-digits_text n small) (decimal_by_steps_wide AreDigits digits_one digits_more n small)
+pub decimal_are : (n : ℕ) → n < 10 ^ 64 → AreDigits n (decimal n)
+decimal_are n small = decimal_by_steps_wide AreDigits digits_one digits_more n small
 
--- a digit and a minus are plain
-plain_digit : (c : ℕ) → is_ascii_digit c ≡ true → is_plain_byte c ≡ true
-plain_digit c digit =
+pub digits_are : (n : ℕ) → n < 10 ^ 64 → AreDigits n (digits_text n)
+digits_are n small = subst (AreDigits n) (decimal-digits_text n small) (decimal_are n small)
+
+-- a byte of a name is plain, and so is a digit
+plain_letter : (c : ℕ) → continues_name c ≡ true → is_plain_byte c ≡ true
+plain_letter c letter =
     let a : nat_eq c 9 ≡ false = grind (arith, nat_tests) in
     let b : nat_eq c 10 ≡ false = grind (arith, nat_tests) in
     let d : nat_eq c 13 ≡ false = grind (arith, nat_tests) in
@@ -121,11 +127,20 @@ plain_digit c digit =
     let h : nat_eq c 239 ≡ false = grind (arith, nat_tests) in
     rw (a, b, d, e, f, g, h) refl
 
-plain_digits : (xs : List ℕ) → list_all is_ascii_digit xs ≡ true → list_all is_plain_byte xs ≡ true
+pub plain_letters : (xs : List ℕ) → list_all continues_name xs ≡ true → list_all is_plain_byte xs ≡ true
+plain_letters [] letters = refl
+plain_letters (c ∷ xs) letters =
+    let (one, rest) = both (continues_name c) (list_all continues_name xs) letters in
+    and_both (is_plain_byte c) (list_all is_plain_byte xs) (plain_letter c one) (plain_letters xs rest)
+
+digit_continues : (c : ℕ) → is_ascii_digit c ≡ true → continues_name c ≡ true
+digit_continues c digit = grind (arith, nat_tests)
+
+pub plain_digits : (xs : List ℕ) → list_all is_ascii_digit xs ≡ true → list_all is_plain_byte xs ≡ true
 plain_digits [] digits = refl
 plain_digits (c ∷ xs) digits =
-    let (one, rest) = and_parts (is_ascii_digit c) (list_all is_ascii_digit xs) digits in
-    and_both (is_plain_byte c) (list_all is_plain_byte xs) (plain_digit c one) (plain_digits xs rest)
+    let (one, rest) = both (is_ascii_digit c) (list_all is_ascii_digit xs) digits in
+    and_both (is_plain_byte c) (list_all is_plain_byte xs) (plain_letter c (digit_continues c one)) (plain_digits xs rest)
 
 pub plain_some : (c : ℕ) (xs text : List ℕ) → text ≡ c ∷ xs → list_all is_plain_byte text ≡ true → is_plain_text text ≡ true
 plain_some c xs text is plain = ap is_plain_text is ∙ ap (list_all is_plain_byte) (sym is) ∙ plain
@@ -152,7 +167,7 @@ pub number_text : (z : ℤ) → ((n : ℕ) → z ≡ pos n → n < 10 ^ 64) → 
 number_text (pos n) small low =
     let digits = digits_are n (small n refl) in
     let plain = plain_digits (digits_text n) digits.all in
-    let first = (and_parts (is_ascii_digit digits.first) (list_all is_ascii_digit digits.rest) (ap (list_all is_ascii_digit) (sym digits.is) ∙ digits.all)).0 in
+    let first = (both (is_ascii_digit digits.first) (list_all is_ascii_digit digits.rest) (ap (list_all is_ascii_digit) (sym digits.is) ∙ digits.all)).0 in
     record {
       plain = plain;
       some = plain_some digits.first digits.rest (digits_text n) digits.is plain;

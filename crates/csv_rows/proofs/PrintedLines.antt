@@ -6,15 +6,16 @@ use Rattle.std.proofs.lemmas.List.Elements.{All-append, All-cons}
 use Rattle.std.proofs.lemmas.List.Splits.{slice_split_none, slice_split_at}
 use Rattle.csv.specs.Reading.{strip_bom}
 use Rattle.csv.specs.declared.parser.State.TheVariants as st
+use Rattle.record_dim.specs.NameBytesLaws.{both}
 use Rattle.layout_io.specs.Decimal.{decimal_text}
 use Rattle.csv_rows.specs.Readers.{rows_from}
 use Rattle.csv_rows.specs.Datasets.{records_of}
 use Rattle.csv_rows.specs.Plain.{is_comma, is_line_end, is_some_line, plain_records, HasNoQuote}
-use Rattle.csv_rows.specs.Printed.{is_plain_byte, is_plain_text}
+use Rattle.csv_rows.proofs.PlainTexts.{is_plain_byte, is_plain_text}
 use Rattle.csv_rows.specs.Texts.{with_comma, comma_joined, comma_line, print_text}
 use Rattle.csv_rows.proofs.Commas.{comma_behind}
 use Rattle.csv_rows.proofs.PlainLines.{is_plain}
-use Rattle.csv_rows.proofs.PrintedBytes.{IsPlainByte, plain_byte, plain_bytes, and_parts}
+use Rattle.csv_rows.proofs.PrintedBytes.{IsPlainByte, plain_byte, plain_bytes}
 
 -- parts that are not the first of a line
 abbrev joined_behind : List (List ℕ) → List ℕ
@@ -40,13 +41,13 @@ plain_part (c ∷ part) plain = plain
 joined_all : (P : ℕ → Type 0) → ((c : ℕ) → IsPlainByte c → P c) → P 44 → (part : List ℕ) (parts : List (List ℕ)) → is_plain_text part ≡ true → AllPlain parts → All P (part ++ joined_behind parts)
 joined_all P of comma part [] plain more = rw append-nil (plain_bytes P of part (plain_part part plain))
 joined_all P of comma part (other ∷ parts) plain more =
-    let (one, rest) = and_parts (is_plain_text other) (list_all is_plain_text parts) more in
+    let (one, rest) = both (is_plain_text other) (list_all is_plain_text parts) more in
     All-append P part (44 ∷ (other ++ joined_behind parts)) (plain_bytes P of part (plain_part part plain)) (All-cons P 44 (other ++ joined_behind parts) comma (joined_all P of comma other parts one rest))
 
 cut_joined : (part : List ℕ) (parts : List (List ℕ)) → is_plain_text part ≡ true → AllPlain parts → slice_split is_comma (part ++ joined_behind parts) ≡ part ∷ parts
 cut_joined part [] plain more = ap (slice_split is_comma) (append-nil part) ∙ slice_split_none is_comma part (plain_bytes (λ c. is_comma c ≡ false) (λ c is. is.comma) part (plain_part part plain))
 cut_joined part (other ∷ parts) plain more =
-    let (one, rest) = and_parts (is_plain_text other) (list_all is_plain_text parts) more in
+    let (one, rest) = both (is_plain_text other) (list_all is_plain_text parts) more in
     slice_split_at is_comma part 44 (other ++ joined_behind parts) (plain_bytes (λ c. is_comma c ≡ false) (λ c is. is.comma) part (plain_part part plain)) refl
     ∙ ap (λ (ps : List (List ℕ)). part ∷ ps) (cut_joined other parts one rest)
 
@@ -63,8 +64,8 @@ rows_plain [] plain = refl
 rows_plain ([] ∷ rows) plain = cc plain
 rows_plain (([] ∷ parts) ∷ rows) plain = cc plain
 rows_plain (((c ∷ part) ∷ parts) ∷ rows) plain =
-    let (row, rest) = and_parts (list_all is_plain_text ((c ∷ part) ∷ parts)) (list_all is_plain_row rows) plain in
-    let (one, more) = and_parts (is_plain_text (c ∷ part)) (list_all is_plain_text parts) row in
+    let (row, rest) = both (list_all is_plain_text ((c ∷ part) ∷ parts)) (list_all is_plain_row rows) plain in
+    let (one, more) = both (is_plain_text (c ∷ part)) (list_all is_plain_text parts) row in
     let line = (c ∷ part) ++ joined_behind parts in
     let ends : All (λ b. is_line_end b ≡ false) line = joined_all (λ b. is_line_end b ≡ false) (λ b is. is.ending) refl (c ∷ part) parts one more in
     let whole : rows_text (((c ∷ part) ∷ parts) ∷ rows) ≡ line ++ 10 ∷ rows_text rows = ap (λ (t : List ℕ). (t ++ 10 ∷ []) ++ rows_text rows) (joined_is (c ∷ part) parts) ∙ append_assoc line (10 ∷ []) (rows_text rows) in
@@ -78,8 +79,8 @@ rows_quotes [] plain = λ k d small. absurd (omega arith)
 rows_quotes ([] ∷ rows) plain = cc plain
 rows_quotes ((part ∷ parts) ∷ rows) plain =
     let P = λ (b : ℕ). nat_eq b 34 ≡ false in
-    let (row, rest) = and_parts (list_all is_plain_text (part ∷ parts)) (list_all is_plain_row rows) plain in
-    let (one, more) = and_parts (is_plain_text part) (list_all is_plain_text parts) row in
+    let (row, rest) = both (list_all is_plain_text (part ∷ parts)) (list_all is_plain_row rows) plain in
+    let (one, more) = both (is_plain_text part) (list_all is_plain_text parts) row in
     let line : All P (comma_joined (part ∷ parts)) = rw (joined_is part parts) (joined_all P (λ b is. is.quote) refl part parts one more) in
     All-append P (comma_line (part ∷ parts)) (rows_text rows) (All-append P (comma_joined (part ∷ parts)) (10 ∷ []) line (All-cons P 10 [] refl (λ k d small. absurd (omega arith)))) (rows_quotes rows rest)
 
@@ -95,9 +96,9 @@ rows_marks [] plain = refl
 rows_marks ([] ∷ rows) plain = cc plain
 rows_marks (([] ∷ parts) ∷ rows) plain = cc plain
 rows_marks (((c ∷ part) ∷ parts) ∷ rows) plain =
-    let (row, rest) = and_parts (list_all is_plain_text ((c ∷ part) ∷ parts)) (list_all is_plain_row rows) plain in
-    let (one, more) = and_parts (is_plain_text (c ∷ part)) (list_all is_plain_text parts) row in
-    let (byte, bytes) = and_parts (is_plain_byte c) (list_all is_plain_byte part) one in
+    let (row, rest) = both (list_all is_plain_text ((c ∷ part) ∷ parts)) (list_all is_plain_row rows) plain in
+    let (one, more) = both (is_plain_text (c ∷ part)) (list_all is_plain_text parts) row in
+    let (byte, bytes) = both (is_plain_byte c) (list_all is_plain_byte part) one in
     strip_other c _ (plain_byte c byte).mark
 
 -- the records of such lines

@@ -12,7 +12,7 @@ use Rattle.views.specs.Stores.{store_answer, Fits, kind_at}
 use Rattle.piece_bits.specs.Tables.{hold_at}
 use Rattle.layout_io.specs.Decimal.{decimal_text}
 use Rattle.csv_rows.specs.Datasets.{◌>>=◌, Place, the_field, the_number, taken, unspaced, number_of, value_at, row_values, table_from, with_columns}
-use Rattle.csv_rows.specs.Printed.{is_plain_text}
+use Rattle.csv_rows.proofs.PlainTexts.{is_plain_text}
 use Rattle.csv_rows.specs.declared.fault.RowFault.{RowFault}
 use Rattle.csv_rows.proofs.PrintedBytes.{IsNumberText, number_text, unspaced_same, and_both}
 use Rattle.csv_rows.proofs.PrintedLines.{is_plain_row}

@@ -1,7 +1,7 @@
 pub mod Clipped
 pub mod Datasets
 pub mod Loads
+pub mod Named
 pub mod Plain
-pub mod Printed
 pub mod Readers
 pub mod Texts

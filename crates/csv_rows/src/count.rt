@@ -4,7 +4,7 @@ ghost use Rattle.csv_rows.specs.Datasets.{records_of, rows_of};
 ghost use Rattle.csv_rows.specs.Plain.{plain_records, HasNoQuote};
 
 use crate::lines::{behind_ends, line_length};
-use crate::reads::{Records, reader_of, without_mark};
+use crate::reads::{Records, reader_of, without_marks};
 use csv::ByteRecord;
 use memchr::memchr;
 use std::alloc::{AllocError as NoMemory, Global};
@@ -13,7 +13,7 @@ use std::alloc::{AllocError as NoMemory, Global};
 pub fn count_rows(alloc: Global, bytes: &[u8]) -> Result<u64, NoMemory>
     ensures { IfOk result (λ rows. rows ≡ length (rows_of (records_of bytes.now))) }
 {
-    let text = without_mark(without_mark(bytes));
+    let text = without_marks(bytes);
     if has_quote(text) {
         return count_quoted(alloc, bytes);
     }
@@ -22,7 +22,8 @@ pub fn count_rows(alloc: Global, bytes: &[u8]) -> Result<u64, NoMemory>
 
 /// Whether a byte is a quote.
 pub fn has_quote(bytes: &[u8]) -> bool
-    ensures { result ≡ false → HasNoQuote bytes.now }
+    ensures none { result ≡ false → HasNoQuote bytes.now }
+    ensures some { HasNoQuote bytes.now → result ≡ false }
 {
     memchr(b'"', bytes).is_some()
 }

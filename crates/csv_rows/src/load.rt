@@ -10,7 +10,7 @@ use crate::columns::leaf_columns;
 use crate::count::has_quote;
 use crate::fault::RowFault;
 use crate::lines::lines_of;
-use crate::reads::{Records, reader_of, without_mark};
+use crate::reads::{Records, reader_of, without_marks};
 use crate::rows::load_row;
 use csv::ByteRecord;
 use std::alloc::Global;
@@ -32,7 +32,7 @@ pub fn load_rows<L: Ledger>(
     ensures kept { IfErr result (λ f. Keeps view.old (records_of bytes.now) view.new.table f) }
     ensures same { view.new ≡ record view.old { table = view.new.table } }
 {
-    let text = without_mark(without_mark(bytes));
+    let text = without_marks(bytes);
     let mut fields = ByteRecord::new(alloc);
     if has_quote(text) {
         let mut reader = reader_of(alloc, bytes);

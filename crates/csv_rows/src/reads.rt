@@ -51,9 +51,16 @@ pub fn reader_of(alloc: Global, bytes: &[u8]) -> Reader<&[u8]>
         .from_reader(alloc, without_mark(bytes))
 }
 
-/// The bytes behind a byte order mark.
+/// The bytes that the records of a dataset are read from: behind a byte order mark, and behind one more, which `csv` drops.
+pub fn without_marks(bytes: &[u8]) -> &[u8]
+    ensures { result.now ≡ strip_bom (strip_bom bytes.now) }
+{
+    without_mark(without_mark(bytes))
+}
+
+// The bytes behind a byte order mark.
 #[tactic(auto, unfolding(csv::specs::Reading::strip_bom))]
-pub fn without_mark(bytes: &[u8]) -> &[u8]
+fn without_mark(bytes: &[u8]) -> &[u8]
     ensures { result.now ≡ strip_bom bytes.now }
 {
     if bytes.len() >= 3 && bytes[0] == 0xEF && bytes[1] == 0xBB && bytes[2] == 0xBF {
