@@ -1,3 +1,3 @@
 pub mod Runs
 pub mod Texts
-pub mod Loads
+pub mod Equals

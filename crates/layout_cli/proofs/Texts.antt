@@ -1,6 +1,6 @@
 -- From the line that a text is to the text.
-use Rattle.std.proofs.Common.{◌≡◌, ℕ, ◌≤◌, ltb, Bool, true, false, List, length, Option, Result, Ok, Err, ⊎_elim, inl, inr, ap, ◌∙◌, arith}
-use Rattle.std.specs.Prelude.{◌⊎◌, if◌then◌else◌, IsSome}
+use Rattle.std.proofs.Common.{◌≡◌, ℕ, ◌≤◌, ltb, Bool, true, false, List, [], length, Option, None, Some, Result, Ok, Err, ⊎_elim, inl, inr, refl, sym, ap, subst, ◌∙◌, arith}
+use Rattle.std.specs.Prelude.{◌⊎◌, if◌then◌else◌, IsSome, IsSomeAnd}
 use Rattle.std.proofs.lemmas.Bool.Decides.{nat_tests}
 use Rattle.layout_io.specs.Faults.{Rose}
 use Rattle.layout_io.specs.Files.{File}
@@ -12,7 +12,9 @@ use Rattle.schema_lang.specs.Parsing.{IsWhole}
 use Rattle.script_runs.specs.Steps.{StepsTo, StepCause}
 use Rattle.script_runs.specs.declared.fold.LineEnd.{LineEnd}
 use Rattle.script_runs.specs.declared.fold.LineEnd.TheVariants as end
+use Rattle.command_checks.specs.declared.fault.StepFault.TheVariants as fault
 use Rattle.session.specs.Answers.{IsFit}
+use Rattle.session.specs.Loads.{UnreadOnly, file_in}
 use Rattle.session.specs.Stands.{Stands}
 use Rattle.session.specs.declared.session.Session.{Session}
 use Rattle.worlds.specs.Worlds.{World}
@@ -20,9 +22,8 @@ use Rattle.worlds.specs.Answers.{Unreadable}
 use Rattle.worlds.specs.Outcomes.{Outcome, Faults, CannotRead, Left}
 use Rattle.worlds.specs.Step.{step}
 use Rattle.worlds.specs.declared.fault.CommandFault.TheVariants.{LineTooLong, TooDeep}
-use Rattle.layout_cli.specs.Steps.{step_text, step_line, file_in, TellsFile}
+use Rattle.layout_cli.specs.Steps.{step_text, step_line, TellsFile}
 use Rattle.layout_cli.specs.declared.lines.Running.{Running}
-use Rattle.layout_cli.proofs.Loads.{told_file}
 
 -- a text that is a line does what the line does
 pub text_steps : (files : List File) (world : World) (text : List ℕ) (sentence : Sentence) (unread : Bool) → length text ≤ 4096 → line_of text ≡ Ok sentence → deepest sentence ≤ 32 → step_text files world text unread ≡ step world sentence files unread
@@ -33,25 +34,40 @@ text_steps files world text sentence unread short is shallow =
     ∙ ap (λ (l : Result Sentence ℕ). step_line files world l unread) is
     ∙ ap (λ (b : Bool). if b then Faults TooDeep else step world sentence files unread) few
 
+-- a line whose file was not read reads one
+pub reads_one : (file : Option (List ℕ)) (P : List ℕ → Type 0) → IsSomeAnd file P → IsSome file
+reads_one None P unread = absurd unread
+reads_one (Some name) P unread = refl
+
+abbrev read_in : Outcome Left → List ℕ
+read_in (CannotRead name) = name
+read_in outcome = []
+
+-- the name that is told is that of the file
+same_name : (outcome : Outcome Left) (file name : List ℕ) → outcome ≡ CannotRead name → outcome ≡ CannotRead file → name ≡ file
+same_name outcome file name is told = ap read_in (sym is ∙ told)
+
 -- a line whose file was not read ends the run with the file's name
 pub told_unread : {K : Type 0} (taken : K → Option (List ℕ)) (faults : K → ℕ) (old new : K) (files : List File) (world : World) (sentence : Sentence) (outcome : Bool → Outcome Left) (read_failed : Type 0) (ending : LineEnd) →
-    ((unread : Bool) → outcome unread ≡ step world sentence files unread) → TellsFile (file_in sentence) ending → (name : List ℕ) × Unreadable taken faults old new (step world sentence files) read_failed name →
+    ((unread : Bool) → outcome unread ≡ step world sentence files unread) → TellsFile (file_in sentence) ending → UnreadOnly {A = Session} (file_in sentence) (step world sentence) (Err fault.Source) →
+    (name : List ℕ) × Unreadable taken faults old new (step world sentence files) read_failed name →
     StepsTo {S = Session} Stands taken faults old new outcome read_failed (Err ending)
-told_unread taken faults old new files world sentence outcome read_failed (end.Source file) same tells unread =
-    let is_file : unread.0 ≡ file = told_file world sentence files true file unread.0 tells unread.1.is in
+told_unread taken faults old new files world sentence outcome read_failed (end.Source file) same tells only unread =
+    let unreads : (fs : List File) → step world sentence fs true ≡ CannotRead file = subst (λ (f : Option (List ℕ)). IsSomeAnd f (λ name. (fs : List File) → step world sentence fs true ≡ CannotRead name)) tells only in
+    let is_file : unread.0 ≡ file = same_name (step world sentence files true) file unread.0 unread.1.is (unreads files) in
     record {
-      is = same true ∙ unread.1.is ∙ ap (λ (name : List ℕ). CannotRead name) is_file;
+      is = same true ∙ unreads files;
       cause = ⊎_elim (λ (failed : read_failed). inl failed) (λ (always : step world sentence files false ≡ CannotRead unread.0). inr (same false ∙ always ∙ ap (λ (name : List ℕ). CannotRead name) is_file)) unread.1.cause;
       wrote = unread.1.wrote;
     }
-told_unread taken faults old new files world sentence outcome read_failed end.NoMemory same tells unread = record {
+told_unread taken faults old new files world sentence outcome read_failed end.NoMemory same tells only unread = record {
   count = 0;
   few = omega arith;
   bytes = unread.1.wrote.bytes;
   later = omega (arith, unread.1.wrote.unfailed);
 }
-told_unread taken faults old new files world sentence outcome read_failed (end.Command fault) same tells unread = absurd tells
-told_unread taken faults old new files world sentence outcome read_failed end.Sink same tells unread = absurd tells
+told_unread taken faults old new files world sentence outcome read_failed (end.Command refusal) same tells only unread = absurd tells
+told_unread taken faults old new files world sentence outcome read_failed end.Sink same tells only unread = absurd tells
 
 -- an answer without a session is one without a running session
 pub ended_steps : {K : Type 0} (taken : K → Option (List ℕ)) (faults : K → ℕ) (old new : K) (outcome : Bool → Outcome Left) (read_failed : Type 0) (ending : LineEnd) →

@@ -1,7 +1,7 @@
 -- What the text of a line does to a world.
-use Rattle.std.specs.Prelude.{ℕ, Bool, List, length, nat_lt, ◌≡◌, if◌then◌else◌, Option, Some, None, Result, Ok, Err}
+use Rattle.std.specs.Prelude.{ℕ, Bool, List, length, nat_lt, ◌≡◌, if◌then◌else◌, Option, Some, Result, Ok, Err}
 use Rattle.layout_io.specs.Files.{File}
-use Rattle.line_grammar.specs.Sentences.{Sentence, Load, deepest}
+use Rattle.line_grammar.specs.Sentences.{Sentence, deepest}
 use Rattle.schema_lang.specs.LineOf.{line_of}
 use Rattle.script_runs.specs.declared.fold.LineEnd.{LineEnd}
 use Rattle.script_runs.specs.declared.fold.LineEnd.TheVariants as end
@@ -18,11 +18,6 @@ step_line files world (Ok sentence) unread = if nat_lt 32 (deepest sentence) the
 -- the text of a line over these files, which has at most 4,096 bytes; `unread`: reading fails in this line
 abbrev pub step_text : List File → World → List ℕ → Bool → Outcome Left
 step_text files world text unread = if nat_lt 4096 (length text) then Faults LineTooLong else step_line files world (line_of text) unread
-
--- the file that a line reads
-abbrev pub file_in : Sentence → Option (List ℕ)
-file_in (Load name schema words term file) = Some file
-file_in sentence = None
 
 -- the end of a run at a line that could not read this file
 abbrev pub TellsFile : Option (List ℕ) → LineEnd → Type 0

@@ -1,14 +1,15 @@
 // The lines of a script, done by a session.
-ghost use Rattle.std.specs.Prelude.{◌≡◌, IfOk, List, Some};
+ghost use Rattle.std.specs.Prelude.{◌≡◌, IfOk, IsSome, List, Some};
 ghost use Rattle.layout_io.specs.Faults.{Rose};
 ghost use Rattle.layout_io.specs.Files.{File};
 ghost use Rattle.line_grammar.specs.Sentences.{sentence_of};
 ghost use Rattle.schema_lang.specs.Parsing.{IsWhole};
 ghost use Rattle.script_runs.specs.Steps.{StepsTo, StepCause};
+ghost use Rattle.session.specs.Loads.{file_in};
 ghost use Rattle.session.specs.Stands.{Stands};
 ghost use Rattle.worlds.specs.Step.{step};
 ghost use Rattle.worlds.specs.Worlds.{World};
-ghost use Rattle.layout_cli.specs.Steps.{step_text, file_in, TellsFile};
+ghost use Rattle.layout_cli.specs.Steps.{step_text, TellsFile};
 
 use layout_io::{Shelf, Sink};
 use record_dim::Text;
@@ -79,7 +80,7 @@ fn do_line<H: Shelf, K: Sink, L: Ledger>(
 }
 
 // Does a line.
-#[tactic(auto, using(crate::proofs::Texts::fit_of_whole))]
+#[tactic(auto, using(crate::proofs::Texts::fit_of_whole, session::specs::LoadsLaws::told_any))]
 fn do_command<H: Shelf, K: Sink, L: Ledger>(
     alloc: Global,
     session: Session,
@@ -107,8 +108,10 @@ fn do_command<H: Shelf, K: Sink, L: Ledger>(
     }
 }
 
-// The end of the run at a line whose file was not read. No line but a load reads one.
+// The end of the run at a line whose file was not read.
+#[tactic(auto, using(session::specs::LoadsLaws::no_file))]
 fn unread_end(alloc: Global, line: &Line) -> LineEnd
+    requires { IsSome (file_in (sentence_of line.now)) }
     ensures { TellsFile (file_in (sentence_of line.now)) result }
 {
     match line {
@@ -116,7 +119,7 @@ fn unread_end(alloc: Global, line: &Line) -> LineEnd
             Ok(name) => LineEnd::Source(name),
             Err(NoMemory) => LineEnd::NoMemory,
         },
-        _ => LineEnd::NoMemory,
+        _ => unreachable!(),
     }
 }
 

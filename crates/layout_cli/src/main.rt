@@ -1,6 +1,7 @@
 // The program: `llama run FILE` does the commands of a script over views of whole-number records.
 #![tactic(auto)]
 
+mod laws;
 mod lines;
 mod llama;
 

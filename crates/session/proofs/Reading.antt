@@ -81,21 +81,21 @@ not_long views whole words bytes short =
     rw within refl
 
 -- a test that gives up tells no file as unread
-pub unread_test : (A : Type 0) {B X : Type 0} (first : Outcome X) (outcome : List File → Bool → Outcome B) (fault : StepFault) → GivesUp first fault → UnreadOnly {A = A} outcome (Err fault)
-unread_test A first outcome (step.Command refusal) gives = tt
-unread_test A first outcome step.NoMemory gives = tt
-unread_test A first outcome step.Source gives = absurd gives
-unread_test A first outcome step.Sink gives = tt
+pub unread_test : (A : Type 0) {B X : Type 0} (file : Option (List ℕ)) (first : Outcome X) (outcome : List File → Bool → Outcome B) (fault : StepFault) → GivesUp first fault → UnreadOnly {A = A} file outcome (Err fault)
+unread_test A file first outcome (step.Command refusal) gives = tt
+unread_test A file first outcome step.NoMemory gives = tt
+unread_test A file first outcome step.Source gives = absurd gives
+unread_test A file first outcome step.Sink gives = tt
 
--- nor does a command that reads none
-pub unread_gives : (A : Type 0) {B C : Type 0} (view : A → B) (first : Outcome B) (outcome : List File → Bool → Outcome C) (result : Result A StepFault) → Gives view result first → UnreadOnly outcome result
-unread_gives A view first outcome (Ok x) gives = tt
-unread_gives A view first outcome (Err fault) gives = unread_test A first outcome fault gives
+-- nor does one that is done without a file
+pub unread_gives : (A : Type 0) {B C : Type 0} (file : Option (List ℕ)) (view : A → B) (first : Outcome B) (outcome : List File → Bool → Outcome C) (result : Result A StepFault) → Gives view result first → UnreadOnly file outcome result
+unread_gives A file view first outcome (Ok x) gives = tt
+unread_gives A file view first outcome (Err fault) gives = unread_test A file first outcome fault gives
 
 -- what comes behind a load
-pub unread_after : (A : Type 0) {B C D : Type 0} (outcome : List File → Bool → Outcome B) (rest : B → D) (fault : StepFault) (result : Result C StepFault) →
-    result ≡ Err fault → UnreadOnly {A = A} outcome (Err fault) → UnreadOnly (λ files unread. outcome files unread >>= (λ x. Goes (rest x))) result
-unread_after A outcome rest (step.Command refusal) result is unread = rw is tt
-unread_after A outcome rest step.NoMemory result is unread = rw is tt
-unread_after A outcome rest step.Sink result is unread = rw is tt
-unread_after A outcome rest step.Source result is unread = rw is (λ files. ((unread files).0, rw (unread files).1 refl))
+pub unread_after : (A : Type 0) {B C D : Type 0} (name : List ℕ) (outcome : List File → Bool → Outcome B) (rest : B → D) (fault : StepFault) (result : Result C StepFault) →
+    result ≡ Err fault → UnreadOnly {A = A} (Some name) outcome (Err fault) → UnreadOnly (Some name) (λ files unread. outcome files unread >>= (λ x. Goes (rest x))) result
+unread_after A name outcome rest (step.Command refusal) result is unread = rw is tt
+unread_after A name outcome rest step.NoMemory result is unread = rw is tt
+unread_after A name outcome rest step.Sink result is unread = rw is tt
+unread_after A name outcome rest step.Source result is unread = rw is (λ files. rw (unread files) refl)

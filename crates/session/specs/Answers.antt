@@ -37,6 +37,12 @@ StepCause files shelf_old shelf_new sink_old sink_new (Err fault.Source) =
 StepCause files shelf_old shelf_new sink_old sink_new (Err fault.Sink) = (shelf_new ≡ shelf_old) × Rose sink_old sink_new
 StepCause files shelf_old shelf_new sink_old sink_new (Err fault.NoMemory) = (shelf_old ≤ shelf_new) × (sink_old ≤ sink_new)
 
+-- nothing was taken at a refusal, nor where a file was not read
+abbrev pub TookNone : {S K : Type 0} → (K → Option (List ℕ)) → K → K → Result S StepFault → Type 0
+TookNone taken old new (Err (fault.Command refusal)) = taken new ≡ taken old
+TookNone taken old new (Err fault.Source) = taken new ≡ taken old
+TookNone taken old new _ = Unit {0}
+
 -- the tree of a record that is defined is one of fields, as the grammar says
 abbrev pub IsFit : Line → Type 0
 IsFit (line.Define name dim) = IsRecord dim

@@ -3,3 +3,4 @@ pub mod Changes
 pub mod Loads
 pub mod Answers
 pub mod Columns
+pub mod LoadsLaws

@@ -1,11 +1,12 @@
 -- What the answer to a load says of its outcome, and of what was read.
-use Rattle.std.specs.Prelude.{ℕ, ◌≡◌, ◌≤◌, ◌⊎◌, Bool, true, false, List, length, Option, Some, IsSome, Result, Ok, Err}
+use Rattle.std.specs.Prelude.{ℕ, ◌≡◌, ◌≤◌, ◌⊎◌, Bool, true, false, List, length, Option, Some, None, IsSome, IsSomeAnd, IfSome, Result, Ok, Err}
 use Rattle.layout_io.specs.Faults.{Rose}
 use Rattle.layout_io.specs.Files.{File}
 use Rattle.record_dim.specs.Schemas.{schema_fields}
 use Rattle.map_expr.specs.Terms.{term_of}
 use Rattle.extents.specs.declared.words.ExtentWord.{ExtentWord}
 use Rattle.csv_rows.specs.Datasets.{records_of, rows_of}
+use Rattle.line_grammar.specs.Sentences.{Sentence, Load}
 use Rattle.worlds.specs.Worlds.{Entry, Table}
 use Rattle.worlds.specs.Outcomes.{Outcome, Goes, Faults, CannotRead, ◌>>=◌}
 use Rattle.worlds.specs.Tables.{resolved, made}
@@ -48,7 +49,16 @@ LoadCause files old new (Err fault.Source) = (Rose old new ⊎ IsSome files) × 
 LoadCause files old new (Err fault.Sink) = ⊥
 LoadCause files old new (Err fault.NoMemory) = old ≤ new
 
--- a file is told as unread only where, if reading fails, the outcome is that it can't be read, whatever files there are
-abbrev pub UnreadOnly : {A B : Type 0} → (List File → Bool → Outcome B) → Result A StepFault → Type 0
-UnreadOnly outcome (Err fault.Source) = (files : List File) → (name : List ℕ) × (outcome files true ≡ CannotRead name)
-UnreadOnly outcome _ = Unit {0}
+-- this file alone is told as unread, and only where, if reading fails, the outcome is that it can't be read, whatever files there are
+abbrev pub UnreadOnly : {A B : Type 0} → Option (List ℕ) → (List File → Bool → Outcome B) → Result A StepFault → Type 0
+UnreadOnly file outcome (Err fault.Source) = IsSomeAnd file (λ name. (files : List File) → outcome files true ≡ CannotRead name)
+UnreadOnly file outcome _ = Unit {0}
+
+-- the file that a line reads
+abbrev pub file_in : Sentence → Option (List ℕ)
+file_in (Load name schema words term file) = Some file
+file_in sentence = None
+
+-- to a line that reads a file exactly these files are told; to any other line all files are alike
+abbrev pub ToldFor : Option (List File) → Sentence → List File → Type 0
+ToldFor told sentence files = IfSome (file_in sentence) (λ file. told ≡ Some files)

@@ -30,7 +30,7 @@ impl Session {
 
     /// Stores a value in one row of a view.
     #[tactic(auto, unfolding(worlds::specs::Assign::assign))]
-    pub fn assign<L: Ledger>(
+    pub(crate) fn assign<L: Ledger>(
         mut self,
         name: Name,
         index: &[u32],

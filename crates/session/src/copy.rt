@@ -23,7 +23,7 @@ impl Session {
 
     /// Makes the table of one view that of another.
     #[tactic(auto, unfolding(worlds::specs::Copy::copy))]
-    pub fn copy<L: Ledger>(
+    pub(crate) fn copy<L: Ledger>(
         mut self,
         source: Name,
         target: Name,

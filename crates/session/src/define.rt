@@ -22,7 +22,7 @@ impl Session {
 
     /// Names a record.
     #[tactic(auto, unfolding(worlds::specs::Define::define))]
-    pub fn define(self, name: Name, dim: &Dim) -> Result<Session, StepFault>
+    pub(crate) fn define(self, name: Name, dim: &Dim) -> Result<Session, StepFault>
         requires { IsRecord dim.now }
         ensures { Gives left_of result (define (world_of self) name (tree_of dim.now)) }
     {
@@ -42,7 +42,7 @@ impl Session {
 
     /// Names a mapping expression, the names in it replaced.
     #[tactic(auto, unfolding(worlds::specs::Mapping::mapping))]
-    pub fn mapping(self, name: Name, expr: &MapExpr) -> Result<Session, StepFault>
+    pub(crate) fn mapping(self, name: Name, expr: &MapExpr) -> Result<Session, StepFault>
         requires { is_built_map (term_of expr.now) ≡ true }
         ensures { Gives left_of result (mapping (world_of self) name (term_of expr.now)) }
     {

@@ -27,7 +27,7 @@ impl Session {
 
     /// Runs a kernel over the rows of a view, and writes the number that it gives, if it gives one.
     #[tactic(auto, unfolding(worlds::specs::Kernel::kernel))]
-    pub fn kernel<K: Sink, L: Ledger>(
+    pub(crate) fn kernel<K: Sink, L: Ledger>(
         mut self,
         name: Name,
         text: &KernelText,

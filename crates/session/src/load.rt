@@ -38,7 +38,7 @@ impl Session {
     ghost use Rattle.session.specs.Stands.{left_of, world_of};
 
     /// Makes a view with the values of a dataset.
-    pub fn load<H: Shelf, L: Ledger>(
+    pub(crate) fn load<H: Shelf, L: Ledger>(
         self,
         name: Name,
         schema: Name,
@@ -54,7 +54,7 @@ impl Session {
             (Rose (H.faults shelf.old) (H.faults shelf.new)) result }
         ensures files { H.files shelf.new ≡ H.files shelf.old }
         ensures cause { LoadCause (H.files shelf.old) (H.faults shelf.old) (H.faults shelf.new) result }
-        ensures unread { UnreadOnly (load (world_of self) name schema words.now (term_of expr.now) file.now) result }
+        ensures unread { UnreadOnly (Some file.now) (load (world_of self) name schema words.now (term_of expr.now) file.now) result }
     {
         let view = loaded_view(
             self.alloc,
@@ -96,7 +96,7 @@ fn loaded_view<H: Shelf, L: Ledger>(
         (Rose (H.faults shelf.old) (H.faults shelf.new)) result }
     ensures files { H.files shelf.new ≡ H.files shelf.old }
     ensures cause { LoadCause (H.files shelf.old) (H.faults shelf.old) (H.faults shelf.new) result }
-    ensures unread { UnreadOnly (loaded_table (world_in records.now mappings.now views.now) name schema words.now (term_of expr.now) file.now) result }
+    ensures unread { UnreadOnly (Some file.now) (loaded_table (world_in records.now mappings.now views.now) name schema words.now (term_of expr.now) file.now) result }
 {
     let found = named(alloc, records, mappings, views, name, schema, words, expr)?;
     match read_all(alloc, shelf, file.as_str(), DATASET_BYTES) {

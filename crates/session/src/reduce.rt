@@ -29,7 +29,7 @@ impl Session {
 
     /// Writes the number of rows where an expression is not 0.
     #[tactic(auto, unfolding(worlds::specs::Reduce::count))]
-    pub fn count<K: Sink, L: Ledger>(
+    pub(crate) fn count<K: Sink, L: Ledger>(
         mut self,
         name: Name,
         filter: &Expr,
@@ -48,7 +48,7 @@ impl Session {
 
     /// Writes the sum, the least or the greatest of the values of a leaf.
     #[tactic(auto, unfolding(worlds::specs::Reduce::reduce))]
-    pub fn reduce<K: Sink, L: Ledger>(
+    pub(crate) fn reduce<K: Sink, L: Ledger>(
         mut self,
         name: Name,
         kind: ReduceKind,

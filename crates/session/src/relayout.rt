@@ -24,7 +24,7 @@ impl Session {
 
     /// Lays the table of a view out anew. The old view lives until the new one has its values.
     #[tactic(auto, unfolding(worlds::specs::Copy::relayout))]
-    pub fn relayout<L: Ledger>(
+    pub(crate) fn relayout<L: Ledger>(
         mut self,
         name: Name,
         expr: &MapExpr,

@@ -1,8 +1,9 @@
-ghost use Rattle.std.specs.Prelude.{◌≡◌, List, Some};
+ghost use Rattle.std.specs.Prelude.{◌≡◌, Bool, true, List, None};
 ghost use Rattle.layout_io.specs.Faults.{Rose};
 ghost use Rattle.layout_io.specs.Files.{File};
 ghost use Rattle.line_grammar.specs.Sentences.{sentence_of};
-ghost use Rattle.worlds.specs.Step.{step};
+ghost use Rattle.worlds.specs.Built.{is_built};
+ghost use Rattle.worlds.specs.Step.{step, command};
 ghost use Rattle.worlds.specs.Worlds.{empty};
 
 use crate::built::is_built;
@@ -25,8 +26,8 @@ pub struct Session {
 
 impl Session {
     ghost use Rattle.session.specs.Stands.{Stands, world_of};
-    ghost use Rattle.session.specs.Answers.{StepsTo, StepCause, IsFit};
-    ghost use Rattle.session.specs.Loads.{UnreadOnly};
+    ghost use Rattle.session.specs.Answers.{Answers, StepsTo, StepCause, TookNone, IsFit};
+    ghost use Rattle.session.specs.Loads.{UnreadOnly, ToldFor, file_in};
 
     /// A session that holds nothing.
     pub fn new(alloc: Global) -> Session
@@ -40,8 +41,10 @@ impl Session {
         }
     }
 
-    /// Does one line of a script: where the shelf tells its files, the answer is that of the model. `Source` comes only of a line that reads
-    /// a file, and whose outcome is that the file can't be read where reading fails. On every refusal the session is gone.
+    /// Does one line of a script: the answer is that of the model where the shelf tells its files, or the line reads none. `Source` comes
+    /// only of a line that reads a file, and whose outcome is that this file can't be read where reading fails. On every refusal the session
+    /// is gone.
+    #[tactic(auto, using(crate::specs::LoadsLaws::no_file))]
     pub fn step<H: Shelf, K: Sink, L: Ledger>(
         self,
         line: &Line,
@@ -50,16 +53,42 @@ impl Session {
         steps: &mut Steps<L>,
     ) -> Result<Session, StepFault>
         requires { IsFit line.now }
-        ensures step { (files : List File) → H.files shelf.old ≡ Some files
+        ensures step { (files : List File) → ToldFor (H.files shelf.old) (sentence_of line.now) files
             → StepsTo Stands K.taken K.faults out.old out.new (step (world_of self) (sentence_of line.now) files)
             (Rose (H.faults shelf.old) (H.faults shelf.new)) result }
         ensures files { H.files shelf.new ≡ H.files shelf.old }
         ensures cause { StepCause (H.files shelf.old) (H.faults shelf.old) (H.faults shelf.new) (K.faults out.old) (K.faults out.new) result }
-        ensures unread { UnreadOnly (step (world_of self) (sentence_of line.now)) result }
+        ensures unread { UnreadOnly (file_in (sentence_of line.now)) (step (world_of self) (sentence_of line.now)) result }
+        ensures untaken { TookNone K.taken out.old out.new result }
     {
         if !is_built(line) {
             return Err(StepFault::Command(CommandFault::NotBuilt));
         }
+        match line {
+            Line::Load {
+                name,
+                schema,
+                words,
+                expr,
+                file,
+            } => self.load(*name, *schema, words.as_slice(), expr, file, shelf, steps),
+            _ => self.command(line, out, steps),
+        }
+    }
+
+    // Does a line that reads no file.
+    fn command<K: Sink, L: Ledger>(
+        self,
+        line: &Line,
+        out: &mut K,
+        steps: &mut Steps<L>,
+    ) -> Result<Session, StepFault>
+        requires fit { IsFit line.now }
+        requires built { is_built (sentence_of line.now) ≡ true }
+        requires no_file { file_in (sentence_of line.now) ≡ None }
+        ensures { (files : List File) (unread : Bool) → Answers Stands K.taken K.faults out.old out.new
+            (command (world_of self) (sentence_of line.now) files unread) result }
+    {
         match line {
             Line::Blank => Ok(self),
             Line::Define { name, dim } => self.define(*name, dim),
@@ -70,13 +99,6 @@ impl Session {
                 words,
                 expr,
             } => self.view(*name, *schema, words.as_slice(), expr),
-            Line::Load {
-                name,
-                schema,
-                words,
-                expr,
-                file,
-            } => self.load(*name, *schema, words.as_slice(), expr, file, shelf, steps),
             Line::Assign {
                 view,
                 index,

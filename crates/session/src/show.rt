@@ -28,7 +28,7 @@ impl Session {
 
     /// Writes the table of a view.
     #[tactic(auto, unfolding(worlds::specs::Show::print))]
-    pub fn print<K: Sink, L: Ledger>(
+    pub(crate) fn print<K: Sink, L: Ledger>(
         mut self,
         name: Name,
         out: &mut K,
@@ -45,7 +45,12 @@ impl Session {
 
     /// Writes the bytes of a blob of a view.
     #[tactic(auto, unfolding(worlds::specs::Show::bytes))]
-    pub fn bytes<K: Sink>(self, name: Name, blob: u32, out: &mut K) -> Result<Session, StepFault>
+    pub(crate) fn bytes<K: Sink>(
+        self,
+        name: Name,
+        blob: u32,
+        out: &mut K,
+    ) -> Result<Session, StepFault>
         ensures { Answers Stands K.taken K.faults out.old out.new (bytes (world_of self) name blob) result }
     {
         let place = known_view(self.views.as_slice(), name)?;
@@ -58,7 +63,7 @@ impl Session {
 
     /// Lets a view go. Its name is free then.
     #[tactic(auto, unfolding(worlds::specs::Show::drop_view))]
-    pub fn drop_view(mut self, name: Name) -> Result<Session, StepFault>
+    pub(crate) fn drop_view(mut self, name: Name) -> Result<Session, StepFault>
         ensures { Gives left_of result (drop_view (world_of self) name) }
     {
         let place = known_view(self.views.as_slice(), name)?;

@@ -29,7 +29,7 @@ impl Session {
 
     /// Stores values in each row of a view where the filter is not 0.
     #[tactic(auto, unfolding(worlds::specs::Update::update))]
-    pub fn update<L: Ledger>(
+    pub(crate) fn update<L: Ledger>(
         mut self,
         name: Name,
         filter: &Option<Expr>,

@@ -32,7 +32,7 @@ impl Session {
 
     /// Makes a view of zeros.
     #[tactic(auto, unfolding(worlds::specs::View::view))]
-    pub fn view(
+    pub(crate) fn view(
         self,
         name: Name,
         schema: Name,
@@ -56,7 +56,7 @@ impl Session {
     }
 
     /// One view more.
-    pub fn with_view(mut self, name: Name, view: View) -> Result<Session, StepFault>
+    pub(crate) fn with_view(mut self, name: Name, view: View) -> Result<Session, StepFault>
         ensures added { IfOk result (λ next. Stands next (with_view (world_of self) name (table_of view))) }
         ensures starved { IfErr result (λ fault. fault ≡ StepFault.NoMemory) }
     {

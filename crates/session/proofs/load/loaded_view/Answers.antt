@@ -53,11 +53,11 @@ returns-in-TooLong-clause-loads g c = λ files told.
 pub returns-in_err-found-clause-unread : goal.returns-in_err-found-clause-unread
 returns-in_err-found-clause-unread g c =
     let is : c.from_residual.result ≡ Err c.in_err-found.field-0.0 = search rules in
-    rw is (unread_test Seen _ (λ files unread. loaded_table (world_in c.args.records.now c.args.mappings.now c.args.views.now) c.args.name c.args.schema c.args.words.now (term_of c.args.expr.now) c.args.file.now files unread) c.in_err-found.field-0.0 c.in_err-found.ensures.named)
+    rw is (unread_test Seen (Some c.args.file.now) _ (λ files unread. loaded_table (world_in c.args.records.now c.args.mappings.now c.args.views.now) c.args.name c.args.schema c.args.words.now (term_of c.args.expr.now) c.args.file.now files unread) c.in_err-found.field-0.0 c.in_err-found.ensures.named)
 
 pub returns-in-Ok-clause-unread : goal.returns-in-Ok-clause-unread
-returns-in-Ok-clause-unread g c = unread_gives Seen table_of _ (λ files unread. loaded_table (world_in c.args.records.now c.args.mappings.now c.args.views.now) c.args.name c.args.schema c.args.words.now (term_of c.args.expr.now) c.args.file.now files unread) c.filled_view.result c.filled_view.ensures
+returns-in-Ok-clause-unread g c = unread_gives Seen (Some c.args.file.now) table_of _ (λ files unread. loaded_table (world_in c.args.records.now c.args.mappings.now c.args.views.now) c.args.name c.args.schema c.args.words.now (term_of c.args.expr.now) c.args.file.now files unread) c.filled_view.result c.filled_view.ensures
 
 pub returns-in-Failed-clause-unread : goal.returns-in-Failed-clause-unread
 unfolding loaded_table
-returns-in-Failed-clause-unread g c = λ files. (c.args.file.now, rw c.in_ok-found.ensures.named refl)
+returns-in-Failed-clause-unread g c = λ files. rw c.in_ok-found.ensures.named refl

@@ -1,4 +1,4 @@
-use Rattle.std.proofs.Common.{rules, ◌≡◌, ◌∙◌, Bool, List, [], false, Err, refl, sym, ap, subst}
+use Rattle.std.proofs.Common.{rules, ◌≡◌, ◌∙◌, Bool, List, [], false, Some, Err, refl, sym, ap, subst}
 use Rattle.layout_io.specs.Faults.{Rose}
 use Rattle.layout_io.specs.Files.{File}
 use Rattle.views.specs.Seen.{Seen}
@@ -39,6 +39,6 @@ returns-in_err-view-clause-unread g c =
     let fault = c.in_err-view.field-0.0 in
     let table = λ (world : World) (files : List File) (unread : Bool). loaded_table world c.args.name c.args.schema c.args.words.now (term_of c.args.expr.now) c.args.file.now files unread in
     let lists : world_in c.as_slice.result.now c.as_slice-2.result.now c.as_slice-3.result.now ≡ world_of c.args.self = rw (c.as_slice.ensures.value, c.as_slice-2.ensures.value, c.as_slice-3.ensures.value) refl in
-    let unread = subst (λ (world : World). UnreadOnly {A = Seen} (table world) (Err fault)) lists c.in_err-view.ensures.unread in
-    unread_after Seen (table (world_of c.args.self))
+    let unread = subst (λ (world : World). UnreadOnly {A = Seen} (Some c.args.file.now) (table world) (Err fault)) lists c.in_err-view.ensures.unread in
+    unread_after Seen c.args.file.now (table (world_of c.args.self))
     (λ (made : Table). record { world = with_view (world_of c.args.self) c.args.name made; text = [] }) fault c.from_residual.result (search rules) unread

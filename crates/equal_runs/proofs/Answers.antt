@@ -1,0 +1,63 @@
+-- Answers to stores by two holds: they are equal, or one of them says that the value is not held.
+use Rattle.std.proofs.Common.{◌≡◌, Bool, true, false, ℤ, Option, Some, None, Result, Ok, Err, refl}
+use Rattle.std.specs.Prelude.{if◌then◌else◌}
+use Rattle.record_dim.specs.declared.leaf_type.LeafType.{LeafType}
+use Rattle.record_dim.specs.LeafTypes.{least_of, greatest_of, least_in, greatest_in}
+use Rattle.places.specs.declared.piece.Hold.{Hold}
+use Rattle.views.specs.Stores.{store_answer, is_between}
+use Rattle.views.specs.declared.fault.StoreFault.{StoreFault}
+use Rattle.views.specs.declared.fault.StoreFault.TheVariants.{Range, Narrow}
+use Rattle.worlds.specs.Outcomes.{refused_by, ok_or}
+use Rattle.worlds.specs.declared.fault.CommandFault.{CommandFault}
+use Rattle.equal_runs.specs.Endings.{is_of_layout}
+use Rattle.equal_runs.proofs.Agreeing.{Agree, go, fault, first as first_told, second as second_told, Both}
+
+-- the answers are equal, or one is an error of which the test holds
+pub data Answers {A E : Type 0} (told : E → Bool) : Result A E → Result A E → Type 0 where
+  equal : (x : Result A E) → Answers told x x
+  first : (e : E) (y : Result A E) → told e ≡ true → Answers told (Err e) y
+  second : (x : Result A E) (e : E) → told e ≡ true → Answers told x (Err e)
+
+-- the same of causes
+pub data Causes {E : Type 0} (told : E → Bool) : Option E → Option E → Type 0 where
+  same : (x : Option E) → Causes told x x
+  one : (e : E) (y : Option E) → told e ≡ true → Causes told (Some e) y
+  other : (x : Option E) (e : E) → told e ≡ true → Causes told x (Some e)
+
+abbrev pub is_narrow : StoreFault → Bool
+is_narrow Range = false
+is_narrow Narrow = true
+
+-- the answer by the test of the hold, and by those of the type and of the hold
+abbrev by_hold : Bool → Result (Unit {0}) StoreFault
+by_hold held = if held then Ok tt else Err Narrow
+
+abbrev by_tests : Bool → Bool → Result (Unit {0}) StoreFault
+by_tests declared held = if declared then by_hold held else Err Range
+
+-- what a store answers, by the hold: `Range` depends on the type alone
+pub store_answers : (kind : LeafType) (hold held : Hold) (value : ℤ) → Answers is_narrow (store_answer kind hold value) (store_answer kind held value)
+store_answers kind hold held value =
+    of_tests (is_between (least_of kind) (greatest_of kind) value) (is_between (least_in hold.signed hold.width) (greatest_in hold.signed hold.width) value)
+    (is_between (least_in held.signed held.width) (greatest_in held.signed held.width) value)
+  where
+    of_tests : (d h k : Bool) → Answers is_narrow (by_tests d h) (by_tests d k)
+    of_tests false h k = equal (Err Range)
+    of_tests true true true = equal (Ok tt)
+    of_tests true true false = second (Ok tt) Narrow refl
+    of_tests true false k = first Narrow (by_hold k) refl
+
+-- from answers to outcomes
+pub ok_agree : {A E : Type 0} (m o : Bool) (told : E → Bool) (f : E → CommandFault) (x y : Result A E) → ((n : Bool) (e : E) → told e ≡ true → is_of_layout n (f e) ≡ true) → Answers told x y
+    → Agree m o (λ (a b : A). a ≡ b) (ok_or f x) (ok_or f y)
+ok_agree m o told f x y is (equal (Ok a)) = go a a refl
+ok_agree m o told f x y is (equal (Err e)) = fault (f e)
+ok_agree m o told f x y is (first e z t) = first_told (f e) (ok_or f z) (is m e t)
+ok_agree m o told f x y is (second z e t) = second_told (ok_or f z) (f e) (is o e t)
+
+pub by_agree : {E : Type 0} (m o : Bool) (told : E → Bool) (f : E → CommandFault) (x y : Option E) → ((n : Bool) (e : E) → told e ≡ true → is_of_layout n (f e) ≡ true) → Causes told x y
+    → Agree m o Both (refused_by f x) (refused_by f y)
+by_agree m o told f x y is (same None) = go tt tt tt
+by_agree m o told f x y is (same (Some e)) = fault (f e)
+by_agree m o told f x y is (one e z t) = first_told (f e) (refused_by f z) (is m e t)
+by_agree m o told f x y is (other z e t) = second_told (refused_by f z) (f e) (is o e t)

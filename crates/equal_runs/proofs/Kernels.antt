@@ -1,0 +1,50 @@
+-- Which fault ends a kernel, by the answers to its stores.
+use Rattle.std.proofs.Common.{◌≡◌, ℕ, ◌+◌, Bool, true, false, ℤ, List, [], ◌∷◌, Option, Some, None, Result, Err, refl}
+use Rattle.std.specs.Option.{option_or}
+use Rattle.views.specs.Stores.{Answer}
+use Rattle.views.specs.declared.fault.StoreFault.{StoreFault}
+use Rattle.views.specs.declared.fault.StoreFault.TheVariants as stored_fault
+use Rattle.lane_kernels.specs.Kernels.{Store, stored, answer_fault, store_fault, first_fault, empty_fault, kernel_fault}
+use Rattle.lane_kernels.specs.declared.fault.KernelFault.{KernelFault}
+use Rattle.lane_kernels.specs.declared.fault.KernelFault.TheVariants.{Narrow}
+use Rattle.lane_kernels.specs.declared.kernel.Kernel.{Kernel}
+use Rattle.equal_runs.proofs.Answers.{Answers, equal, first, second, Causes, same, one, other as another, is_narrow}
+
+abbrev pub is_narrow_kernel : KernelFault → Bool
+is_narrow_kernel (Narrow row leaf) = true
+is_narrow_kernel _ = false
+
+or_causes : (x y u v : Option KernelFault) → Causes is_narrow_kernel x y → Causes is_narrow_kernel u v → Causes is_narrow_kernel (option_or x u) (option_or y v)
+or_causes x y u v (same None) later = later
+or_causes x y u v (same (Some e)) later = same (Some e)
+or_causes x y u v (one e z is) later = one e (option_or z v) is
+or_causes x y u v (another z e is) later = another (option_or z u) e is
+
+narrow_answer : (row leaf : ℕ) (e : StoreFault) (y : Option KernelFault) → is_narrow e ≡ true → Causes is_narrow_kernel (answer_fault row leaf (Err e)) y
+narrow_answer row leaf stored_fault.Range y is = absurd (cc)
+narrow_answer row leaf stored_fault.Narrow y is = one (Narrow row leaf) y refl
+
+narrow_other : (row leaf : ℕ) (x : Option KernelFault) (e : StoreFault) → is_narrow e ≡ true → Causes is_narrow_kernel x (answer_fault row leaf (Err e))
+narrow_other row leaf x stored_fault.Range is = absurd (cc)
+narrow_other row leaf x stored_fault.Narrow is = another x (Narrow row leaf) refl
+
+answer_causes : (row leaf : ℕ) (x y : Result Unit StoreFault) → Answers is_narrow x y → Causes is_narrow_kernel (answer_fault row leaf x) (answer_fault row leaf y)
+answer_causes row leaf x y (equal z) = same (answer_fault row leaf z)
+answer_causes row leaf x y (first e z is) = narrow_answer row leaf e (answer_fault row leaf z) is
+answer_causes row leaf x y (second z e is) = narrow_other row leaf (answer_fault row leaf z) e is
+
+-- two answers to stores that are equal, or say that the value is not held
+module _ (answer other : Answer) (alike : (leaf : ℕ) (value : ℤ) → Answers is_narrow (answer leaf value) (other leaf value)) where
+  store_causes : (row : ℕ) (store : Option Store) → Causes is_narrow_kernel (store_fault answer row store) (store_fault other row store)
+  store_causes row None = same None
+  store_causes row (Some store) = answer_causes row store.leaf (answer store.leaf store.value) (other store.leaf store.value) (alike store.leaf store.value)
+
+  first_causes : (kernel : Kernel) (row : ℕ) (rows : List (List ℤ)) → Causes is_narrow_kernel (first_fault answer kernel row rows) (first_fault other kernel row rows)
+  first_causes kernel row [] = same None
+  first_causes kernel row (values ∷ rows) =
+      or_causes (store_fault answer row (stored kernel values)) (store_fault other row (stored kernel values)) (first_fault answer kernel (row + 1) rows) (first_fault other kernel (row + 1) rows)
+      (store_causes row (stored kernel values)) (first_causes kernel (row + 1) rows)
+
+  pub kernel_causes : (kernel : Kernel) (rows : List (List ℤ)) → Causes is_narrow_kernel (kernel_fault answer kernel rows) (kernel_fault other kernel rows)
+  kernel_causes kernel rows =
+      or_causes (empty_fault kernel rows) (empty_fault kernel rows) (first_fault answer kernel 0 rows) (first_fault other kernel 0 rows) (same (empty_fault kernel rows)) (first_causes kernel 0 rows)

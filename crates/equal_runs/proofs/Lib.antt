@@ -1,0 +1,12 @@
+pub mod Agreeing
+pub mod Entries
+pub mod Answers
+pub mod Updates
+pub mod Loads
+pub mod Kernels
+pub mod Tables
+pub mod Names
+pub mod Commands
+pub mod News
+pub mod Steps
+pub mod Runs

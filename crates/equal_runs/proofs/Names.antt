@@ -1,0 +1,28 @@
+-- A mapping expression is refused for a name alone.
+use Rattle.std.proofs.Common.{ℕ, true, List, Option, Some, None, refl}
+use Rattle.map_expr.specs.Terms.{Term as MapTerm, Aos, Soa, Aosoa, BitAos, BitSoa, Split, Byteswap, Bytesplit, Change, Count, Heat, Named}
+use Rattle.worlds.specs.Worlds.{Entry, found}
+use Rattle.worlds.specs.Outcomes.{some_or}
+use Rattle.worlds.specs.Names.{nameless}
+use Rattle.worlds.specs.declared.fault.CommandFault.TheVariants.{Unknown}
+use Rattle.worlds.specs.declared.fault.UnknownName.TheVariants.{Name}
+use Rattle.equal_runs.proofs.Agreeing.{Told, goes, told, Any, told_bind}
+
+known_told : {A : Type 0} (name : List ℕ) (x : Option A) → Told true Any (some_or (Unknown (Name name)) x)
+known_told name None = told (Unknown (Name name)) refl
+known_told name (Some a) = goes a tt
+
+pub nameless_told : (mappings : List (Entry MapTerm)) (term : MapTerm) → Told true Any (nameless mappings term)
+nameless_told mappings (Split path first rest) =
+    told_bind true Any Any (nameless mappings first) _ (nameless_told mappings first) (λ a p. told_bind true Any Any (nameless mappings rest) _ (nameless_told mappings rest) (λ b q. goes (Split path a b) tt))
+nameless_told mappings (Byteswap inner) = told_bind true Any Any (nameless mappings inner) _ (nameless_told mappings inner) (λ a p. goes (Byteswap a) tt)
+nameless_told mappings (Bytesplit inner) = told_bind true Any Any (nameless mappings inner) _ (nameless_told mappings inner) (λ a p. goes (Bytesplit a) tt)
+nameless_told mappings (Change from to inner) = told_bind true Any Any (nameless mappings inner) _ (nameless_told mappings inner) (λ a p. goes (Change from to a) tt)
+nameless_told mappings (Count inner) = told_bind true Any Any (nameless mappings inner) _ (nameless_told mappings inner) (λ a p. goes (Count a) tt)
+nameless_told mappings (Heat granule inner) = told_bind true Any Any (nameless mappings inner) _ (nameless_told mappings inner) (λ a p. goes (Heat granule a) tt)
+nameless_told mappings (Named name) = known_told name (found name mappings)
+nameless_told mappings (Aos form order) = goes (Aos form order) tt
+nameless_told mappings (Soa form order) = goes (Soa form order) tt
+nameless_told mappings (Aosoa lanes order) = goes (Aosoa lanes order) tt
+nameless_told mappings (BitAos width order) = goes (BitAos width order) tt
+nameless_told mappings (BitSoa width order) = goes (BitSoa width order) tt

@@ -1,0 +1,208 @@
+-- The commands with names and mapping expressions, done to alike worlds.
+use Rattle.std.proofs.Common.{◌≡◌, ℕ, Bool, true, ℤ, List, length, Option, Some, None, refl, sym, ap, subst, ◌∙◌}
+use Rattle.std.specs.Prelude.{◌^◌, ◌&&◌, is_some, nat_lt, nat_le}
+use Rattle.extents.specs.Indices.{indices}
+use Rattle.extents.specs.declared.words.ExtentWord.{ExtentWord}
+use Rattle.layout_io.specs.Files.{File}
+use Rattle.record_dim.specs.Trees.{Tree, Fields}
+use Rattle.record_dim.specs.Leaves.{leaves, kinds_of, texts_of}
+use Rattle.map_expr.specs.Terms.{Term as MapTerm}
+use Rattle.map_expr.specs.Checks.{checked}
+use Rattle.map_any.specs.Mappings.{holds_by}
+use Rattle.map_any.specs.AnyLaws.{holds_cells, length-leaf_cells}
+use Rattle.piece_bits.specs.Tables.{zeros}
+use Rattle.csv_rows.specs.Datasets.{records_of, rows_of, dataset_table}
+use Rattle.csv_rows.specs.declared.fault.RowFault.{RowFault}
+use Rattle.csv_rows.specs.declared.fault.RowFault.TheVariants as row_fault
+use Rattle.worlds.specs.Worlds.{World, Entry, Table, found}
+use Rattle.worlds.specs.Outcomes.{Outcome, known, free, refused_if, ok_or}
+use Rattle.worlds.specs.Names.{nameless}
+use Rattle.worlds.specs.Tables.{room, shaped, resolved, made, zeros_of}
+use Rattle.worlds.specs.Define.{fit, define}
+use Rattle.worlds.specs.Mapping.{mapping}
+use Rattle.worlds.specs.View.{Named, named, new_table, with_view, view}
+use Rattle.worlds.specs.Load.{read, filled, loaded, loaded_table, load, row_fault as fault_of}
+use Rattle.worlds.specs.Copy.{laid_anew, relayout}
+use Rattle.worlds.specs.declared.fault.CommandFault.TheVariants.{BadMapping, TooBig, TooManyViews}
+use Rattle.equal_runs.specs.Endings.{is_refused, is_of_layout}
+use Rattle.equal_runs.proofs.Agreeing.{Agree, go, bind, before, alone, both_told, Any, Both, told_ok, told_misses}
+use Rattle.equal_runs.proofs.Answers.{ok_agree}
+use Rattle.equal_runs.proofs.Entries.{At, known_agree, free_agree, entries_added, entries_replaced, length-entries}
+use Rattle.equal_runs.proofs.Loads.{is_narrow_row, dataset_answers}
+use Rattle.equal_runs.proofs.Names.{nameless_told}
+use Rattle.equal_runs.proofs.Tables.{AlikeTables, AlikeWorlds, AlikeLefts, of_mapping, alike_both, made_told, anew_told}
+
+-- as many holds as leaves
+paired : (mapping : MapTerm) (fields : Fields) → length (holds_by mapping fields) ≡ length (kinds_of fields)
+paired mapping fields = holds_cells mapping fields (holds_by mapping fields) refl ∙ length-leaf_cells (kinds_of fields)
+
+narrow_row : (fields : Fields) (n : Bool) (e : RowFault) → is_narrow_row e ≡ true → is_of_layout n (fault_of fields e) ≡ true
+narrow_row fields n (row_fault.Narrow row leaf) is = refl
+narrow_row fields n (row_fault.MissingColumn leaf) is = absurd (cc)
+narrow_row fields n (row_fault.ColumnTwice leaf) is = absurd (cc)
+narrow_row fields n (row_fault.ShortRow row leaf) is = absurd (cc)
+narrow_row fields n (row_fault.Number row leaf) is = absurd (cc)
+narrow_row fields n (row_fault.Range row leaf) is = absurd (cc)
+narrow_row fields n row_fault.NoMemory is = absurd (cc)
+
+of_equal : (table other : Table) → other ≡ table → AlikeTables table other
+of_equal table other is = record { fields = ap (λ (t : Table). t.fields) is; extents = ap (λ (t : Table). t.extents) is; rows = ap (λ (t : Table). t.rows) is }
+
+zeros_alike : (fields others : Fields) (extents : List ℕ) (term changed : MapTerm) → others ≡ fields → AlikeTables (zeros_of fields extents term) (zeros_of others extents changed)
+zeros_alike fields others extents term changed is = record { fields = is; extents = refl; rows = ap (λ (f : Fields). zeros (length (indices extents)) (length (leaves f))) is }
+
+-- what the names of a new view stand for, but its mapping
+record AlikeNamed (whole other : Named) : Type 0 where
+  fields : other.fields ≡ whole.fields
+
+module _ (m o : Bool) where
+  names_agree : (mappings others : List (Entry MapTerm)) (term changed : MapTerm) → is_refused (nameless mappings term) ≡ m → is_refused (nameless others changed) ≡ o
+      → Agree m o Both (nameless mappings term) (nameless others changed)
+  names_agree mappings others term changed is also =
+      both_told m o Any Any Both (nameless mappings term) (nameless others changed) (told_misses m Any (nameless mappings term) (nameless_told mappings term) is)
+      (told_misses o Any (nameless others changed) (nameless_told others changed) also) (λ a b p q. tt)
+
+  made_agree : (views others : List (Entry Table)) (whole other : Named) (extents : List ℕ) → AlikeNamed whole other
+      → Agree m o AlikeTables (made views whole.fields extents whole.mapping) (made others other.fields extents other.mapping)
+  made_agree views others whole other extents same =
+      both_told m o _ _ AlikeTables (made views whole.fields extents whole.mapping) (made others other.fields extents other.mapping)
+      (made_told m views whole.fields extents whole.mapping) (made_told o others other.fields extents other.mapping)
+      (λ a b is also. alike_both (zeros_of whole.fields extents whole.mapping) (zeros_of other.fields extents other.mapping) a b
+      (zeros_alike whole.fields other.fields extents whole.mapping other.mapping same.fields) (of_equal (zeros_of whole.fields extents whole.mapping) a is)
+      (of_equal (zeros_of other.fields extents other.mapping) b also))
+
+  filled_agree : (table : Table) (mapping : MapTerm) (records : List (List (List ℕ))) → Agree m o AlikeTables (filled table records) (filled (record table { mapping = mapping }) records)
+  filled_agree table mapping records =
+      let names = texts_of table.fields in
+      let kinds = kinds_of table.fields in
+      bind m o (λ (a b : List (List ℤ)). a ≡ b) AlikeTables (ok_or (fault_of table.fields) (dataset_table names kinds (holds_by table.mapping table.fields) records))
+      (ok_or (fault_of table.fields) (dataset_table names kinds (holds_by mapping table.fields) records)) _ _
+      (ok_agree m o is_narrow_row (fault_of table.fields) _ _ (narrow_row table.fields)
+      (dataset_answers names kinds (holds_by table.mapping table.fields) (holds_by mapping table.fields) records (paired table.mapping table.fields) (paired mapping table.fields)))
+      (λ rows others same. go _ _ (record { fields = refl; extents = refl; rows = sym same }))
+
+  loaded_agree : (views others : List (Entry Table)) (whole other : Named) (words : List ExtentWord) (bytes : List ℕ) → AlikeNamed whole other
+      → Agree m o AlikeTables (loaded views whole words bytes) (loaded others other words bytes)
+  unfolding loaded
+  loaded_agree views others whole other words bytes same =
+      before m o AlikeTables (refused_if (nat_lt (2 ^ 28) (length bytes)) TooBig) _ _ (λ short.
+      before m o AlikeTables (resolved words (Some (length (rows_of (records_of bytes))))) _ _ (λ extents.
+      bind m o AlikeTables AlikeTables (made views whole.fields extents whole.mapping) (made others other.fields extents other.mapping) _ _
+      (made_agree views others whole other extents same)
+      (λ a b alike. of_mapping (λ (t : Table). Agree m o AlikeTables (filled a (records_of bytes)) (filled t (records_of bytes))) a b alike
+      (λ mapping. filled_agree a mapping (records_of bytes)))))
+
+-- where a name was found, a mapping is missed where its expression is refused
+found_misses : {A B : Type 0} (x : Option A) (a : A) (y : Outcome B) → x ≡ Some a → is_refused y ≡ (is_some x && is_refused y)
+found_misses {A} x a y is = sym (ap (λ (f : Option A). is_some f && is_refused y) is)
+
+module _ (world other : World) (alike : AlikeWorlds world other) where
+  pub define_agree : (m o : Bool) (name : List ℕ) (tree : Tree) → Agree m o AlikeLefts (define world name tree) (define other name tree)
+  unfolding define
+  define_agree m o name tree =
+      bind m o Both AlikeLefts (free name world.records) (free name other.records) _ _ (free_agree m o (λ (a b : Fields). b ≡ a) name world.records other.records alike.records) (λ new also p.
+      before m o AlikeLefts (fit tree) _ _ (λ fields. go _ _ (record {
+        worlds = record {
+          records = entries_added (λ (a b : Fields). b ≡ a) name fields fields world.records other.records refl alike.records;
+          mappings = alike.mappings;
+          views = alike.views;
+        };
+        text = refl;
+      })))
+
+  pub mapping_agree : (name : List ℕ) (term changed : MapTerm)
+      → Agree (is_refused (nameless world.mappings term)) (is_refused (nameless other.mappings changed)) AlikeLefts (mapping world name term) (mapping other name changed)
+  unfolding mapping
+  mapping_agree name term changed =
+      let m = is_refused (nameless world.mappings term) in
+      let o = is_refused (nameless other.mappings changed) in
+      bind m o Both AlikeLefts (free name world.mappings) (free name other.mappings) _ _ (free_agree m o Both name world.mappings other.mappings alike.mappings) (λ new also p.
+      bind m o Both AlikeLefts (nameless world.mappings term) (nameless other.mappings changed) _ _ (names_agree m o world.mappings other.mappings term changed refl refl) (λ whole whole_other q.
+      bind m o Both AlikeLefts (ok_or BadMapping (checked whole)) (ok_or BadMapping (checked whole_other)) _ _
+      (both_told m o Any Any Both (ok_or BadMapping (checked whole)) (ok_or BadMapping (checked whole_other)) (told_ok m BadMapping (checked whole) (λ e. refl))
+      (told_ok o BadMapping (checked whole_other) (λ e. refl)) (λ a b r s. tt))
+      (λ done done_other r. go _ _ (record {
+        worlds = record {
+          records = alike.records;
+          mappings = entries_added Both name whole whole_other world.mappings other.mappings tt alike.mappings;
+          views = alike.views;
+        };
+        text = refl;
+      }))))
+
+  room_agree : (m o : Bool) → Agree m o Both (room world.views) (room other.views)
+  room_agree m o =
+      subst (λ (n : ℕ). Agree m o Both (room world.views) (refused_if (nat_le 64 n) TooManyViews)) (length-entries AlikeTables world.views other.views alike.views)
+      (alone m o Both (room world.views) (λ a. tt))
+
+  -- the world with one more table
+  view_added : (name : List ℕ) (a b : Table) → AlikeTables a b → AlikeWorlds (with_view world name a) (with_view other name b)
+  view_added name a b same = record {
+    records = alike.records;
+    mappings = alike.mappings;
+    views = entries_added AlikeTables name a b world.views other.views same alike.views;
+  }
+
+  module _ (schema : List ℕ) (term changed : MapTerm) where
+    abbrev missed : Bool
+    missed = is_some (found schema world.records) && is_refused (nameless world.mappings term)
+
+    abbrev missed_other : Bool
+    missed_other = is_some (found schema other.records) && is_refused (nameless other.mappings changed)
+
+    named_agree : (name : List ℕ) (words : List ExtentWord) → Agree missed missed_other AlikeNamed (named world name schema words term) (named other name schema words changed)
+    named_agree name words =
+        bind missed missed_other Both AlikeNamed (free name world.views) (free name other.views) _ _ (free_agree missed missed_other AlikeTables name world.views other.views alike.views) (λ new also p.
+        bind missed missed_other (At (λ (a b : Fields). b ≡ a) (found schema world.records) (found schema other.records)) AlikeNamed (known schema world.records) (known schema other.records) _ _
+        (known_agree missed missed_other (λ (a b : Fields). b ≡ a) schema world.records other.records alike.records) (λ fields others at.
+        bind missed missed_other Both AlikeNamed (nameless world.mappings term) (nameless other.mappings changed) _ _
+        (names_agree missed missed_other world.mappings other.mappings term changed (found_misses (found schema world.records) fields (nameless world.mappings term) at.first)
+        (found_misses (found schema other.records) others (nameless other.mappings changed) at.second))
+        (λ whole whole_other q.
+        bind missed missed_other Both AlikeNamed (room world.views) (room other.views) _ _ (room_agree missed missed_other) (λ space space_other r.
+        before missed missed_other AlikeNamed (shaped words) _ _ (λ ranked. go _ _ (record { fields = at.alike }))))))
+
+    pub view_agree : (name : List ℕ) (words : List ExtentWord)
+        → Agree missed missed_other AlikeLefts
+        (view world name schema words term) (view other name schema words changed)
+    unfolding view new_table
+    view_agree name words =
+        bind missed missed_other AlikeTables AlikeLefts (new_table world name schema words term) (new_table other name schema words changed) _ _
+        (bind missed missed_other AlikeNamed AlikeTables (named world name schema words term) (named other name schema words changed) _ _ (named_agree name words) (λ whole whole_other same.
+        before missed missed_other AlikeTables (resolved words None) _ _ (λ extents. made_agree missed missed_other world.views other.views whole whole_other extents same)))
+        (λ a b same. go _ _ (record { worlds = view_added name a b same; text = refl }))
+
+    pub load_agree : (name : List ℕ) (words : List ExtentWord) (file : List ℕ) (files : List File) (unread : Bool)
+        → Agree missed missed_other AlikeLefts
+        (load world name schema words term file files unread) (load other name schema words changed file files unread)
+    unfolding load loaded_table
+    load_agree name words file files unread =
+        bind missed missed_other AlikeTables AlikeLefts (loaded_table world name schema words term file files unread) (loaded_table other name schema words changed file files unread) _ _
+        (bind missed missed_other AlikeNamed AlikeTables (named world name schema words term) (named other name schema words changed) _ _ (named_agree name words) (λ whole whole_other same.
+        before missed missed_other AlikeTables (read files unread file) _ _ (λ bytes. loaded_agree missed missed_other world.views other.views whole whole_other words bytes same)))
+        (λ a b same. go _ _ (record { worlds = view_added name a b same; text = refl }))
+
+  pub relayout_agree : (name : List ℕ) (term changed : MapTerm)
+      → Agree (is_some (found name world.views) && is_refused (nameless world.mappings term)) (is_some (found name other.views) && is_refused (nameless other.mappings changed)) AlikeLefts
+      (relayout world name term) (relayout other name changed)
+  unfolding relayout
+  relayout_agree name term changed =
+      let m = is_some (found name world.views) && is_refused (nameless world.mappings term) in
+      let o = is_some (found name other.views) && is_refused (nameless other.mappings changed) in
+      bind m o (At AlikeTables (found name world.views) (found name other.views)) AlikeLefts (known name world.views) (known name other.views) _ _
+      (known_agree m o AlikeTables name world.views other.views alike.views) (λ table table_other at.
+      bind m o Both AlikeLefts (nameless world.mappings term) (nameless other.mappings changed) _ _
+      (names_agree m o world.mappings other.mappings term changed (found_misses (found name world.views) table (nameless world.mappings term) at.first)
+      (found_misses (found name other.views) table_other (nameless other.mappings changed) at.second))
+      (λ whole whole_other q.
+      bind m o AlikeTables AlikeLefts (laid_anew world.views table whole) (laid_anew other.views table_other whole_other) _ _
+      (both_told m o (AlikeTables table) (AlikeTables table_other) AlikeTables (laid_anew world.views table whole) (laid_anew other.views table_other whole_other)
+      (anew_told m world.views table whole) (anew_told o other.views table_other whole_other) (λ a b is also. alike_both table table_other a b at.alike is also))
+      (λ a b same. go _ _ (record {
+        worlds = record {
+          records = alike.records;
+          mappings = alike.mappings;
+          views = entries_replaced AlikeTables name a b world.views other.views same alike.views;
+        };
+        text = refl;
+      }))))

@@ -1,0 +1,47 @@
+-- The runs that end with a fault of how their tables lie.
+use Rattle.std.specs.Prelude.{ℕ, ◌+◌, ◌&&◌, Bool, true, false, is_some, List, [], ◌∷◌, Option}
+use Rattle.layout_io.specs.Files.{File}
+use Rattle.line_grammar.specs.Sentences.{Sentence, Mapping, View, Load, Relayout}
+use Rattle.worlds.specs.Worlds.{World, found}
+use Rattle.worlds.specs.Outcomes.{Outcome, Goes, Faults, CannotRead, Left}
+use Rattle.worlds.specs.Names.{nameless}
+use Rattle.worlds.specs.Step.{step}
+use Rattle.worlds.specs.declared.fault.CommandFault.{CommandFault}
+use Rattle.worlds.specs.declared.fault.CommandFault.TheVariants.{BadMapping, TooBig, Narrow, NotCounted, NotBuilt, Unknown}
+use Rattle.worlds.specs.declared.fault.UnknownName.TheVariants.{Name}
+use Rattle.script_runs.specs.Fold.{fails_at}
+
+-- it does not go
+abbrev pub is_refused : {A : Type 0} → Outcome A → Bool
+is_refused (Goes x) = false
+is_refused _ = true
+
+-- some name in the mapping expression of a line names no mapping, and the name before it, of a record or a view, is known
+abbrev pub misses_mapping : World → Sentence → Bool
+misses_mapping world (Mapping name term) = is_refused (nameless world.mappings term)
+misses_mapping world (View name schema words term) = is_some (found schema world.records) && is_refused (nameless world.mappings term)
+misses_mapping world (Load name schema words term file) = is_some (found schema world.records) && is_refused (nameless world.mappings term)
+misses_mapping world (Relayout view term) = is_some (found view world.views) && is_refused (nameless world.mappings term)
+misses_mapping world line = false
+
+-- a fault of how tables lie; that of a name is one where it `misses` a mapping
+abbrev pub is_of_layout : Bool → CommandFault → Bool
+is_of_layout misses (BadMapping bad) = true
+is_of_layout misses TooBig = true
+is_of_layout misses (Narrow row leaf) = true
+is_of_layout misses NotCounted = true
+is_of_layout misses NotBuilt = true
+is_of_layout misses (Unknown (Name name)) = misses
+is_of_layout misses _ = false
+
+-- what becomes of a run after the outcome of a line: such a fault ends it, or what comes later does
+abbrev pub ends_after : Bool → Outcome Left → (World → Bool) → Bool
+ends_after misses (Goes left) rest = rest left.world
+ends_after misses (Faults fault) rest = is_of_layout misses fault
+ends_after misses (CannotRead name) rest = false
+
+-- the run over these lines, the first of which has this number, ends with a fault of how tables lie
+abbrev pub ends_by_layout : List File → ℕ → World → List Sentence → Option ℕ → Bool
+ends_by_layout files number world [] unread = false
+ends_by_layout files number world (line ∷ lines) unread =
+    ends_after (misses_mapping world line) (step world line files (fails_at unread number)) (λ next. ends_by_layout files (number + 1) next lines unread)

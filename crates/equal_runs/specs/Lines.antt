@@ -1,0 +1,38 @@
+-- Lines that differ in their mapping expressions alone, and the texts that are lines.
+use Rattle.std.specs.Prelude.{ℕ, ◌≡◌, ◌≤◌, ⊤, Bool, true, false, List, [], ◌∷◌, length, Ok}
+use Rattle.map_expr.specs.Terms.{Term as MapTerm}
+use Rattle.line_grammar.specs.Sentences.{Sentence, Mapping, View, Load, Relayout, Heat, Layout, Bytes, deepest}
+use Rattle.schema_lang.specs.LineOf.{line_of}
+
+-- the line with this mapping expression in place of its own, where it has one
+abbrev pub with_term : MapTerm → Sentence → Sentence
+with_term term (Mapping name old) = Mapping name term
+with_term term (View name schema words old) = View name schema words term
+with_term term (Load name schema words old file) = Load name schema words term file
+with_term term (Relayout view old) = Relayout view term
+with_term term line = line
+
+-- equally many lines, and each the same but for its mapping expression
+abbrev pub AgreeButTerms : List Sentence → List Sentence → Type 0
+AgreeButTerms [] [] = ⊤
+AgreeButTerms (line ∷ lines) (other ∷ others) = ((term : MapTerm) × (other ≡ with_term term line)) × AgreeButTerms lines others
+AgreeButTerms _ _ = ⊥
+
+-- the commands that write how a table lies
+abbrev pub shows_layout : Sentence → Bool
+shows_layout (Heat view) = true
+shows_layout (Layout view) = true
+shows_layout (Bytes view blob) = true
+shows_layout _ = false
+
+-- the text is this line, and both are within the limits on lines
+pub record IsLine (text : List ℕ) (line : Sentence) : Type 0 where
+  pub parsed : line_of text ≡ Ok line
+  pub short : length text ≤ 4096
+  pub shallow : deepest line ≤ 32
+
+-- each of the texts is the line at its place
+abbrev pub AreLines : List (List ℕ) → List Sentence → Type 0
+AreLines [] [] = ⊤
+AreLines (text ∷ texts) (line ∷ lines) = IsLine text line × AreLines texts lines
+AreLines _ _ = ⊥

@@ -1,0 +1,88 @@
+use Rattle.std.proofs.Common.{◌≡◌, ◌∙◌, map, Ok, sym, ap}
+use Rattle.std.specs.Prelude.{option_map}
+use Rattle.expr_lang.specs.Terms.{term_of as value_of}
+use Rattle.line_grammar.specs.Sentences.{sentence_of, assignment_of}
+use Rattle.line_grammar.specs.declared.line.Line.{Line}
+use Rattle.map_expr.specs.Terms.{term_of}
+use Rattle.record_dim.specs.Trees.{tree_of}
+use Rattle.worlds.specs.Assign.{assign}
+use Rattle.worlds.specs.Copy.{copy, relayout}
+use Rattle.worlds.specs.Define.{define}
+use Rattle.worlds.specs.Kernel.{kernel}
+use Rattle.worlds.specs.Mapping.{mapping}
+use Rattle.worlds.specs.Reduce.{reduce, count}
+use Rattle.worlds.specs.Show.{print, bytes, drop_view}
+use Rattle.worlds.specs.Step.{command}
+use Rattle.worlds.specs.Update.{update}
+use Rattle.worlds.specs.View.{view}
+use Rattle.session.specs.Stands.{world_of}
+use Rattle.session.proofs.Steps.{answers_by, answers_quiet, quiet_by}
+use Rattle.session.proofs.session.Session.command.Goals as goal
+
+pub returns-in-Blank : goal.returns-in-Blank
+returns-in-Blank g c = λ files unread. answers_quiet g.K.Sink.taken g.K.Sink.faults c.args.out.now _ (Ok c.args.self) (ap (λ (line : Line). command (world_of c.args.self) (sentence_of line) files unread) c.in-Blank.is)
+
+pub returns-in-Define : goal.returns-in-Define
+returns-in-Define g c = λ files unread.
+    quiet_by g.K.Sink.taken g.K.Sink.faults c.args.out.now _ (define (world_of c.args.self) c.in-Define.name (tree_of c.in-Define.dim)) c.define.result
+    (ap (λ (line : Line). command (world_of c.args.self) (sentence_of line) files unread) c.in-Define.is) c.define.ensures
+
+pub returns-in-Mapping : goal.returns-in-Mapping
+returns-in-Mapping g c = λ files unread.
+    quiet_by g.K.Sink.taken g.K.Sink.faults c.args.out.now _ (mapping (world_of c.args.self) c.in-Mapping.name (term_of c.in-Mapping.expr)) c.mapping.result
+    (ap (λ (line : Line). command (world_of c.args.self) (sentence_of line) files unread) c.in-Mapping.is) c.mapping.ensures
+
+pub returns-in-View : goal.returns-in-View
+returns-in-View g c = λ files unread.
+    quiet_by g.K.Sink.taken g.K.Sink.faults c.args.out.now _ (view (world_of c.args.self) c.in-View.name c.in-View.schema c.as_slice.result.now (term_of c.in-View.expr)) c.view.result
+    (ap (λ (line : Line). command (world_of c.args.self) (sentence_of line) files unread) c.in-View.is ∙ ap (λ words. view (world_of c.args.self) c.in-View.name c.in-View.schema words (term_of c.in-View.expr)) (sym c.as_slice.ensures)) c.view.ensures
+
+pub returns-in-Assign : goal.returns-in-Assign
+returns-in-Assign g c = λ files unread.
+    quiet_by g.K.Sink.taken g.K.Sink.faults c.args.out.now _ (assign (world_of c.args.self) c.in-Assign.view c.as_slice-in-Assign.result.now c.in-Assign.path (value_of c.in-Assign.value)) c.assign.result
+    (ap (λ (line : Line). command (world_of c.args.self) (sentence_of line) files unread) c.in-Assign.is ∙ ap (λ words. assign (world_of c.args.self) c.in-Assign.view words c.in-Assign.path (value_of c.in-Assign.value)) (sym c.as_slice-in-Assign.ensures)) c.assign.ensures
+
+pub returns-in-Update : goal.returns-in-Update
+returns-in-Update g c = λ files unread.
+    quiet_by g.K.Sink.taken g.K.Sink.faults c.args.out.now _ (update (world_of c.args.self) c.in-Update.view (option_map value_of c.in-Update.filter) (map assignment_of c.as_slice-in-Update.result.now)) c.update.result
+    (ap (λ (line : Line). command (world_of c.args.self) (sentence_of line) files unread) c.in-Update.is ∙ ap (λ words. update (world_of c.args.self) c.in-Update.view (option_map value_of c.in-Update.filter) (map assignment_of words)) (sym c.as_slice-in-Update.ensures)) c.update.ensures
+
+pub returns-in-Kernel : goal.returns-in-Kernel
+returns-in-Kernel g c = λ files unread.
+    answers_by g.K.Sink.taken g.K.Sink.faults c.args.out.now c.kernel.new.out _ (kernel (world_of c.args.self) c.in-Kernel.view c.in-Kernel.kernel c.in-Kernel.lanes) c.kernel.result
+    (ap (λ (line : Line). command (world_of c.args.self) (sentence_of line) files unread) c.in-Kernel.is) c.kernel.ensures
+
+pub returns-in-Copy : goal.returns-in-Copy
+returns-in-Copy g c = λ files unread.
+    quiet_by g.K.Sink.taken g.K.Sink.faults c.args.out.now _ (copy (world_of c.args.self) c.in-Copy.source c.in-Copy.target) c.copy.result
+    (ap (λ (line : Line). command (world_of c.args.self) (sentence_of line) files unread) c.in-Copy.is) c.copy.ensures
+
+pub returns-in-Relayout : goal.returns-in-Relayout
+returns-in-Relayout g c = λ files unread.
+    quiet_by g.K.Sink.taken g.K.Sink.faults c.args.out.now _ (relayout (world_of c.args.self) c.in-Relayout.view (term_of c.in-Relayout.expr)) c.relayout.result
+    (ap (λ (line : Line). command (world_of c.args.self) (sentence_of line) files unread) c.in-Relayout.is) c.relayout.ensures
+
+pub returns-in-Reduce : goal.returns-in-Reduce
+returns-in-Reduce g c = λ files unread.
+    answers_by g.K.Sink.taken g.K.Sink.faults c.args.out.now c.reduce.new.out _ (reduce (world_of c.args.self) c.in-Reduce.view c.in-Reduce.kind c.in-Reduce.path) c.reduce.result
+    (ap (λ (line : Line). command (world_of c.args.self) (sentence_of line) files unread) c.in-Reduce.is) c.reduce.ensures
+
+pub returns-in-Count : goal.returns-in-Count
+returns-in-Count g c = λ files unread.
+    answers_by g.K.Sink.taken g.K.Sink.faults c.args.out.now c.count.new.out _ (count (world_of c.args.self) c.in-Count.view (value_of c.in-Count.filter)) c.count.result
+    (ap (λ (line : Line). command (world_of c.args.self) (sentence_of line) files unread) c.in-Count.is) c.count.ensures
+
+pub returns-in-Print : goal.returns-in-Print
+returns-in-Print g c = λ files unread.
+    answers_by g.K.Sink.taken g.K.Sink.faults c.args.out.now c.print.new.out _ (print (world_of c.args.self) c.in-Print.view) c.print.result
+    (ap (λ (line : Line). command (world_of c.args.self) (sentence_of line) files unread) c.in-Print.is) c.print.ensures
+
+pub returns-in-Drop : goal.returns-in-Drop
+returns-in-Drop g c = λ files unread.
+    quiet_by g.K.Sink.taken g.K.Sink.faults c.args.out.now _ (drop_view (world_of c.args.self) c.in-Drop.view) c.drop_view.result
+    (ap (λ (line : Line). command (world_of c.args.self) (sentence_of line) files unread) c.in-Drop.is) c.drop_view.ensures
+
+pub returns-in-Bytes : goal.returns-in-Bytes
+returns-in-Bytes g c = λ files unread.
+    answers_by g.K.Sink.taken g.K.Sink.faults c.args.out.now c.bytes.new.out _ (bytes (world_of c.args.self) c.in-Bytes.view c.in-Bytes.blob) c.bytes.result
+    (ap (λ (line : Line). command (world_of c.args.self) (sentence_of line) files unread) c.in-Bytes.is) c.bytes.ensures
