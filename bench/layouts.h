@@ -38,6 +38,11 @@ struct table {
     struct leaf_plan leaves[LEAVES];
     size_t stride;
     uint32_t lanes;
+    // what those of bits, of split bytes and of Morton order go by: the bits from a row to the next, where the array of each byte of a
+    // row begins, and the columns of an array
+    size_t steps[LEAVES];
+    size_t cells[ROW_BYTES];
+    uint32_t columns;
 };
 
 // ---- numbers of one type

@@ -1,5 +1,6 @@
 -- What a fault says of a mode.
 use Rattle.std.specs.Prelude.{◌≡◌, ◌⊎◌, ⊤, ℕ, ℤ, [], ◌∷◌, Result, Err}
+use Rattle.extents.specs.Indices.{product}
 use Rattle.record_dim.specs.Leaves.{kinds_of}
 use Rattle.piece_bits.specs.Tables.{hold_at}
 use Rattle.map_any.specs.Mappings.{holds_by}
@@ -12,7 +13,7 @@ use Rattle.bench_layouts.specs.declared.form.Form.{Form}
 use Rattle.bench_layouts.specs.declared.mode.Mode.{Mode}
 use Rattle.bench_layouts.specs.declared.mode.Mode.TheVariants.{Eval, Table, Copy, Kernel}
 use Rattle.bench_layouts.specs.Copies.{IsNoCopy}
-use Rattle.bench_layouts.specs.Forms.{form_term}
+use Rattle.bench_layouts.specs.Forms.{form_term, table_extents}
 use Rattle.bench_layouts.specs.KernelRuns.{kernel_called, table_after, written, IsRefusedRun}
 use Rattle.bench_layouts.specs.declared.kernels.KernelName.TheVariants.{Sum}
 use Rattle.bench_layouts.specs.Modes.{checksum_of}
@@ -28,8 +29,8 @@ answer_in form leaf number =
 abbrev pub IsFaultOf : Mode → BenchFault → Type 0
 IsFaultOf mode (fault.Eval first) = checksum_of mode ≡ Err first
 IsFaultOf mode fault.NoMemory = ⊤
-IsFaultOf (Table work) (fault.View refusal) = IsNoView (form_term work.form) (work.rows ∷ []) measured_fields refusal
-IsFaultOf (Table work) (fault.Store refusal) = IsRefused (answer_in work.form) work.sets work.rows refusal
+IsFaultOf (Table work) (fault.View refusal) = IsNoView (form_term work.form) (table_extents work.form work.rows) measured_fields refusal
+IsFaultOf (Table work) (fault.Store refusal) = IsRefused (answer_in work.form) work.sets (product (table_extents work.form work.rows)) refusal
 IsFaultOf (Table work) (fault.Copy refusal) = ⊥
 IsFaultOf (Table work) (fault.Kernel refusal) = ⊥
 IsFaultOf (Copy copying) (fault.View refusal) =

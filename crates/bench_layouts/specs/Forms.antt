@@ -1,27 +1,57 @@
--- How the table lies in memory: each form's name and its expression.
-use Rattle.std.specs.Prelude.{ℕ, List, Option, Some, None, if◌then◌else◌, codes, bytes_eq}
-use Rattle.extents.specs.declared.order.Order.TheVariants.{Row, Col}
+-- How the table lies in memory: each form's name, its expression and its extents.
+use Rattle.std.specs.Prelude.{ℕ, List, [], ◌∷◌, Option, Some, None, if◌then◌else◌, codes, bytes_eq}
+use Rattle.extents.specs.declared.order.Order.TheVariants.{Row, Col, Morton}
 use Rattle.places.specs.declared.forms.AosForm.TheVariants.{Packed}
-use Rattle.places.specs.declared.forms.SoaForm.TheVariants.{Aligned}
+use Rattle.places.specs.declared.forms.SoaForm.TheVariants.{Aligned, Multi}
 use Rattle.map_expr.specs.Terms as terms
 use Rattle.bench_layouts.specs.declared.form.Form.{Form}
-use Rattle.bench_layouts.specs.declared.form.Form.TheVariants.{Aos, Soa, Aosoa, AosByColumns, SoaByColumns, AosoaByColumns}
+use Rattle.bench_layouts.specs.declared.form.Form.TheVariants as form
 
 abbrev pub form_named : List ℕ → Option Form
 form_named text =
-    if bytes_eq text (codes "aos") then Some Aos
-    else (if bytes_eq text (codes "soa") then Some Soa
-    else (if bytes_eq text (codes "aosoa") then Some Aosoa
-    else (if bytes_eq text (codes "aos_col") then Some AosByColumns
-    else (if bytes_eq text (codes "soa_col") then Some SoaByColumns
-    else (if bytes_eq text (codes "aosoa_col") then Some AosoaByColumns
-    else None)))))
+    if bytes_eq text (codes "aos") then Some form.Aos
+    else (if bytes_eq text (codes "soa") then Some form.Soa
+    else (if bytes_eq text (codes "aosoa") then Some form.Aosoa
+    else (if bytes_eq text (codes "aos_col") then Some form.AosByColumns
+    else (if bytes_eq text (codes "soa_col") then Some form.SoaByColumns
+    else (if bytes_eq text (codes "aosoa_col") then Some form.AosoaByColumns
+    else (if bytes_eq text (codes "bitaos_9") then Some form.BitAos9
+    else (if bytes_eq text (codes "bitaos_23") then Some form.BitAos23
+    else (if bytes_eq text (codes "bitaos_57") then Some form.BitAos57
+    else (if bytes_eq text (codes "bitsoa_9") then Some form.BitSoa9
+    else (if bytes_eq text (codes "bitsoa_23") then Some form.BitSoa23
+    else (if bytes_eq text (codes "bitsoa_57") then Some form.BitSoa57
+    else (if bytes_eq text (codes "aos_swap") then Some form.AosSwapped
+    else (if bytes_eq text (codes "soa_swap") then Some form.SoaSwapped
+    else (if bytes_eq text (codes "aos_split") then Some form.AosSplit
+    else (if bytes_eq text (codes "soa_split") then Some form.SoaSplit
+    else (if bytes_eq text (codes "aos_morton") then Some form.AosMorton
+    else (if bytes_eq text (codes "soa_morton") then Some form.SoaMorton
+    else None)))))))))))))))))
 
--- packed records, an aligned array for each leaf, or blocks of 8 lanes, by rows or by columns
+-- packed records, an array for each leaf, or blocks of 8 lanes, by rows, by columns or in Morton order; in bits, swapped or split by rows
 abbrev pub form_term : Form → terms.Term
-form_term Aos = terms.Aos Packed Row
-form_term Soa = terms.Soa Aligned Row
-form_term Aosoa = terms.Aosoa 8 Row
-form_term AosByColumns = terms.Aos Packed Col
-form_term SoaByColumns = terms.Soa Aligned Col
-form_term AosoaByColumns = terms.Aosoa 8 Col
+form_term form.Aos = terms.Aos Packed Row
+form_term form.Soa = terms.Soa Aligned Row
+form_term form.Aosoa = terms.Aosoa 8 Row
+form_term form.AosByColumns = terms.Aos Packed Col
+form_term form.SoaByColumns = terms.Soa Aligned Col
+form_term form.AosoaByColumns = terms.Aosoa 8 Col
+form_term form.BitAos9 = terms.BitAos 9 Row
+form_term form.BitAos23 = terms.BitAos 23 Row
+form_term form.BitAos57 = terms.BitAos 57 Row
+form_term form.BitSoa9 = terms.BitSoa 9 Row
+form_term form.BitSoa23 = terms.BitSoa 23 Row
+form_term form.BitSoa57 = terms.BitSoa 57 Row
+form_term form.AosSwapped = terms.Byteswap (terms.Aos Packed Row)
+form_term form.SoaSwapped = terms.Byteswap (terms.Soa Multi Row)
+form_term form.AosSplit = terms.Bytesplit (terms.Aos Packed Row)
+form_term form.SoaSplit = terms.Bytesplit (terms.Soa Multi Row)
+form_term form.AosMorton = terms.Aos Packed Morton
+form_term form.SoaMorton = terms.Soa Multi Morton
+
+-- the extents of a table that is written and read: so many rows, in Morton order of 1,000 columns each
+abbrev pub table_extents : Form → ℕ → List ℕ
+table_extents form.AosMorton rows = rows ∷ 1000 ∷ []
+table_extents form.SoaMorton rows = rows ∷ 1000 ∷ []
+table_extents _ rows = rows ∷ []

@@ -1,6 +1,7 @@
 -- Which words name a mode, and what each mode makes.
 use Rattle.std.specs.Prelude.{◌≡◌, ℕ, ◌^◌, ◌<◌, ℤ, ◌+ℤ◌, if◌then◌else◌, List, [], ◌∷◌, Option, Some, None, Result, Ok, codes, bytes_eq}
 use Rattle.std.specs.Str.Parse.{IsNumeral, digits_value, without_leading_plus}
+use Rattle.extents.specs.Indices.{product}
 use Rattle.expr_lang.specs.declared.fault.EvalFault.{EvalFault}
 use Rattle.bench_layouts.specs.declared.kernels.KernelName.TheVariants.{Sum}
 use Rattle.bench_layouts.specs.declared.kernels.Running.{Running}
@@ -9,7 +10,7 @@ use Rattle.bench_layouts.specs.declared.copying.Copying.{Copying}
 use Rattle.bench_layouts.specs.declared.mode.Mode.TheVariants.{Eval, Table, Copy, Kernel}
 use Rattle.bench_layouts.specs.declared.work.Work.{Work}
 use Rattle.bench_layouts.specs.Formula.{formula_of}
-use Rattle.bench_layouts.specs.Forms.{form_named}
+use Rattle.bench_layouts.specs.Forms.{form_named, table_extents}
 use Rattle.bench_layouts.specs.KernelRuns.{all_given, kernel_called, kernel_named, table_after, written}
 use Rattle.bench_layouts.specs.Tables.{entry_after, sum_read}
 use Rattle.bench_layouts.specs.Totals.{total_of}
@@ -76,7 +77,7 @@ NamesMode words (Kernel running) = (behind : List (List ℕ)) × (behind_word (c
 -- the number that a mode makes
 abbrev pub checksum_of : Mode → Result ℤ EvalFault
 checksum_of (Eval rows) = total_of (formula_of 0 1 2 3) rows
-checksum_of (Table work) = Ok (sum_read (entry_after work.sets) work.rows work.gets)
+checksum_of (Table work) = Ok (sum_read (entry_after work.sets) (product (table_extents work.form work.rows)) work.gets)
 checksum_of (Copy copying) = Ok (sum_read (entry_after 1) copying.rows 1)
 checksum_of (Kernel running) =
     let kernel = kernel_called running.name in

@@ -15,7 +15,8 @@ ghost use Rattle.bench_layouts.specs.Tables.{measured_fields};
 use crate::count::count_in;
 use crate::fault::BenchFault;
 use crate::form::Form;
-use crate::table::{new_view, read_rounds, write_rounds};
+use crate::table::{read_rounds, write_rounds};
+use crate::tables::flat_view;
 use layout_copy::{CopyFault, copy};
 use std::alloc::Global;
 use std::marker::Brand;
@@ -55,7 +56,7 @@ pub fn sum(alloc: Global, work: Copying) -> Result<i128, BenchFault>
     ensures sum { IfOk result (λ sum. Ok sum ≡ checksum_of (Copy work)) }
     ensures fault { IfErr result (IsFaultOf (Copy work)) }
 {
-    let mut source = new_view(alloc, work.from, work.rows)?;
+    let mut source = flat_view(alloc, work.from, work.rows)?;
     copied_from(alloc, &mut source, work)
 }
 
@@ -68,7 +69,7 @@ fn copied_from(alloc: Global, source: &mut View, work: Copying) -> Result<i128, 
     ensures sum { IfOk result (λ sum. Ok sum ≡ checksum_of (Copy work)) }
     ensures fault { IfErr result (IsFaultOf (Copy work)) }
 {
-    let mut target = new_view(alloc, work.to, work.rows)?;
+    let mut target = flat_view(alloc, work.to, work.rows)?;
     copied_and_read::<Brand>(source, &mut target, work, Blank::new(1))
 }
 

@@ -1,16 +1,7 @@
 ghost use Rattle.std.specs.Prelude.{◌≡◌};
-ghost use Rattle.places.specs.declared.forms.AosForm.TheVariants.{Packed};
-ghost use Rattle.places.specs.declared.forms.SoaForm.TheVariants.{Aligned};
-ghost use Rattle.map_expr.specs.Terms.{term_of, Aos, Soa, Aosoa};
-ghost use Rattle.map_any.specs.Mappings.{IsBuiltTerm};
-ghost use Rattle.bench_layouts.specs.Forms.{form_named, form_term};
+ghost use Rattle.bench_layouts.specs.Forms.{form_named};
 
-use extents::Order;
-use map_expr::MapExpr;
-use places::{AosForm, SoaForm};
-
-/// How the table lies in memory, and in which order its slots follow the rows. Over one dimension both orders have the same places; by
-/// columns a view finds them the general way.
+/// How the table lies in memory, and in which order its slots follow the rows.
 #[derive(Clone, Copy, Debug, PartialEq, Eq)]
 pub enum Form {
     /// Packed records.
@@ -19,12 +10,27 @@ pub enum Form {
     Soa,
     /// Blocks of 8 rows, in each block 8 values of each leaf.
     Aosoa,
-    /// Packed records, by columns.
+    /// The same by columns. Over one dimension both orders have the same places; by columns a view finds them the general way.
     AosByColumns,
-    /// An array for each leaf, each aligned, by columns.
     SoaByColumns,
-    /// Blocks of 8 rows, by columns.
     AosoaByColumns,
+    /// Packed records, each leaf in at most so many bits.
+    BitAos9,
+    BitAos23,
+    BitAos57,
+    /// A blob for each leaf, each in at most so many bits.
+    BitSoa9,
+    BitSoa23,
+    BitSoa57,
+    /// Packed records, and a blob for each leaf, with the bytes of each value in reverse order.
+    AosSwapped,
+    SoaSwapped,
+    /// Packed records, and a blob for each cell, where each byte of a leaf is a cell.
+    AosSplit,
+    SoaSplit,
+    /// Packed records, and a blob for each leaf, in Morton order.
+    AosMorton,
+    SoaMorton,
 }
 
 impl Form {
@@ -39,46 +45,19 @@ impl Form {
             "aos_col" => Some(Form::AosByColumns),
             "soa_col" => Some(Form::SoaByColumns),
             "aosoa_col" => Some(Form::AosoaByColumns),
+            "bitaos_9" => Some(Form::BitAos9),
+            "bitaos_23" => Some(Form::BitAos23),
+            "bitaos_57" => Some(Form::BitAos57),
+            "bitsoa_9" => Some(Form::BitSoa9),
+            "bitsoa_23" => Some(Form::BitSoa23),
+            "bitsoa_57" => Some(Form::BitSoa57),
+            "aos_swap" => Some(Form::AosSwapped),
+            "soa_swap" => Some(Form::SoaSwapped),
+            "aos_split" => Some(Form::AosSplit),
+            "soa_split" => Some(Form::SoaSplit),
+            "aos_morton" => Some(Form::AosMorton),
+            "soa_morton" => Some(Form::SoaMorton),
             _ => None,
         }
     }
-
-    /// Its mapping expression.
-    pub fn expr(self) -> MapExpr
-        ensures term { term_of result ≡ form_term self }
-        ensures built { IsBuiltTerm (term_of result) }
-    {
-        match self {
-            Form::Aos => packed(Order::Row),
-            Form::Soa => arrays(Order::Row),
-            Form::Aosoa => blocks(Order::Row),
-            Form::AosByColumns => packed(Order::Col),
-            Form::SoaByColumns => arrays(Order::Col),
-            Form::AosoaByColumns => blocks(Order::Col),
-        }
-    }
-}
-
-fn packed(order: Order) -> MapExpr
-    ensures { term_of result ≡ Aos Packed order }
-{
-    MapExpr::Aos {
-        form: AosForm::Packed,
-        order,
-    }
-}
-
-fn arrays(order: Order) -> MapExpr
-    ensures { term_of result ≡ Soa Aligned order }
-{
-    MapExpr::Soa {
-        form: SoaForm::Aligned,
-        order,
-    }
-}
-
-fn blocks(order: Order) -> MapExpr
-    ensures { term_of result ≡ Aosoa 8 order }
-{
-    MapExpr::Aosoa { lanes: 8, order }
 }

@@ -15,7 +15,8 @@ ghost use Rattle.bench_layouts.specs.Tables.{measured_fields};
 use crate::count::count_in;
 use crate::fault::BenchFault;
 use crate::form::Form;
-use crate::table::{new_view, write_rounds};
+use crate::table::write_rounds;
+use crate::tables::flat_view;
 use lane_kernels::{Compare, Kernel, KernelFault, run_plain};
 use std::alloc::Global;
 use std::marker::Brand;
@@ -105,7 +106,7 @@ pub fn sum(alloc: Global, work: Running) -> Result<i128, BenchFault>
     ensures sum { IfOk result (λ sum. Ok sum ≡ checksum_of (Runs work)) }
     ensures fault { IfErr result (IsFaultOf (Runs work)) }
 {
-    let mut view = new_view(alloc, work.form, work.rows)?;
+    let mut view = flat_view(alloc, work.form, work.rows)?;
     written_and_run::<Brand>(&mut view, work, Blank::new(1))
 }
 

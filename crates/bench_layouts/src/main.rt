@@ -5,6 +5,7 @@ mod adding;
 mod copying;
 mod count;
 mod evaluation;
+mod expr;
 mod fault;
 mod form;
 mod formula;
@@ -13,6 +14,7 @@ mod mode;
 mod record;
 mod sample;
 mod table;
+mod tables;
 mod work;
 
 use crate::mode::Mode;

@@ -1,27 +1,25 @@
-ghost use Rattle.std.specs.Prelude.{◌≡◌, ◌^◌, ◌<◌, ◌≤◌, List, [], ◌∷◌, IfOk, IfErr, OnOk, Ok, length};
+ghost use Rattle.std.specs.Prelude.{◌≡◌, ◌<◌, ◌≤◌, IfOk, IfErr, OnOk, Ok, length};
+ghost use Rattle.extents.specs.Indices.{product};
 ghost use Rattle.record_dim.specs.Schemas.{schema_fields};
 ghost use Rattle.map_expr.specs.Terms.{term_of};
 ghost use Rattle.places.specs.Image.{entry};
 ghost use Rattle.piece_bits.specs.Tables.{zeros};
-ghost use Rattle.views.specs.Refusals.{IsNoView};
 ghost use Rattle.views.specs.Seen.{answer_of, leaf_count_of};
 ghost use Rattle.bench_layouts.specs.declared.mode.Mode.TheVariants.{Table};
 ghost use Rattle.bench_layouts.specs.Faults.{IsFaultOf};
-ghost use Rattle.bench_layouts.specs.Forms.{form_term};
+ghost use Rattle.bench_layouts.specs.Forms.{form_term, table_extents};
 ghost use Rattle.bench_layouts.specs.Modes.{checksum_of};
 ghost use Rattle.bench_layouts.specs.Rounds.{AreSmall, HasEntries, IsMeasured, IsRewritten, IsRefused, IsRefusedInRound, IsRefusedInRow, OthersStand, HasValues};
 ghost use Rattle.bench_layouts.specs.Tables.{entry_after, measured_fields, round_sum, row_sum, sum_read, value};
 
 use crate::fault::BenchFault;
-use crate::form::Form;
-use crate::record::measured_schema;
+use crate::tables::table_view;
 use crate::work::Work;
-use extents::{ExtentWord, Extents, Shape};
 use std::alloc::Global;
 use std::marker::Brand;
 use std::sync::ledger::{Blank, Ledger};
 use steps::Steps;
-use views::{MakeView, StoreFault, View};
+use views::{StoreFault, View};
 
 const LEAVES: usize = 4;
 
@@ -30,38 +28,16 @@ pub fn sum(alloc: Global, work: Work) -> Result<i128, BenchFault>
     ensures sum { IfOk result (λ sum. Ok sum ≡ checksum_of (Table work)) }
     ensures fault { IfErr result (IsFaultOf (Table work)) }
 {
-    let mut view = new_view(alloc, work.form, work.rows)?;
-    written_and_read::<Brand>(&mut view, work, Blank::new(1))
-}
-
-/// The view of zeros.
-pub fn new_view(alloc: Global, form: Form, rows: u32) -> Result<View, MakeView>
-    ensures schema { IfOk result (λ view. schema_fields view.schema ≡ measured_fields) }
-    ensures extents { IfOk result (λ view. view.extents ≡ rows ∷ []) }
-    ensures expr { IfOk result (λ view. term_of view.expr ≡ form_term form) }
-    ensures table { IfOk result (λ view. view.table ≡ zeros rows 4) }
-    ensures refused { IfErr result (IsNoView (form_term form) (rows ∷ []) measured_fields) }
-{
-    let schema = measured_schema(alloc)?;
-    let extents = extents_of(rows)?;
-    View::new(alloc, &schema, extents, &form.expr())
-}
-
-// The extents of a flat array of so many rows. More than 2^24 are too many for every form.
-fn extents_of(rows: u32) -> Result<Extents, MakeView>
-    ensures extents { IfOk result (λ extents. extents ≡ rows ∷ []) }
-    ensures refused { IfErr result (λ refusal. (refusal ≡ MakeView.TooBig) × (2 ^ 24 < rows)) }
-{
-    let Ok(shape) = Shape::new(&[ExtentWord::Fixed(rows)]) else {
-        unreachable!()
-    };
-    shape.resolve(None).ok().ok_or(MakeView::TooBig)
+    let mut view = table_view(alloc, work.form, work.rows)?;
+    let rows = view.extents().count() as u32;
+    written_and_read::<Brand>(&mut view, work, rows, Blank::new(1))
 }
 
 // Does the work on a view of zeros.
 fn written_and_read<L: Ledger>(
     view: &mut View,
     work: Work,
+    rows: u32,
     blank: Blank,
 ) -> Result<i128, BenchFault>
     requires name { blank.name ≡ L.name }
@@ -69,13 +45,14 @@ fn written_and_read<L: Ledger>(
     requires some { 0 < blank.parts }
     requires schema { schema_fields view.old.schema ≡ measured_fields }
     requires expr { term_of view.old.expr ≡ form_term work.form }
-    requires table { view.old.table ≡ zeros work.rows 4 }
+    requires rows { rows ≡ product (table_extents work.form work.rows) }
+    requires table { view.old.table ≡ zeros rows 4 }
     ensures sum { IfOk result (λ sum. Ok sum ≡ checksum_of (Table work)) }
     ensures fault { IfErr result (IsFaultOf (Table work)) }
 {
     let mut steps = Steps::<L>::new(blank);
-    write_rounds(view, work.rows, work.sets, &mut steps)?;
-    Ok(read_rounds(view, work.rows, work.gets, &mut steps))
+    write_rounds(view, rows, work.sets, &mut steps)?;
+    Ok(read_rounds(view, rows, work.gets, &mut steps))
 }
 
 /// Writes the whole table so many times. It is what is measured.

@@ -4,7 +4,8 @@ ghost use Rattle.bench_layouts.specs.Modes.{IsWork};
 use crate::count::count_in;
 use crate::form::Form;
 
-/// What is done with a table of so many rows: it is written whole `sets` times, and then read whole `gets` times.
+/// What is done with a table of so many rows, each of one entry or, in Morton order, of 1,000: it is written whole `sets` times, and then
+/// read whole `gets` times.
 #[derive(Clone, Copy, Debug, PartialEq, Eq)]
 pub struct Work {
     pub form: Form,

@@ -1,4 +1,4 @@
-use Rattle.std.proofs.Common.{rules, ◌≡◌, ◌^◌, ◌<◌, ◌∙◌, ◌+ℤ◌, ℕ, ℤ, pos, Err, FitsSigned, to_z, w64, arith}
+use Rattle.std.proofs.Common.{rules, ◌≡◌, ◌^◌, ◌<◌, ◌∙◌, pos, Err, FitsSigned, to_z, w64, arith}
 use Rattle.std.specs.Int.{w128}
 use Rattle.std.specs.Prelude.{unwrap_or}
 use Rattle.std.proofs.lemmas.Int.{to_z-of_z}

@@ -1,0 +1,15 @@
+use Rattle.std.proofs.Common.{◌≡◌, ℕ, length, ap, subst}
+use Rattle.std.specs.Prelude.{IfOk}
+use Rattle.extents.specs.Indices.{indices}
+use Rattle.extents.specs.IndicesLaws.{length-indices}
+use Rattle.record_dim.specs.Trees.{Fields}
+use Rattle.record_dim.specs.Leaves.{leaves}
+use Rattle.piece_bits.specs.Tables.{zeros}
+use Rattle.bench_layouts.proofs.tables.view_over.Goals as goal
+
+pub returns-clause-table : goal.returns-clause-table
+returns-clause-table c =
+    let extents = c.args.extents in
+    let count = ap (λ (f : Fields). length (leaves f)) c.in_ok-schema.ensures in
+    subst (λ (n : ℕ). IfOk c.new.result (λ view. view.table ≡ zeros n 4)) (length-indices extents)
+    (subst (λ (n : ℕ). IfOk c.new.result (λ view. view.table ≡ zeros (length (indices extents)) n)) count c.new.ensures.table)

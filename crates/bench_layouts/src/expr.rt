@@ -1,0 +1,90 @@
+// The mapping expressions of the forms.
+ghost use Rattle.std.specs.Prelude.{◌≡◌, IfOk};
+ghost use Rattle.places.specs.declared.forms.AosForm.TheVariants.{Packed};
+ghost use Rattle.map_expr.specs.Terms.{term_of, Aos, Soa, Aosoa, BitAos, BitSoa, Byteswap, Bytesplit};
+ghost use Rattle.map_any.specs.Mappings.{IsBuiltTerm};
+ghost use Rattle.bench_layouts.specs.Forms.{form_term};
+
+use crate::form::Form;
+use extents::Order;
+use map_expr::MapExpr;
+use places::{AosForm, SoaForm};
+use std::alloc::{AllocError as NoMemory, Global};
+
+/// The expression of a form.
+pub fn expr_of(alloc: Global, form: Form) -> Result<MapExpr, NoMemory>
+    ensures term { IfOk result (λ expr. term_of expr ≡ form_term form) }
+    ensures built { IfOk result (λ expr. IsBuiltTerm (term_of expr)) }
+{
+    match form {
+        Form::Aos => Ok(packed(Order::Row)),
+        Form::Soa => Ok(arrays(SoaForm::Aligned, Order::Row)),
+        Form::Aosoa => Ok(blocks(Order::Row)),
+        Form::AosByColumns => Ok(packed(Order::Col)),
+        Form::SoaByColumns => Ok(arrays(SoaForm::Aligned, Order::Col)),
+        Form::AosoaByColumns => Ok(blocks(Order::Col)),
+        Form::BitAos9 => Ok(bit_records(9)),
+        Form::BitAos23 => Ok(bit_records(23)),
+        Form::BitAos57 => Ok(bit_records(57)),
+        Form::BitSoa9 => Ok(bit_arrays(9)),
+        Form::BitSoa23 => Ok(bit_arrays(23)),
+        Form::BitSoa57 => Ok(bit_arrays(57)),
+        Form::AosSwapped => swapped(alloc, packed(Order::Row)),
+        Form::SoaSwapped => swapped(alloc, arrays(SoaForm::Multi, Order::Row)),
+        Form::AosSplit => split(alloc, packed(Order::Row)),
+        Form::SoaSplit => split(alloc, arrays(SoaForm::Multi, Order::Row)),
+        Form::AosMorton => Ok(packed(Order::Morton)),
+        Form::SoaMorton => Ok(arrays(SoaForm::Multi, Order::Morton)),
+    }
+}
+
+fn packed(order: Order) -> MapExpr
+    ensures { term_of result ≡ Aos Packed order }
+{
+    MapExpr::Aos {
+        form: AosForm::Packed,
+        order,
+    }
+}
+
+fn arrays(form: SoaForm, order: Order) -> MapExpr
+    ensures { term_of result ≡ Soa form order }
+{
+    MapExpr::Soa { form, order }
+}
+
+fn blocks(order: Order) -> MapExpr
+    ensures { term_of result ≡ Aosoa 8 order }
+{
+    MapExpr::Aosoa { lanes: 8, order }
+}
+
+fn bit_records(width: u32) -> MapExpr
+    ensures { term_of result ≡ BitAos width Order.Row }
+{
+    MapExpr::BitAos {
+        width,
+        order: Order::Row,
+    }
+}
+
+fn bit_arrays(width: u32) -> MapExpr
+    ensures { term_of result ≡ BitSoa width Order.Row }
+{
+    MapExpr::BitSoa {
+        width,
+        order: Order::Row,
+    }
+}
+
+fn swapped(alloc: Global, inner: MapExpr) -> Result<MapExpr, NoMemory>
+    ensures { IfOk result (λ expr. term_of expr ≡ Byteswap (term_of inner)) }
+{
+    Ok(MapExpr::Byteswap(Box::new(alloc, inner)?))
+}
+
+fn split(alloc: Global, inner: MapExpr) -> Result<MapExpr, NoMemory>
+    ensures { IfOk result (λ expr. term_of expr ≡ Bytesplit (term_of inner)) }
+{
+    Ok(MapExpr::Bytesplit(Box::new(alloc, inner)?))
+}

@@ -1,0 +1,88 @@
+// Tables of zeros in each form.
+ghost use Rattle.std.specs.Prelude.{◌≡◌, ◌^◌, ◌<◌, [], ◌∷◌, IfOk, IfErr, None, count_by, length};
+ghost use Rattle.extents.specs.Indices.{indices, product};
+ghost use Rattle.extents.specs.Shapes.{extents_for, is_rows, IsRanked};
+ghost use Rattle.record_dim.specs.Schemas.{schema_fields};
+ghost use Rattle.map_expr.specs.Terms.{term_of};
+ghost use Rattle.piece_bits.specs.Tables.{zeros};
+ghost use Rattle.views.specs.Refusals.{IsNoView};
+ghost use Rattle.bench_layouts.specs.Forms.{form_term, table_extents};
+ghost use Rattle.bench_layouts.specs.Tables.{measured_fields};
+
+use crate::expr::expr_of;
+use crate::form::Form;
+use crate::record::measured_schema;
+use extents::{ExtentWord, Extents, Shape};
+use std::alloc::Global;
+use views::{MakeView, View};
+
+/// The columns of an array in Morton order.
+const COLUMNS: u32 = 1000;
+
+/// The view of zeros over a flat array, whatever the order.
+#[tactic(auto, using(crate::proofs::Views::views))]
+pub fn flat_view(alloc: Global, form: Form, rows: u32) -> Result<View, MakeView>
+    ensures schema { IfOk result (λ view. schema_fields view.schema ≡ measured_fields) }
+    ensures extents { IfOk result (λ view. view.extents ≡ rows ∷ []) }
+    ensures expr { IfOk result (λ view. term_of view.expr ≡ form_term form) }
+    ensures table { IfOk result (λ view. view.table ≡ zeros rows 4) }
+    ensures refused { IfErr result (IsNoView (form_term form) (rows ∷ []) measured_fields) }
+{
+    let extents = extents_of(&[ExtentWord::Fixed(rows)])?;
+    view_over(alloc, form, extents)
+}
+
+/// The view of zeros of the form's own extents.
+#[tactic(auto, using(crate::proofs::Views::views))]
+pub fn table_view(alloc: Global, form: Form, rows: u32) -> Result<View, MakeView>
+    ensures schema { IfOk result (λ view. schema_fields view.schema ≡ measured_fields) }
+    ensures extents { IfOk result (λ view. view.extents ≡ table_extents form rows) }
+    ensures expr { IfOk result (λ view. term_of view.expr ≡ form_term form) }
+    ensures table { IfOk result (λ view. view.table ≡ zeros (product (table_extents form rows)) 4) }
+    ensures refused { IfErr result (IsNoView (form_term form) (table_extents form rows) measured_fields) }
+{
+    let extents = table_extents(form, rows)?;
+    view_over(alloc, form, extents)
+}
+
+// The view of zeros over an array.
+fn view_over(alloc: Global, form: Form, extents: Extents) -> Result<View, MakeView>
+    ensures schema { IfOk result (λ view. schema_fields view.schema ≡ measured_fields) }
+    ensures extents { IfOk result (λ view. view.extents ≡ extents) }
+    ensures expr { IfOk result (λ view. term_of view.expr ≡ form_term form) }
+    ensures table { IfOk result (λ view. view.table ≡ zeros (product extents) 4) }
+    ensures refused { IfErr result (IsNoView (form_term form) extents measured_fields) }
+{
+    let schema = measured_schema(alloc)?;
+    let expr = expr_of(alloc, form)?;
+    View::new(alloc, &schema, extents, &expr)
+}
+
+// The form's own extents. More than 2^24 rows are too many for every form.
+fn table_extents(form: Form, rows: u32) -> Result<Extents, MakeView>
+    ensures extents { IfOk result (λ extents. extents ≡ table_extents form rows) }
+    ensures refused { IfErr result (λ refusal. (refusal ≡ MakeView.TooBig) × (2 ^ 24 < product (table_extents form rows))) }
+{
+    match form {
+        Form::AosMorton | Form::SoaMorton => {
+            extents_of(&[ExtentWord::Fixed(rows), ExtentWord::Fixed(COLUMNS)])
+        }
+        _ => extents_of(&[ExtentWord::Fixed(rows)]),
+    }
+}
+
+// The extents that these numbers are.
+fn extents_of(words: &[ExtentWord]) -> Result<Extents, MakeView>
+    requires ranked { IsRanked words.now }
+    requires fixed { count_by is_rows words.now ≡ 0 }
+    ensures extents { IfOk result (λ extents. extents ≡ extents_for words.now None) }
+    ensures refused { IfErr result (λ refusal. (refusal ≡ MakeView.TooBig) × (2 ^ 24 < product (extents_for words.now None))) }
+{
+    let Ok(shape) = Shape::new(words) else {
+        unreachable!()
+    };
+    match shape.resolve(None) {
+        Ok(extents) => Ok(extents),
+        Err(_) => Err(MakeView::TooBig),
+    }
+}
