@@ -7,21 +7,26 @@ It follows the rules of docs/LANGUAGE.md and nothing else, so that it can say wh
 blob is kept.
 """
 import os
+import pathlib
 import sys
+import tempfile
 
 import built
+import generator
+from accesses import Log, heat_of, runs_of
 from datasets import DatasetFault, records_of, table_of, without_mark
 from grammar import COMMANDS, SyntaxFault, depth, expressions_of, path_text, read_line
-from kernels import bad_kernel, number_of, stored
+from kernels import bad_kernel, leaves_of as leaves_of_kernel, number_of, stored
 from layouts import BLOBS, image, product
-from mappings import Cell, bad_alone, bad_mapping, blobs_of, full, holds_of, inner_of, lengths_of, most_slots, nodes_of, range_of
+from mappings import (Cell, bad_alone, bad_mapping, blobs_of, counters_of, full, granules_of, holds_of, inner_of, lengths_of, most_slots,
+                      nodes_of, range_of)
 from values import ValueFault, value_of
 
 USAGE = b'usage: llama run FILE | llama gen N\n'
 MOST_SCRIPT_BYTES, MOST_LINES, MOST_LINE_BYTES = 2 ** 20, 2 ** 16, 4096
 MOST_DEPTH, MOST_RECORD_DEPTH, MOST_LEAVES, MOST_VIEWS = 32, 8, 64, 64
 MOST_ROWS, MOST_SLOTS, MOST_VIEW_BYTES, MOST_LIVE_BYTES = 2 ** 24, 2 ** 24, 2 ** 28, 2 ** 30
-MOST_DATASET_BYTES, MOST_SHOWN_BYTES = 2 ** 28, 65536
+MOST_DATASET_BYTES, MOST_SHOWN_BYTES, MOST_GRANULES = 2 ** 28, 65536, 2 ** 24
 
 
 class Fault(Exception):
@@ -44,13 +49,16 @@ class World:
 
 
 class View:
-    """A table: its record, extents and mapping, and the rows that are not all 0."""
+    """A table: its record, extents and mapping, the rows that are not all 0, and its accesses where they can be shown."""
 
     def __init__(self, record, extents, mapping):
         self.record, self.extents, self.mapping = record, extents, mapping
         self.leaves = leaves_of(record)
-        self.holds = holds_of(mapping, self.leaves)
+        self.declared = [declared_range(leaf) for leaf in self.leaves]
+        self.held = [range_of(hold) for hold in holds_of(mapping, self.leaves)]
         self.kept = {}
+        self.counters = counters_of(mapping)
+        self.log = Log() if self.counters else None
 
     def count(self):
         return product(self.extents)
@@ -71,11 +79,29 @@ class View:
     def lengths(self):
         return lengths_of(self.mapping, self.leaves, self.extents)
 
+    def blobs(self):
+        return blobs_of(self.mapping, self.leaves, self.extents)
+
+    def touch(self, row, leaf, reads, writes):
+        if self.log is not None:
+            self.log.add(row, leaf, reads, writes)
+
+    def touch_leaf(self, leaf, reads, writes):
+        """So many accesses of a leaf in each row."""
+        if self.log is not None:
+            for row in range(self.count()):
+                self.log.add(row, leaf, reads, writes)
+
+    def touch_all(self, reads, writes):
+        """So many accesses of each leaf of each row."""
+        for leaf in range(len(self.leaves)):
+            self.touch_leaf(leaf, reads, writes)
+
     def refusal(self, leaf, value):
         """What refuses a value: it is outside of the leaf's type, or of what the mapping holds of it. None where it fits."""
-        if not is_within(value, declared_range(self.leaves[leaf])):
+        if not is_within(value, self.declared[leaf]):
             return 'Range'
-        return None if is_within(value, range_of(self.holds[leaf])) else 'Narrow'
+        return None if is_within(value, self.held[leaf]) else 'Narrow'
 
 
 def is_within(value, limits):
@@ -130,8 +156,12 @@ def bound(view, expr):
 
 
 def value_on(view, row, values, expr):
+    """The value of an expression on a row that stands so."""
+    def read(leaf):
+        view.touch(row, leaf, 1, 0)
+        return values[leaf]
     try:
-        return value_of(expr, values, view.index(row))
+        return value_of(expr, read, view.index(row))
     except ValueFault as fault:
         raise Fault(str(fault), f'record {row}') from None
 
@@ -245,7 +275,9 @@ def made(world, dim, extents, whole):
     view = View(dim, extents, whole)
     live = sum(sum(other.lengths()) for other in world.views.values())
     size = sum(view.lengths())
-    if most_slots(whole, extents) > MOST_SLOTS or size > MOST_VIEW_BYTES or live + size > MOST_LIVE_BYTES:
+    if most_slots(whole, extents) > MOST_SLOTS or size > MOST_VIEW_BYTES:
+        raise Fault('TooBig')
+    if granules_of(whole, view.lengths()) > MOST_GRANULES or live + size > MOST_LIVE_BYTES:
         raise Fault('TooBig')
     return view
 
@@ -279,6 +311,7 @@ def load(world, line):
         name, row, path = fault.args
         raise Fault(name, path if row is None else f'record {row} leaf {path}') from None
     view.kept = dict(enumerate(table))
+    view.touch_all(0, 1)
     world.views[line['name']] = view
 
 
@@ -299,7 +332,12 @@ def assign(world, line):
     expr = bound(view, line['value'])
     row = row_of_index(view.extents, line['index'])
     value = value_on(view, row, view.row(row), expr)
+    store(view, row, leaf, value)
+
+
+def store(view, row, leaf, value):
     storable(view, row, leaf, value)
+    view.touch(row, leaf, 0, 1)
     view.kept[row] = replaced(view.row(row), leaf, value)
 
 
@@ -328,6 +366,8 @@ def update_row(view, row, where, sets):
         value = value_on(view, row, old, expr)
         storable(view, row, leaf, value)
         new = replaced(new, leaf, value)
+    for leaf, _ in sets:
+        view.touch(row, leaf, 0, 1)
     view.kept[row] = new
 
 
@@ -342,6 +382,8 @@ def kernel(world, line):
     fault = bad_kernel(whole, line['lanes'], [leaf.kind for leaf in view.leaves])
     if fault:
         raise Fault('BadKernel', fault)
+    for leaf in leaves_of_kernel(whole):
+        view.touch_leaf(leaf, 1, 0)
     if whole[0] in ('axpy', 'clamp'):
         return run_kernel(view, whole)
     if whole[0] in ('least', 'greatest') and view.count() == 0:
@@ -352,8 +394,7 @@ def kernel(world, line):
 def run_kernel(view, whole):
     for row in range(view.count()):
         leaf, value = stored(whole, view.row(row))
-        storable(view, row, leaf, value)
-        view.kept[row] = replaced(view.row(row), leaf, value)
+        store(view, row, leaf, value)
 
 
 def number_line(number):
@@ -366,6 +407,7 @@ def reduce(world, line):
         expr = bound(view, line['filter'])
         return number_line(sum(value_on(view, row, values, expr) != 0 for row, values in enumerate(view.rows())))
     leaf = leaf_of(view, line['path'])
+    view.touch_leaf(leaf, 1, 0)
     values = [values[leaf] for values in view.rows()]
     if line['kind'] == 'sum':
         return number_line(sum(values))
@@ -378,10 +420,12 @@ def copy(world, line):
     source, target = known(line['name'], world.views), known(line['target'], world.views)
     if (source.record, source.extents) != (target.record, target.extents):
         raise Fault('Mismatch')
+    source.touch_all(1, 0)
     copy_rows(source, target)
 
 
 def copy_rows(source, target):
+    target.touch_all(0, 1)
     for row in sorted(source.kept):
         for leaf, value in enumerate(source.row(row)):
             storable(target, row, leaf, value)
@@ -397,8 +441,45 @@ def relayout(world, line):
 
 def print_view(world, line):
     view = known(line['name'], world.views)
-    header = ','.join(leaf.path for leaf in view.leaves)
-    return ''.join(text + '\n' for text in [header] + [','.join(map(str, row)) for row in view.rows()]).encode()
+    view.touch_all(1, 0)
+    return text_of([[leaf.path for leaf in view.leaves], *view.rows()])
+
+
+def text_of(lines):
+    return ''.join(','.join(map(str, line)) + '\n' for line in lines).encode()
+
+
+def counts(world, line):
+    view = known(line['name'], world.views)
+    if 'count' not in view.counters:
+        raise Fault('NotCounted')
+    tallies = view.log.of_leaves(len(view.leaves))
+    return text_of([('leaf', 'reads', 'writes')] + [(leaf.path, *tally) for leaf, tally in zip(view.leaves, tallies)])
+
+
+def heat(world, line):
+    view = known(line['name'], world.views)
+    if 'heat' not in view.counters:
+        raise Fault('NotCounted')
+    size = view.counters['heat'][1]
+    return text_of([('blob', 'granule', 'accesses')] + [
+        (number, granule, times) for number, blob in enumerate(view.blobs())
+        for granule, times in enumerate(heat_of(blob, size, view.log)) if times != 0])
+
+
+def layout(world, line):
+    view = known(line['name'], world.views)
+    if sum(view.lengths()) > MOST_SHOWN_BYTES:
+        raise Fault('TooBig')
+    return text_of([('blob', 'bit', 'bits', 'record', 'leaf', 'low')] + [
+        (number, begin, bits, *shown_owner(view, owner)) for number, blob in enumerate(view.blobs()) for begin, bits, owner in runs_of(blob)])
+
+
+def shown_owner(view, owner):
+    if owner is None:
+        return '-', '-', '-'
+    row, leaf, low = owner
+    return row, view.leaves[leaf].path, low
 
 
 def bytes_of(world, line):
@@ -408,7 +489,7 @@ def bytes_of(world, line):
         raise Fault('BadIndex')
     if sum(lengths) > MOST_SHOWN_BYTES:
         raise Fault('TooBig')
-    blob = blobs_of(view.mapping, view.leaves, view.extents)[line['blob']]
+    blob = view.blobs()[line['blob']]
     data = image(blob, lambda row, leaf: view.row(row)[leaf])
     assert len(data) == lengths[line['blob']]
     return ''.join(data[at:at + 16].hex(' ') + '\n' for at in range(0, len(data), 16)).encode()
@@ -421,9 +502,10 @@ def drop(world, line):
 
 DOES = {
     'record': record, 'mapping': mapping, 'view': new_view, 'load': load, 'set': assign, 'update': update,
-    'kernel': kernel, 'reduce': reduce, 'copy': copy, 'relayout': relayout, 'print': print_view, 'bytes': bytes_of, 'drop': drop,
+    'kernel': kernel, 'reduce': reduce, 'copy': copy, 'relayout': relayout, 'print': print_view, 'counts': counts, 'heat': heat,
+    'layout': layout, 'bytes': bytes_of, 'drop': drop,
 }
-assert built.COMMANDS == set(DOES) < set(COMMANDS)
+assert built.COMMANDS <= set(DOES) == set(COMMANDS)
 
 
 # lines and the run
@@ -476,6 +558,8 @@ def run_lines(world, lines):
 
 def run(words, folder):
     """The bytes that are printed, and the status."""
+    if built.GENERATOR and len(words) == 2 and words[0] == 'gen' and generator.rows_in(words[1]):
+        return generated(generator.rows_in(words[1]))
     if len(words) != 2 or words[0] != 'run':
         return USAGE, 2
     world = World(folder)
@@ -487,6 +571,12 @@ def run(words, folder):
     if len(script) > MOST_SCRIPT_BYTES or len(lines) > MOST_LINES:
         return b'line 0: ScriptTooLong\n', 1
     return run_lines(world, lines)
+
+
+def generated(rows):
+    with tempfile.TemporaryDirectory() as folder:
+        pathlib.Path(folder, generator.FILE).write_bytes(generator.dataset_of(rows))
+        return run_lines(World(folder), lines_of(generator.script_of(rows)))
 
 
 sys.setrecursionlimit(100000)

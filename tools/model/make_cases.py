@@ -19,6 +19,9 @@ from tables import CASES
 
 
 def lines(text):
+    """The bytes of a text of lines; bytes stay as they are."""
+    if isinstance(text, bytes):
+        return text
     return ''.join(line + '\n' for line in text.split(' | ')).encode() if text else b''
 
 
@@ -27,6 +30,8 @@ def status_of(printed):
     last = printed.split(b'\n')[-2] if printed else b''
     if re.match(rb'line \d+: cannot read ', last):
         return 3
+    if last.startswith(b'usage: '):
+        return 2
     return 1 if re.match(rb'line \d+: ', last) else 0
 
 
@@ -34,7 +39,9 @@ def write_inputs(case, folder):
     folder.mkdir(parents=True)
     files = dict(case.files or {})
     if case.script is not None:
-        files['script.llama'] = case.script if isinstance(case.script, bytes) else lines(case.script)
+        files['script.llama'] = lines(case.script)
+    if case.words is not None:
+        files['words'] = ''.join(word + '\n' for word in case.words).encode()
     if case.csv is not None:
         files['d.csv'] = case.csv
     if case.make is not None:
@@ -44,18 +51,18 @@ def write_inputs(case, folder):
         (folder / name).write_bytes(data)
 
 
-def modelled(folder):
-    """What the model prints in a copy of the folder, where its big files are made."""
+def modelled(folder, words):
+    """What the model prints for these words in a copy of the folder, where its big files are made."""
     with tempfile.TemporaryDirectory() as room:
         copy = pathlib.Path(room, 'case')
         shutil.copytree(folder, copy)
         if (copy / 'make').exists():
             subprocess.run(['sh', 'make'], cwd=copy, check=True)
-        return llama_model.run(['run', 'script.llama'], copy)
+        return llama_model.run(words, copy)
 
 
 def agrees(printed, due):
-    if due.startswith('.. | '):
+    if isinstance(due, str) and due.startswith('.. | '):
         return printed.endswith(b'\n' + lines(due[5:]))
     return printed == lines(due)
 
@@ -65,7 +72,7 @@ def write_case(case, folder):
     if folder.exists():
         shutil.rmtree(folder)
     write_inputs(case, folder)
-    printed, status = (lines(case.due), status_of(lines(case.due))) if case.by_hand else modelled(folder)
+    printed, status = (lines(case.due), status_of(lines(case.due))) if case.by_hand else modelled(folder, case.words or ['run', 'script.llama'])
     if printed:
         (folder / 'stdout').write_bytes(printed)
     if status:

@@ -94,13 +94,18 @@ def depth(mapping):
     return (mapping[0] not in COUNTERS) + max((depth(inner) for inner in inner_of(mapping)), default=0)
 
 
+def counters_of(mapping):
+    """The counters on top of a mapping, by their forms."""
+    counters = {}
+    while mapping[0] in COUNTERS:
+        counters[mapping[0]] = mapping
+        mapping = mapping[-1]
+    return counters
+
+
 def counts_wrongly(mapping):
     """A counter stands twice, or below a node that is none."""
-    counters = []
-    while mapping[0] in COUNTERS:
-        counters.append(mapping[0])
-        mapping = mapping[-1]
-    return len(counters) != len(set(counters)) or any(node[0] in COUNTERS for node in nodes_of(mapping))
+    return sum(node[0] in COUNTERS for node in nodes_of(mapping)) != len(counters_of(mapping))
 
 
 def bad_number(mapping):
@@ -194,3 +199,9 @@ def lengths_of(mapping, cells, extents):
 
 def most_slots(mapping, extents):
     return max(slots_of(node[2], extents) for node in nodes_of(mapping) if node[0] in BLOBS)
+
+
+def granules_of(mapping, lengths):
+    """How many granules a mapping counts in blobs of so many bytes."""
+    heat = counters_of(mapping).get('heat')
+    return sum(-(-length // heat[1]) for length in lengths) if heat else 0

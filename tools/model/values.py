@@ -38,27 +38,27 @@ OPERATORS = {
 }
 
 
-def value_of(expr, row, index):
-    """The value of a bound expression (its paths are numbers of leaves) on a row with this index."""
+def value_of(expr, read, index):
+    """The value of a bound expression (its paths are numbers of leaves) on a row with this index. `read` gives the value of a leaf."""
     form = expr[0]
     if form == 'number':
         return expr[1]
     if form == 'leaf':
-        return row[expr[1]]
+        return read(expr[1])
     if form == 'index':
         return index[expr[1]]
     if form == 'neg':
-        return within(-value_of(expr[1], row, index))
+        return within(-value_of(expr[1], read, index))
     if form == 'not':
-        return int(value_of(expr[1], row, index) == 0)
-    return binary(expr, row, index)
+        return int(value_of(expr[1], read, index) == 0)
+    return binary(expr, read, index)
 
 
-def binary(expr, row, index):
+def binary(expr, read, index):
     _, operator, left, right = expr
-    first = value_of(left, row, index)
+    first = value_of(left, read, index)
     if operator == 'and':
-        return int(first != 0 and value_of(right, row, index) != 0)
+        return int(first != 0 and value_of(right, read, index) != 0)
     if operator == 'or':
-        return int(first != 0 or value_of(right, row, index) != 0)
-    return within(OPERATORS[operator](first, value_of(right, row, index)))
+        return int(first != 0 or value_of(right, read, index) != 0)
+    return within(OPERATORS[operator](first, value_of(right, read, index)))

@@ -7,6 +7,7 @@ import pathlib
 import sys
 import tempfile
 
+import built
 import llama_model
 
 PAIR = 'record P { a:u8, b:i32 }'
@@ -45,6 +46,16 @@ SIDES = ('record S { pos { x:u8, y:u8 }, m:u32 } | view V : S [2, 2] as split(po
 UNHELD = ('record P { a:u8, b:u16 } | view V : P [5] as aosoa(4, row) | update V set a = i0, b = 300 + i0 | relayout V as bitsoa(8, row)')
 DEEP = PAIR + ' | mapping M = ' + 8 * 'byteswap(' + 'aos(packed, row)' + 8 * ')'
 SIX = b'a,b\n' + 6 * b'0,0\n'
+DRAWN = ('blob,bit,bits,record,leaf,low | 0,0,8,0,a,0 | 0,8,24,-,-,- | 0,32,32,0,b,0 | 0,64,16,0,c,0 | 0,80,16,-,-,- | 0,96,8,1,a,0 | 0,104,24,-,-,-'
+         ' | 0,128,32,1,b,0 | 0,160,16,1,c,0 | 0,176,16,-,-,-')
+HEATED = ('record P { a:u8, b:u32 } | view V : P [16] as count(heat(64, aosoa(8, row))) | update V set a = i0 % 2 | update V where a == 0 set b = i0 | counts V'
+          ' | heat V')
+COPIED = ('record P { a:u8, b:u16 } | view V : P [5] as aosoa(4, row) | update V set a = i0, b = 300 + i0 | view W : P [5] as count(soa(multi, row)) | copy V to W'
+          ' | copy W to W | print W | counts W | view X : P [4] as aos(packed, row) | copy V to X')
+
+
+def lines(text):
+    return ''.join(line + '\n' for line in text.split(' | ')) if text else ''
 
 
 Z = ' 00'
@@ -114,15 +125,23 @@ EXAMPLES = [
     (DEEP, b'', 'line 2: BadMapping TooDeep', 1),
     (DEEP.replace('byteswap(', '', 1).replace(')', '', 1), b'', '', 0),
 ] + [(SAME.replace('{}', form), b'', 'a,b | 1,-10 | 2,-20 | 3,-30 | 4,-40', 0) for form in EVERYWHERE]
+if built.COUNTERS:
+    EXAMPLES += [
+        (three('aos(aligned, row)').replace('bytes V 0', 'layout V'), b'', DRAWN, 0),
+        (HEATED, b'', 'leaf,reads,writes | a,16,16 | b,0,8 | blob,granule,accesses | 0,0,38 | 0,1,2', 0),
+        (COPIED, b'', 'a,b | 0,300 | 1,301 | 2,302 | 3,303 | 4,304 | leaf,reads,writes | a,10,10 | b,10,10 | line 10: Mismatch', 1),
+    ]
 
 # words, printed, status
 WORDS = [(words, 'usage: llama run FILE | llama gen N\n', 2) for words in (
     ['run'], ['run', 'a', 'b'], ['gen', '0'], ['gen', '01'], ['gen', '65537'], [])] + [
     (['run', 's'], 'line 0: cannot read s\n', 3)]
-
-
-def lines(text):
-    return ''.join(line + '\n' for line in text.split(' | ')) if text else ''
+if built.GENERATOR:
+    WORDS += [
+        (['gen', '65536'], lines('3221192704 | 4294934528 | 4294967295 | 16384 | leaf,reads,writes | pos.x,98304,98304 | pos.y,65536,65536 | mass,98304,98304'
+                                 ' | hot,131072,65536 | h[0],65536,65536 | h[1],65536,65536 | id,65536,65536'), 0),
+        (['gen', '2'], lines('2 | 3 | 65537 | 0 | leaf,reads,writes | pos.x,3,3 | pos.y,2,2 | mass,3,3 | hot,4,2 | h[0],2,2 | h[1],2,2 | id,2,2'), 0),
+    ]
 
 
 def run_example(script, dataset):

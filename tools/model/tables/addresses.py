@@ -98,6 +98,8 @@ BASES = {'aos': aos, 'soa': soa, 'aosoa': aosoa, 'bitaos': bitaos, 'bitsoa': bit
 def laid(mapping, cells, extents):
     """The lengths of the blobs in bits, and the place of a cell (a pair of path and type) at an index."""
     form = mapping[0]
+    if form in ('count', 'heat'):
+        return laid(mapping[-1], cells, extents)
     if form in BASES:
         lengths, at = BASES[form](mapping[1], [8 * BYTES[kind] for _, kind in cells])(slot_count(mapping[2], extents))
 
@@ -167,3 +169,35 @@ def memory(lengths, entries):
         for k, (blob, bit) in enumerate(place.bits):
             blobs[blob] |= (number >> k & 1) << bit
     return [blob.to_bytes(length // 8, 'little') for blob, length in zip(blobs, lengths)]
+
+
+# runs and granules
+
+def stretches(place):
+    """Where a place runs through consecutive bits: the blob, the first bit, how many, and the lowest bit of the number there."""
+    found = []
+    for low, (blob, bit) in enumerate(place.bits):
+        if found and (blob, bit) == (found[-1][0], found[-1][1] + found[-1][2]):
+            found[-1][2] += 1
+        else:
+            found.append([blob, bit, 1, low])
+    return found
+
+
+def runs(lengths, places):
+    """The runs of all blobs, as tuples of blob, bit, bits, and the row, cell and lowest bit, each None in padding. `places` has those of
+    each row and cell."""
+    owned = sorted((blob, bit, bits, row, cell, low) for (row, cell), place in places.items() for blob, bit, bits, low in stretches(place))
+    found = []
+    for blob, length in enumerate(lengths):
+        at = 0
+        for run in [run for run in owned if run[0] == blob] + [(blob, length, 0, None, None, None)]:
+            found += [(blob, at, run[1] - at, None, None, None)] * (at < run[1])
+            found += [run] * (run[2] > 0)
+            at = run[1] + run[2]
+    return found
+
+
+def touched(granule, place):
+    """The granules, as pairs of a blob and a number, that an access of a place touches."""
+    return {(blob, bit // 8 // granule) for blob, bit in place.bits}

@@ -1,16 +1,17 @@
 """The form of a case in these tables."""
 from collections import namedtuple
 
-Case = namedtuple('Case', 'name script due csv files make by_hand', defaults=(None, None, None, False))
+Case = namedtuple('Case', 'name script due csv files make by_hand words', defaults=(None, None, None, False, None))
 Case.__doc__ = """A case of the language.
 
 name     what it shows
 script   its lines, ` | ` between them; or the bytes of the file
-due      what is printed, worked out by hand, ` | ` between the lines; `.. | ` stands for lines before those that are told
+due      what is printed, worked out by hand, ` | ` between the lines; `.. | ` stands for lines before those that are told; or the bytes
 csv      the bytes of d.csv
 files    other files, as a dict from names to bytes
 make     a shell script that makes big files in the folder of the case
 by_hand  what is printed stands in due alone, since the model would take too long
+words    the words of the program, where they are not those that run the script
 """
 
 PAIR = 'record P { a:u8, b:i32 } | '

@@ -159,7 +159,6 @@ ORDER = [
     Case('copy_does_not_know_a_record', BOTH + 'copy V to P', 'line 3: Unknown P'),
     Case('relayout_line_too_long_before_its_syntax', 'relayout V M #'.ljust(4097, '#'), 'line 1: LineTooLong'),
     Case('relayout_syntax_before_its_names', 'relayout V as aos(packed)', 'line 1: Syntax column 25'),
-    Case('relayout_form_that_is_not_built_before_its_names', 'relayout V as count(M)', 'line 1: NotBuilt'),
     Case('relayout_unknown_view_before_its_mapping', PAIR + 'relayout V as M', 'line 2: Unknown V'),
     Case('relayout_unknown_mapping', BOTH + 'relayout V as M', 'line 3: Unknown M'),
     Case('relayout_unknown_mapping_before_its_lanes', BOTH + 'relayout V as split(q, aosoa(0, row), M)', 'line 3: Unknown M'),

@@ -1,4 +1,4 @@
-"""Lines: what is read, where a syntax fault is told, what is not built yet, and the script's bytes."""
+"""Lines: what is read, where a syntax fault is told, and the script's bytes."""
 from .case import BOTH, Case, PAIR
 
 LOADING = 'load V : P [?] as M '
@@ -116,15 +116,6 @@ READ = [
          'i,i4,i00 | 1,0,0'),
 ]
 
-UNBUILT_MAPS = [('count', 'count(soa(multi, row))'), ('heat', 'heat(64, soa(multi, row))')]
-OTHERS = [('counts', 'counts V'), ('heat', 'heat V'), ('layout', 'layout V')]
-NOT_BUILT = [
-    Case(f'not_built_mapping_{name}', f'mapping M = {text}', 'line 1: NotBuilt') for name, text in UNBUILT_MAPS] + [
-    Case(f'not_built_view_{name}', BOTH + f'view W : P [1] as {text}', 'line 3: NotBuilt') for name, text in UNBUILT_MAPS] + [
-    Case(f'not_built_load_{name}', PAIR + f'load W : P [?] as {text} from "d.csv"', 'line 2: NotBuilt', b'a,b\n') for name, text in UNBUILT_MAPS] + [
-    Case(f'not_built_relayout_{name}', BOTH + f'relayout V as {text}', 'line 3: NotBuilt') for name, text in UNBUILT_MAPS] + [
-    Case(f'not_built_{name}', BOTH + text, 'line 3: NotBuilt') for name, text in OTHERS]
-
 MARK = b'\xef\xbb\xbf'
 SMALL = b'record P { a:u8 }\nview V : P [1] as soa(multi, row)\nprint V\n'
 SCRIPTS = [
@@ -155,4 +146,4 @@ SCRIPTS = [
     Case('script_prints_what_stood_before_its_fault', SMALL + SMALL, 'a | 0 | line 4: Taken P'),
 ]
 
-CASES = SYNTAX + BAD + READ + NOT_BUILT + SCRIPTS
+CASES = SYNTAX + BAD + READ + SCRIPTS

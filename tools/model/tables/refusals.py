@@ -23,9 +23,6 @@ LINES = [
     Case('a_deep_filter_before_a_name', f'update W where {MINUS}1 set z = y', 'line 1: TooDeep'),
     Case('a_deep_right_side_before_a_name', f'update W where z set z = y, z = {MINUS}1', 'line 1: TooDeep'),
     Case('a_deep_count_before_a_name', f'reduce W count where {MINUS}z', 'line 1: TooDeep'),
-    Case('a_form_that_is_not_built_before_a_taken_name', 'mapping M = soa(multi, row) | mapping M = count(N)', 'line 2: NotBuilt'),
-    Case('a_form_that_is_not_built_before_an_unknown_record', 'view V : P [1, 2, 3, 4, 5] as heat(3, M)', 'line 1: NotBuilt'),
-    Case('a_form_that_is_not_built_before_a_file', load('[?, ?]', 'split(a, M, count(N))', 'none.csv'), 'line 1: NotBuilt'),
     Case('the_first_line_that_is_refused_ends_the_run', 'print V | print W | nothing', 'line 1: Unknown V'),
     Case('a_later_line_is_not_read_before_it_is_reached', 'print V | {', 'line 1: Unknown V'),
 ]

@@ -166,7 +166,6 @@ ORDER = [
     Case('split_shows_65536_bytes', f'record P {{ a:u8[8], b:u64[31] }} | view V : P [256] as split(a[0], {SOA}, {AOS}) | bytes V 0',
          ' | '.join(['00' + ' 00' * 15] * 16)),
     Case('split_shows_no_65537_bytes', f'record P {{ a:u8, b:u8 }} | view V : P [32769] as split(a, {SOA}, {AOS}) | bytes V 0', 'line 3: TooBig'),
-    Case('split_with_a_form_that_is_not_built', f'mapping M = split(a, {SOA}, count(N))', 'line 1: NotBuilt'),
 ]
 
 CASES = PATHS + SIDES + NESTED + BAD_SIDES + ORDER
