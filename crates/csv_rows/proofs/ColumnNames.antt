@@ -8,14 +8,13 @@ use Rattle.std.proofs.lemmas.Option.{slice_get_within}
 use Rattle.record_dim.specs.declared.path.PathStep.{PathStep}
 use Rattle.record_dim.specs.declared.path.PathStep.TheVariants.{Name}
 use Rattle.record_dim.specs.Trees.{Tree, Single, Record, Array, Fields, End, Field}
-use Rattle.record_dim.specs.Leaves.{Leaf, leaves_of, leaves, paths_of, texts_of, names_of, has_twice, records_of, records_below, first_fault}
+use Rattle.record_dim.specs.Leaves.{Leaf, leaves_of, leaves, paths_of, texts_of, names_of, has_names, has_twice, records_of, records_below, first_fault}
 use Rattle.record_dim.specs.Names.{is_name}
 use Rattle.record_dim.specs.NameBytesLaws.{both, same_text}
 use Rattle.record_dim.specs.Paths.{BeginsWithName, path_text_of}
 use Rattle.record_dim.proofs.Apart.{paths_at, IsApart, InEither, in_front, in_back, in_either, in_map, paths_field, in_field, InElement, in_element, apart_tree}
 use Rattle.record_dim.proofs.Fit.{fit_from, fit_few}
 use Rattle.record_dim.proofs.Walks.{length-leaves, length-leaves_of_array}
-use Rattle.csv_rows.specs.Named.{has_names}
 use Rattle.csv_rows.proofs.PlainTexts.{is_plain_text, AreColumnNames}
 use Rattle.csv_rows.proofs.PathTexts.{IsPlainPath, path_plain, same_paths}
 use Rattle.csv_rows.proofs.PrintedBytes.{and_both}

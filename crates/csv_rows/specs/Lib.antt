@@ -1,7 +1,6 @@
 pub mod Clipped
 pub mod Datasets
 pub mod Loads
-pub mod Named
 pub mod Plain
 pub mod Readers
 pub mod Texts

@@ -1,12 +1,13 @@
 -- The leaves of a record, and what makes a record unfit.
 use Rattle.std.specs.Prelude.{ℕ, ◌+◌, max, Bool, true, false, ◌||◌, nat_eq, nat_lt, if◌then◌else◌, List, [], ◌∷◌, ◌++◌, length, map, Option, Some, None}
-use Rattle.std.specs.List.{flat_map, range_with_len, list_any}
+use Rattle.std.specs.List.{flat_map, range_with_len, list_all, list_any}
 use Rattle.std.specs.Cmp.Lexicographic.{pointwise}
 use Rattle.record_dim.specs.declared.leaf_type.LeafType.{LeafType}
 use Rattle.record_dim.specs.declared.path.PathStep.{PathStep}
 use Rattle.record_dim.specs.declared.path.PathStep.TheVariants.{Name, At}
 use Rattle.record_dim.specs.declared.fault.BadRecord.{BadRecord}
 use Rattle.record_dim.specs.declared.fault.BadRecord.TheVariants as bad
+use Rattle.record_dim.specs.Names.{is_name}
 use Rattle.record_dim.specs.Paths.{path_text_of}
 use Rattle.record_dim.specs.Trees.{Tree, Single, Record, Array, Fields, End, Field}
 
@@ -79,6 +80,10 @@ abbrev mutual
 abbrev pub names_of : Fields → List (List ℕ)
 names_of End = []
 names_of (Field name held rest) = name ∷ names_of rest
+
+-- each field has a name
+abbrev pub has_names : Fields → Bool
+has_names fields = list_all is_name (names_of fields)
 
 abbrev pub is_empty_record : Fields → Bool
 is_empty_record End = true

@@ -1,7 +1,7 @@
-ghost use Rattle.std.specs.Prelude.{◌≡◌, min, length, nat_eq, nat_le, IfOk};
-ghost use Rattle.std.specs.List.{list_any};
+ghost use Rattle.std.specs.Prelude.{◌≡◌, true, min, length, nat_eq, nat_le, IfOk};
+ghost use Rattle.std.specs.List.{list_all, list_any};
 ghost use Rattle.record_dim.specs.Trees.{tree_of, fields_of};
-ghost use Rattle.record_dim.specs.Leaves.{depth_of, greatest_depth, records_of, records_below, lengths_of, lengths_below, leaves_of, leaves, is_empty_record, shares_name, first_fault};
+ghost use Rattle.record_dim.specs.Leaves.{depth_of, greatest_depth, records_of, records_below, lengths_of, lengths_below, leaves_of, leaves, has_names, is_empty_record, shares_name, first_fault};
 
 use crate::{BadRecord, Dim, FieldList, Name};
 use std::alloc::{AllocError as NoMemory, Global};
@@ -195,4 +195,31 @@ pub fn count_leaves_below(fields: &FieldList) -> usize
         left = rest;
     }
     count
+}
+
+/// Each name in a record is one, for `Name` says so of itself alone. It changes nothing.
+#[cycle(names)]
+pub fn names_in(dim: &Dim)
+    ensures { list_all has_names (records_of (tree_of dim.now)) ≡ true }
+{
+    match dim {
+        Dim::Leaf(_) => {}
+        Dim::Fields(fields) => names_below(fields),
+        Dim::Array { len: _, element } => names_in(element),
+    }
+}
+
+#[cycle(names)]
+fn names_below(fields: &FieldList)
+    ensures own { has_names (fields_of fields.now) ≡ true }
+    ensures below { list_all has_names (records_below (fields_of fields.now)) ≡ true }
+{
+    match fields {
+        FieldList::End => {}
+        FieldList::More { field, rest } => {
+            let _name = field.name.as_str();
+            names_in(&field.dim);
+            names_below(rest);
+        }
+    }
 }

@@ -1,11 +1,11 @@
-ghost use Rattle.std.specs.Prelude.{◌≡◌, ◌<◌, ◌≤◌, ◌+◌, ◌↔◌, ℕ, IsTrue, Some, None, IfSome, IfNone, IfOk, IfErr, OnOk, length};
-ghost use Rattle.std.specs.List.{slice_get};
+ghost use Rattle.std.specs.Prelude.{◌≡◌, ◌<◌, ◌≤◌, ◌+◌, ◌↔◌, ℕ, true, IsTrue, Some, None, IfSome, IfNone, IfOk, IfErr, OnOk, length};
+ghost use Rattle.std.specs.List.{slice_get, list_all};
 ghost use Rattle.record_dim.specs.Trees.{tree_of, fields_of, IsRecord, Record};
-ghost use Rattle.record_dim.specs.Leaves.{leaves, kinds_of, paths_of, texts_of, first_fault};
+ghost use Rattle.record_dim.specs.Leaves.{leaves, kinds_of, paths_of, texts_of, records_of, has_names, first_fault};
 ghost use Rattle.record_dim.specs.Nodes.{node_of, IsUnder};
 ghost use Rattle.record_dim.specs.Faults.{Names};
 
-use crate::checks::{count_leaves, first_fault};
+use crate::checks::{count_leaves, first_fault, names_in};
 use crate::copies::are_same;
 use crate::nodes::find;
 use crate::tables::{Tables, tables_of};
@@ -18,6 +18,7 @@ pub struct Schema {
     fields: FieldList,
     tables: Tables,
     ghost fit: { first_fault (Record (fields_of fields)) ≡ None },
+    ghost named: { list_all has_names (records_of (Record (fields_of fields))) ≡ true },
     ghost kinds: { tables.kinds.items ≡ kinds_of (fields_of fields) },
     ghost texts: { tables.texts.items ≡ texts_of (fields_of fields) },
 }
@@ -35,6 +36,7 @@ impl Schema {
         if let Some(bad) = first_fault(alloc, &dim)? {
             return Err(MakeSchema::Bad(bad));
         }
+        names_in(&dim);
         let fields = dim.into_fields();
         let tables = tables_of(alloc, &fields)?;
         Ok(Schema { fields, tables })

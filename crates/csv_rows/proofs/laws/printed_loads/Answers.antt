@@ -1,8 +1,6 @@
-use Rattle.std.proofs.Common.{arith, ◌<◌, length, sym, ap, ◌∙◌}
-use Rattle.std.specs.List.{list_all}
+use Rattle.std.proofs.Common.{arith, ◌<◌, length}
 use Rattle.record_dim.specs.Schemas.{schema_fields}
-use Rattle.record_dim.specs.Leaves.{leaves, records_of}
-use Rattle.csv_rows.specs.Named.{has_names}
+use Rattle.record_dim.specs.Leaves.{leaves}
 use Rattle.csv_rows.proofs.ColumnNames.{column_names}
 use Rattle.csv_rows.proofs.PrintedAgain.{view_again}
 use Rattle.csv_rows.proofs.laws.printed_loads.Goals as goal
@@ -12,5 +10,5 @@ returns c =
     let schema = c.args._printed.now.schema in
     let count = rw c.schema.ensures.value at c.leaf_count-some.ensures.value in
     let some : 0 < length (leaves (schema_fields schema)) = omega arith in
-    let names = column_names (schema_fields schema) schema.fit (ap (λ tree. list_all has_names (records_of tree)) (sym c.requires.record) ∙ c.names_in.ensures) in
+    let names = column_names (schema_fields schema) schema.fit schema.named in
     view_again c.args._printed.now c.args._loaded.now c.requires.schema names c.schema.ensures.table some c.schema-paired.ensures.paired c.requires.fit

@@ -301,3 +301,9 @@ returns-in_ok-cells-in-Change-clause-orders t c =
     ∙ orders_changed c.in-Change.from c.in-Change.to inner fields c.args.cells.now
     ∙ sym (ap (λ (e : MapExpr). orders_of (term_of e) fields c.args.cells.now) c.in-Change.is) in
     subst (λ (os : List Order). IfOk c.make_plan-in-Change.result (λ plan. map (λ (r : Rule). r.order) plan.rules ≡ os)) same c.make_plan-in-Change.ensures.orders
+
+pub returns-in_ok-plan-in-Aosoa-clause-orders : goal.returns-in_ok-plan-in-Aosoa-clause-orders
+returns-in_ok-plan-in-Aosoa-clause-orders t c =
+    c.in_ok-plan-in-Aosoa.ensures.orders
+    ∙ ap (map (λ (cell : Cell). c.in-Aosoa.order)) c.in_ok-mapping-in-Aosoa.ensures.cells
+    ∙ ap (λ (expr : MapExpr). orders_of (term_of expr) (schema_fields c.args.schema.now) c.args.cells.now) (sym c.in-Aosoa.is)
