@@ -1,5 +1,5 @@
 -- What accesses to leaves go by: rules that are copied, and the short form of a rule by rows.
-use Rattle.std.proofs.Common.{◌≡◌, ℕ, ◌+◌, ◌%◌, ◌^◌, ◌<◌, ◌≤◌, List, ◌∷◌, [], All, Bool, true, map, length, get_or, slice_index, sum_by, ℤ, ◌≤ℤ◌, refl, sym, ap, ◌∙◌, subst, arith}
+use Rattle.std.proofs.Common.{◌≡◌, ℕ, ◌+◌, ◌%◌, ◌^◌, ◌<◌, ◌≤◌, List, ◌∷◌, [], All, Bool, true, false, map, length, get_or, slice_index, sum_by, ℤ, ◌≤ℤ◌, refl, sym, ap, ◌∙◌, subst, arith}
 use Rattle.std.proofs.lemmas.List.{length-map}
 use Rattle.extents.specs.Indices.{indices}
 use Rattle.extents.specs.declared.order.Order.{Order}
@@ -102,3 +102,8 @@ short_in layout extents cell width kind hold leaf placed whole some =
           subst (λ (s : ℕ). IsLocated layout row cell width (pieces_in leaf.rule.pieces.items s)) slot (placed.places row inside) in
           subst (λ (ps : List Piece). IsLocated layout row cell width ps) (short_pieces leaf.rule.order leaf.rule.pieces.items hold leaf.short row form) here;
     }
+
+-- where there is a short form, nothing is counted
+pub short_uncounted : (counted some : Bool) → (counted ≡ true → some ≡ false) → some ≡ true → counted ≡ false
+short_uncounted true some without is = sym is ∙ without refl
+short_uncounted false some without is = refl

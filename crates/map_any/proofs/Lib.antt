@@ -11,3 +11,5 @@ pub mod OrderLaws
 pub mod SwapRuleLaws
 pub mod JoinRuleLaws
 pub mod BytePlanLaws
+pub mod RunLaws
+pub mod Filling

@@ -15,3 +15,6 @@ pub mod Maps
 pub mod Plans
 pub mod LeafOrders
 pub mod ByteRules
+pub mod Counters
+pub mod Runs
+pub mod Filling

@@ -1,12 +1,13 @@
-ghost use Rattle.std.specs.Prelude.{◌≡◌, false, None};
+ghost use Rattle.std.specs.Prelude.{◌≡◌, true, false, None};
 ghost use Rattle.record_dim.specs.Leaves.{kinds_of};
 ghost use Rattle.record_dim.specs.Schemas.{schema_fields};
 ghost use Rattle.map_expr.specs.Terms.{term_of};
 ghost use Rattle.map_expr.specs.Checks.{bad_number};
+ghost use Rattle.map_any.specs.Counters.{is_counted};
 ghost use Rattle.map_any.specs.LeafRules.{AreRuled};
 ghost use Rattle.map_any.specs.Mappings.{layout_by, holds_by, leaf_cells, not_full, IsBuiltTerm};
 ghost use Rattle.map_any.specs.Orders.{IsBuiltTerm-prop};
-ghost use Rattle.map_any.specs.Ruled.{HasLengths};
+ghost use Rattle.map_any.specs.Ruled.{EachWith, HasLengths};
 
 use crate::leaf_rule::RuleList;
 use crate::plan::{HoldList, LengthList};
@@ -32,4 +33,5 @@ pub struct AnyMap {
     ghost held: { holds ≡ holds_by (term_of expr) (schema_fields schema) },
     ghost sized: { HasLengths (layout_by (term_of expr) extents (schema_fields schema)) lengths },
     ghost ruled: { AreRuled (layout_by (term_of expr) extents (schema_fields schema)) extents (kinds_of (schema_fields schema)) holds rules },
+    ghost uncounted: { is_counted (term_of expr) ≡ true → EachWith (λ k leaf. leaf.short.is_some ≡ false) rules },
 }

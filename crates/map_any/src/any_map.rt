@@ -1,4 +1,4 @@
-ghost use Rattle.std.specs.Prelude.{ℕ, ◌≡◌, ◌<◌, ◌∷◌, List, [], true, IfOk, OnOk, IfErr, IfSome, Ok, length, map, slice_index};
+ghost use Rattle.std.specs.Prelude.{ℕ, ◌≡◌, ◌<◌, ◌∷◌, List, [], true, false, IfOk, OnOk, IfErr, IfSome, Ok, length, map, slice_index};
 ghost use Rattle.extents.specs.Indices.{indices};
 ghost use Rattle.record_dim.specs.LeafTypes.{IsIn, IsDeclared};
 ghost use Rattle.record_dim.specs.Schemas.{schema_fields};
@@ -7,8 +7,9 @@ ghost use Rattle.places.specs.Laws.{IsLocated};
 ghost use Rattle.map_expr.specs.Terms.{term_of};
 ghost use Rattle.map_any.specs.Mappings.{leaf_cells, layout_by, holds_by, accepted, IsBuiltTerm, IsTooBigFor, IsRefusal};
 ghost use Rattle.map_any.specs.AnyLaws.{any_laws, holds_cells};
+ghost use Rattle.map_any.specs.Counters.{is_counted};
 ghost use Rattle.map_any.specs.LeafRules.{kind_in, hold_in, IsLeafRule, IsShortIn};
-ghost use Rattle.map_any.specs.Maps.{extents_of};
+ghost use Rattle.map_any.specs.Maps.{extents_of, term_of_map};
 ghost use Rattle.map_any.specs.Ruled.{IsRuleOf};
 ghost use Rattle.map_any.specs.Shorts.{IsPlain};
 
@@ -44,6 +45,7 @@ impl AnyMap {
         ensures cells { IfOk result (λ m. ⟦<AnyMap as Mapping>⟧.cell_list m ≡ leaf_cells (kinds_of (schema_fields schema.now))) }
         ensures holds { IfOk result (λ m. ⟦<AnyMap as Mapping>⟧.hold_list m ≡ holds_by (term_of expr.now) (schema_fields schema.now)) }
         ensures extents { IfOk result (λ m. extents_of m ≡ extents.now) }
+        ensures term { IfOk result (λ m. term_of_map m ≡ term_of expr.now) }
         ensures layout { IfOk result (λ m. ⟦<AnyMap as Mapping>⟧.layout m ≡ layout_by (term_of expr.now) extents.now (schema_fields schema.now)) }
 
         // Only want of memory comes before the other answers.
@@ -62,7 +64,13 @@ impl AnyMap {
             return Err(MakeMap::Bad(BadMapping::NotFull));
         }
         let plan = make_plan(alloc, schema, &cells, extents, expr)?;
-        let rules = leaf_rules(alloc, schema, plan.holds.as_slice(), plan.rules.as_slice())?;
+        let rules = leaf_rules(
+            alloc,
+            schema,
+            plan.holds.as_slice(),
+            plan.rules.as_slice(),
+            is_counted(expr),
+        )?;
         let schema = schema.copy(alloc)?;
         let expr = expr.copy(alloc)?;
         Ok(AnyMap {
@@ -84,7 +92,7 @@ impl AnyMap {
         self.leaf_rule(leaf).rule.copy()
     }
 
-    /// The short form of where a leaf lies, where there is one.
+    /// The short form of where a leaf lies, where there is one. A mapping that counts has none, so no access to it goes uncounted.
     #[inline(always)]
     pub fn short(&self, leaf: usize) -> &ShortRule
         requires { leaf < length (⟦<AnyMap as Mapping>⟧.cell_list self.now) }
@@ -92,6 +100,7 @@ impl AnyMap {
         ensures form { result.now.is_some ≡ true → IsShortIn (⟦<AnyMap as Mapping>⟧.layout self.now) (⟦<AnyMap as Mapping>⟧.slot_count self.now) leaf
             (slice_index (map (λ h. h.width) (⟦<AnyMap as Mapping>⟧.hold_list self.now)) leaf)
             (hold_in (⟦<AnyMap as Mapping>⟧.hold_list self.now) leaf).signed result.now }
+        ensures uncounted { result.now.is_some ≡ true → is_counted (term_of_map self.now) ≡ false }
     {
         &self.leaf_rule(leaf).short
     }
@@ -128,9 +137,17 @@ impl AnyMap {
         ensures places { IsRuleOf (⟦<AnyMap as Mapping>⟧.layout self.now) self.now.extents leaf
             (slice_index (map (λ h. h.width) self.now.holds) leaf) result.now.rule }
         ensures whole { IsLeafRule (kind_in (kinds_of (schema_fields self.now.schema)) leaf) (hold_in self.now.holds leaf) result.now }
+        ensures uncounted { is_counted (term_of_map self.now) ≡ true → result.now.short.is_some ≡ false }
     {
         &self.rules.as_slice()[leaf]
     }
+}
+
+/// Whether an expression counts accesses, by leaf or by granule.
+fn is_counted(expr: &MapExpr) -> bool
+    ensures { result ≡ is_counted (term_of expr.now) }
+{
+    matches!(expr, MapExpr::Count(_) | MapExpr::Heat { .. })
 }
 
 impl Mapping for AnyMap {

@@ -20,6 +20,7 @@ mod one_piece;
 mod orders;
 mod plan;
 mod rule;
+mod runs;
 mod short;
 mod shorten;
 mod sides;

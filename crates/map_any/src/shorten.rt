@@ -1,4 +1,4 @@
-ghost use Rattle.std.specs.Prelude.{◌≡◌, true, IfSome};
+ghost use Rattle.std.specs.Prelude.{◌≡◌, true, false, IfSome};
 ghost use Rattle.record_dim.specs.LeafTypes.{width_of, is_signed};
 ghost use Rattle.map_any.specs.Shorts.{IsPlain, IsShortOf};
 
@@ -16,17 +16,25 @@ impl ShortRule {
     {
         match shortened(rule, hold) {
             Some(short) => short,
-            None => ShortRule {
-                blob: 0,
-                base: 0,
-                block: 0,
-                lane: 0,
-                mask: 0,
-                power: 0,
-                kind: LeafType::U8,
-                is_some: false,
-                is_plain: false,
-            },
+            None => ShortRule::none(),
+        }
+    }
+
+    /// What stands for a short form where there is none.
+    pub(crate) fn none() -> ShortRule
+        ensures some { result.is_some ≡ false }
+        ensures plain { result.is_plain ≡ false }
+    {
+        ShortRule {
+            blob: 0,
+            base: 0,
+            block: 0,
+            lane: 0,
+            mask: 0,
+            power: 0,
+            kind: LeafType::U8,
+            is_some: false,
+            is_plain: false,
         }
     }
 }

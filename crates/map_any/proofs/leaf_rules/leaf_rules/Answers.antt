@@ -32,6 +32,7 @@ loop-leaf-preserved c =
     let low : leaf < length rules = omega (arith, kind_count (schema_fields c.args.schema.now)) in
     let Same : ℕ → LeafRule → Type 0 = λ k l. IsSameRule (get_or rules k l.rule) l.rule in
     let Whole : ℕ → LeafRule → Type 0 = λ k l. IsLeafRule (kind_in kinds k) (hold_in holds k) l in
+    let Without : ℕ → LeafRule → Type 0 = λ k l. l.short.is_some ≡ false in
     let read : from ≡ get_or rules leaf made.rule = c.index-rules-leaf.is ∙ get_or_default rules leaf from made.rule low in
     let same : Same leaf made = subst (λ (r : Rule). IsSameRule r made.rule) read c.leaf_rule.ensures.rule in
     let kind : kind_in kinds leaf ≡ c.leaf_type.result = get_or_from_slice_get kinds leaf c.leaf_type.result Truth c.leaf_type.ensures in
@@ -45,4 +46,5 @@ loop-leaf-preserved c =
       each = ap (λ (ls : List LeafRule). length ls) pushed ∙ length-append c.loop-leaf.leaves (made ∷ []) ∙ ap (λ (n : ℕ). n + 1) so_far.each;
       same = each_push Same c.loop-leaf.leaves c.push.new.self made pushed so_far.same (subst (λ (n : ℕ). Same n made) (sym so_far.each) same);
       whole = each_push Whole c.loop-leaf.leaves c.push.new.self made pushed so_far.whole (subst (λ (n : ℕ). Whole n made) (sym so_far.each) whole);
+      uncounted = λ is. each_push Without c.loop-leaf.leaves c.push.new.self made pushed (so_far.uncounted is) (c.leaf_rule.ensures.uncounted is);
     }

@@ -1,5 +1,5 @@
 -- the rules so far
-use Rattle.std.proofs.Common.{◌≡◌, length, get_or}
+use Rattle.std.proofs.Common.{◌≡◌, true, false, length, get_or}
 use Rattle.record_dim.specs.Schemas.{schema_fields}
 use Rattle.record_dim.specs.Leaves.{kinds_of}
 use Rattle.map_any.specs.LeafRules.{kind_in, hold_in, IsSameRule, IsLeafRule}
@@ -11,4 +11,5 @@ invariant-loop-leaf l = record {
   each : length l.leaves ≡ l.leaf;
   same : EachWith (λ k leaf. IsSameRule (get_or l.rules k leaf.rule) leaf.rule) l.leaves;
   whole : EachWith (λ k leaf. IsLeafRule (kind_in (kinds_of (schema_fields l.schema)) k) (hold_in l.holds k) leaf) l.leaves;
+  uncounted : l.counted ≡ true → EachWith (λ k leaf. leaf.short.is_some ≡ false) l.leaves;
 }

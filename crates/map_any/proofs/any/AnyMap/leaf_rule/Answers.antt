@@ -1,4 +1,4 @@
-use Rattle.std.proofs.Common.{◌≡◌, ◌*◌, ◌<◌, ◌∙◌, ℕ, List, length, get_or, ap, arith}
+use Rattle.std.proofs.Common.{◌≡◌, ◌*◌, ◌<◌, ◌∙◌, ℕ, List, length, get_or, refl, ap, arith}
 use Rattle.record_dim.specs.Schemas.{schema_fields}
 use Rattle.record_dim.specs.Leaves.{kinds_of}
 use Rattle.map_expr.specs.Terms.{term_of}
@@ -40,3 +40,10 @@ returns-clause-whole c =
     let read : item ≡ get_or m.rules c.args.leaf item = c.index-as_slice-leaf.is ∙ ap (λ (rs : List LeafRule). get_or rs c.args.leaf item) c.as_slice.ensures in
     leaf_whole (layout_by (term_of m.expr) m.extents (schema_fields m.schema)) m.extents (kinds_of (schema_fields m.schema)) m.holds m.rules c.args.leaf item m.ruled
     (in_kinds m c.args.leaf c.requires) read
+
+pub returns-clause-uncounted : goal.returns-clause-uncounted
+returns-clause-uncounted c = λ counted.
+    let m = c.args.self.now in
+    let item : LeafRule = c.index-as_slice-leaf.result in
+    let read : item ≡ get_or m.rules c.args.leaf item = c.index-as_slice-leaf.is ∙ ap (λ (rs : List LeafRule). get_or rs c.args.leaf item) c.as_slice.ensures in
+    ap (λ (l : LeafRule). l.short.is_some) read ∙ m.uncounted counted c.args.leaf item (inside m m.rules c.args.leaf refl c.requires)

@@ -1,0 +1,11 @@
+-- the leaves so far are shown
+use Rattle.std.proofs.Common.{ℕ, ◌<◌}
+use Rattle.map_any.specs.Filling.{IsFilled, Show}
+use Rattle.map_any.proofs.Filling.{layout_in}
+use Rattle.map_any.proofs.any.AnyMap.bit_owners.Given as goal
+
+abbrev pub invariant-loop-leaf : goal.invariant-loop-leaf
+invariant-loop-leaf l = record {
+  filled : IsFilled (layout_in l.self) l.blob l.initial.owners.items l.owners.items;
+  shown : (row leaf : ℕ) → leaf < l.leaf → Show (layout_in l.self) l.blob row leaf l.owners.items;
+}

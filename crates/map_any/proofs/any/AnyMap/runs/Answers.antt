@@ -1,0 +1,17 @@
+use Rattle.std.proofs.Common.{◌≡◌, List, get_or, [], ap, ◌∙◌, subst}
+use Rattle.std.specs.Prelude.{IfOk}
+use Rattle.places.specs.declared.piece.Run.{Run}
+use Rattle.places.specs.declared.piece.RunOwner.{RunOwner}
+use Rattle.map_any.specs.Filling.{runs_along}
+use Rattle.map_any.specs.Runs.{runs_of}
+use Rattle.map_any.proofs.Filling.{layout_in}
+use Rattle.map_any.proofs.RunLaws.{runs_shown}
+use Rattle.map_any.proofs.any.AnyMap.runs.Goals as goal
+
+pub returns : goal.returns
+unfolding runs_of
+returns c =
+    let owners = get_or (layout_in c.args.self.now) c.args.blob [] in
+    subst (λ (all : List Run). IfOk c.join_bits.result (λ runs. runs ≡ all))
+    (ap (λ (shown : List RunOwner). runs_along c.args.blob 0 shown) (c.deref.ensures.value ∙ c.in_ok-owners.ensures) ∙ runs_shown c.args.blob 0 owners)
+    c.join_bits.ensures
