@@ -3,3 +3,6 @@ pub mod StoreLaws
 pub mod Opened
 pub mod ZeroBlobs
 pub mod AccessLaws
+pub mod Counted
+pub mod HotLaws
+pub mod CountLaws

@@ -1,5 +1,5 @@
 -- A view by its fields.
-use Rattle.std.proofs.Common.{◌≡◌, ℕ, ℤ, ◌<◌, List, Ok, length, map, sym, ap, ◌∙◌, subst, arith}
+use Rattle.std.proofs.Common.{◌≡◌, ℕ, ℤ, ◌<◌, List, [], ◌∷◌, Ok, length, map, sym, ap, ◌∙◌, subst, arith}
 use Rattle.std.specs.List.{enumerate_from}
 use Rattle.std.proofs.lemmas.List.{length-map}
 use Rattle.std.proofs.lemmas.List.FromFn.{length-enumerate_from}
@@ -18,9 +18,10 @@ use Rattle.map_expr.specs.declared.expr.MapExpr.{MapExpr}
 use Rattle.map_expr.specs.Terms.{Term, term_of}
 use Rattle.map_any.specs.Mappings.{leaf_cells, layout_by, holds_by, IsTooBigFor}
 use Rattle.piece_bits.specs.Tables.{AreLaid, table_in, hold_at, with_entry}
-use Rattle.views.specs.Seen.{Seen, leaf_count_of, answer_of, IsTable}
+use Rattle.views.specs.Seen.{Seen, leaf_count_of, answer_of, after_log, after_stores, after_write, IsTable}
 use Rattle.views.specs.Stores.{kind_at, store_answer, Fits}
-use Rattle.views.specs.Kept.{IsKept, IsMappingOf, table_under}
+use Rattle.views.specs.Tallies.{Access, Write, Tally, touched, tallied, all_touches}
+use Rattle.views.specs.Kept.{IsKept, IsMappingOf, IsTallied, table_under}
 use Rattle.views.proofs.KeptLaws.{kind_count, row_count, kept_shape, kept_fits, kept_set}
 use Rattle.views.proofs.StoreLaws.{stored_fits}
 
@@ -31,8 +32,8 @@ length-leaf_cells kinds =
     length-map (enumerate_from 0 kinds) cell ∙ length-enumerate_from 0 kinds
 
 -- what a mapping says is what its expression says
-module _ {term : Term} {extents : List ℕ} {fields : Fields} {layout : List (List Owner)} {slots : ℕ} {cells : List Cell} {holds : List Hold}
-    (mapping : IsMappingOf term extents fields layout slots cells holds) where
+module _ {term : Term} {extents : List ℕ} {fields : Fields} {mapped : Term} {layout : List (List Owner)} {slots : ℕ} {cells : List Cell} {holds : List Hold}
+    (mapping : IsMappingOf term extents fields mapped layout slots cells holds) where
   pub cell_count : length cells ≡ length (kinds_of fields)
   cell_count = ap (length {A = Cell}) mapping.cells_are ∙ length-leaf_cells (kinds_of fields)
 
@@ -62,15 +63,32 @@ module _ {term : Term} {extents : List ℕ} {fields : Fields} {layout : List (Li
       (subst (λ (w : ℕ). IsLaidOut (layout_by term extents fields) w (map (λ (h : Hold). h.width) holds)) mapping.slots_are
       (subst (λ (w : List (List Owner)). IsLaidOut w slots (map (λ (h : Hold). h.width) holds)) mapping.layout_is laws))
 
+  -- the counts are those of the mapping
+  pub tallied_here : (tally : Tally) → IsTallied term (layout_by term extents fields) (length (leaves fields)) tally → IsTallied mapped layout (length cells) tally
+  tallied_here tally has =
+      subst (λ (t : Term). IsTallied t layout (length cells) tally) (sym mapping.term_is)
+      (subst (λ (w : List (List Owner)). IsTallied term w (length cells) tally) (sym mapping.layout_is)
+      (subst (λ (n : ℕ). IsTallied term (layout_by term extents fields) n tally) (sym (cell_count ∙ kind_count fields)) has))
+
+  pub touched_there : (tally : Tally) (access : Access) → touched layout tally access ≡ touched (layout_by term extents fields) tally access
+  touched_there tally access = ap (λ (w : List (List Owner)). touched w tally access) mapping.layout_is
+
+  pub touches_there : (tally : Tally) (reads writes : ℕ) → tallied layout tally (all_touches reads writes (length cells) slots)
+      ≡ tallied (layout_by term extents fields) tally (all_touches reads writes (length (leaves fields)) (length (indices extents)))
+  touches_there tally reads writes =
+      ap (λ (w : List (List Owner)). tallied w tally (all_touches reads writes (length cells) slots)) mapping.layout_is
+      ∙ ap (λ (n : ℕ). tallied (layout_by term extents fields) tally (all_touches reads writes n slots)) (cell_count ∙ kind_count fields)
+      ∙ ap (λ (n : ℕ). tallied (layout_by term extents fields) tally (all_touches reads writes (length (leaves fields)) n)) mapping.slots_are
+
   pub paired_there : length holds ≡ length cells → length (holds_by term fields) ≡ length (kinds_of fields)
   paired_there paired = ap (length {A = Hold}) (sym mapping.holds_are) ∙ paired ∙ cell_count
 
 -- the same after copies of the schema and the expression
-pub mapping_copied : {term copy : Term} {fields same : Fields} {extents : List ℕ} {layout : List (List Owner)} {slots : ℕ} {cells : List Cell} {holds : List Hold} →
-    copy ≡ term → same ≡ fields → IsMappingOf term extents fields layout slots cells holds → IsMappingOf copy extents same layout slots cells holds
-mapping_copied {term} {copy} {fields} {same} {extents} {layout} {slots} {cells} {holds} terms trees mapping =
-    subst (λ (t : Term). IsMappingOf t extents same layout slots cells holds) (sym terms)
-    (subst (λ (f : Fields). IsMappingOf term extents f layout slots cells holds) (sym trees) mapping)
+pub mapping_copied : {term copy mapped : Term} {fields same : Fields} {extents : List ℕ} {layout : List (List Owner)} {slots : ℕ} {cells : List Cell} {holds : List Hold} →
+    copy ≡ term → same ≡ fields → IsMappingOf term extents fields mapped layout slots cells holds → IsMappingOf copy extents same mapped layout slots cells holds
+mapping_copied {term} {copy} {mapped} {fields} {same} {extents} {layout} {slots} {cells} {holds} terms trees mapping =
+    subst (λ (t : Term). IsMappingOf t extents same mapped layout slots cells holds) (sym terms)
+    (subst (λ (f : Fields). IsMappingOf term extents f mapped layout slots cells holds) (sym trees) mapping)
 
 pub within_copied : {term copy : Term} {fields same : Fields} (extents : List ℕ) → copy ≡ term → same ≡ fields →
     (IsTooBigFor term extents fields (leaf_cells (kinds_of fields)) → ⊥) → IsTooBigFor copy extents same (leaf_cells (kinds_of same)) → ⊥
@@ -79,23 +97,24 @@ within_copied {term} {copy} {fields} {same} extents terms trees within =
     (subst (λ (f : Fields). IsTooBigFor term extents f (leaf_cells (kinds_of f)) → ⊥) (sym trees) within)
 
 -- what callers see of the fields
-abbrev pub seen_from : Schema → List ℕ → MapExpr → List (List ℕ) → Seen
-seen_from schema extents expr blobs = record {
+abbrev pub seen_from : Schema → List ℕ → MapExpr → List (List ℕ) → Tally → Seen
+seen_from schema extents expr blobs tally = record {
   schema = schema;
   extents = extents;
   expr = expr;
   table = table_under (term_of expr) extents (schema_fields schema) blobs;
+  tally = tally;
 }
 
 module _ (schema : Schema) (extents : List ℕ) (expr : MapExpr) (blobs : List (List ℕ)) (kept : IsKept (term_of expr) extents (schema_fields schema) blobs)
-    (seen : Seen) (is : seen_from schema extents expr blobs ≡ seen) where
+    {tally : Tally} (seen : Seen) (is : seen_from schema extents expr blobs tally ≡ seen) where
   pub rows_seen : length seen.table ≡ length (indices extents)
   rows_seen = ap (λ (s : Seen). length s.table) (sym is) ∙ row_count (term_of expr) extents (schema_fields schema) blobs kept
 
   pub table_seen : IsTable seen
   table_seen =
       let fields = schema_fields schema in
-      let here : IsTable (seen_from schema extents expr blobs) = record {
+      let here : IsTable (seen_from schema extents expr blobs tally) = record {
         rows = row_count (term_of expr) extents fields blobs kept;
         shape = kept_shape (term_of expr) extents fields blobs kept (length (leaves (schema_fields schema))) (kind_count (schema_fields schema));
         fits = kept_fits (term_of expr) extents fields blobs kept;
@@ -126,3 +145,23 @@ module _ (schema : Schema) (extents : List ℕ) (expr : MapExpr) (blobs : List (
   kept_after row leaf value new row_in leaf_in taken laid table =
       kept_set (term_of expr) extents (schema_fields schema) blobs kept
       new row leaf value (omega (arith, rows_seen)) (leaf_seen leaf leaf_in) laid table (fits_seen leaf value taken)
+
+-- an entry that is read is one of the table that callers see
+pub entry_seen : (schema : Schema) (extents : List ℕ) (expr : MapExpr) (blobs : List (List ℕ)) {tally : Tally} {seen : Seen} {mapped : Term}
+    {layout : List (List Owner)} {slots : ℕ} {cells : List Cell} {holds : List Hold} → IsMappingOf (term_of expr) extents (schema_fields schema) mapped layout slots cells holds
+    → seen_from schema extents expr blobs tally ≡ seen → (lent : List (List ℕ)) → lent ≡ blobs → (row leaf : ℕ)
+    → entry (table_in layout slots holds lent) row leaf ≡ entry seen.table row leaf
+entry_seen schema extents expr blobs mapping is lent same row leaf = read_here mapping lent blobs same row leaf ∙ ap (λ (s : Seen). entry s.table row leaf) is
+
+-- the view after an access that left its table, or stored a value
+module _ (schema : Schema) (extents : List ℕ) (expr : MapExpr) (blobs : List (List ℕ)) {tally : Tally} {seen : Seen} (is : seen_from schema extents expr blobs tally ≡ seen) where
+  pub seen_touched : (access : Access) (new : Tally) → new ≡ tallied (layout_by (term_of expr) extents (schema_fields schema)) tally (access ∷ []) → seen_from schema extents expr blobs new ≡ after_log seen (access ∷ [])
+  seen_touched access new counts = ap (seen_from schema extents expr blobs) counts ∙ ap (λ (s : Seen). after_log s (access ∷ [])) is
+
+  pub seen_written : (row leaf : ℕ) (value : ℤ) (stored : List (List ℕ)) (new : Tally) →
+      table_under (term_of expr) extents (schema_fields schema) stored ≡ with_entry (table_under (term_of expr) extents (schema_fields schema) blobs) row leaf value →
+      new ≡ tallied (layout_by (term_of expr) extents (schema_fields schema)) tally (Write row leaf ∷ []) → seen_from schema extents expr stored new ≡ after_write seen row leaf value
+  seen_written row leaf value stored new table counts =
+      ap (λ (t : Tally). seen_from schema extents expr stored t) counts
+      ∙ ap (λ (t : List (List ℤ)). after_stores (seen_from schema extents expr blobs tally) t (Write row leaf ∷ [])) table
+      ∙ ap (λ (s : Seen). after_write s row leaf value) is

@@ -1,5 +1,5 @@
 -- What the type of a view keeps of its fields.
-use Rattle.std.specs.Prelude.{ℕ, ℤ, ◌≡◌, List, length, map}
+use Rattle.std.specs.Prelude.{ℕ, ℤ, ◌≡◌, List, length, map, Option, option_map, is_some, IfSome}
 use Rattle.extents.specs.Indices.{indices}
 use Rattle.record_dim.specs.Trees.{Fields}
 use Rattle.record_dim.specs.Leaves.{kinds_of}
@@ -9,11 +9,17 @@ use Rattle.places.specs.declared.piece.Cell.{Cell}
 use Rattle.places.specs.declared.piece.Hold.{Hold}
 use Rattle.map_expr.specs.Terms.{Term}
 use Rattle.map_any.specs.Mappings.{leaf_cells, layout_by, holds_by, IsTooBigFor}
+use Rattle.map_any.specs.Counters.{has_count, granule_of}
 use Rattle.piece_bits.specs.Tables.{AreLaid, table_in}
+use Rattle.instrument.specs.Counters.{HeatCounts, leaf_counts, heat_counts, granules_of, HasLeaves}
+use Rattle.instrument.specs.declared.counts.Counts.{Counts}
+use Rattle.instrument.specs.declared.heat.Heat.{Heat}
+use Rattle.views.specs.Tallies.{Tally, blob_lengths}
 use Rattle.views.specs.Stores.{AllFit}
 
--- a mapping has the layout, the rows, the leaves and the holds of an expression
-pub record IsMappingOf (term : Term) (extents : List ℕ) (fields : Fields) (layout : List (List Owner)) (slots : ℕ) (cells : List Cell) (holds : List Hold) : Type 0 where
+-- a mapping is of an expression, and has its layout, rows, leaves and holds
+pub record IsMappingOf (term : Term) (extents : List ℕ) (fields : Fields) (mapped : Term) (layout : List (List Owner)) (slots : ℕ) (cells : List Cell) (holds : List Hold) : Type 0 where
+  pub term_is : mapped ≡ term
   pub layout_is : layout ≡ layout_by term extents fields
   pub slots_are : slots ≡ length (indices extents)
   pub cells_are : cells ≡ leaf_cells (kinds_of fields)
@@ -30,3 +36,18 @@ pub record IsKept (term : Term) (extents : List ℕ) (fields : Fields) (blobs : 
   pub within : IsTooBigFor term extents fields (leaf_cells (kinds_of fields)) → ⊥
   pub laid : AreLaid (layout_by term extents fields) blobs
   pub fit : AllFit (length (indices extents)) (kinds_of fields) (holds_by term fields) (table_under term extents fields blobs)
+
+-- what the counters of a view mean
+abbrev pub tally_of : Option Counts → Option Heat → Tally
+tally_of counts heat = record { counts = option_map leaf_counts counts; heat = option_map heat_counts heat }
+
+-- as many counts for each blob as its bytes have granules
+abbrev pub HasGranules : List (List Owner) → HeatCounts → Type 0
+HasGranules layout heat = map length heat.blobs ≡ map (granules_of heat.granule) (blob_lengths layout)
+
+-- there are counts exactly where an expression has such a node: of so many leaves, and of its granules of each blob's bytes
+pub record IsTallied (term : Term) (layout : List (List Owner)) (leaves : ℕ) (tally : Tally) : Type 0 where
+  pub counted : is_some tally.counts ≡ has_count term
+  pub each_leaf : IfSome tally.counts (λ counts. HasLeaves counts leaves)
+  pub granule : option_map (λ heat. heat.granule) tally.heat ≡ granule_of term
+  pub each_blob : IfSome tally.heat (HasGranules layout)

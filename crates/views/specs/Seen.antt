@@ -1,5 +1,5 @@
 -- What a view is to its callers: a schema, the extents of an array, how its records lie in memory, and a table of numbers.
-use Rattle.std.specs.Prelude.{ℕ, ◌≡◌, ℤ, List, [], length, slice_index_or, Result}
+use Rattle.std.specs.Prelude.{ℕ, ◌≡◌, ℤ, List, [], ◌∷◌, length, slice_index_or, Result}
 use Rattle.extents.specs.Indices.{indices}
 use Rattle.record_dim.specs.declared.schema.Schema.{Schema}
 use Rattle.record_dim.specs.declared.leaf_type.LeafType.{LeafType}
@@ -13,14 +13,16 @@ use Rattle.map_expr.specs.Terms.{term_of}
 use Rattle.map_any.specs.Mappings.{layout_by, holds_by}
 use Rattle.piece_bits.specs.Tables.{HasShape, hold_at, with_entry}
 use Rattle.views.specs.Stores.{kind_at, store_answer, AllFit}
+use Rattle.views.specs.Tallies.{Access, Read, Write, Tally, tallied}
 use Rattle.views.specs.declared.fault.StoreFault.{StoreFault}
 
--- a row of the table for each index inside the extents, and in it a number for each leaf of the schema
+-- a row of the table for each index inside the extents, and in it a number for each leaf of the schema; and what was counted of accesses
 pub record Seen : Type 0 where
   pub schema : Schema
   pub extents : List ℕ
   pub expr : MapExpr
   pub table : List (List ℤ)
+  pub tally : Tally
 
 -- the types of the leaves
 abbrev pub leaf_types_of : Seen → List LeafType
@@ -55,10 +57,18 @@ pub record IsTable (seen : Seen) : Type 0 where
   pub shape : HasShape (length seen.table) (leaf_count_of seen) seen.table
   pub fits : AllFit (length seen.table) (leaf_types_of seen) (seen_holds seen) seen.table
 
--- the view after a read of a leaf in a row: as it was
-abbrev pub after_read : Seen → ℕ → ℕ → Seen
-after_read seen row leaf = seen
+-- the view after accesses that left its table
+abbrev pub after_log : Seen → List Access → Seen
+after_log seen log = record seen { tally = tallied (seen_layout seen) seen.tally log }
 
--- the view after a store of a value in a leaf of a row: this entry is the value, and nothing else changed
+-- the view after accesses that made its table this one
+abbrev pub after_stores : Seen → List (List ℤ) → List Access → Seen
+after_stores seen table log = record seen { table = table; tally = tallied (seen_layout seen) seen.tally log }
+
+-- the view after a read of a leaf in a row: one more read is counted, and nothing else changed
+abbrev pub after_read : Seen → ℕ → ℕ → Seen
+after_read seen row leaf = after_log seen (Read row leaf ∷ [])
+
+-- the view after a store of a value in a leaf of a row: this entry is the value, one more write is counted, and nothing else changed
 abbrev pub after_write : Seen → ℕ → ℕ → ℤ → Seen
-after_write seen row leaf value = record seen { table = with_entry seen.table row leaf value }
+after_write seen row leaf value = after_stores seen (with_entry seen.table row leaf value) (Write row leaf ∷ [])

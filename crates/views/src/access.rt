@@ -1,6 +1,8 @@
-ghost use Rattle.std.specs.Prelude.{◌≡◌, ◌<◌, length};
+ghost use Rattle.std.specs.Prelude.{◌≡◌, ◌<◌, true, false, is_some, IfSome, length};
 ghost use Rattle.record_dim.specs.LeafTypes.{IsIn};
 ghost use Rattle.places.specs.Image.{entry};
+ghost use Rattle.map_any.specs.Counters.{is_counted};
+ghost use Rattle.map_any.specs.Maps.{term_of_map};
 ghost use Rattle.piece_bits.specs.Tables.{AreLaid, hold_at, table_in, with_entry};
 
 use crate::view::BlobList;
@@ -9,26 +11,27 @@ use map_any::AnyMap;
 use piece_bits::{put_value_at, read_entry, read_piece, value_at, write_entry, write_piece};
 use places::{Mapping, laws_of};
 
-/// The value of a leaf in a row, in one step where its rule has a short form.
+/// The value of a leaf in a row where its rule has a short form. A mapping that counts has none.
 #[inline(always)]
-pub fn read(map: &AnyMap, blobs: &[Blob], row: u64, leaf: usize) -> i128
+pub fn short_read(map: &AnyMap, blobs: &[Blob], row: u64, leaf: usize) -> Option<i128>
     requires row_in { row < ⟦<AnyMap as Mapping>⟧.slot_count map.now }
     requires leaf_in { leaf < length (⟦<AnyMap as Mapping>⟧.cell_list map.now) }
     requires laid { AreLaid (⟦<AnyMap as Mapping>⟧.layout map.now) blobs.now }
-    ensures { result ≡ entry (table_in (⟦<AnyMap as Mapping>⟧.layout map.now) (⟦<AnyMap as Mapping>⟧.slot_count map.now)
-        (⟦<AnyMap as Mapping>⟧.hold_list map.now) blobs.now) row leaf }
+    ensures value { IfSome result (λ value. value ≡ entry (table_in (⟦<AnyMap as Mapping>⟧.layout map.now) (⟦<AnyMap as Mapping>⟧.slot_count map.now)
+        (⟦<AnyMap as Mapping>⟧.hold_list map.now) blobs.now) row leaf) }
+    ensures uncounted { is_some result ≡ true → is_counted (term_of_map map.now) ≡ false }
 {
     laws_of(map);
     let short = map.short(leaf);
     match short.first_byte(row) {
-        Some(first) => value_at(&blobs[short.blob], first, short.kind),
-        None => read_by_rule(map, blobs, row, leaf),
+        Some(first) => Some(value_at(&blobs[short.blob], first, short.kind)),
+        None => None,
     }
 }
 
-// The same by the whole rule.
-#[inline(never)]
-fn read_by_rule(map: &AnyMap, blobs: &[Blob], row: u64, leaf: usize) -> i128
+/// The value of a leaf in a row by the whole rule.
+#[inline(always)]
+pub fn read_by_rule(map: &AnyMap, blobs: &[Blob], row: u64, leaf: usize) -> i128
     requires row_in { row < ⟦<AnyMap as Mapping>⟧.slot_count map.now }
     requires leaf_in { leaf < length (⟦<AnyMap as Mapping>⟧.cell_list map.now) }
     requires laid { AreLaid (⟦<AnyMap as Mapping>⟧.layout map.now) blobs.now }
@@ -41,30 +44,35 @@ fn read_by_rule(map: &AnyMap, blobs: &[Blob], row: u64, leaf: usize) -> i128
     }
 }
 
-/// Makes the value of a leaf in a row this one, in one step where its rule has a short form.
+/// Makes the value of a leaf in a row this one where its rule has a short form, and says whether it has.
 #[inline(always)]
-pub fn write(map: &AnyMap, blobs: &mut BlobList, row: u64, leaf: usize, value: i128)
+pub fn short_write(map: &AnyMap, blobs: &mut BlobList, row: u64, leaf: usize, value: i128) -> bool
     requires row_in { row < ⟦<AnyMap as Mapping>⟧.slot_count map.now }
     requires leaf_in { leaf < length (⟦<AnyMap as Mapping>⟧.cell_list map.now) }
     requires laid { AreLaid (⟦<AnyMap as Mapping>⟧.layout map.now) blobs.old.items }
     requires held { let hold = hold_at (⟦<AnyMap as Mapping>⟧.hold_list map.now) leaf in IsIn hold.signed hold.width value }
-    ensures table { table_in (⟦<AnyMap as Mapping>⟧.layout map.now) (⟦<AnyMap as Mapping>⟧.slot_count map.now)
+    ensures table { result ≡ true → table_in (⟦<AnyMap as Mapping>⟧.layout map.now) (⟦<AnyMap as Mapping>⟧.slot_count map.now)
         (⟦<AnyMap as Mapping>⟧.hold_list map.now) blobs.new.items
         ≡ with_entry (table_in (⟦<AnyMap as Mapping>⟧.layout map.now) (⟦<AnyMap as Mapping>⟧.slot_count map.now)
         (⟦<AnyMap as Mapping>⟧.hold_list map.now) blobs.old.items) row leaf value }
-    ensures still_laid { AreLaid (⟦<AnyMap as Mapping>⟧.layout map.now) blobs.new.items }
+    ensures still_laid { result ≡ true → AreLaid (⟦<AnyMap as Mapping>⟧.layout map.now) blobs.new.items }
+    ensures uncounted { result ≡ true → is_counted (term_of_map map.now) ≡ false }
+    ensures none { result ≡ false → blobs.new.items ≡ blobs.old.items }
 {
     laws_of(map);
     let short = map.short(leaf);
     match short.first_byte(row) {
-        Some(first) => put_value_at(&mut blobs[short.blob], first, short.kind, value),
-        None => write_by_rule(map, blobs, row, leaf, value),
+        Some(first) => {
+            put_value_at(&mut blobs[short.blob], first, short.kind, value);
+            true
+        }
+        None => false,
     }
 }
 
-// The same by the whole rule.
-#[inline(never)]
-fn write_by_rule(map: &AnyMap, blobs: &mut BlobList, row: u64, leaf: usize, value: i128)
+/// The same by the whole rule.
+#[inline(always)]
+pub fn write_by_rule(map: &AnyMap, blobs: &mut BlobList, row: u64, leaf: usize, value: i128)
     requires row_in { row < ⟦<AnyMap as Mapping>⟧.slot_count map.now }
     requires leaf_in { leaf < length (⟦<AnyMap as Mapping>⟧.cell_list map.now) }
     requires laid { AreLaid (⟦<AnyMap as Mapping>⟧.layout map.now) blobs.old.items }

@@ -1,7 +1,8 @@
 ghost use Rattle.std.specs.Prelude.{◌≡◌};
 ghost use Rattle.views.specs.declared.fault.MakeView.TheVariants.{NoMemory};
-ghost use Rattle.views.specs.Refusals.{made_view};
+ghost use Rattle.views.specs.Refusals.{made_view, heated_view};
 
+use instrument::HeatFault;
 use map_any::{BadMapping, MakeMap};
 use std::alloc::{AllocError, AllocFailed};
 use thiserror::Error;
@@ -38,6 +39,17 @@ impl From<MakeMap> for MakeView {
             MakeMap::Bad(bad) => MakeView::Bad(bad),
             MakeMap::TooBig => MakeView::TooBig,
             MakeMap::NoMemory => MakeView::NoMemory,
+        }
+    }
+}
+
+impl From<HeatFault> for MakeView {
+    ghost from_gives = { λ fault v. v ≡ heated_view fault };
+
+    fn from(e: HeatFault) -> MakeView {
+        match e {
+            HeatFault::TooBig => MakeView::TooBig,
+            HeatFault::NoMemory => MakeView::NoMemory,
         }
     }
 }

@@ -4,10 +4,13 @@
 mod access;
 mod fault;
 mod fresh;
+mod laws;
 mod row;
 mod store;
+mod touch;
 mod view;
 
 pub use fault::{MakeView, StoreFault};
+pub use laws::counts_are_entries;
 pub use row::RowRef;
 pub use view::{BlobList, View};

@@ -1,17 +1,22 @@
-ghost use Rattle.std.specs.Prelude.{ℕ, ◌≡◌, ◌+◌, ◌*◌, ◌^◌, ◌<◌, ◌≤◌, IfOk, OnOk, IfErr, OnErr, Ok, length, sum_by};
+ghost use Rattle.std.specs.Prelude.{ℕ, ◌≡◌, ◌+◌, ◌*◌, ◌^◌, ◌<◌, ◌≤◌, IfOk, OnOk, IfErr, OnErr, IfSome, Ok, is_some, option_map, length, sum_by};
 ghost use Rattle.extents.specs.Indices.{indices};
 ghost use Rattle.map_expr.specs.Terms.{term_of};
-ghost use Rattle.map_any.specs.Mappings.{leaf_cells, accepted, IsBuiltTerm, IsTooBigFor};
+ghost use Rattle.map_any.specs.Mappings.{leaf_cells, accepted, IsBuiltTerm};
+ghost use Rattle.map_any.specs.Counters.{has_count, granule_of};
+ghost use Rattle.instrument.specs.Counters.{leaf_counts, heat_counts, HasLeaves};
+ghost use Rattle.views.specs.Tallies.{no_tally, all_touches};
 ghost use Rattle.places.specs.Image.{entry};
 ghost use Rattle.blobs.specs.Bits.{bits_of};
 ghost use Rattle.piece_bits.specs.Tables.{zeros};
 
-use crate::access::{read, write};
+use crate::access::{read_by_rule, short_read, short_write, write_by_rule};
 use crate::fault::{MakeView, StoreFault};
-use crate::fresh::zeroed_blobs;
+use crate::fresh::{new_counts, new_heat, zeroed_blobs};
 use crate::store::answer;
+use crate::touch::{count_all, count_read, count_write};
 use blobs::Blob;
 use extents::Extents;
+use instrument::{Counts, Heat};
 use map_any::{AnyMap, MapExpr};
 use places::{Mapping, laws_of};
 use record_dim::Schema;
@@ -32,10 +37,14 @@ pub struct View {
     expr: MapExpr,
     map: AnyMap,
     blobs: BlobList,
+    /// The accesses by leaf, exactly where the expression counts them.
+    counts: Option<Counts>,
+    /// The accesses by granule, exactly where the expression counts them.
+    heat: Option<Heat>,
 }
 
 impl Model for View {
-    ghost use Rattle.std.specs.Prelude.{◌≡◌};
+    ghost use Rattle.std.specs.Prelude.{◌≡◌, length};
     ghost use Rattle.record_dim.specs.contracts.dim.Dim as dim;
     ghost use Rattle.record_dim.specs.contracts.dim.FieldList as list;
     ghost use Rattle.map_expr.specs.contracts.expr.MapExpr as mapping;
@@ -48,18 +57,24 @@ impl Model for View {
 
     ghost use Rattle.record_dim.specs.Schemas.{schema_fields};
     ghost use Rattle.map_expr.specs.Terms.{term_of};
-    ghost use Rattle.views.specs.Kept.{IsKept, IsMappingOf, table_under};
+    ghost use Rattle.record_dim.specs.Leaves.{leaves};
+    ghost use Rattle.map_any.specs.Mappings.{layout_by};
+    ghost use Rattle.map_any.specs.Maps.{term_of_map};
+    ghost use Rattle.views.specs.Kept.{IsKept, IsMappingOf, IsTallied, table_under, tally_of};
 
     ghost view = { λ v. record {
       schema = v.schema;
       extents = v.extents;
       expr = v.expr;
       table = table_under (term_of v.expr) v.extents (schema_fields v.schema) v.blobs.items;
+      tally = tally_of v.counts v.heat;
     } };
 
-    ghost invariant = { λ v. IsMappingOf (term_of v.expr) v.extents (schema_fields v.schema) (⟦<AnyMap as Mapping>⟧.layout v.map)
+    ghost invariant = { λ v. IsMappingOf (term_of v.expr) v.extents (schema_fields v.schema) (term_of_map v.map) (⟦<AnyMap as Mapping>⟧.layout v.map)
         (⟦<AnyMap as Mapping>⟧.slot_count v.map) (⟦<AnyMap as Mapping>⟧.cell_list v.map) (⟦<AnyMap as Mapping>⟧.hold_list v.map)
-        × IsKept (term_of v.expr) v.extents (schema_fields v.schema) v.blobs.items };
+        × IsKept (term_of v.expr) v.extents (schema_fields v.schema) v.blobs.items
+        × IsTallied (term_of v.expr) (layout_by (term_of v.expr) v.extents (schema_fields v.schema)) (length (leaves (schema_fields v.schema)))
+        (tally_of v.counts v.heat) };
 }
 
 impl View {
@@ -67,8 +82,8 @@ impl View {
     ghost use Rattle.record_dim.specs.Leaves.{leaves, kinds_of};
     ghost use Rattle.piece_bits.specs.Tables.{hold_at};
     ghost use Rattle.views.specs.Stores.{Fits};
-    ghost use Rattle.views.specs.Refusals.{IsNoView};
-    ghost use Rattle.views.specs.Seen.{leaf_count_of, leaf_type_of, leaf_types_of, seen_layout, seen_holds, answer_of, blob_bits_of, after_read, after_write, IsTable};
+    ghost use Rattle.views.specs.Refusals.{IsOver, IsNoView};
+    ghost use Rattle.views.specs.Seen.{leaf_count_of, leaf_type_of, leaf_types_of, seen_layout, seen_holds, answer_of, blob_bits_of, after_log, after_read, after_write, IsTable};
 
     /// A view of zeros, which lies in memory as the expression says. `Bad` comes exactly where the expression is refused, and `TooBig`
     /// exactly where it is not and is over a limit.
@@ -82,15 +97,18 @@ impl View {
         ensures schema { IfOk result (λ v. schema_fields v.schema ≡ schema_fields schema.now) }
         ensures extents { IfOk result (λ v. v.extents ≡ extents) }
         ensures expr { IfOk result (λ v. term_of v.expr ≡ term_of expr.now) }
+        ensures tally { IfOk result (λ v. v.tally ≡ no_tally (term_of v.expr) (seen_layout v) (leaf_count_of v)) }
         ensures table { IfOk result (λ v. v.table ≡ zeros (length (indices extents)) (length (leaves (schema_fields schema.now)))) }
 
         // Only want of memory comes before the other answers.
         ensures accepted { OnOk result (accepted (term_of expr.now) (schema_fields schema.now) (leaf_cells (kinds_of (schema_fields schema.now))) ≡ Ok tt) }
-        ensures fits { OnOk result (IsTooBigFor (term_of expr.now) extents (schema_fields schema.now) (leaf_cells (kinds_of (schema_fields schema.now))) → ⊥) }
+        ensures fits { OnOk result (IsOver (term_of expr.now) extents (schema_fields schema.now) → ⊥) }
         ensures refused { IfErr result (IsNoView (term_of expr.now) extents (schema_fields schema.now)) }
     {
         let map = AnyMap::new(alloc, schema, &extents, expr)?;
         laws_of(&map);
+        let heat = new_heat(alloc, &map, expr)?;
+        let counts = new_counts(alloc, schema.leaf_count(), expr)?;
         let schema = schema.copy(alloc)?;
         let expr = expr.copy(alloc)?;
         let blobs = zeroed_blobs(alloc, &map)?;
@@ -100,6 +118,8 @@ impl View {
             expr,
             map,
             blobs,
+            counts,
+            heat,
         })
     }
 
@@ -167,7 +187,23 @@ impl View {
         ensures step { steps.new ≡ steps.old + 1 }
     {
         steps.tick();
-        read(&self.map, self.blobs.as_slice(), row, leaf)
+        match short_read(&self.map, self.blobs.as_slice(), row, leaf) {
+            Some(value) => value,
+            None => self.get_by_rule(row, leaf),
+        }
+    }
+
+    // The same by the whole rule. It counts the read.
+    #[inline(never)]
+    fn get_by_rule(&mut self, row: u64, leaf: usize) -> i128
+        requires row_in { row < length self.old.table }
+        requires leaf_in { leaf < leaf_count_of self.old }
+        ensures value { result ≡ entry self.old.table row leaf }
+        ensures fits { Fits (leaf_type_of self.old leaf) (hold_at (seen_holds self.old) leaf) result }
+        ensures same { self.new ≡ after_read self.old row leaf }
+    {
+        count_read(&self.map, &mut self.counts, &mut self.heat, row, leaf);
+        read_by_rule(&self.map, self.blobs.as_slice(), row, leaf)
     }
 
     /// Whether a value can be stored in a leaf: `Range` exactly where it lies outside of the leaf's declared range, and `Narrow` exactly
@@ -209,8 +245,47 @@ impl View {
     {
         steps.tick();
         self.fits(leaf, value)?;
-        write(&self.map, &mut self.blobs, row, leaf, value);
+        if short_write(&self.map, &mut self.blobs, row, leaf, value) {
+            return Ok(());
+        }
+        self.set_by_rule(row, leaf, value);
         Ok(())
+    }
+
+    // Makes the value of a leaf in a row this one, which fits, by the whole rule. It counts the write.
+    #[inline(never)]
+    fn set_by_rule(&mut self, row: u64, leaf: usize, value: i128)
+        requires row_in { row < length self.old.table }
+        requires leaf_in { leaf < leaf_count_of self.old }
+        requires taken { answer_of self.old leaf value ≡ Ok tt }
+        ensures { self.new ≡ after_write self.old row leaf value }
+    {
+        count_write(&self.map, &mut self.counts, &mut self.heat, row, leaf);
+        write_by_rule(&self.map, &mut self.blobs, row, leaf, value);
+    }
+
+    /// The accesses by leaf, exactly where the expression counts them.
+    pub fn counts(&self) -> Option<&Counts>
+        ensures value { option_map (λ c. leaf_counts c.now) result ≡ self.now.tally.counts }
+        ensures counted { is_some result ≡ has_count (term_of self.now.expr) }
+        ensures leaves { IfSome result (λ c. HasLeaves (leaf_counts c.now) (leaf_count_of self.now)) }
+    {
+        self.counts.as_ref()
+    }
+
+    /// The accesses by granule, exactly where the expression counts them.
+    pub fn heat(&self) -> Option<&Heat>
+        ensures value { option_map (λ h. heat_counts h.now) result ≡ self.now.tally.heat }
+        ensures counted { is_some result ≡ is_some (granule_of (term_of self.now.expr)) }
+    {
+        self.heat.as_ref()
+    }
+
+    /// Counts so many reads of each leaf of each row, and then so many writes.
+    pub fn touch_all(&mut self, reads: u64, writes: u64)
+        ensures { self.new ≡ after_log self.old (all_touches reads writes (leaf_count_of self.old) (length self.old.table)) }
+    {
+        count_all(&self.map, &mut self.counts, &mut self.heat, reads, writes);
     }
 }
 

@@ -5,7 +5,7 @@ use places::AosForm;
 use record_dim::{Dim, Field, FieldList, LeafType, Name, Schema};
 use std::test::Fail;
 
-// Every field of a view stands here: its values lie in the blobs and nowhere else.
+// Every field of a view stands here: its values lie in the blobs and nowhere else. Beside them it holds what it counts of accesses.
 #[test]
 fn a_view_has_these_fields_alone(rt: HostRuntime) -> Result<(), Fail> {
     let alloc = rt.alloc();
@@ -24,7 +24,10 @@ fn a_view_has_these_fields_alone(rt: HostRuntime) -> Result<(), Fail> {
         expr: _,
         map: _,
         blobs,
+        counts,
+        heat,
     } = view;
     assert!(rt; blobs.len() == 1);
+    assert!(rt; counts.is_none() && heat.is_none());
     Ok(())
 }

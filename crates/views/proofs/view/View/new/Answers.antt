@@ -1,10 +1,14 @@
-use Rattle.std.proofs.Common.{◌∙◌, length, ap}
+use Rattle.std.proofs.Common.{◌≡◌, ◌∙◌, length, ap, sym, subst}
 use Rattle.record_dim.specs.Schemas.{schema_fields}
 use Rattle.record_dim.specs.Leaves.{leaves}
 use Rattle.record_dim.specs.Trees.{Fields}
 use Rattle.extents.specs.Indices.{indices}
 use Rattle.map_expr.specs.Terms.{term_of}
 use Rattle.piece_bits.specs.Tables.{zeros}
+use Rattle.map_any.specs.Mappings.{layout_by}
+use Rattle.views.specs.Kept.{IsTallied, tally_of}
+use Rattle.views.specs.Tallies.{Tally, no_tally}
+use Rattle.views.proofs.CountLaws.{new_tally, no_tally-tallied}
 use Rattle.views.proofs.KeptLaws.{kind_count, kept_zeros, zero_table}
 use Rattle.views.proofs.Opened.{mapping_copied, within_copied, lawful_there, paired_there, laid_there}
 use Rattle.views.proofs.view.View.new.Goals as goal
@@ -13,19 +17,25 @@ pub invariant_of-result : goal.invariant_of-result
 invariant_of-result c =
     let made = c.in_ok-map.ensures in
     let mapping = mapping_copied {extents = c.args.extents} c.in_ok-expr.ensures c.in_ok-schema.ensures
-    (record { layout_is = made.layout; slots_are = made.slots; cells_are = made.cells; holds_are = made.holds }) in (
+    (record { term_is = made.term; layout_is = made.layout; slots_are = made.slots; cells_are = made.cells; holds_are = made.holds }) in
+    let layout = layout_by (term_of c.in_ok-expr.expr) c.args.extents (schema_fields c.in_ok-schema.schema) in
+    let leaf_count = length (leaves (schema_fields c.in_ok-schema.schema)) in
+    let tally : tally_of c.in_ok-counts.counts c.in_ok-heat.heat ≡ no_tally (term_of c.in_ok-expr.expr) layout leaf_count =
+    new_tally c.in_ok-counts.counts c.in_ok-heat.heat c.in_ok-expr.ensures mapping.layout_is
+    (c.leaf_count.ensures.value ∙ ap (λ (f : Fields). length (leaves f)) (sym c.in_ok-schema.ensures)) c.in_ok-counts.ensures c.in_ok-heat.ensures.zero in (
       mapping,
       kept_zeros (term_of c.in_ok-expr.expr) c.args.extents (schema_fields c.in_ok-schema.schema) c.in_ok-blobs.blobs.items
           (lawful_there mapping c.laws_of.ensures.lawful) (paired_there mapping c.laws_of.ensures.paired)
           (within_copied c.args.extents c.in_ok-expr.ensures c.in_ok-schema.ensures made.fits)
           (laid_there mapping c.in_ok-blobs.blobs.items c.in_ok-blobs.ensures.laid) c.in_ok-blobs.ensures.zero,
+      subst (λ (t : Tally). IsTallied (term_of c.in_ok-expr.expr) layout leaf_count t) (sym tally) (no_tally-tallied (term_of c.in_ok-expr.expr) layout leaf_count),
     )
 
 pub returns-clause-table : goal.returns-clause-table
 returns-clause-table c =
     let made = c.in_ok-map.ensures in
     let mapping = mapping_copied {extents = c.args.extents} c.in_ok-expr.ensures c.in_ok-schema.ensures
-    (record { layout_is = made.layout; slots_are = made.slots; cells_are = made.cells; holds_are = made.holds }) in
+    (record { term_is = made.term; layout_is = made.layout; slots_are = made.slots; cells_are = made.cells; holds_are = made.holds }) in
     let fields = schema_fields c.in_ok-schema.schema in
     let paired = paired_there mapping c.laws_of.ensures.paired in
     zero_table (term_of c.in_ok-expr.expr) c.args.extents fields c.in_ok-blobs.blobs.items
@@ -33,13 +43,31 @@ returns-clause-table c =
     (laid_there mapping c.in_ok-blobs.blobs.items c.in_ok-blobs.ensures.laid) c.in_ok-blobs.ensures.zero
     ∙ ap (zeros (length (indices c.args.extents))) (paired ∙ kind_count fields ∙ ap (λ (f : Fields). length (leaves f)) c.in_ok-schema.ensures)
 
+pub returns-clause-tally : goal.returns-clause-tally
+returns-clause-tally c =
+    let made = c.in_ok-map.ensures in
+    let mapping = mapping_copied {extents = c.args.extents} c.in_ok-expr.ensures c.in_ok-schema.ensures
+    (record { term_is = made.term; layout_is = made.layout; slots_are = made.slots; cells_are = made.cells; holds_are = made.holds }) in
+    new_tally c.in_ok-counts.counts c.in_ok-heat.heat c.in_ok-expr.ensures mapping.layout_is
+    (c.leaf_count.ensures.value ∙ ap (λ (f : Fields). length (leaves f)) (sym c.in_ok-schema.ensures)) c.in_ok-counts.ensures c.in_ok-heat.ensures.zero
+
 -- a mapping that is dropped is one still
 pub invariant_of-map-in_err-expr : goal.invariant_of-map-in_err-expr
 invariant_of-map-in_err-expr c =
     let m = c.in_ok-map.map in
-    record { built = m.built; numbers = m.numbers; full = m.full; held = m.held; sized = m.sized; ruled = m.ruled }
+    record { built = m.built; numbers = m.numbers; full = m.full; held = m.held; sized = m.sized; ruled = m.ruled; uncounted = m.uncounted }
 
 pub invariant_of-map-in_err-blobs : goal.invariant_of-map-in_err-blobs
 invariant_of-map-in_err-blobs c =
     let m = c.in_ok-map.map in
-    record { built = m.built; numbers = m.numbers; full = m.full; held = m.held; sized = m.sized; ruled = m.ruled }
+    record { built = m.built; numbers = m.numbers; full = m.full; held = m.held; sized = m.sized; ruled = m.ruled; uncounted = m.uncounted }
+
+pub invariant_of-map-in_err-counts : goal.invariant_of-map-in_err-counts
+invariant_of-map-in_err-counts c =
+    let m = c.in_ok-map.map in
+    record { built = m.built; numbers = m.numbers; full = m.full; held = m.held; sized = m.sized; ruled = m.ruled; uncounted = m.uncounted }
+
+pub invariant_of-map-in_err-schema : goal.invariant_of-map-in_err-schema
+invariant_of-map-in_err-schema c =
+    let m = c.in_ok-map.map in
+    record { built = m.built; numbers = m.numbers; full = m.full; held = m.held; sized = m.sized; ruled = m.ruled; uncounted = m.uncounted }

@@ -1,36 +1,66 @@
-use Rattle.std.proofs.Common.{ℤ, List, ◌∙◌, sym, ap, subst, arith, to_z, of_z}
+use Rattle.std.proofs.Common.{ℤ, ◌≡◌, List, true, false, ◌∙◌, sym, ap, subst, arith, rules, SFits, to_z, of_z}
 use Rattle.std.specs.Int.{w128}
+use Rattle.std.proofs.lemmas.Int.{to_z-of_z}
 use Rattle.record_dim.specs.LeafTypes.{IsIn}
+use Rattle.record_dim.specs.Schemas.{schema_fields}
 use Rattle.places.specs.declared.piece.Hold.{Hold}
+use Rattle.map_expr.specs.Terms.{term_of}
+use Rattle.map_any.specs.Counters.{is_counted}
 use Rattle.piece_bits.specs.Tables.{hold_at, with_entry}
-use Rattle.views.proofs.Opened.{rows_seen, leaf_seen, cell_count, fits_seen, kept_after, table_same, laid_there}
+use Rattle.views.specs.Kept.{table_under, tally_of}
+use Rattle.views.specs.Tallies.{Write}
+use Rattle.views.proofs.CountLaws.{idle_tallied}
+use Rattle.views.proofs.Opened.{rows_seen, leaf_seen, cell_count, fits_seen, kept_after, table_same, laid_there, seen_written}
+use Rattle.views.proofs.view.View.set.Given as given
 use Rattle.views.proofs.view.View.set.Goals as goal
+use Rattle.views.proofs.view.View.set.Goals.{After-short_write}
 
-pub write-requires-clause-row_in : goal.write-requires-clause-row_in
-write-requires-clause-row_in g c =
+pub short_write-requires-clause-row_in : goal.short_write-requires-clause-row_in
+short_write-requires-clause-row_in g c =
     let a = c.self.inside in
     omega (arith, c.requires.row_in, c.self.invariant.0.slots_are, rows_seen a.schema a.extents a.expr a.blobs.items c.self.invariant.1 c.args.self.now c.self.view_is)
 
-pub write-requires-clause-leaf_in : goal.write-requires-clause-leaf_in
-write-requires-clause-leaf_in g c =
+pub short_write-requires-clause-leaf_in : goal.short_write-requires-clause-leaf_in
+short_write-requires-clause-leaf_in g c =
     let a = c.self.inside in
     omega (arith, cell_count c.self.invariant.0, leaf_seen a.schema a.extents a.expr a.blobs.items c.self.invariant.1 c.args.self.now c.self.view_is c.args.leaf c.requires.leaf_in)
 
-pub write-requires-clause-held : goal.write-requires-clause-held
-write-requires-clause-held g c =
+pub short_write-requires-clause-held : goal.short_write-requires-clause-held
+short_write-requires-clause-held g c =
     let a = c.self.inside in
     let value = to_z w128 (of_z w128 c.args.value) in
     let fits = fits_seen a.schema a.extents a.expr a.blobs.items c.self.invariant.1 c.args.self.now c.self.view_is c.args.leaf value c.in_ok-fits.ensures in
     subst (λ (holds : List Hold). IsIn (hold_at holds c.args.leaf).signed (hold_at holds c.args.leaf).width value) (sym c.self.invariant.0.holds_are) fits.held
 
+-- what is stored then
+stored : (g : given.Over) (c : goal.After-short_write g) → c.short_write.result ≡ true → table_under (term_of c.self.inside.expr) c.self.inside.extents (schema_fields c.self.inside.schema) c.short_write.new.blobs.items
+    ≡ with_entry (table_under (term_of c.self.inside.expr) c.self.inside.extents (schema_fields c.self.inside.schema) c.self.inside.blobs.items) c.args.row c.args.leaf (to_z w128 (of_z w128 c.args.value))
+stored g c wrote =
+    let mapping = c.self.invariant.0 in
+    let value = to_z w128 (of_z w128 c.args.value) in
+    sym (table_same mapping c.short_write.new.blobs.items) ∙ c.short_write.ensures.table wrote
+    ∙ ap (λ (t : List (List ℤ)). with_entry t c.args.row c.args.leaf value) (table_same mapping c.self.inside.blobs.items)
+
 pub invariant_of-self : goal.invariant_of-self
 invariant_of-self g c =
     let a = c.self.inside in
     let mapping = c.self.invariant.0 in
-    let value = to_z w128 (of_z w128 c.args.value) in
-    let new = c.write.new.blobs.items in
-    let table = sym (table_same mapping new) ∙ c.write.ensures.table ∙ ap (λ (t : List (List ℤ)). with_entry t c.args.row c.args.leaf value) (table_same mapping a.blobs.items) in (
+    let new = c.short_write.new.blobs.items in (
       mapping,
-      kept_after a.schema a.extents a.expr a.blobs.items c.self.invariant.1 c.args.self.now c.self.view_is c.args.row c.args.leaf value new
-          c.requires.row_in c.requires.leaf_in c.in_ok-fits.ensures (laid_there mapping new c.write.ensures.still_laid) table,
+      kept_after a.schema a.extents a.expr a.blobs.items c.self.invariant.1 c.args.self.now c.self.view_is c.args.row c.args.leaf (to_z w128 (of_z w128 c.args.value)) new
+          c.requires.row_in c.requires.leaf_in c.in_ok-fits.ensures (laid_there mapping new (c.short_write.ensures.still_laid c.if-short_write.true))
+          (stored g (goal.at.invariant_of-self g c).After-short_write c.if-short_write.true),
+      c.self.invariant.2,
     )
+
+pub returns-then-short_write-clause-stored : goal.returns-then-short_write-clause-stored
+returns-then-short_write-clause-stored g c =
+    let a = c.self.inside in
+    let wrote = c.if-short_write.true in
+    let access = Write c.args.row c.args.leaf in
+    let idle : is_counted (term_of a.expr) ≡ false = ap is_counted (sym c.self.invariant.0.term_is) ∙ c.short_write.ensures.uncounted wrote in
+    let fits : SFits w128 c.args.value = search rules in
+    let old = table_under (term_of a.expr) a.extents (schema_fields a.schema) a.blobs.items in
+    seen_written a.schema a.extents a.expr a.blobs.items c.self.view_is c.args.row c.args.leaf c.args.value c.short_write.new.blobs.items (tally_of a.counts a.heat)
+    (stored g (goal.at.returns-then-short_write-clause-stored g c).After-short_write wrote ∙ ap (with_entry old c.args.row c.args.leaf) (to_z-of_z w128 c.args.value fits))
+    (sym (idle_tallied access idle c.self.invariant.2))

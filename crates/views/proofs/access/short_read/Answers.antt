@@ -3,7 +3,7 @@ use Rattle.std.specs.Int.{w128}
 use Rattle.std.proofs.lemmas.Int.{to_z-of_z}
 use Rattle.std.proofs.lemmas.List.{get_or_read}
 use Rattle.views.proofs.AccessLaws.{short_bytes, short_blob, short_within, short_entry}
-use Rattle.views.proofs.access.read.Goals as goal
+use Rattle.views.proofs.access.short_read.Goals as goal
 
 pub bounds-blobs-short : goal.bounds-blobs-short
 bounds-blobs-short c =
@@ -33,8 +33,8 @@ value_at-requires c =
     short_within c.args.map.now.holds c.args.row c.args.leaf short c.laws_of.ensures.lawful c.laws_of.ensures.paired c.requires.row_in
     c.requires.leaf_in (c.short-short.ensures.form c.in-Some.ensures.some) c.args.blobs.now c.requires.laid c.index-blobs-short.result c.in-Some.first blob c.in-Some.ensures.first
 
-pub returns-in-Some : goal.returns-in-Some
-returns-in-Some c =
+pub returns-in-Some-clause-value : goal.returns-in-Some-clause-value
+returns-in-Some-clause-value c =
     let short = c.short-short.result.now in
     let low : short.blob < length c.args.blobs.now =
     short_blob c.args.map.now.holds c.args.row c.args.leaf short c.laws_of.ensures.lawful c.laws_of.ensures.paired c.requires.row_in

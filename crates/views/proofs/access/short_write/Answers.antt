@@ -5,8 +5,8 @@ use Rattle.std.proofs.lemmas.Int.{to_z-of_z}
 use Rattle.std.proofs.lemmas.List.{get_or_default}
 use Rattle.record_dim.specs.LeafTypes.{width_of, is_signed, IsIn}
 use Rattle.views.proofs.AccessLaws.{short_bytes, short_blob, short_within, short_held, short_table, short_laid}
-use Rattle.views.proofs.access.write.Goals as goal
-use Rattle.views.proofs.access.write.Goals.{After-index_mut}
+use Rattle.views.proofs.access.short_write.Goals as goal
+use Rattle.views.proofs.access.short_write.Goals.{After-index_mut}
 
 pub index_mut-requires : goal.index_mut-requires
 index_mut-requires c =
@@ -43,7 +43,7 @@ put_value_at-requires-clause-held c =
     c.requires.leaf_in (c.short-short.ensures.form c.in-Some.ensures.some) c.args.blobs.now.items c.requires.laid c.args.value c.requires.held)
 
 pub returns-in-Some-clause-table : goal.returns-in-Some-clause-table
-returns-in-Some-clause-table c =
+returns-in-Some-clause-table c = λ wrote.
     let fits : SFits w128 c.args.value = search rules in
     let put = c.put_value_at.ensures in
     short_table c.args.map.now.holds c.args.row c.args.leaf c.short-short.result.now c.laws_of.ensures.lawful c.laws_of.ensures.paired c.requires.row_in
@@ -52,7 +52,7 @@ returns-in-Some-clause-table c =
     put.inside put.before put.after put.len
 
 pub returns-in-Some-clause-still_laid : goal.returns-in-Some-clause-still_laid
-returns-in-Some-clause-still_laid c =
+returns-in-Some-clause-still_laid c = λ wrote.
     let fits : SFits w128 c.args.value = search rules in
     let put = c.put_value_at.ensures in
     short_laid c.args.map.now.holds c.args.row c.args.leaf c.short-short.result.now c.laws_of.ensures.lawful c.laws_of.ensures.paired c.requires.row_in

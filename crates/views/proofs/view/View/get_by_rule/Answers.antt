@@ -1,0 +1,92 @@
+use Rattle.std.proofs.Common.{ℤ, ◌≡◌, ◌<◌, length, sym, ◌∙◌, subst, arith, rules, SFits, to_z, of_z}
+use Rattle.std.specs.Int.{w128}
+use Rattle.std.proofs.lemmas.Int.{to_z-of_z}
+use Rattle.places.specs.Image.{entry}
+use Rattle.piece_bits.specs.Tables.{hold_at}
+use Rattle.views.specs.Seen.{leaf_types_of, leaf_type_of, seen_holds}
+use Rattle.views.specs.Stores.{Fits}
+use Rattle.record_dim.specs.Schemas.{schema_fields}
+use Rattle.views.proofs.KeptLaws.{kind_count}
+use Rattle.record_dim.specs.Leaves.{leaves}
+use Rattle.map_expr.specs.Terms.{term_of}
+use Rattle.map_any.specs.Mappings.{layout_by}
+use Rattle.views.specs.Kept.{IsTallied, tally_of}
+use Rattle.views.specs.Tallies.{Read, Tally, touched}
+use Rattle.views.proofs.CountLaws.{tallied_kept, tallied-one}
+use Rattle.views.proofs.Opened.{tallied_here, touched_there, seen_touched, rows_seen, table_seen, leaf_seen, cell_count, laid_here, entry_seen}
+use Rattle.views.proofs.view.View.get_by_rule.Goals as goal
+use Rattle.views.proofs.view.View.get_by_rule.Goals.{After-count_read, After-read_by_rule}
+
+pub count_read-requires-clause-row_in : goal.count_read-requires-clause-row_in
+count_read-requires-clause-row_in c =
+    let a = c.self.inside in
+    omega (arith, c.requires.row_in, c.self.invariant.0.slots_are, rows_seen a.schema a.extents a.expr a.blobs.items c.self.invariant.1 c.args.self.now c.self.view_is)
+
+pub count_read-requires-clause-leaf_in : goal.count_read-requires-clause-leaf_in
+count_read-requires-clause-leaf_in c =
+    let a = c.self.inside in
+    omega (arith, cell_count c.self.invariant.0, leaf_seen a.schema a.extents a.expr a.blobs.items c.self.invariant.1 c.args.self.now c.self.view_is c.args.leaf c.requires.leaf_in)
+
+pub read_by_rule-requires-clause-row_in : goal.read_by_rule-requires-clause-row_in
+read_by_rule-requires-clause-row_in c =
+    let a = c.self.inside in
+    omega (arith, c.requires.row_in, c.self.invariant.0.slots_are, rows_seen a.schema a.extents a.expr a.blobs.items c.self.invariant.1 c.args.self.now c.self.view_is)
+
+pub read_by_rule-requires-clause-leaf_in : goal.read_by_rule-requires-clause-leaf_in
+read_by_rule-requires-clause-leaf_in c =
+    let a = c.self.inside in
+    omega (arith, cell_count c.self.invariant.0, leaf_seen a.schema a.extents a.expr a.blobs.items c.self.invariant.1 c.args.self.now c.self.view_is c.args.leaf c.requires.leaf_in)
+
+pub count_read-requires-clause-tallied : goal.count_read-requires-clause-tallied
+count_read-requires-clause-tallied c =
+    let a = c.self.inside in
+    tallied_here c.self.invariant.0 (tally_of a.counts a.heat) c.self.invariant.2
+
+-- what is counted then
+counts : (c : goal.After-count_read) → tally_of c.count_read.new.counts c.count_read.new.heat
+    ≡ touched (layout_by (term_of c.self.inside.expr) c.self.inside.extents (schema_fields c.self.inside.schema)) (tally_of c.self.inside.counts c.self.inside.heat) (Read c.args.row c.args.leaf)
+counts c = c.count_read.ensures ∙ touched_there c.self.invariant.0 (tally_of c.self.inside.counts c.self.inside.heat) (Read c.args.row c.args.leaf)
+
+pub read_by_rule-requires-clause-laid : goal.read_by_rule-requires-clause-laid
+read_by_rule-requires-clause-laid c =
+    laid_here c.self.invariant.0 c.as_slice.result.now c.self.inside.blobs.items c.as_slice.ensures.value c.self.invariant.1.laid
+
+value : (c : goal.After-read_by_rule) → c.read_by_rule.result ≡ entry c.args.self.now.table c.args.row c.args.leaf
+value c =
+    let a = c.self.inside in
+    c.read_by_rule.ensures ∙ entry_seen a.schema a.extents a.expr a.blobs.items c.self.invariant.0 c.self.view_is c.as_slice.result.now c.as_slice.ensures.value c.args.row c.args.leaf
+
+pub returns-clause-value : goal.returns-clause-value
+returns-clause-value c =
+    let fits : SFits w128 c.read_by_rule.result = search rules in
+    to_z-of_z w128 c.read_by_rule.result fits ∙ value (goal.at.returns-clause-value c).After-read_by_rule
+
+pub returns-clause-fits : goal.returns-clause-fits
+returns-clause-fits c =
+    let a = c.self.inside in
+    let seen = c.args.self.now in
+    let row = c.args.row in
+    let leaf = c.args.leaf in
+    let table = table_seen a.schema a.extents a.expr a.blobs.items c.self.invariant.1 seen c.self.view_is in
+    let leaf_in : leaf < length (leaf_types_of seen) = omega (arith, kind_count (schema_fields seen.schema), c.requires.leaf_in) in
+    let fits : SFits w128 c.read_by_rule.result = search rules in
+    let is : entry seen.table row leaf ≡ to_z w128 (of_z w128 c.read_by_rule.result) =
+    sym (value (goal.at.returns-clause-fits c).After-read_by_rule) ∙ sym (to_z-of_z w128 c.read_by_rule.result fits) in
+    subst (λ (v : ℤ). Fits (leaf_type_of seen leaf) (hold_at (seen_holds seen) leaf) v) is (table.fits row leaf c.requires.row_in leaf_in)
+
+pub invariant_of-self : goal.invariant_of-self
+invariant_of-self c =
+    let a = c.self.inside in
+    let layout = layout_by (term_of a.expr) a.extents (schema_fields a.schema) in (
+      c.self.invariant.0,
+      c.self.invariant.1,
+      subst (λ (t : Tally). IsTallied (term_of a.expr) layout (length (leaves (schema_fields a.schema))) t) (sym (counts (goal.at.invariant_of-self c).After-count_read))
+          (tallied_kept (Read c.args.row c.args.leaf) c.self.invariant.2),
+    )
+
+pub returns-clause-same : goal.returns-clause-same
+returns-clause-same c =
+    let a = c.self.inside in
+    let layout = layout_by (term_of a.expr) a.extents (schema_fields a.schema) in
+    seen_touched a.schema a.extents a.expr a.blobs.items c.self.view_is (Read c.args.row c.args.leaf) (tally_of c.count_read.new.counts c.count_read.new.heat)
+    (counts (goal.at.returns-clause-same c).After-count_read ∙ sym (tallied-one layout (tally_of a.counts a.heat) (Read c.args.row c.args.leaf)))
