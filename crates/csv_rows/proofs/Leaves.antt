@@ -1,6 +1,6 @@
 -- The leaves of a view, read from a row's fields one after another and stored.
 use Rattle.std.proofs.Common.{◌≡◌, ℕ, zero, suc, ◌+◌, ◌-◌, ◌<◌, ◌≤◌, false, ℤ, pos, append_assoc, List, [], ◌∷◌, ◌++◌, length, take, drop, get_or, set, Result, Ok, Err, OnOk, refl, sym, ap, ◌∙◌, arith, append-nil}
-use Rattle.std.proofs.lemmas.List.{at_drop_more, drop_all, take_all, take_more, take_more_set, length-map, length-take, set-set, get_or-set_same, drop_more, set-append_right}
+use Rattle.std.proofs.lemmas.List.{at_drop_more, drop_all, take_all, take_more, take_more_set, length-map, length-take, set-set, set-get_or, get_or-set_same, drop_more, set-append_right}
 use Rattle.record_dim.specs.Schemas.{schema_fields}
 use Rattle.record_dim.specs.Leaves.{leaves}
 use Rattle.record_dim.specs.declared.leaf_type.LeafType.{LeafType}
@@ -8,11 +8,13 @@ use Rattle.record_dim.specs.declared.leaf_type.LeafType.TheVariants.{Bool as Tru
 use Rattle.places.specs.declared.piece.Hold.{Hold}
 use Rattle.piece_bits.specs.Tables.{hold_at, with_entry}
 use Rattle.views.specs.Stores.{kind_at}
-use Rattle.views.specs.Seen.{Seen, leaf_count_of, leaf_types_of, seen_holds, answer_of}
+use Rattle.views.specs.Tallies.{row_writes}
+use Rattle.views.specs.Seen.{Seen, leaf_count_of, leaf_types_of, seen_holds, answer_of, after_stores, after_write}
 use Rattle.views.specs.declared.fault.StoreFault.{StoreFault}
 use Rattle.csv_rows.specs.Datasets.{◌>>=◌, Leaf, with_columns, value_at, row_values}
 use Rattle.csv_rows.specs.Loads.{place_of, leaves_in}
 use Rattle.csv_rows.specs.declared.fault.RowFault.{RowFault}
+use Rattle.csv_rows.proofs.Accesses.{after_stores-none, leaf_written}
 use Rattle.csv_rows.proofs.Sequences.{behind, behind-behind, one_behind}
 
 abbrev no_leaf : Leaf
@@ -89,11 +91,15 @@ half_more values old leaf value small same here =
     ∙ sym (append_assoc (take leaf values) (value ∷ []) (drop (leaf + 1) old))
     ∙ ap (λ (f : List ℤ). f ++ drop (leaf + 1) old) (sym next)
 
+-- no value is stored yet
+pub half_none : (seen : Seen) (row : ℕ) (values : List ℤ) → seen ≡ after_stores seen (set seen.table row (half_row values (get_or seen.table row []) 0)) (row_writes 0 row)
+half_none seen row values = rw set-get_or (after_stores-none seen)
+
 -- one value more is stored
 pub leaf_stored : (seen now new : Seen) (row leaf : ℕ) (values : List ℤ) (value : ℤ) (answer : Result Unit StoreFault) → row < length seen.table → leaf < length values → length values ≡ length (get_or seen.table row []) → get_or values leaf (pos 0) ≡ value
-    → now ≡ record seen { table = set seen.table row (half_row values (get_or seen.table row []) leaf) } → answer_of seen leaf value ≡ Ok tt → answer ≡ answer_of now leaf value
-    → OnOk answer (new ≡ record now { table = with_entry now.table row leaf value })
-    → new ≡ record seen { table = set seen.table row (half_row values (get_or seen.table row []) (leaf + 1)) }
+    → now ≡ after_stores seen (set seen.table row (half_row values (get_or seen.table row []) leaf)) (row_writes leaf row) → answer_of seen leaf value ≡ Ok tt → answer ≡ answer_of now leaf value
+    → OnOk answer (new ≡ after_write now row leaf value)
+    → new ≡ after_stores seen (set seen.table row (half_row values (get_or seen.table row []) (leaf + 1))) (row_writes (leaf + 1) row)
 leaf_stored seen now new row leaf values value answer inside small same here is fits gives stored =
     let old = get_or seen.table row [] in
     let half = half_row values old leaf in
@@ -103,11 +109,13 @@ leaf_stored seen now new row leaf values value answer inside small same here is 
     ap (λ (r : List ℤ). set (set seen.table row half) row (set r leaf value)) (get_or-set_same seen.table row half [] inside)
     ∙ set-set seen.table row half (set half leaf value)
     ∙ ap (set seen.table row) (half_more values old leaf value small same here) in
-    done ∙ ap (λ (s : Seen). record s { table = with_entry s.table row leaf value }) is ∙ ap (λ (t : List (List ℤ)). record seen { table = t }) written
+    done ∙ ap (λ (s : Seen). after_write s row leaf value) is
+    ∙ leaf_written seen (set seen.table row half) (with_entry (set seen.table row half) row leaf value) row leaf
+    ∙ ap (λ (t : List (List ℤ)). after_stores seen t (row_writes (leaf + 1) row)) written
 
 -- all values are stored
-pub half_whole : (seen now : Seen) (row leaf : ℕ) (values : List ℤ) → length values ≡ length (get_or seen.table row []) → length values ≤ leaf
-    → now ≡ record seen { table = set seen.table row (half_row values (get_or seen.table row []) leaf) } → now ≡ record seen { table = set seen.table row values }
-half_whole seen now row leaf values same over is =
-    let whole : half_row values (get_or seen.table row []) leaf ≡ values = ap (λ (rest : List ℤ). take leaf values ++ rest) (drop_all leaf (get_or seen.table row []) (omega arith)) ∙ append-nil (take leaf values) ∙ take_all leaf values over in
-    is ∙ ap (λ (r : List ℤ). record seen { table = set seen.table row r }) whole
+pub half_whole : (seen now : Seen) (row leaf : ℕ) (values : List ℤ) → length values ≡ length (get_or seen.table row []) → length values ≡ leaf
+    → now ≡ after_stores seen (set seen.table row (half_row values (get_or seen.table row []) leaf)) (row_writes leaf row) → now ≡ after_stores seen (set seen.table row values) (row_writes (length values) row)
+half_whole seen now row leaf values same all is =
+    let whole : half_row values (get_or seen.table row []) leaf ≡ values = ap (λ (rest : List ℤ). take leaf values ++ rest) (drop_all leaf (get_or seen.table row []) (omega arith)) ∙ append-nil (take leaf values) ∙ take_all leaf values (omega arith) in
+    is ∙ ap (λ (r : List ℤ). after_stores seen (set seen.table row r) (row_writes leaf row)) whole ∙ ap (λ (n : ℕ). after_stores seen (set seen.table row values) (row_writes n row)) (sym all)

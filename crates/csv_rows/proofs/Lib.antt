@@ -1,3 +1,4 @@
+pub mod Accesses
 pub mod Clips
 pub mod ColumnNames
 pub mod Commas

@@ -1,7 +1,8 @@
 // The table of a dataset, loaded into a view.
 ghost use Rattle.std.specs.Prelude.{◌≡◌, ◌⊎◌, ◌∷◌, ℕ, List, [], IfOk, IfErr, OnOk, MatchBool, Ok, Err, length};
 ghost use Rattle.csv.specs.Records.{fields_of};
-ghost use Rattle.views.specs.Seen.{leaf_count_of};
+ghost use Rattle.views.specs.Tallies.{all_writes};
+ghost use Rattle.views.specs.Seen.{leaf_count_of, after_stores};
 ghost use Rattle.csv_rows.specs.Datasets.{records_of, header_of, rows_of, table_from};
 ghost use Rattle.csv_rows.specs.Loads.{leaves_in, dataset_of, Keeps, KeepsRows};
 ghost use Rattle.csv_rows.specs.declared.fault.RowFault.TheVariants.{NoMemory};
@@ -19,7 +20,7 @@ use steps::Steps;
 use views::View;
 
 /// Loads the table of a dataset into a view that has as many rows. On a fault the rows before the one that it names are changed, and no
-/// other; want of memory comes at some row.
+/// other; want of memory comes at some row. Each leaf of a row that is changed is written once.
 pub fn load_rows<L: Ledger>(
     alloc: Global,
     bytes: &[u8],
@@ -29,8 +30,8 @@ pub fn load_rows<L: Ledger>(
     requires { length view.old.table ≡ length (rows_of (records_of bytes.now)) }
     ensures loaded { OnOk result (dataset_of view.old (records_of bytes.now) ≡ Ok view.new.table) }
     ensures refused { IfErr result (λ f. (f ≡ NoMemory) ⊎ (dataset_of view.old (records_of bytes.now) ≡ Err f)) }
-    ensures kept { IfErr result (λ f. Keeps view.old (records_of bytes.now) view.new.table f) }
-    ensures same { view.new ≡ record view.old { table = view.new.table } }
+    ensures kept { IfErr result (λ f. Keeps view.old (records_of bytes.now) view.new f) }
+    ensures same { OnOk result (view.new ≡ after_stores view.old view.new.table (all_writes (leaf_count_of view.old) (length view.old.table))) }
 {
     let text = without_marks(bytes);
     let mut fields = ByteRecord::new(alloc);
@@ -54,8 +55,8 @@ fn load_from<R: Records, L: Ledger>(
     requires rows { length view.old.table ≡ length (rows_of (R.left records.old)) }
     ensures loaded { OnOk result (dataset_of view.old (R.left records.old) ≡ Ok view.new.table) }
     ensures refused { IfErr result (λ f. (f ≡ NoMemory) ⊎ (dataset_of view.old (R.left records.old) ≡ Err f)) }
-    ensures kept { IfErr result (λ f. Keeps view.old (R.left records.old) view.new.table f) }
-    ensures same { view.new ≡ record view.old { table = view.new.table } }
+    ensures kept { IfErr result (λ f. Keeps view.old (R.left records.old) view.new f) }
+    ensures same { OnOk result (view.new ≡ after_stores view.old view.new.table (all_writes (leaf_count_of view.old) (length view.old.table))) }
 {
     let found = read_header(records, fields)?;
     let columns = leaf_columns(alloc, fields, view.schema())?;
@@ -104,8 +105,8 @@ fn load_records<R: Records, L: Ledger>(
     requires values { length values.old ≡ leaf_count_of view.old }
     ensures loaded { OnOk result (table_from 0 (R.left records.old) (leaves_in view.old columns.now) ≡ Ok view.new.table) }
     ensures refused { IfErr result (λ f. (f ≡ NoMemory) ⊎ (table_from 0 (R.left records.old) (leaves_in view.old columns.now) ≡ Err f)) }
-    ensures kept { IfErr result (λ f. KeepsRows view.old columns.now (R.left records.old) view.new.table f) }
-    ensures same { view.new ≡ record view.old { table = view.new.table } }
+    ensures kept { IfErr result (λ f. KeepsRows view.old columns.now (R.left records.old) view.new f) }
+    ensures same { OnOk result (view.new ≡ after_stores view.old view.new.table (all_writes (leaf_count_of view.old) (length view.old.table))) }
 {
     let _extents = view.extents();
     let mut row = 0u64;

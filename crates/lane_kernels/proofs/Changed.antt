@@ -1,14 +1,20 @@
 -- A kernel that stores, row by row, and its first fault.
-use Rattle.std.proofs.Common.{◌≡◌, ℕ, zero, suc, ◌+◌, ◌<◌, List, [], ◌∷◌, length, get_or, set, take, ℤ, Option, Some, None, Ok, Err, refl, sym, ap, subst, ◌∙◌, arith}
+use Rattle.std.proofs.Common.{◌≡◌, ℕ, zero, suc, ◌+◌, ◌<◌, List, [], ◌∷◌, ◌++◌, length, get_or, set, take, ℤ, Option, Some, None, Result, Ok, Err, refl, sym, ap, subst, ◌∙◌, arith}
 use Rattle.std.specs.Option.{option_or}
 use Rattle.std.proofs.lemmas.List.{take_all}
-use Rattle.views.specs.Seen.{Seen, answer_of}
+use Rattle.views.specs.Seen.{Seen, answer_of, after_log, after_stores, after_write}
 use Rattle.views.specs.Stores.{Answer}
-use Rattle.lane_kernels.specs.Kernels.{stored, store_fault, first_fault, empty_fault, run_rows, number_of, rows_before, IsKernelOf, IsNarrowLeaf, IsRun}
+use Rattle.views.specs.TallyLaws.{after_log-none, after_log-append, logs_more}
+use Rattle.views.specs.Tallies.{Access, Write}
+use Rattle.views.specs.declared.fault.StoreFault.{StoreFault}
+use Rattle.views.specs.declared.fault.StoreFault.TheVariants as store
+use Rattle.lane_kernels.specs.Kernels.{Store, stored, answer_fault, store_fault, first_fault, empty_fault, run_rows, number_of, rows_before, IsKernelOf, IsNarrowLeaf, IsRun}
 use Rattle.lane_kernels.specs.Changes.{changing}
+use Rattle.lane_kernels.specs.Logs.{reads_on, writes_on, rows_log, fault_log}
 use Rattle.lane_kernels.specs.declared.changes.Change.{Change}
 use Rattle.lane_kernels.specs.declared.changes.Change.TheVariants.{Axpy, Clamp}
 use Rattle.lane_kernels.specs.declared.fault.KernelFault.{KernelFault}
+use Rattle.lane_kernels.specs.declared.fault.KernelFault.TheVariants.{Range, Narrow}
 use Rattle.lane_kernels.specs.declared.kernel.Kernel.{Kernel}
 use Rattle.lane_kernels.proofs.Rows.{after, row_stands, row_changed, rows_count}
 
@@ -49,11 +55,11 @@ fault_stays answer kernel start (suc count) (values ∷ rows) fault e =
 
 -- the rows before this one are changed, and had no fault
 pub record AreChanged (old : Seen) (kernel : Kernel) (view : Seen) (row : ℕ) : Type 0 where
-  pub same : view ≡ record old { table = run_rows kernel row old.table }
+  pub same : view ≡ after_stores old (run_rows kernel row old.table) (rows_log kernel row)
   pub clean : first_fault (answer_of old) kernel 0 (take row old.table) ≡ None
 
 pub none_changed : (old : Seen) (kernel : Kernel) → AreChanged old kernel old 0
-none_changed old kernel = record { same = refl; clean = refl }
+none_changed old kernel = record { same = sym (after_log-none old); clean = refl }
 
 -- what a row's store answers where the rows before are changed is what it answers on the view as it was
 own_fault : (old view : Seen) (kernel : Kernel) (row : ℕ) (fault : Option KernelFault) → row < length old.table → AreChanged old kernel view row
@@ -69,29 +75,32 @@ own_fault old view kernel row fault inside so_far told =
 -- one row more
 pub change_more : (old view new : Seen) (kernel : Kernel) (row : ℕ) → row < length old.table → AreChanged old kernel view row
     → store_fault (answer_of view) row (stored kernel (get_or view.table row [])) ≡ None
-    → new ≡ record view { table = set view.table row (after kernel (get_or view.table row [])) } → AreChanged old kernel new (row + 1)
+    → new ≡ after_stores view (set view.table row (after kernel (get_or view.table row []))) (reads_on kernel row ++ writes_on kernel row) → AreChanged old kernel new (row + 1)
 change_more old view new kernel row inside so_far told changed =
     let table = run_rows kernel row old.table in
+    let own = reads_on kernel row ++ writes_on kernel row in
     let same = changed
-    ∙ ap (λ (v : Seen). record v { table = set v.table row (after kernel (get_or v.table row [])) }) so_far.same
-    ∙ ap (λ (values : List ℤ). record old { table = set table row (after kernel values) }) (row_stands kernel row old.table)
-    ∙ ap (λ (rows : List (List ℤ)). record old { table = rows }) (sym (row_changed kernel row old.table inside)) in
+    ∙ ap (λ (v : Seen). after_stores v (set v.table row (after kernel (get_or v.table row []))) own) so_far.same
+    ∙ after_log-append (record old { table = set table row (after kernel (get_or table row [])) }) (rows_log kernel row) own
+    ∙ ap (λ (log : List Access). after_stores old (set table row (after kernel (get_or table row []))) log) (sym (logs_more (λ n. reads_on kernel n ++ writes_on kernel n) row))
+    ∙ ap (λ (values : List ℤ). after_stores old (set table row (after kernel values)) (rows_log kernel (row + 1))) (row_stands kernel row old.table)
+    ∙ ap (λ (rows : List (List ℤ)). after_stores old rows (rows_log kernel (row + 1))) (sym (row_changed kernel row old.table inside)) in
     record { same = same; clean = own_fault old view kernel row None inside so_far told }
 
--- the leaves of a view are those of the view with another table
-narrow_stays : (old : Seen) (table : List (List ℤ)) (leaf : ℕ) → IsNarrowLeaf old leaf → IsNarrowLeaf (record old { table = table }) leaf
-narrow_stays old table leaf narrow = record { inside = narrow.inside; narrow = narrow.narrow }
+-- the leaves of a view are those of the view after accesses
+narrow_stays : (old : Seen) (table : List (List ℤ)) (log : List Access) (leaf : ℕ) → IsNarrowLeaf old leaf → IsNarrowLeaf (after_stores old table log) leaf
+narrow_stays old table log leaf narrow = record { inside = narrow.inside; narrow = narrow.narrow }
 
-kernel_stays : (old : Seen) (table : List (List ℤ)) (change : Change) → IsKernelOf old (changing change) → IsKernelOf (record old { table = table }) (changing change)
-kernel_stays old table (Axpy a x y) is = (is.0, narrow_stays old table x is.1, narrow_stays old table y is.2)
-kernel_stays old table (Clamp x lo hi) is = (narrow_stays old table x is.0, is.1, is.2, is.3)
+kernel_stays : (old : Seen) (table : List (List ℤ)) (log : List Access) (change : Change) → IsKernelOf old (changing change) → IsKernelOf (after_stores old table log) (changing change)
+kernel_stays old table log (Axpy a x y) is = (is.0, narrow_stays old table log x is.1, narrow_stays old table log y is.2)
+kernel_stays old table log (Clamp x lo hi) is = (narrow_stays old table log x is.0, is.1, is.2, is.3)
 
 pub row_takes : (old view : Seen) (change : Change) (row : ℕ) → AreChanged old (changing change) view row → row < length old.table → IsKernelOf old (changing change)
     → (row < length view.table) × IsKernelOf view (changing change)
 row_takes old view change row so_far inside is =
     let count = ap (λ (v : Seen). length v.table) so_far.same ∙ rows_count (changing change) row old.table in (
       omega (arith, inside, count),
-      subst (λ (v : Seen). IsKernelOf v (changing change)) (sym so_far.same) (kernel_stays old (run_rows (changing change) row old.table) change is),
+      subst (λ (v : Seen). IsKernelOf v (changing change)) (sym so_far.same) (kernel_stays old (run_rows (changing change) row old.table) (rows_log (changing change) row) change is),
     )
 
 -- a kernel that stores takes no row for granted, and gives no number
@@ -103,15 +112,40 @@ no_number : (change : Change) (rows : List (List ℤ)) → number_of (changing c
 no_number (Axpy a x y) rows = refl
 no_number (Clamp x lo hi) rows = refl
 
--- a row is refused
+-- a row is changed after its reads
+write_of : (change : Change) (row : ℕ) (values : List ℤ) (store : Store) → stored (changing change) values ≡ Some store → writes_on (changing change) row ≡ Write row store.leaf ∷ []
+write_of (Axpy a x y) row values store is = let same : y ≡ store.leaf = cc is in ap (λ (leaf : ℕ). Write row leaf ∷ []) same
+write_of (Clamp x lo hi) row values store is = let same : x ≡ store.leaf = cc is in ap (λ (leaf : ℕ). Write row leaf ∷ []) same
+
+pub change_done : (old read new : Seen) (change : Change) (row leaf : ℕ) (value : ℤ) → stored (changing change) (get_or old.table row []) ≡ Some (record { leaf = leaf; value = value })
+    → read ≡ after_log old (reads_on (changing change) row) → new ≡ after_write read row leaf value
+    → new ≡ after_stores old (set old.table row (after (changing change) (get_or old.table row []))) (reads_on (changing change) row ++ writes_on (changing change) row)
+change_done old read new change row leaf value is reads writes =
+    let values = get_or old.table row [] in
+    rw (write_of change row values (record { leaf = leaf; value = value }) is, is)
+    (writes ∙ ap (λ (v : Seen). after_write v row leaf value) reads
+    ∙ after_log-append (record old { table = set old.table row (set values leaf value) }) (reads_on (changing change) row) (Write row leaf ∷ []))
+
+-- a row is refused after its reads
+answer_log : (kernel : Kernel) (row leaf : ℕ) (answer : Result Unit StoreFault) (fault : KernelFault) → answer_fault row leaf answer ≡ Some fault → fault_log kernel fault ≡ rows_log kernel row ++ reads_on kernel row
+answer_log kernel row leaf (Ok done) fault is = absurd (cc)
+answer_log kernel row leaf (Err store.Range) fault is = let same : fault ≡ Range row leaf = cc is in ap (fault_log kernel) same
+answer_log kernel row leaf (Err store.Narrow) fault is = let same : fault ≡ Narrow row leaf = cc is in ap (fault_log kernel) same
+
+refused_log : (answer : Answer) (kernel : Kernel) (row : ℕ) (store : Option Store) (fault : KernelFault) → store_fault answer row store ≡ Some fault → fault_log kernel fault ≡ rows_log kernel row ++ reads_on kernel row
+refused_log answer kernel row None fault is = absurd (cc)
+refused_log answer kernel row (Some store) fault is = answer_log kernel row store.leaf (answer store.leaf store.value) fault is
+
 pub change_stops : (old view new : Seen) (change : Change) (row : ℕ) (fault : KernelFault) → row < length old.table → AreChanged old (changing change) view row
-    → store_fault (answer_of view) row (stored (changing change) (get_or view.table row [])) ≡ Some fault → rows_before fault ≡ row → new ≡ view
+    → store_fault (answer_of view) row (stored (changing change) (get_or view.table row [])) ≡ Some fault → rows_before fault ≡ row → new ≡ after_log view (reads_on (changing change) row)
     → IsRun old new (changing change) (Err fault)
-change_stops old view new change row fault inside so_far told named kept =
+change_stops old view new change row fault inside so_far told named read =
     let own = own_fault old view (changing change) row (Some fault) inside so_far told in
     let first = fault_stays (answer_of old) (changing change) 0 (row + 1) old.table fault own in (
       rw (no_empty change old.table) first,
-      rw named (kept ∙ so_far.same),
+      rw (named, refused_log (answer_of view) (changing change) row (stored (changing change) (get_or view.table row [])) fault told)
+          (read ∙ ap (λ (v : Seen). after_log v (reads_on (changing change) row)) so_far.same
+          ∙ after_log-append (record old { table = run_rows (changing change) row old.table }) (rows_log (changing change) row) (reads_on (changing change) row)),
     )
 
 -- all rows are changed

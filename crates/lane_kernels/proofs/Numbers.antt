@@ -1,5 +1,5 @@
 -- The number of the values of a leaf.
-use Rattle.std.proofs.Common.{◌≡◌, ℕ, ◌+◌, ◌<◌, ◌≤◌, ◌^◌, Bool, true, false, cond, List, [], ◌∷◌, length, get_or, take, fold, ℤ, pos, ◌+ℤ◌, to_z, of_z, w64, Some, None, Ok, Err, refl, sym, ap, ◌∙◌, arith}
+use Rattle.std.proofs.Common.{◌≡◌, ℕ, ◌+◌, ◌<◌, ◌≤◌, ◌^◌, Bool, true, false, cond, List, [], ◌∷◌, ◌++◌, length, get_or, take, fold, ℤ, pos, ◌+ℤ◌, to_z, of_z, w64, Some, None, Ok, Err, refl, sym, ap, ◌∙◌, arith}
 use Rattle.std.specs.Int.{int_min, int_max}
 use Rattle.std.proofs.lemmas.Int.{ints, int_min_is, int_max_is}
 use Rattle.std.proofs.lemmas.List.{get_or-map, length-map}
@@ -13,8 +13,11 @@ use Rattle.record_dim.specs.Leaves.{leaves}
 use Rattle.record_dim.specs.Schemas.{schema_fields}
 use Rattle.piece_bits.specs.Tables.{hold_at}
 use Rattle.views.specs.Stores.{Answer, Fits}
-use Rattle.views.specs.Seen.{Seen, IsTable, leaf_types_of, leaf_type_of, seen_holds, answer_of}
+use Rattle.views.specs.Seen.{Seen, IsTable, leaf_types_of, leaf_type_of, seen_holds, answer_of, after_log, after_stores, after_read}
+use Rattle.views.specs.TallyLaws.{after_log-none, after_log-append, logs_more}
+use Rattle.views.specs.Tallies.{Read}
 use Rattle.lane_kernels.specs.Kernels.{compares, column, in_leaf, number_of, stored, first_fault, empty_fault, IsConstant, IsNarrowLeaf, IsRun}
+use Rattle.lane_kernels.specs.Logs.{reads_on, writes_on, rows_log}
 use Rattle.lane_kernels.specs.Reductions.{reducing, start, taking, reduced, wants_a_row, IsSmall}
 use Rattle.lane_kernels.specs.declared.fault.KernelFault.TheVariants.{Empty}
 use Rattle.lane_kernels.specs.declared.kernel.Compare.{Compare}
@@ -46,6 +49,20 @@ reduced_more reduction leaf row table number value small is so_far =
     let inside : row < length (column leaf table) = rw length-map small in
     let at : get_or (column leaf table) row (pos 0) ≡ value = get_or-map (in_leaf leaf) table row [] (pos 0) small ∙ sym is in
     rw (so_far, ← at) (sym (fold_more (taking reduction) (start reduction) (column leaf table) row (pos 0) inside))
+
+-- one read more
+one_read : (reduction : Reduction) (leaf row : ℕ) → reads_on (reducing leaf reduction) row ++ writes_on (reducing leaf reduction) row ≡ Read row leaf ∷ []
+one_read Sum leaf row = refl
+one_read Least leaf row = refl
+one_read Greatest leaf row = refl
+one_read (Count op c) leaf row = refl
+
+pub read_more : (reduction : Reduction) (leaf row : ℕ) (old view new : Seen) → view ≡ after_log old (rows_log (reducing leaf reduction) row) → new ≡ after_read view row leaf
+    → new ≡ after_log old (rows_log (reducing leaf reduction) (row + 1))
+read_more reduction leaf row old view new so_far read =
+    let kernel = reducing leaf reduction in
+    rw (logs_more (λ n. reads_on kernel n ++ writes_on kernel n) row, one_read reduction leaf row)
+    (read ∙ ap (λ (v : Seen). after_read v row leaf) so_far ∙ after_log-append old (rows_log kernel row) (Read row leaf ∷ []))
 
 -- a number that is small stays so
 pub start_small : (reduction : Reduction) → IsSmall 0 (start reduction)
@@ -117,14 +134,14 @@ no_empty Greatest leaf (row ∷ rows) first = refl
 
 -- a reduction gives its number
 pub reduction_ends : (seen : Seen) (reduction : Reduction) (leaf : ℕ) (number : ℤ) → (wants_a_row reduction ≡ true → HasFirst leaf seen.table)
-    → number ≡ reduced reduction (column leaf seen.table) → IsRun seen seen (reducing leaf reduction) (Ok (Some number))
+    → number ≡ reduced reduction (column leaf seen.table) → IsRun seen (after_log seen (rows_log (reducing leaf reduction) (length seen.table))) (reducing leaf reduction) (Ok (Some number))
 reduction_ends seen reduction leaf number first is =
     let kernel = reducing leaf reduction in
     let none = stores_nothing reduction leaf in
     let stands = rows_stand kernel (length seen.table) seen.table none in (
       rw (no_empty reduction leaf seen.table first) (no_fault (answer_of seen) kernel 0 seen.table none),
       ap (λ (n : ℤ). Some n) is ∙ number_is reduction leaf seen.table first,
-      ap (λ (rows : List (List ℤ)). record seen { table = rows }) (sym stands),
+      ap (λ (rows : List (List ℤ)). after_stores seen rows (rows_log kernel (length seen.table))) (sym stands),
     )
 
 -- or has no row
@@ -137,4 +154,4 @@ empty_first Greatest leaf [] wants none = refl
 empty_first Greatest leaf (row ∷ rows) wants none = absurd (omega (arith, none))
 
 pub reduction_empty : (seen : Seen) (reduction : Reduction) (leaf : ℕ) → wants_a_row reduction ≡ true → length seen.table ≡ 0 → IsRun seen seen (reducing leaf reduction) (Err Empty)
-reduction_empty seen reduction leaf wants none = (rw (empty_first reduction leaf seen.table wants none) refl, refl)
+reduction_empty seen reduction leaf wants none = (rw (empty_first reduction leaf seen.table wants none) refl, sym (after_log-none seen))

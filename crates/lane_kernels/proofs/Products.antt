@@ -47,10 +47,10 @@ sum_fits a x y factor value added =
 factor_fits : (a : ℤ) → IsFactor a → FitsSigned w64 a
 factor_fits a factor = fits_signed_from_abs w64 a (omega (arith, size_at_most a (2 ^ 31) factor.0 (omega (arith, ints, factor.1))))
 
-constant_fits : (x : ℤ) → IsConstant x → FitsSigned w64 x
+pub constant_fits : (x : ℤ) → IsConstant x → FitsSigned w64 x
 constant_fits x value = fits_signed_from_abs w64 x (omega (arith, size_at_most x (2 ^ 32) (omega (arith, ints, value.0)) (omega (arith, ints, value.1))))
 
-wide : (z : ℤ) → FitsSigned w64 z → to_z w128 (of_z w128 z) ≡ z
+pub wide : (z : ℤ) → FitsSigned w64 z → to_z w128 (of_z w128 z) ≡ z
 wide z fits = to_z-of_z w128 z (record { sfits = omega (arith, fits.sfits) })
 
 pub axpy_is : (a x y wide_a wide_x wide_y : ℤ) → IsFactor a → IsConstant x → IsConstant y

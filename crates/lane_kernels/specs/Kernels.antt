@@ -5,10 +5,11 @@ use Rattle.std.specs.List.{count_by}
 use Rattle.std.specs.Option.{option_or}
 use Rattle.std.specs.Ordering.{int_eq}
 use Rattle.record_dim.specs.LeafTypes.{width_of}
-use Rattle.views.specs.Seen.{Seen, leaf_count_of, leaf_type_of, answer_of}
+use Rattle.views.specs.Seen.{Seen, leaf_count_of, leaf_type_of, answer_of, after_stores}
 use Rattle.views.specs.Stores.{Answer}
 use Rattle.views.specs.declared.fault.StoreFault.TheVariants as store
 use Rattle.views.specs.declared.fault.StoreFault.{StoreFault}
+use Rattle.lane_kernels.specs.Logs.{rows_log, fault_log}
 use Rattle.lane_kernels.specs.declared.fault.KernelFault.{KernelFault}
 use Rattle.lane_kernels.specs.declared.fault.KernelFault.TheVariants.{Empty, Range, Narrow}
 use Rattle.lane_kernels.specs.declared.kernel.Compare.{Compare}
@@ -101,9 +102,10 @@ rows_before (Narrow row leaf) = row
 abbrev pub IsRun : Seen → Seen → Kernel → Result (Option ℤ) KernelFault → Type 0
 IsRun old new kernel (Ok number) =
     (kernel_fault (answer_of old) kernel old.table ≡ None) × (number ≡ number_of kernel old.table)
-    × (new ≡ record old { table = run_rows kernel (length old.table) old.table })
+    × (new ≡ after_stores old (run_rows kernel (length old.table) old.table) (rows_log kernel (length old.table)))
 IsRun old new kernel (Err fault) =
-    (kernel_fault (answer_of old) kernel old.table ≡ Some fault) × (new ≡ record old { table = run_rows kernel (rows_before fault) old.table })
+    (kernel_fault (answer_of old) kernel old.table ≡ Some fault)
+    × (new ≡ after_stores old (run_rows kernel (rows_before fault) old.table) (fault_log kernel fault))
 
 -- a leaf of a view, of at most 32 bits
 pub record IsNarrowLeaf (seen : Seen) (leaf : ℕ) : Type 0 where

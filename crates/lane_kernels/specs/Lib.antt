@@ -1,3 +1,4 @@
 pub mod Changes
 pub mod Kernels
 pub mod Reductions
+pub mod Logs

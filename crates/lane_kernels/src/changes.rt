@@ -1,8 +1,9 @@
 // Kernels that store in each row.
-ghost use Rattle.std.specs.Prelude.{◌≡◌, ◌+◌, ◌*◌, ◌<◌, ◌≤◌, OnOk, OnErr, IfErr, Some, None, [], length, slice_index_or, slice_set};
-ghost use Rattle.views.specs.Seen.{leaf_count_of, answer_of};
+ghost use Rattle.std.specs.Prelude.{◌≡◌, ◌+◌, ◌*◌, ◌++◌, ◌<◌, ◌≤◌, OnOk, OnErr, IfErr, Some, None, [], length, slice_index_or, slice_set};
+ghost use Rattle.views.specs.Seen.{leaf_count_of, answer_of, after_log, after_stores};
 ghost use Rattle.lane_kernels.specs.Kernels.{IsKernelOf, IsRun, stored, with_store, store_fault, rows_before, row_cost};
 ghost use Rattle.lane_kernels.specs.Changes.{changing};
+ghost use Rattle.lane_kernels.specs.Logs.{reads_on, writes_on};
 
 use crate::fault::KernelFault;
 use crate::values::narrow_value;
@@ -33,7 +34,7 @@ pub fn change_rows<L: Ledger>(
     Ok(None)
 }
 
-// Stores in one row, or leaves it as it was.
+// Stores in one row, or only reads it.
 fn change_row<L: Ledger>(
     view: &mut View,
     row: u64,
@@ -44,11 +45,12 @@ fn change_row<L: Ledger>(
     requires kernel { IsKernelOf view.old (changing change.now) }
     ensures taken { OnOk result (store_fault (answer_of view.old) row (stored (changing change.now) (slice_index_or view.old.table row [])) ≡ None) }
     ensures stored { let values = slice_index_or view.old.table row [] in
-        OnOk result (view.new ≡ record view.old { table = slice_set view.old.table row (with_store values (stored (changing change.now) values)) }) }
+        OnOk result (view.new ≡ after_stores view.old (slice_set view.old.table row (with_store values (stored (changing change.now) values)))
+        (reads_on (changing change.now) row ++ writes_on (changing change.now) row)) }
     ensures refused { IfErr result (λ fault. store_fault (answer_of view.old) row (stored (changing change.now) (slice_index_or view.old.table row []))
         ≡ Some fault) }
     ensures named { IfErr result (λ fault. rows_before fault ≡ row) }
-    ensures kept { OnErr result (view.new ≡ view.old) }
+    ensures read { OnErr result (view.new ≡ after_log view.old (reads_on (changing change.now) row)) }
     ensures steps { steps.new ≡ steps.old + row_cost (changing change.now) }
 {
     let (leaf, value) = store_of(view, row, change, steps);
@@ -70,7 +72,7 @@ fn store_of<L: Ledger>(
     requires kernel { IsKernelOf view.old (changing change.now) }
     ensures store { stored (changing change.now) (slice_index_or view.old.table row []) ≡ Some (record { leaf = result.0; value = result.1 }) }
     ensures leaf_in { result.0 < leaf_count_of view.old }
-    ensures same { view.new ≡ view.old }
+    ensures same { view.new ≡ after_log view.old (reads_on (changing change.now) row) }
     ensures steps { steps.new + 1 ≡ steps.old + row_cost (changing change.now) }
 {
     match *change {

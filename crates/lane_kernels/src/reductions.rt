@@ -1,6 +1,8 @@
 // Kernels that give one number of all rows.
 ghost use Rattle.std.specs.Prelude.{◌≡◌, ◌+◌, ◌<◌, ◌≤◌, ◌^◌, length};
+ghost use Rattle.views.specs.Seen.{after_log};
 ghost use Rattle.lane_kernels.specs.Kernels.{IsConstant, IsNarrowLeaf, IsRun, column, compares};
+ghost use Rattle.lane_kernels.specs.Logs.{rows_log};
 ghost use Rattle.lane_kernels.specs.Reductions.{reducing, start, taking, reduced, wants_a_row, IsSmall};
 
 use crate::fault::KernelFault;
@@ -81,7 +83,7 @@ fn reduced<L: Ledger>(
 ) -> i64
     requires { IsNarrowLeaf view.old leaf }
     ensures number { result ≡ reduced reduction.now (column leaf view.old.table) }
-    ensures same { view.new ≡ view.old }
+    ensures same { view.new ≡ after_log view.old (rows_log (reducing leaf reduction.now) (length view.old.table)) }
     ensures steps { steps.new ≡ steps.old + length view.old.table }
 {
     let mut number = reduction.start();

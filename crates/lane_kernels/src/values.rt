@@ -1,4 +1,5 @@
 ghost use Rattle.std.specs.Prelude.{◌≡◌, ◌+◌, ◌<◌, [], length, slice_index_or};
+ghost use Rattle.views.specs.Seen.{after_read};
 ghost use Rattle.lane_kernels.specs.Kernels.{in_leaf, IsConstant, IsNarrowLeaf};
 
 use std::sync::ledger::Ledger;
@@ -11,7 +12,7 @@ pub fn narrow_value<L: Ledger>(view: &mut View, row: u64, leaf: usize, steps: &m
     requires leaf { IsNarrowLeaf view.old leaf }
     ensures value { result ≡ in_leaf leaf (slice_index_or view.old.table row []) }
     ensures narrow { IsConstant result }
-    ensures same { view.new ≡ view.old }
+    ensures same { view.new ≡ after_read view.old row leaf }
     ensures step { steps.new ≡ steps.old + 1 }
 {
     let value = view.get(row, leaf, steps);

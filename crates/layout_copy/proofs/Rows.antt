@@ -1,9 +1,11 @@
 -- Rows that are read, stored and copied, one leaf or one row more.
-use Rattle.std.proofs.Common.{◌≡◌, ℕ, ◌+◌, ◌*◌, ◌-◌, ◌<◌, ◌≤◌, ℤ, pos, List, [], ◌∷◌, ◌++◌, append_assoc, append-nil, length, take, drop, get_or, set, Option, Some, None, if◌then◌else◌, Result, Ok, Err, OnOk, is_ok, refl, sym, ap, ◌∙◌, arith}
-use Rattle.std.proofs.lemmas.List.{at_drop_more, take_all, drop_all, take_more, drop_more, length-take, set-set, get_or-set_same, set-append_right}
+use Rattle.std.proofs.Common.{◌≡◌, true, ℕ, ◌+◌, ◌*◌, ◌-◌, ◌<◌, ◌≤◌, ℤ, pos, List, [], ◌∷◌, ◌++◌, append_assoc, append-nil, length, take, drop, get_or, set, Option, Some, None, if◌then◌else◌, Result, Ok, Err, OnOk, is_ok, refl, sym, ap, ◌∙◌, arith}
+use Rattle.std.proofs.lemmas.List.{at_drop_more, take_all, drop_all, take_more, drop_more, length-take, set-set, set-get_or, get_or-set_same, length-set, take-set-le, set-append_right}
 use Rattle.piece_bits.specs.Tables.{with_entry}
-use Rattle.views.specs.Seen.{Seen, answer_of}
+use Rattle.views.specs.Seen.{Seen, answer_of, leaf_count_of, after_log, after_stores, after_read, after_write}
 use Rattle.views.specs.Stores.{Answer}
+use Rattle.views.specs.TallyLaws.{after_log-none, after_log-append, logs_more, accesses_more}
+use Rattle.views.specs.Tallies.{Access, Read, Write, row_reads, row_writes, all_reads, all_writes}
 use Rattle.views.specs.declared.fault.StoreFault.{StoreFault}
 use Rattle.layout_copy.specs.Copies.{refusing, refused_at, spot_or}
 
@@ -35,10 +37,35 @@ pub record AreRead (answer : Answer) (row values : List ℤ) (leaf : ℕ) : Type
   pub front : take leaf values ≡ take leaf row
   pub rest : refusing answer 0 row ≡ refusing answer leaf (drop leaf row)
 
+pub leaf_read : (answer : Answer) (row values : List ℤ) (leaf : ℕ) (value : ℤ) → leaf < length values → value ≡ get_or row leaf (pos 0) → is_ok (answer leaf value) ≡ true → AreRead answer row values leaf
+    → AreRead answer row (set values leaf value) (leaf + 1)
+leaf_read answer row values leaf value small is taken so_far =
+    let inside : leaf < length row = omega (arith, small, so_far.count) in
+    let long : leaf < length (set values leaf value) = omega (arith, small, length-set values leaf value) in
+    record {
+      count = length-set values leaf value ∙ so_far.count;
+      front = rw (take_more (set values leaf value) leaf (pos 0) long, take-set-le leaf values leaf value (omega arith), get_or-set_same values leaf value (pos 0) small, take_more row leaf (pos 0) inside, so_far.front, is) refl;
+      rest = so_far.rest ∙ leaf_at answer row leaf inside ∙ (rw (← is, taken) refl);
+    }
+
+-- a read more of a row, and the reads of a row more
+pub read_more : (old now new : Seen) (row leaf : ℕ) → now ≡ after_log old (row_reads leaf row) → new ≡ after_read now row leaf → new ≡ after_log old (row_reads (leaf + 1) row)
+read_more old now new row leaf so_far read =
+    rw (accesses_more (Read row) leaf) (read ∙ ap (λ (s : Seen). after_read s row leaf) so_far ∙ after_log-append old (row_reads leaf row) (Read row leaf ∷ []))
+
+pub reads_after : (old now new : Seen) (leaves row : ℕ) (log : List Access) → now ≡ after_log old (all_reads leaves row) → new ≡ after_log now log → new ≡ after_log old (all_reads leaves row ++ log)
+reads_after old now new leaves row log so_far read = read ∙ ap (λ (s : Seen). after_log s log) so_far ∙ after_log-append old (all_reads leaves row) log
+
+pub row_read : (old now new : Seen) (leaves row : ℕ) → now ≡ after_log old (all_reads leaves row) → new ≡ after_log now (row_reads leaves row) → new ≡ after_log old (all_reads leaves (row + 1))
+row_read old now new leaves row so_far read = rw (logs_more (row_reads leaves) row) (reads_after old now new leaves row (row_reads leaves row) so_far read)
+
 -- the values before a leaf were stored, and the others will be taken
 pub record AreStored (old now : Seen) (row : ℕ) (values : List ℤ) (leaf : ℕ) : Type 0 where
-  pub same : now ≡ record old { table = set old.table row (half values (get_or old.table row []) leaf) }
+  pub same : now ≡ after_stores old (set old.table row (half values (get_or old.table row []) leaf)) (row_writes leaf row)
   pub rest : refusing (answer_of old) leaf (drop leaf values) ≡ None
+
+pub none_stored : (old : Seen) (row : ℕ) (values : List ℤ) → refusing (answer_of old) 0 values ≡ None → AreStored old old row values 0
+none_stored old row values fit = record { same = rw (set-get_or old.table row []) (sym (after_log-none old)); rest = fit }
 
 -- a leaf was taken, and so were those behind it
 record IsTaken (told : Result Unit StoreFault) (rest : Option ℕ) : Type 0 where
@@ -50,7 +77,7 @@ held_from (Ok done) leaf rest e = record { here = refl; others = e }
 held_from (Err fault) leaf rest e = absurd (cc e)
 
 pub leaf_stored : (old now new : Seen) (row leaf : ℕ) (values : List ℤ) (told : Result Unit StoreFault) → row < length old.table → leaf < length values → length values ≡ length (get_or old.table row []) → AreStored old now row values leaf
-    → told ≡ answer_of now leaf (get_or values leaf (pos 0)) → OnOk told (new ≡ record now { table = with_entry now.table row leaf (get_or values leaf (pos 0)) }) → AreStored old new row values (leaf + 1)
+    → told ≡ answer_of now leaf (get_or values leaf (pos 0)) → OnOk told (new ≡ after_write now row leaf (get_or values leaf (pos 0))) → AreStored old new row values (leaf + 1)
 leaf_stored old now new row leaf values told inside small same so_far gives stored =
     let before = get_or old.table row [] in
     let value = get_or values leaf (pos 0) in
@@ -63,18 +90,26 @@ leaf_stored old now new row leaf values told inside small same so_far gives stor
     ∙ set-set old.table row part (set part leaf value)
     ∙ ap (set old.table row) (half_more values before leaf (pos 0) small same) in
     record {
-      same = done ∙ ap (λ (s : Seen). record s { table = with_entry s.table row leaf value }) so_far.same ∙ ap (λ (t : List (List ℤ)). record old { table = t }) written;
+      same = done ∙ ap (λ (s : Seen). after_write s row leaf value) so_far.same
+          ∙ after_log-append (record old { table = with_entry (set old.table row part) row leaf value }) (row_writes leaf row) (Write row leaf ∷ [])
+          ∙ ap (λ (log : List Access). after_stores old (with_entry (set old.table row part) row leaf value) log) (sym (accesses_more (Write row) leaf))
+          ∙ ap (λ (t : List (List ℤ)). after_stores old t (row_writes (leaf + 1) row)) written;
       rest = held.others;
     }
 
-pub row_stored : (old now : Seen) (row leaf : ℕ) (values : List ℤ) → length values ≤ leaf → length values ≡ length (get_or old.table row []) → AreStored old now row values leaf → now ≡ record old { table = set old.table row values }
-row_stored old now row leaf values over same so_far =
-    so_far.same ∙ ap (λ (r : List ℤ). record old { table = set old.table row r }) (half_whole values (get_or old.table row []) leaf over same)
+pub row_stored : (old now : Seen) (row leaf : ℕ) (values : List ℤ) → leaf ≡ leaf_count_of old → length values ≤ leaf → length values ≡ length (get_or old.table row []) → AreStored old now row values leaf
+    → now ≡ after_stores old (set old.table row values) (row_writes (leaf_count_of old) row)
+row_stored old now row leaf values all over same so_far =
+    so_far.same ∙ ap (λ (n : ℕ). after_stores old (set old.table row (half values (get_or old.table row []) leaf)) (row_writes n row)) all
+    ∙ ap (λ (r : List ℤ). after_stores old (set old.table row r) (row_writes (leaf_count_of old) row)) (half_whole values (get_or old.table row []) leaf over same)
 
 -- the rows before this one were copied, and each was held
 pub record AreCopied (source old now : Seen) (row : ℕ) : Type 0 where
-  pub same : now ≡ record old { table = half source.table old.table row }
+  pub same : now ≡ after_stores old (half source.table old.table row) (all_writes (leaf_count_of old) row)
   pub rest : refused_at (answer_of old) 0 source.table ≡ refused_at (answer_of old) row (drop row source.table)
+
+pub none_copied : (source old : Seen) → AreCopied source old old 0
+none_copied source old = record { same = sym (after_log-none old); rest = refl }
 
 row_at : (source old now : Seen) (row : ℕ) → row < length source.table → AreCopied source old now row
     → refused_at (answer_of old) 0 source.table ≡ spot_or row (refusing (answer_of now) 0 (get_or source.table row [])) (refused_at (answer_of old) (row + 1) (drop (row + 1) source.table))
@@ -82,11 +117,15 @@ row_at source old now row small so_far =
     so_far.rest ∙ at_drop_more (refused_at (answer_of old) row) source.table row [] small
     ∙ ap (λ (s : Seen). spot_or row (refusing (answer_of s) 0 (get_or source.table row [])) (refused_at (answer_of old) (row + 1) (drop (row + 1) source.table))) (sym so_far.same)
 
-pub row_copied : (source old now new : Seen) (row : ℕ) → row < length source.table → length source.table ≡ length old.table → AreCopied source old now row → refusing (answer_of now) 0 (get_or source.table row []) ≡ None → new ≡ record now { table = set now.table row (get_or source.table row []) } → AreCopied source old new (row + 1)
+pub row_copied : (source old now new : Seen) (row : ℕ) → row < length source.table → length source.table ≡ length old.table → AreCopied source old now row → refusing (answer_of now) 0 (get_or source.table row []) ≡ None → new ≡ after_stores now (set now.table row (get_or source.table row [])) (row_writes (leaf_count_of now) row) → AreCopied source old new (row + 1)
 row_copied source old now new row small same so_far held stored =
+    let leaves = leaf_count_of old in
+    let table = set (half source.table old.table row) row (get_or source.table row []) in
     record {
-      same = stored ∙ ap (λ (s : Seen). record s { table = set s.table row (get_or source.table row []) }) so_far.same
-          ∙ ap (λ (t : List (List ℤ)). record old { table = t }) (half_more source.table old.table row [] small same);
+      same = stored ∙ ap (λ (s : Seen). after_stores s (set s.table row (get_or source.table row [])) (row_writes (leaf_count_of s) row)) so_far.same
+          ∙ after_log-append (record old { table = table }) (all_writes leaves row) (row_writes leaves row)
+          ∙ ap (λ (log : List Access). after_stores old table log) (sym (logs_more (row_writes leaves) row))
+          ∙ ap (λ (t : List (List ℤ)). after_stores old t (all_writes leaves (row + 1))) (half_more source.table old.table row [] small same);
       rest = row_at source old now row small so_far
           ∙ ap (λ (o : Option ℕ). spot_or row o (refused_at (answer_of old) (row + 1) (drop (row + 1) source.table))) held;
     }

@@ -1,7 +1,8 @@
 -- What a copy of a table into another view answers, and what it leaves.
-use Rattle.std.specs.Prelude.{ℕ, ◌+◌, ◌≡◌, ℤ, List, [], ◌∷◌, ◌++◌, take, drop, Option, Some, None, Result, Ok, Err, is_ok, if◌then◌else◌}
+use Rattle.std.specs.Prelude.{ℕ, ◌+◌, ◌≡◌, ℤ, List, [], ◌∷◌, ◌++◌, length, take, drop, Option, Some, None, Result, Ok, Err, is_ok, if◌then◌else◌}
 use Rattle.record_dim.specs.Schemas.{schema_fields}
-use Rattle.views.specs.Seen.{Seen, answer_of}
+use Rattle.views.specs.Seen.{Seen, answer_of, leaf_count_of, after_stores}
+use Rattle.views.specs.Tallies.{Access, row_reads, all_reads, all_writes}
 use Rattle.views.specs.Stores.{Answer}
 use Rattle.layout_copy.specs.declared.fault.CopyFault.{CopyFault}
 use Rattle.layout_copy.specs.declared.fault.CopyFault.TheVariants.{Mismatch, Narrow}
@@ -33,8 +34,14 @@ AreAlike source target = (schema_fields source.schema ≡ schema_fields target.s
 -- a copy of `source` into `old`, which becomes `new`: its table, or that of the rows before the first that has a value which is not held
 abbrev pub IsCopied : Seen → Seen → Seen → Result Unit CopyFault → Type 0
 IsCopied source old new (Ok done) =
-    AreAlike source old × (refused_at (answer_of old) 0 source.table ≡ None) × (new ≡ record old { table = source.table })
+    AreAlike source old × (refused_at (answer_of old) 0 source.table ≡ None) × (new ≡ after_stores old source.table (all_writes (leaf_count_of old) (length source.table)))
 IsCopied source old new (Err Mismatch) = (AreAlike source old → ⊥) × (new ≡ old)
 IsCopied source old new (Err (Narrow row leaf)) =
     AreAlike source old × (refused_at (answer_of old) 0 source.table ≡ Some (record { row = row; leaf = leaf }))
-    × (new ≡ record old { table = take row source.table ++ drop row old.table })
+    × (new ≡ after_stores old (take row source.table ++ drop row old.table) (all_writes (leaf_count_of old) row))
+
+-- the reads of the source, which has so many leaves and rows: of all, or up to the leaf of the row that is not held
+abbrev pub source_log : ℕ → ℕ → Result Unit CopyFault → List Access
+source_log leaves rows (Ok done) = all_reads leaves rows
+source_log leaves rows (Err Mismatch) = []
+source_log leaves rows (Err (Narrow row leaf)) = all_reads leaves row ++ row_reads (leaf + 1) row

@@ -7,14 +7,14 @@ use Rattle.row_updates.specs.declared.fault.UpdateFault.{UpdateFault}
 use Rattle.row_updates.specs.Rows.{each, ◌>>=◌, Setting, with_values}
 
 -- the first thing gave something, and so did the others
-record IsFirst {A : Type 0} (first : Result A UpdateFault) (rest : Result (List A) UpdateFault) (all : List A) : Type 0 where
+pub record IsFirst {A : Type 0} (first : Result A UpdateFault) (rest : Result (List A) UpdateFault) (all : List A) : Type 0 where
   pub y : A
   pub ys : List A
   pub first_is : first ≡ Ok y
   pub rest_is : rest ≡ Ok ys
   pub all_are : all ≡ y ∷ ys
 
-parted : {A : Type 0} (first : Result A UpdateFault) (rest : Result (List A) UpdateFault) (all : List A) → (first >>= (λ y. rest >>= (λ ys. Ok (y ∷ ys)))) ≡ Ok all → IsFirst first rest all
+pub parted : {A : Type 0} (first : Result A UpdateFault) (rest : Result (List A) UpdateFault) (all : List A) → (first >>= (λ y. rest >>= (λ ys. Ok (y ∷ ys)))) ≡ Ok all → IsFirst first rest all
 parted (Ok y) (Ok ys) all e = record { y = y; ys = ys; first_is = refl; rest_is = refl; all_are = cc }
 parted (Ok y) (Err f) all e = absurd (cc)
 parted (Err f) rest all e = absurd (cc)

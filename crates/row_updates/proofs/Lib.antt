@@ -1,3 +1,3 @@
 pub mod Each
-pub mod Kept
+pub mod Logs
 pub mod Rows

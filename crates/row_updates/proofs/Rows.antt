@@ -1,5 +1,5 @@
 -- Updates of rows, step by step.
-use Rattle.std.proofs.Common.{◌≡◌, ℕ, zero, suc, ◌+◌, ◌<◌, ◌≤◌, List, [], ◌∷◌, ◌++◌, length, map, get_or, take, drop, set, ℤ, pos, Bool, true, false, Option, Some, Result, Ok, Err, refl, sym, ap, ◌∙◌, subst, arith, count_by, cond}
+use Rattle.std.proofs.Common.{◌≡◌, ℕ, suc, ◌+◌, ◌<◌, ◌≤◌, List, [], ◌∷◌, ◌++◌, length, map, get_or, take, drop, set, ℤ, pos, Bool, true, false, Option, Some, Result, Ok, Err, refl, sym, ap, ◌∙◌, arith, count_by, cond}
 use Rattle.std.specs.List.{range_with_len, slice_get}
 use Rattle.std.specs.Prelude.{slice_set}
 use Rattle.std.proofs.lemmas.List.{take_more, take_more_set, drop-set-lt, drop_more, get_or-drop, get_or-set_same, set-set, get_or-map, length-set, length-map, get_or-take}
@@ -9,12 +9,17 @@ use Rattle.extents.specs.Indices.{indices}
 use Rattle.expr_lang.specs.Terms.{Term}
 use Rattle.linearize.specs.Slots.{index_at}
 use Rattle.piece_bits.specs.Tables.{with_entry}
-use Rattle.views.specs.Seen.{Seen, answer_of}
+use Rattle.views.specs.Tallies.{Write}
+use Rattle.views.specs.TallyLaws.{after_log-none, logs_more}
+use Rattle.views.specs.Seen.{Seen, answer_of, after_stores, after_write}
 use Rattle.views.specs.declared.fault.StoreFault.{StoreFault}
 use Rattle.row_updates.specs.declared.fault.UpdateFault.{UpdateFault}
 use Rattle.row_updates.specs.declared.update.Assign.{Assign}
 use Rattle.views.specs.Stores.{Answer}
 use Rattle.row_updates.specs.Rows.{Setting, setting_of, each, in_row, store_kind, value_of, passes, new_value, with_values, updated_row, updated_rows, counted, ◌>>=◌}
+use Rattle.row_updates.specs.Logs.{value_log, sides_log, stores_log, row_log, update_log}
+use Rattle.views.specs.TallyLaws.{after_stores-append}
+use Rattle.row_updates.proofs.Logs.{sides_push, sides_stop, stores_push}
 use Rattle.row_updates.proofs.Each.{each_push, each_stop, each_at, rows_push, rows_stop, with_values_push}
 use mir.Val.{bool_byte}
 
@@ -31,18 +36,34 @@ values_stop step sets place set values fault small is so_far stop =
     let at = setting_at sets place set (setting_of set) small is in
     each_stop step (map setting_of sets) place (setting_of set) values fault (settings_long sets place small) so_far (ap step at ∙ sym stop)
 
+settings_more : (sets : List Assign) (place : ℕ) (set : Assign) → place < length sets → set ≡ get_or sets place set → take (place + 1) (map setting_of sets) ≡ take place (map setting_of sets) ++ setting_of set ∷ []
+settings_more sets place set small is =
+    take_more (map setting_of sets) place (setting_of set) (settings_long sets place small)
+    ∙ ap (λ (s : Setting). take place (map setting_of sets) ++ s ∷ []) (setting_at sets place set (setting_of set) small is)
+
 -- one right side more
 pub values_more : (step : Setting → Result ℤ UpdateFault) (sets : List Assign) (place : ℕ) (set : Assign) (values : List ℤ) (value : ℤ) → place < length sets → place < length values → set ≡ get_or sets place set → each step (take place (map setting_of sets)) ≡ Ok (take place values) → Ok value ≡ step (setting_of set) → each step (take (place + 1) (map setting_of sets)) ≡ Ok (take (place + 1) (slice_set values place value))
 values_more step sets place set values value small short is so_far more =
+    ap (λ (xs : List Setting). each step xs) (settings_more sets place set small is) ∙ each_push step (take place (map setting_of sets)) (setting_of set) (take place values) value so_far (sym more) ∙ ap (λ (vs : List ℤ). Ok vs) (sym (take_more_set values place value short))
+
+-- the reads of one right side more, and of the one that has a fault
+pub sides_more : (answer : Answer) (number : ℕ) (row : List ℤ) (index : List ℕ) (sets : List Assign) (place : ℕ) (set : Assign) (values : List ℤ) → place < length sets → set ≡ get_or sets place set → each (new_value answer number row index) (take place (map setting_of sets)) ≡ Ok values
+    → sides_log answer number row index (take (place + 1) (map setting_of sets)) ≡ sides_log answer number row index (take place (map setting_of sets)) ++ value_log number row index (setting_of set).value
+sides_more answer number row index sets place set values small is so_far =
+    ap (sides_log answer number row index) (settings_more sets place set small is) ∙ sides_push answer number row index (take place (map setting_of sets)) (setting_of set) values so_far
+
+pub sides_stopped : (answer : Answer) (number : ℕ) (row : List ℤ) (index : List ℕ) (sets : List Assign) (place : ℕ) (set : Assign) (values : List ℤ) (fault : UpdateFault) → place < length sets → set ≡ get_or sets place set → each (new_value answer number row index) (take place (map setting_of sets)) ≡ Ok values → Err fault ≡ new_value answer number row index (setting_of set)
+    → sides_log answer number row index (map setting_of sets) ≡ sides_log answer number row index (take place (map setting_of sets)) ++ value_log number row index (setting_of set).value
+sides_stopped answer number row index sets place set values fault small is so_far stop =
     let at = setting_at sets place set (setting_of set) small is in
-    let front = take_more (map setting_of sets) place (setting_of set) (settings_long sets place small) ∙ ap (λ (s : Setting). take place (map setting_of sets) ++ s ∷ []) at in
-    ap (λ (xs : List Setting). each step xs) front ∙ each_push step (take place (map setting_of sets)) (setting_of set) (take place values) value so_far (sym more) ∙ ap (λ (vs : List ℤ). Ok vs) (sym (take_more_set values place value short))
+    sides_stop answer number row index (map setting_of sets) place (setting_of set) values fault (settings_long sets place small) so_far (ap (new_value answer number row index) at ∙ sym stop)
+    ∙ ap (λ (s : Setting). sides_log answer number row index (take place (map setting_of sets)) ++ value_log number row index s.value) at
 
 -- one store more
 pub stored_more : (old view new : Seen) (row place : ℕ) (sets : List Assign) (set : Assign) (values : List ℤ) → row < length old.table → place < length sets → place < length values → set ≡ get_or sets place set
-    → view ≡ record old { table = slice_set old.table row (with_values (take place (map setting_of sets)) (take place values) (get_or old.table row [])) }
-    → new ≡ record view { table = with_entry view.table row set.leaf (get_or values place (pos 0)) }
-    → new ≡ record old { table = slice_set old.table row (with_values (take (place + 1) (map setting_of sets)) (take (place + 1) values) (get_or old.table row [])) }
+    → view ≡ after_stores old (slice_set old.table row (with_values (take place (map setting_of sets)) (take place values) (get_or old.table row []))) (stores_log row (take place (map setting_of sets)))
+    → new ≡ after_write view row set.leaf (get_or values place (pos 0))
+    → new ≡ after_stores old (slice_set old.table row (with_values (take (place + 1) (map setting_of sets)) (take (place + 1) values) (get_or old.table row []))) (stores_log row (take (place + 1) (map setting_of sets)))
 stored_more old view new row place sets set values inside small short is so_far more =
     let row_so_far = with_values (take place (map setting_of sets)) (take place values) (get_or old.table row []) in
     let at = setting_at sets place set (setting_of set) small is in
@@ -54,7 +75,14 @@ stored_more old view new row place sets set values inside small short is so_far 
     let here : get_or (slice_set old.table row row_so_far) row [] ≡ row_so_far = get_or-set_same old.table row row_so_far [] inside in
     let twice = set-set old.table row row_so_far (slice_set row_so_far set.leaf (get_or values place (pos 0))) in
     let table = ap (λ (r : List ℤ). slice_set (slice_set old.table row row_so_far) row (slice_set r set.leaf (get_or values place (pos 0)))) here ∙ twice ∙ ap (slice_set old.table row) (sym row_now) in
-    more ∙ ap (λ (v : Seen). record v { table = with_entry v.table row set.leaf (get_or values place (pos 0)) }) so_far ∙ ap (λ (t : List (List ℤ)). record old { table = t }) table
+    let log = stores_log row (take place (map setting_of sets)) in
+    let logs : stores_log row (take (place + 1) (map setting_of sets)) ≡ log ++ Write row set.leaf ∷ [] =
+    stores_push row (map setting_of sets) place (setting_of set) (settings_long sets place small) ∙ ap (λ (s : Setting). log ++ Write row s.leaf ∷ []) at in
+    let before = slice_set old.table row row_so_far in
+    more ∙ ap (λ (v : Seen). after_write v row set.leaf (get_or values place (pos 0))) so_far
+    ∙ after_stores-append old before (with_entry before row set.leaf (get_or values place (pos 0))) log (Write row set.leaf ∷ [])
+    ∙ ap (λ (t : List (List ℤ)). after_stores old t (log ++ Write row set.leaf ∷ [])) table
+    ∙ ap (after_stores old (slice_set old.table row (with_values (take (place + 1) (map setting_of sets)) (take (place + 1) values) (get_or old.table row [])))) (sym logs)
 
 fits_from : (number : ℕ) (set : Setting) (got : ℤ) (told : Result Unit StoreFault) (value : ℤ) → (in_row number (store_kind set.leaf) told >>= (λ fits. Ok got)) ≡ Ok value → (told ≡ Ok tt) × (got ≡ value)
 fits_from number set got (Ok done) value e = (refl, cc)
@@ -97,34 +125,51 @@ same_behind : {A : Type 0} (xs ys : List A) (n : ℕ) (d : A) → n < length xs 
 same_behind xs ys n d small less same =
     let e = sym (drop_more xs n d small) ∙ same ∙ drop_more ys n d less in cc
 
--- a row of the table so far is the row as it stood
-row_here : (old view : Seen) (filter : Option (Term ℕ)) (sets : List Setting) (row : ℕ) (result : Result (List ℤ) UpdateFault) → view ≡ record old { table = view.table } → drop row view.table ≡ drop row old.table → updated_row (answer_of view) filter sets row (get_or view.table row []) (index_at view.extents row) ≡ result → updated_row (answer_of old) filter sets row (get_or old.table row []) (index_at old.extents row) ≡ result
-row_here old view filter sets row result same behind gives =
-    let numbers = same_at view.table old.table row [] behind in
-    let at : updated_row (answer_of old) filter sets row (get_or view.table row []) (index_at old.extents row) ≡ result =
-    subst (λ (v : Seen). updated_row (answer_of v) filter sets row (get_or view.table row []) (index_at v.extents row) ≡ result) same gives in
-    subst (λ (r : List ℤ). updated_row (answer_of old) filter sets row r (index_at old.extents row) ≡ result) numbers at
-
-pub rows_stopped : (old view : Seen) (filter : Option (Term ℕ)) (sets : List Setting) (row : ℕ) (fault : UpdateFault) → row < length old.table → view ≡ record old { table = view.table } → drop row view.table ≡ drop row old.table → updated_rows (answer_of old) filter sets old.extents old.table row ≡ Ok (take row view.table) → updated_row (answer_of view) filter sets row (get_or view.table row []) (index_at view.extents row) ≡ Err fault → updated_rows (answer_of old) filter sets old.extents old.table (length old.table) ≡ Err fault
-rows_stopped old view filter sets row fault small same behind so_far stop =
-    rows_stop (λ number. updated_row (answer_of old) filter sets number (get_or old.table number []) (index_at old.extents number)) (length old.table) row (take row view.table) fault small so_far (row_here old view filter sets row (Err fault) same behind stop)
-
--- one row more
+-- rows so far
 pub record AreUpdated (old : Seen) (filter : Option (Term ℕ)) (sets : List Setting) (view : Seen) (row : ℕ) : Type 0 where
-  pub same : view ≡ record old { table = view.table }
+  pub same : view ≡ after_stores old view.table (update_log old filter sets row)
   pub count : length view.table ≡ length old.table
   pub front : updated_rows (answer_of old) filter sets old.extents old.table row ≡ Ok (take row view.table)
   pub back : drop row view.table ≡ drop row old.table
 
-pub rows_more : (old view after : Seen) (filter : Option (Term ℕ)) (sets : List Setting) (row : ℕ) (new : List ℤ) → row < length old.table → AreUpdated old filter sets view row → updated_row (answer_of view) filter sets row (get_or view.table row []) (index_at view.extents row) ≡ Ok new → after ≡ record view { table = slice_set view.table row new } → AreUpdated old filter sets after (row + 1)
+pub none_updated : (view : Seen) (filter : Option (Term ℕ)) (sets : List Setting) → AreUpdated view filter sets view 0
+none_updated view filter sets = record { same = sym (after_log-none view); count = refl; front = refl; back = refl }
+
+-- what the next row of the table so far gives is what the row gives as it stood
+row_here : {A : Type 0} (gives : Answer → List ℤ → List ℕ → A) (old view : Seen) (filter : Option (Term ℕ)) (sets : List Setting) (row : ℕ) → AreUpdated old filter sets view row → gives (answer_of view) (get_or view.table row []) (index_at view.extents row) ≡ gives (answer_of old) (get_or old.table row []) (index_at old.extents row)
+row_here gives old view filter sets row so_far =
+    ap (λ (v : Seen). gives (answer_of v) (get_or view.table row []) (index_at v.extents row)) so_far.same
+    ∙ ap (λ (r : List ℤ). gives (answer_of old) r (index_at old.extents row)) (same_at view.table old.table row [] so_far.back)
+
+pub rows_stopped : (old view : Seen) (filter : Option (Term ℕ)) (sets : List Setting) (row : ℕ) (fault : UpdateFault) → row < length old.table → AreUpdated old filter sets view row → updated_row (answer_of view) filter sets row (get_or view.table row []) (index_at view.extents row) ≡ Err fault → updated_rows (answer_of old) filter sets old.extents old.table (length old.table) ≡ Err fault
+rows_stopped old view filter sets row fault small so_far stop =
+    let here = row_here (λ answer numbers index. updated_row answer filter sets row numbers index) old view filter sets row so_far in
+    rows_stop (λ number. updated_row (answer_of old) filter sets number (get_or old.table number []) (index_at old.extents number)) (length old.table) row (take row view.table) fault small so_far.front (sym here ∙ stop)
+
+-- the accesses of one row more, which was changed or left
+pub rows_touched : (old view after : Seen) (filter : Option (Term ℕ)) (sets : List Setting) (row : ℕ) (table : List (List ℤ)) → AreUpdated old filter sets view row → after ≡ after_stores view table (row_log (answer_of view) filter sets row (get_or view.table row []) (index_at view.extents row)) → after ≡ after_stores old after.table (update_log old filter sets (row + 1))
+rows_touched old view after filter sets row table so_far more =
+    let log = update_log old filter sets row in
+    let one = row_log (answer_of old) filter sets row (get_or old.table row []) (index_at old.extents row) in
+    let here = row_here (λ answer numbers index. row_log answer filter sets row numbers index) old view filter sets row so_far in
+    let logs = logs_more (λ number. row_log (answer_of old) filter sets number (get_or old.table number []) (index_at old.extents number)) row in
+    more ∙ ap (after_stores view table) here
+    ∙ ap (λ (s : Seen). after_stores s table one) so_far.same
+    ∙ after_stores-append old view.table table log one
+    ∙ ap (after_stores old table) (sym logs)
+    ∙ ap (λ (t : List (List ℤ)). after_stores old t (update_log old filter sets (row + 1))) (sym (ap (λ (s : Seen). s.table) more))
+
+-- one row more
+pub rows_more : (old view after : Seen) (filter : Option (Term ℕ)) (sets : List Setting) (row : ℕ) (new : List ℤ) → row < length old.table → AreUpdated old filter sets view row → updated_row (answer_of view) filter sets row (get_or view.table row []) (index_at view.extents row) ≡ Ok new → after ≡ after_stores view (slice_set view.table row new) (row_log (answer_of view) filter sets row (get_or view.table row []) (index_at view.extents row)) → AreUpdated old filter sets after (row + 1)
 rows_more old view after filter sets row new small so_far gives changed =
     let inside : row < length view.table = omega (arith, small, so_far.count) in
     let table : after.table ≡ slice_set view.table row new = ap (λ (s : Seen). s.table) changed in
     let past : row < row + 1 = omega arith in
+    let here = row_here (λ answer numbers index. updated_row answer filter sets row numbers index) old view filter sets row so_far in
     record {
-      same = changed ∙ ap (λ (s : Seen). record s { table = slice_set view.table row new }) so_far.same ∙ ap (λ (t : List (List ℤ)). record old { table = t }) (sym table);
+      same = rows_touched old view after filter sets row (slice_set view.table row new) so_far changed;
       count = ap length table ∙ length-set view.table row new ∙ so_far.count;
-      front = rows_push (λ number. updated_row (answer_of old) filter sets number (get_or old.table number []) (index_at old.extents number)) row (take row view.table) new so_far.front (row_here old view filter sets row (Ok new) so_far.same so_far.back gives)
+      front = rows_push (λ number. updated_row (answer_of old) filter sets number (get_or old.table number []) (index_at old.extents number)) row (take row view.table) new so_far.front (sym here ∙ gives)
           ∙ ap (λ (t : List (List ℤ)). Ok t) (sym (take_more_set view.table row new inside) ∙ ap (take (row + 1)) (sym table));
       back = ap (drop (row + 1)) table ∙ drop-set-lt (row + 1) view.table row new past ∙ same_behind view.table old.table row [] inside small so_far.back;
     }

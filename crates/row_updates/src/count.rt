@@ -1,7 +1,9 @@
 // Rows where an expression is not 0, counted.
-ghost use Rattle.std.specs.Prelude.{◌≡◌};
+ghost use Rattle.std.specs.Prelude.{◌≡◌, ◌+◌, OnOk, IfErr, length};
 ghost use Rattle.expr_lang.specs.Bounds.{bound_term};
+ghost use Rattle.views.specs.Seen.{after_log};
 ghost use Rattle.row_updates.specs.Rows.{IsOver, counted};
+ghost use Rattle.row_updates.specs.Logs.{count_log};
 
 use crate::fault::UpdateFault;
 use crate::value::passes;
@@ -10,7 +12,8 @@ use std::sync::ledger::Ledger;
 use steps::Steps;
 use views::View;
 
-/// In how many rows an expression is not 0, or its first fault in the order of rows. The table stands, and no memory is taken.
+/// In how many rows an expression is not 0, or its first fault in the order of rows. The table stands, the
+/// reads are counted, and no memory is taken.
 pub fn count_where<L: Ledger>(
     view: &mut View,
     filter: &Bound,
@@ -18,7 +21,8 @@ pub fn count_where<L: Ledger>(
 ) -> Result<u64, UpdateFault>
     requires { IsOver view.old filter.now }
     ensures value { result ≡ counted (bound_term filter.now) view.old.extents view.old.table }
-    ensures same { view.new ≡ view.old }
+    ensures same { OnOk result (view.new ≡ after_log view.old (count_log (bound_term filter.now) view.old.extents view.old.table (length view.old.table))) }
+    ensures so_far { IfErr result (λ fault. view.new ≡ after_log view.old (count_log (bound_term filter.now) view.old.extents view.old.table (fault.row + 1))) }
 {
     let mut count = 0;
     for row in 0..view.extents().count() {

@@ -1,8 +1,10 @@
 // New values of leaves, row by row.
-ghost use Rattle.std.specs.Prelude.{◌≡◌, ◌<◌, ◌≤◌, ℕ, ℤ, pos, Ok, OnOk, OnErr, IfErr, IfSome, All, [], List, length, map, take, drop, slice_index_or, slice_set};
-ghost use Rattle.views.specs.Seen.{answer_of};
+ghost use Rattle.std.specs.Prelude.{◌≡◌, ◌<◌, ◌≤◌, ◌+◌, ℕ, ℤ, pos, Ok, OnOk, OnErr, IfErr, IfSome, All, [], List, length, map, take, drop, slice_index_or, slice_set};
+ghost use Rattle.expr_lang.specs.Bounds.{bound_term};
+ghost use Rattle.views.specs.Seen.{answer_of, after_log, after_stores};
 ghost use Rattle.linearize.specs.Slots.{index_at};
 ghost use Rattle.row_updates.specs.Rows.{IsOver, IsSetOf, Setting, setting_of, filter_term, each, store_kind, new_value, with_values, updated_row, updated_of};
+ghost use Rattle.row_updates.specs.Logs.{value_log, sides_log, stores_log, row_log, update_log};
 
 use crate::fault::{UpdateFault, UpdateKind};
 use crate::value::{passes, value_of};
@@ -19,7 +21,8 @@ pub struct Assign {
 }
 
 /// Stores the values of the right sides in each row where the filter is not 0, row by row. All right sides of a row are evaluated and tested
-/// before one is stored. On a fault exactly the rows before the named one are changed. It takes no memory.
+/// before one is stored. On a fault exactly the rows before the named one are changed, and what was read of that one counts. A row that the
+/// filter leaves out is read by the filter alone. It takes no memory.
 pub fn update_rows<L: Ledger>(
     view: &mut View,
     filter: Option<&Bound>,
@@ -33,7 +36,10 @@ pub fn update_rows<L: Ledger>(
     ensures refused { IfErr result (λ fault. updated_of view.old (filter_term filter.entry) (map setting_of sets.now) (length view.old.table) ≡ Err fault) }
     ensures before { IfErr result (λ fault. updated_of view.old (filter_term filter.entry) (map setting_of sets.now) fault.row ≡ Ok (take fault.row view.new.table)) }
     ensures behind { IfErr result (λ fault. drop fault.row view.new.table ≡ drop fault.row view.old.table) }
-    ensures same { view.new ≡ record view.old { table = view.new.table } }
+    ensures same { OnOk result (view.new ≡ after_stores view.old view.new.table
+        (update_log view.old (filter_term filter.entry) (map setting_of sets.now) (length view.old.table))) }
+    ensures so_far { IfErr result (λ fault. view.new ≡ after_stores view.old view.new.table
+        (update_log view.old (filter_term filter.entry) (map setting_of sets.now) (fault.row + 1))) }
 {
     let mut values = [0; 64];
     for row in 0..view.extents().count() {
@@ -58,11 +64,13 @@ fn update_row<L: Ledger>(
     ensures stored { OnOk result ((new : List ℤ)
         × (updated_row (answer_of view.old) (filter_term filter.entry) (map setting_of sets.now)
         row (slice_index_or view.old.table row []) (index_at view.old.extents row) ≡ Ok new)
-        × (view.new ≡ record view.old { table = slice_set view.old.table row new })) }
+        × (view.new ≡ after_stores view.old (slice_set view.old.table row new) (row_log (answer_of view.old) (filter_term filter.entry)
+        (map setting_of sets.now) row (slice_index_or view.old.table row []) (index_at view.old.extents row)))) }
     ensures refused { IfErr result (λ fault. updated_row (answer_of view.old) (filter_term filter.entry) (map setting_of sets.now)
         row (slice_index_or view.old.table row []) (index_at view.old.extents row) ≡ Err fault) }
     ensures named { IfErr result (λ fault. fault.row ≡ row) }
-    ensures kept { OnErr result (view.new ≡ view.old) }
+    ensures kept { OnErr result (view.new ≡ after_log view.old (row_log (answer_of view.old) (filter_term filter.entry)
+        (map setting_of sets.now) row (slice_index_or view.old.table row []) (index_at view.old.extents row))) }
 {
     let index = view.extents().index_of(row);
     if !passes(view, row, index.as_slice(), filter, steps)? {
@@ -91,7 +99,7 @@ fn new_values<L: Ledger>(
     ensures refused { IfErr result (λ fault. each (new_value (answer_of view.old) row (slice_index_or view.old.table row []) index.now) (map setting_of sets.now)
         ≡ Err fault) }
     ensures named { IfErr result (λ fault. fault.row ≡ row) }
-    ensures same { view.new ≡ view.old }
+    ensures same { view.new ≡ after_log view.old (sides_log (answer_of view.old) row (slice_index_or view.old.table row []) index.now (map setting_of sets.now)) }
 {
     for (place, set) in sets.iter().enumerate() {
         values[place] = new_value(view, row, index, set, steps)?;
@@ -112,7 +120,7 @@ fn new_value<L: Ledger>(
     requires set { IsSetOf view.old set.now }
     ensures value { result ≡ new_value (answer_of view.old) row (slice_index_or view.old.table row []) index.now (setting_of set.now) }
     ensures named { IfErr result (λ fault. fault.row ≡ row) }
-    ensures same { view.new ≡ view.old }
+    ensures same { view.new ≡ after_log view.old (value_log row (slice_index_or view.old.table row []) index.now (bound_term set.now.value)) }
 {
     let value = value_of(view, row, index, &set.value, steps)?;
     match view.fits(set.leaf, value) {
@@ -137,10 +145,9 @@ fn store_values<L: Ledger>(
     requires few { length sets.now ≤ 64 }
     requires fit { (place : ℕ) (other : Setting) → place < length sets.now
         → answer_of view.old (slice_index_or (map setting_of sets.now) place other).leaf (slice_index_or values.now place (pos 0)) ≡ Ok tt }
-    ensures { view.new ≡ record view.old {
-      table = slice_set view.old.table row
-          (with_values (map setting_of sets.now) (take (length sets.now) values.now) (slice_index_or view.old.table row []));
-    } }
+    ensures { view.new ≡ after_stores view.old
+        (slice_set view.old.table row (with_values (map setting_of sets.now) (take (length sets.now) values.now) (slice_index_or view.old.table row [])))
+        (stores_log row (map setting_of sets.now)) }
 {
     for (place, set) in sets.iter().enumerate() {
         let _stored = view.set(row, set.leaf, values[place], steps);

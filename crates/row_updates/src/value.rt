@@ -2,8 +2,9 @@
 ghost use Rattle.std.specs.Prelude.{◌≡◌, ◌<◌, IfErr, IfSome, [], length, slice_index_or};
 ghost use Rattle.expr_lang.specs.Bounds.{bound_term, bound_leaves, bound_rank};
 ghost use Rattle.expr_lang.specs.Values.{outcome_of};
-ghost use Rattle.views.specs.Seen.{leaf_count_of};
+ghost use Rattle.views.specs.Seen.{leaf_count_of, after_log};
 ghost use Rattle.row_updates.specs.Rows.{IsOver, filter_term, eval_kind, value_of, passes};
+ghost use Rattle.row_updates.specs.Logs.{value_log, filter_log};
 
 use crate::fault::{UpdateFault, UpdateKind};
 use expr_lang::{Bound, EvalFault, eval};
@@ -11,7 +12,8 @@ use std::sync::ledger::Ledger;
 use steps::Steps;
 use views::View;
 
-/// The value of an expression on the row of this number, whose index this is. The table stands, and no memory is taken.
+/// The value of an expression on the row of this number, whose index this is. The table stands, the reads
+/// are counted, and no memory is taken.
 pub fn value_on<L: Ledger>(
     view: &mut View,
     row: u64,
@@ -23,7 +25,7 @@ pub fn value_on<L: Ledger>(
     requires leaves { bound_leaves expr.now ≡ leaf_count_of view.old }
     requires rank { length index.now ≡ bound_rank expr.now }
     ensures value { result ≡ (outcome_of (slice_index_or view.old.table row []) index.now (bound_term expr.now)).answer }
-    ensures same { view.new ≡ view.old }
+    ensures same { view.new ≡ after_log view.old (value_log row (slice_index_or view.old.table row []) index.now (bound_term expr.now)) }
 {
     let _leaves = view.schema();
     let mut entry = view.row_mut(row);
@@ -43,7 +45,7 @@ pub fn value_of<L: Ledger>(
     requires over { IsOver view.old value.now }
     ensures value { result ≡ value_of row (slice_index_or view.old.table row []) index.now (bound_term value.now) }
     ensures named { IfErr result (λ fault. fault.row ≡ row) }
-    ensures same { view.new ≡ view.old }
+    ensures same { view.new ≡ after_log view.old (value_log row (slice_index_or view.old.table row []) index.now (bound_term value.now)) }
 {
     match value_on(view, row, value, index, steps) {
         Ok(value) => Ok(value),
@@ -67,7 +69,7 @@ pub fn passes<L: Ledger>(
     requires filter { IfSome filter (λ bound. IsOver view.old bound.now) }
     ensures value { result ≡ passes row (slice_index_or view.old.table row []) index.now (filter_term filter.entry) }
     ensures named { IfErr result (λ fault. fault.row ≡ row) }
-    ensures same { view.new ≡ view.old }
+    ensures same { view.new ≡ after_log view.old (filter_log row (slice_index_or view.old.table row []) index.now (filter_term filter.entry)) }
 {
     match filter {
         None => Ok(true),

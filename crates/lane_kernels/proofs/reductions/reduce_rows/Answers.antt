@@ -2,9 +2,15 @@ use Rattle.std.proofs.Common.{rules, arith, ◌≡◌, ◌<◌, ◌∙◌, lengt
 use Rattle.std.proofs.lemmas.Int.{to_z-of_z}
 use Rattle.extents.specs.Indices.{indices}
 use Rattle.lane_kernels.specs.Reductions.{wants_a_row}
-use Rattle.lane_kernels.proofs.Numbers.{HasFirst, has_first, reduction_ends}
+use Rattle.lane_kernels.proofs.Numbers.{HasFirst, has_first, reduction_ends, reduction_empty}
 use Rattle.lane_kernels.proofs.reductions.reduce_rows.Goals as goal
 use Rattle.lane_kernels.proofs.reductions.reduce_rows.Goals.{else-wants_a_row-via-then-wants_a_row+else-count-eq0, else-wants_a_row-via-else-wants_a_row}
+
+pub returns-then-count-eq0-clause-run : goal.returns-then-count-eq0-clause-run
+returns-then-count-eq0-clause-run g c =
+    let view = c.args.view.now in
+    let rows : length (indices c.extents.result) ≡ length view.table = ap (λ (e : List ℕ). length (indices e)) c.extents.ensures.value ∙ sym c.extents.ensures.table.rows in
+    reduction_empty view c.args.reduction.now c.args.leaf (sym c.wants_a_row.ensures ∙ c.if-wants_a_row.true) (omega (arith, rows, c.count.ensures.rows, c.if-count-eq0.true))
 
 pub returns-clause-run : goal.returns-clause-run
 returns-clause-run g c =

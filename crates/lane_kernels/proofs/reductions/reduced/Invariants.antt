@@ -1,11 +1,13 @@
 use Rattle.std.proofs.Common.{◌≡◌, ◌+◌, take}
+use Rattle.views.specs.Seen.{after_log}
 use Rattle.lane_kernels.specs.Kernels.{column}
-use Rattle.lane_kernels.specs.Reductions.{reduced, IsSmall}
+use Rattle.lane_kernels.specs.Logs.{rows_log}
+use Rattle.lane_kernels.specs.Reductions.{reducing, reduced, IsSmall}
 use Rattle.lane_kernels.proofs.reductions.reduced.Given as goal
 
 abbrev pub invariant-loop-row : goal.invariant-loop-row
 invariant-loop-row g l = record {
-  same : l.view ≡ l.initial.view;
+  same : l.view ≡ after_log l.initial.view (rows_log (reducing l.leaf l.reduction) l.row);
   small : IsSmall l.row l.number;
   so_far : l.number ≡ reduced l.reduction (take l.row (column l.leaf l.initial.view.table));
   counted : l.steps ≡ l.initial.steps + l.row;

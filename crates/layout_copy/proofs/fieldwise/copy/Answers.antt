@@ -1,8 +1,10 @@
-use Rattle.std.proofs.Common.{rules, arith, ◌≡◌, ◌<◌, ◌∙◌, ℕ, List, length, ap, sym}
+use Rattle.std.proofs.Common.{rules, arith, ◌≡◌, ◌<◌, ◌∙◌, ◌+◌, ℕ, List, length, ap, sym}
 use Rattle.extents.specs.Indices.{indices}
 use Rattle.views.specs.Seen.{leaf_count_of}
+use Rattle.views.specs.TallyLaws.{after_log-none}
+use Rattle.views.specs.Tallies.{row_reads}
 use Rattle.layout_copy.specs.Copies.{AreAlike}
-use Rattle.layout_copy.proofs.Rows.{row_copied, row_refused, steps_more}
+use Rattle.layout_copy.proofs.Rows.{reads_after, row_read, none_copied, row_copied, row_refused, steps_more}
 use Rattle.layout_copy.proofs.fieldwise.copy.Goals as goal
 
 pub returns-in-Some-clause-copied : goal.returns-in-Some-clause-copied
@@ -17,6 +19,23 @@ returns-in-Some-clause-copied g c =
       c.in-Some.ensures.kept ∙ c.loop-row.invariant.copied.same,
     )
 
+pub returns-then-not-are_alike-clause-source : goal.returns-then-not-are_alike-clause-source
+returns-then-not-are_alike-clause-source g c = sym (after_log-none c.args.source.now)
+
+pub returns-in-Some-clause-source : goal.returns-in-Some-clause-source
+returns-in-Some-clause-source g c =
+    let source = c.args.source.now in
+    let row = c.loop-row.row in
+    reads_after source c.loop-row.source c.copy_row.new.source (leaf_count_of source) row (row_reads (c.in-Some.leaf + 1) row) c.loop-row.invariant.source c.in-Some.ensures.some_read
+
+pub loop-row-init : goal.loop-row-init
+loop-row-init g c = record {
+  source = sym (after_log-none c.args.source.now);
+  values = search rules;
+  copied = none_copied c.args.source.now c.args.target.now;
+  steps = omega arith;
+}
+
 pub loop-row-preserved : goal.loop-row-preserved
 loop-row-preserved g c =
     let source = c.args.source.now in
@@ -25,9 +44,10 @@ loop-row-preserved g c =
     let small : c.loop-row.row < length source.table = omega (arith, c.loop-row-test.true, c.count-row-end.ensures.rows, rows) in
     let held = sym (rw c.loop-row.invariant.source at c.in_default.ensures.refused) in
     let stored = rw c.loop-row.invariant.source at c.in_default.ensures.stored in
+    let read = rw (ap leaf_count_of c.loop-row.invariant.source) at c.in_default.ensures.all_read in
     let more = rw c.loop-row.invariant.source at c.copy_row.ensures.steps in
     record {
-      source = c.copy_row.ensures.source ∙ c.loop-row.invariant.source;
+      source = row_read source c.loop-row.source c.copy_row.new.source (leaf_count_of source) c.loop-row.row c.loop-row.invariant.source read;
       values = c.copy_row.ensures.count ∙ c.loop-row.invariant.values;
       copied = row_copied source c.args.target.now c.loop-row.target c.copy_row.new.target c.loop-row.row small same c.loop-row.invariant.copied held stored;
       steps = steps_more c.args.steps.now c.loop-row.steps c.copy_row.new.steps c.loop-row.row (leaf_count_of source) c.loop-row.invariant.steps more;

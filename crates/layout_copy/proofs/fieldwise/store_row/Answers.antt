@@ -1,8 +1,11 @@
 use Rattle.std.proofs.Common.{rules, arith, ◌≡◌, ◌<◌, ◌∙◌, pos, [], sym, FitsSigned, get_or, length}
 use Rattle.std.specs.Int.{w128}
 use Rattle.std.proofs.lemmas.Int.{to_z-of_z}
-use Rattle.layout_copy.proofs.Rows.{leaf_stored, row_stored}
+use Rattle.layout_copy.proofs.Rows.{none_stored, leaf_stored, row_stored}
 use Rattle.layout_copy.proofs.fieldwise.store_row.Goals as goal
+
+pub loop-leaf-init : goal.loop-leaf-init
+loop-leaf-init g c = record { stored = none_stored c.args.target.now c.args.row c.args.values.now c.requires.fit; steps = omega arith }
 
 pub loop-leaf-preserved : goal.loop-leaf-preserved
 loop-leaf-preserved g c =
@@ -18,4 +21,4 @@ loop-leaf-preserved g c =
 pub returns-clause-stored : goal.returns-clause-stored
 returns-clause-stored g c =
     let numbers : length c.args.values.now ≡ length (get_or c.args.target.now.table c.args.row []) = c.requires.values ∙ sym (c.schema-leaves.ensures.table.shape.leaf_count c.args.row c.requires.row_in) in
-    row_stored c.args.target.now c.loop-leaf.target c.args.row c.loop-leaf.leaf c.args.values.now (omega arith) numbers c.loop-leaf.invariant.stored
+    row_stored c.args.target.now c.loop-leaf.target c.args.row c.loop-leaf.leaf c.args.values.now (omega (arith, c.requires.values)) (omega arith) numbers c.loop-leaf.invariant.stored

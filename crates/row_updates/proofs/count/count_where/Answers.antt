@@ -1,12 +1,14 @@
-use Rattle.std.proofs.Common.{rules, arith, ◌≡◌, ◌<◌, ◌∙◌, Err, length, ℕ, List, ap, sym, refl}
+use Rattle.std.proofs.Common.{rules, arith, ◌≡◌, ◌<◌, ◌∙◌, Err, length, ℕ, List, ap, sym}
 use Rattle.expr_lang.specs.Bounds.{bound_term}
 use Rattle.extents.specs.Indices.{indices}
 use Rattle.views.specs.Seen.{Seen}
+use Rattle.views.specs.TallyLaws.{after_log-none}
+use Rattle.row_updates.proofs.Logs.{count_push}
 use Rattle.row_updates.proofs.Rows.{index_is, none_counted, one_counted, counted_stop, counted_all}
 use Rattle.row_updates.proofs.count.count_where.Goals as goal
 
 pub loop-row-init : goal.loop-row-init
-loop-row-init g c = record { same = refl; counted = none_counted _ }
+loop-row-init g c = record { same = sym (after_log-none c.args.view.now); counted = none_counted _ }
 
 pub returns-in_err-passes-clause-value : goal.returns-in_err-passes-clause-value
 returns-in_err-passes-clause-value g c =
@@ -19,6 +21,14 @@ returns-in_err-passes-clause-value g c =
     let stop = sym (rw (c.loop-row.invariant.same, index) at c.in_err-passes.ensures.value) in
     is ∙ sym (counted_stop (bound_term c.args.filter.now) view.extents view.table c.loop-row.row c.loop-row.count c.in_err-passes.field-0.0 small c.loop-row.invariant.counted stop)
 
+pub returns-in_err-passes-clause-so_far : goal.returns-in_err-passes-clause-so_far
+returns-in_err-passes-clause-so_far g c =
+    let view = c.args.view.now in
+    let is : c.from_residual.result ≡ Err c.in_err-passes.field-0.0 = search rules in
+    let extents : c.extents-in-loop-row.result ≡ view.extents = c.extents-in-loop-row.ensures.value ∙ ap (λ (s : Seen). s.extents) c.loop-row.invariant.same in
+    let index = index_is view.extents c.extents-in-loop-row.result c.loop-row.row c.index_of-index.result.items c.as_slice.result.now extents c.index_of-index.ensures.entry c.as_slice.ensures.value in
+    rw (is, c.in_err-passes.ensures.named) (count_push view c.loop-row.view c.passes.new.view (bound_term c.args.filter.now) c.loop-row.row c.loop-row.invariant.same (rw index at c.passes.ensures.same))
+
 pub loop-row-preserved : goal.loop-row-preserved
 loop-row-preserved g c =
     let view = c.args.view.now in
@@ -26,7 +36,7 @@ loop-row-preserved g c =
     let index = index_is view.extents c.extents-in-loop-row.result c.loop-row.row c.index_of-index.result.items c.as_slice.result.now extents c.index_of-index.ensures.entry c.as_slice.ensures.value in
     let gives = sym (rw (c.loop-row.invariant.same, index) at c.in_ok-passes.ensures.value) in
     record {
-      same = c.passes.ensures.same ∙ c.loop-row.invariant.same;
+      same = count_push view c.loop-row.view c.passes.new.view (bound_term c.args.filter.now) c.loop-row.row c.loop-row.invariant.same (rw index at c.passes.ensures.same);
       counted = one_counted _ c.loop-row.row c.loop-row.count c.from.result c.in_ok-passes.field-0 c.loop-row.invariant.counted gives c.from.ensures;
     }
 

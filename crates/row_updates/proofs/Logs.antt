@@ -1,0 +1,99 @@
+-- Accesses one after another: of an expression, of the right sides of a row, and of its stores.
+use Rattle.std.proofs.Common.{◌≡◌, ℕ, zero, suc, ◌+◌, ◌<◌, List, [], ◌∷◌, ◌++◌, length, map, take, get_or, ℤ, Bool, true, false, Option, Result, Ok, Err, MutBor, refl, ap, sym, ◌∙◌, arith}
+use Rattle.std.specs.List.{fold}
+use Rattle.std.proofs.lemmas.List.{append-nil, append_assoc, map-append, take_more}
+use Rattle.expr_lang.specs.Terms.{Term}
+use Rattle.linearize.specs.Slots.{index_at}
+use Rattle.views.specs.Stores.{Answer}
+use Rattle.views.specs.Tallies.{Access, Read, Write, Tally}
+use Rattle.views.specs.TallyLaws.{after_log-append, after_reads, logs_more}
+use Rattle.views.specs.Seen.{Seen, seen_layout, answer_of, after_log, after_stores, after_read}
+use Rattle.row_updates.specs.declared.fault.UpdateFault.{UpdateFault}
+use Rattle.row_updates.specs.Rows.{Setting, each, passes, new_value}
+use Rattle.row_updates.specs.Logs.{value_log, filter_log, if_ok, if_passes, sides_log, stores_log, row_log, count_log}
+use Rattle.row_updates.proofs.Each.{parted}
+
+-- reads through a row that is borrowed
+lent_reads : (row : ℕ) (lent : MutBor Seen) (reads : List ℕ) → fold (λ (state : MutBor Seen × ℕ) (leaf : ℕ). (record state.0 { now = after_read state.0.now state.1 leaf }, state.1)) (lent, row) reads ≡ (record lent { now = fold (λ (s : Seen) leaf. after_read s row leaf) lent.now reads }, row)
+lent_reads row lent [] = refl
+lent_reads row lent (leaf ∷ reads) = lent_reads row (record lent { now = after_read lent.now row leaf }) reads
+
+pub lent_log : (row : ℕ) (lent : MutBor Seen) (reads : List ℕ) → fold (λ (state : MutBor Seen × ℕ) (leaf : ℕ). (record state.0 { now = after_read state.0.now state.1 leaf }, state.1)) (lent, row) reads ≡ (record lent { now = after_log lent.now (map (Read row) reads) }, row)
+lent_log row lent reads = lent_reads row lent reads ∙ ap (λ (s : Seen). (record lent { now = s }, row)) (after_reads row lent.now reads)
+
+if_ok_none : {A : Type 0} (result : Result A UpdateFault) → if_ok result [] ≡ []
+if_ok_none (Ok x) = refl
+if_ok_none (Err fault) = refl
+
+-- one right side more
+pub sides_push : (answer : Answer) (number : ℕ) (row : List ℤ) (index : List ℕ) (sets : List Setting) (set : Setting) (values : List ℤ) → each (new_value answer number row index) sets ≡ Ok values → sides_log answer number row index (sets ++ set ∷ []) ≡ sides_log answer number row index sets ++ value_log number row index set.value
+sides_push answer number row index [] set values so_far =
+    let log = value_log number row index set.value in
+    ap (λ (more : List Access). log ++ more) (if_ok_none (new_value answer number row index set)) ∙ append-nil log
+sides_push answer number row index (one ∷ sets) set values so_far =
+    let p = parted (new_value answer number row index one) (each (new_value answer number row index) sets) values so_far in
+    let log = value_log number row index one.value in
+    let last = value_log number row index set.value in
+    let more = sides_log answer number row index sets in
+    ap (λ (r : Result ℤ UpdateFault). log ++ if_ok r (sides_log answer number row index (sets ++ set ∷ []))) p.first_is
+    ∙ ap (λ (l : List Access). log ++ l) (sides_push answer number row index sets set p.ys p.rest_is)
+    ∙ sym (append_assoc log more last)
+    ∙ ap (λ (r : Result ℤ UpdateFault). log ++ if_ok r more ++ last) (sym p.first_is)
+
+-- the first right side with a fault is the last that is read
+pub sides_stop : (answer : Answer) (number : ℕ) (row : List ℤ) (index : List ℕ) (sets : List Setting) (n : ℕ) (d : Setting) (values : List ℤ) (fault : UpdateFault) → n < length sets → each (new_value answer number row index) (take n sets) ≡ Ok values → new_value answer number row index (get_or sets n d) ≡ Err fault
+    → sides_log answer number row index sets ≡ sides_log answer number row index (take n sets) ++ value_log number row index (get_or sets n d).value
+sides_stop answer number row index [] n d values fault small so_far stop = absurd (omega (arith, small))
+sides_stop answer number row index (one ∷ sets) zero d values fault small so_far stop =
+    let log = value_log number row index one.value in
+    ap (λ (r : Result ℤ UpdateFault). log ++ if_ok r (sides_log answer number row index sets)) stop ∙ append-nil log
+sides_stop answer number row index (one ∷ sets) (suc n) d values fault small so_far stop =
+    let p = parted (new_value answer number row index one) (each (new_value answer number row index) (take n sets)) values so_far in
+    let less : n < length sets = omega (arith, small) in
+    let log = value_log number row index one.value in
+    let last = value_log number row index (get_or sets n d).value in
+    let more = sides_log answer number row index (take n sets) in
+    ap (λ (r : Result ℤ UpdateFault). log ++ if_ok r (sides_log answer number row index sets)) p.first_is
+    ∙ ap (λ (l : List Access). log ++ l) (sides_stop answer number row index sets n d p.ys fault less p.rest_is stop)
+    ∙ sym (append_assoc log more last)
+    ∙ ap (λ (r : Result ℤ UpdateFault). log ++ if_ok r more ++ last) (sym p.first_is)
+
+-- one store more
+pub stores_push : (number : ℕ) (sets : List Setting) (n : ℕ) (d : Setting) → n < length sets → stores_log number (take (n + 1) sets) ≡ stores_log number (take n sets) ++ Write number (get_or sets n d).leaf ∷ []
+stores_push number sets n d small = ap (stores_log number) (take_more sets n d small) ∙ map-append (λ (set : Setting). Write number set.leaf) (take n sets) (get_or sets n d ∷ [])
+
+-- accesses that left the table, after others that left it
+pub log_more : (old view after : Seen) (log : List Access) (more : Answer → List (List ℤ) → List Access) → view ≡ after_log old log → after ≡ after_log view (more (answer_of view) view.table) → after ≡ after_log old (log ++ more (answer_of old) old.table)
+log_more old view after log more so_far last =
+    last ∙ ap (λ (s : Seen). after_log s (more (answer_of s) s.table)) so_far ∙ after_log-append old log (more (answer_of old) old.table)
+
+-- the accesses of a row by what its filter gives: it is left out, or has a fault, or its right sides have one, or it is updated
+abbrev tested_log : Answer → Option (Term ℕ) → List Setting → ℕ → List ℤ → List ℕ → Result Bool UpdateFault → List Access
+tested_log answer filter sets number row index test =
+    filter_log number row index filter ++ if_passes test (sides_log answer number row index sets ++ if_ok (each (new_value answer number row index) sets) (stores_log number sets))
+
+pub row_log_left : (answer : Answer) (filter : Option (Term ℕ)) (sets : List Setting) (number : ℕ) (row : List ℤ) (index : List ℕ) → Ok false ≡ passes number row index filter → row_log answer filter sets number row index ≡ filter_log number row index filter
+row_log_left answer filter sets number row index test = ap (tested_log answer filter sets number row index) (sym test) ∙ append-nil (filter_log number row index filter)
+
+pub row_log_fault : (answer : Answer) (filter : Option (Term ℕ)) (sets : List Setting) (number : ℕ) (row : List ℤ) (index : List ℕ) (fault : UpdateFault) → Err fault ≡ passes number row index filter → row_log answer filter sets number row index ≡ filter_log number row index filter
+row_log_fault answer filter sets number row index fault test = ap (tested_log answer filter sets number row index) (sym test) ∙ append-nil (filter_log number row index filter)
+
+pub row_log_stop : (answer : Answer) (filter : Option (Term ℕ)) (sets : List Setting) (number : ℕ) (row : List ℤ) (index : List ℕ) (fault : UpdateFault) → Ok true ≡ passes number row index filter → each (new_value answer number row index) sets ≡ Err fault → row_log answer filter sets number row index ≡ filter_log number row index filter ++ sides_log answer number row index sets
+row_log_stop answer filter sets number row index fault test stop =
+    let sides = sides_log answer number row index sets in
+    ap (tested_log answer filter sets number row index) (sym test)
+    ∙ ap (λ (r : Result (List ℤ) UpdateFault). filter_log number row index filter ++ (sides ++ if_ok r (stores_log number sets))) stop
+    ∙ ap (λ (log : List Access). filter_log number row index filter ++ log) (append-nil sides)
+
+pub row_log_done : (answer : Answer) (filter : Option (Term ℕ)) (sets : List Setting) (number : ℕ) (row : List ℤ) (index : List ℕ) (values : List ℤ) → Ok true ≡ passes number row index filter → each (new_value answer number row index) sets ≡ Ok values → row_log answer filter sets number row index ≡ filter_log number row index filter ++ sides_log answer number row index sets ++ stores_log number sets
+row_log_done answer filter sets number row index values test done =
+    let sides = sides_log answer number row index sets in
+    ap (tested_log answer filter sets number row index) (sym test)
+    ∙ ap (λ (r : Result (List ℤ) UpdateFault). filter_log number row index filter ++ (sides ++ if_ok r (stores_log number sets))) done
+    ∙ sym (append_assoc (filter_log number row index filter) sides (stores_log number sets))
+
+-- the reads of one row more that is counted
+pub count_push : (old view after : Seen) (filter : Term ℕ) (row : ℕ) → view ≡ after_log old (count_log filter old.extents old.table row) → after ≡ after_log view (value_log row (get_or view.table row []) (index_at old.extents row) filter) → after ≡ after_log old (count_log filter old.extents old.table (row + 1))
+count_push old view after filter row so_far last =
+    log_more old view after (count_log filter old.extents old.table row) (λ answer table. value_log row (get_or table row []) (index_at old.extents row) filter) so_far last
+    ∙ ap (after_log old) (sym (logs_more (λ number. value_log number (get_or old.table number []) (index_at old.extents number) filter) row))
