@@ -1,6 +1,7 @@
 -- New tables and their limits.
-use Rattle.std.proofs.Common.{◌≡◌, ℕ, ◌+◌, ◌*◌, ◌<◌, ◌≤◌, ◌^◌, true, false, List, length, nat_lt, take, map, get_or, Ok, refl, sym, ap, ◌∙◌, arith, ⊎_elim, inl, inr}
-use Rattle.std.proofs.lemmas.Bool.{cases_Bool}
+use Rattle.std.proofs.Common.{◌≡◌, ℕ, ◌+◌, ◌*◌, ◌<◌, ◌≤◌, ◌^◌, Bool, true, false, List, length, nat_lt, take, map, get_or, Ok, refl, sym, ap, ◌∙◌, arith, inl, inr}
+use Rattle.std.specs.Prelude.{◌||◌}
+use Rattle.std.proofs.lemmas.Bool.{false≢true}
 use Rattle.std.proofs.lemmas.Bool.Decides.{nat_tests}
 use Rattle.std.proofs.lemmas.List.{get_or-map, length-map}
 use Rattle.std.proofs.lemmas.List.Sums.{sum_by_more}
@@ -9,19 +10,28 @@ use Rattle.record_dim.specs.Trees.{Fields}
 use Rattle.record_dim.specs.Leaves.{leaves, kinds_of}
 use Rattle.record_dim.specs.Schemas.{schema_fields}
 use Rattle.map_expr.specs.Terms.{Term as MapTerm, term_of}
-use Rattle.map_any.specs.Mappings.{leaf_cells, accepted, IsTooBigFor, most_slots}
+use Rattle.map_any.specs.Mappings.{leaf_cells, layout_by, accepted, most_slots}
 use Rattle.piece_bits.specs.Tables.{zeros}
-use Rattle.views.specs.Seen.{Seen}
+use Rattle.views.specs.Seen.{Seen, seen_layout, leaf_count_of}
+use Rattle.views.specs.Tallies.{no_tally, granules_for}
+use Rattle.views.specs.Refusals.{IsOver}
 use Rattle.worlds.specs.Worlds.{Entry, Table}
-use Rattle.worlds.specs.Outcomes.{Goes, Faults}
+use Rattle.worlds.specs.Outcomes.{Outcome, Goes, Faults, ◌>>=◌, refused_if}
 use Rattle.worlds.specs.Tables.{made, zeros_of, blob_bits, live_bits}
 use Rattle.worlds.specs.declared.fault.CommandFault.TheVariants as fault
 use Rattle.command_checks.specs.Entries.{table_of, view_of}
 use Rattle.command_checks.specs.declared.entries.ViewEntry.{ViewEntry}
 
 -- the table that a new view is
-pub table_new : (seen : Seen) (fields : Fields) (extents : List ℕ) (term : MapTerm) → schema_fields seen.schema ≡ fields → seen.extents ≡ extents → term_of seen.expr ≡ term → seen.table ≡ zeros (length (indices extents)) (length (leaves fields)) → table_of seen ≡ zeros_of fields extents term
-table_new seen fields extents term f e t z = cc
+pub table_new : (seen : Seen) (fields : Fields) (extents : List ℕ) (term : MapTerm) → schema_fields seen.schema ≡ fields → seen.extents ≡ extents → term_of seen.expr ≡ term
+    → seen.table ≡ zeros (length (indices extents)) (length (leaves fields)) → seen.tally ≡ no_tally (term_of seen.expr) (seen_layout seen) (leaf_count_of seen)
+    → table_of seen ≡ zeros_of fields extents term
+table_new seen fields extents term f e t z n =
+    let tally : seen.tally ≡ no_tally term (layout_by term extents fields) (length (leaves fields)) =
+    n ∙ ap (λ (w : MapTerm). no_tally w (layout_by w seen.extents (schema_fields seen.schema)) (leaf_count_of seen)) t
+    ∙ ap (λ (w : List ℕ). no_tally term (layout_by term w (schema_fields seen.schema)) (leaf_count_of seen)) e
+    ∙ ap (λ (w : Fields). no_tally term (layout_by term extents w) (length (leaves w))) f in
+    cc
 
 slots_within : (a b : ℕ) → (a < b → ⊥) → nat_lt a b ≡ false
 slots_within a b within = grind (arith, nat_tests)
@@ -29,30 +39,67 @@ slots_within a b within = grind (arith, nat_tests)
 passed : (a b : ℕ) → a < b → nat_lt a b ≡ true
 passed a b over = grind (arith, nat_tests)
 
-pub made_goes : (views : List (Entry Table)) (fields : Fields) (extents : List ℕ) (term : MapTerm) → accepted term fields (leaf_cells (kinds_of fields)) ≡ Ok tt → (IsTooBigFor term extents fields (leaf_cells (kinds_of fields)) → ⊥) → (8 * 2 ^ 30 < live_bits views + blob_bits (zeros_of fields extents term) → ⊥) → made views fields extents term ≡ Goes (zeros_of fields extents term)
-made_goes views fields extents term good small room =
-    let slots = slots_within (2 ^ 24) (most_slots term extents) (λ over. small (inl over)) in
-    let bits = slots_within (8 * 2 ^ 28) (blob_bits (zeros_of fields extents term)) (λ over. small (inr over)) in
-    let all = slots_within (8 * 2 ^ 30) (live_bits views + blob_bits (zeros_of fields extents term)) room in
-    rw (good, slots, bits, all) refl
+-- a table behind four limits, each passed or not
+abbrev limited : Bool → Bool → Bool → Bool → Table → Outcome Table
+limited slots bits granules all table = do
+  fit ← refused_if slots fault.TooBig
+  small ← refused_if bits fault.TooBig
+  few ← refused_if granules fault.TooBig
+  room ← refused_if all fault.TooBig
+  Goes table
 
-pub made_full : (views : List (Entry Table)) (fields : Fields) (extents : List ℕ) (term : MapTerm) → accepted term fields (leaf_cells (kinds_of fields)) ≡ Ok tt → (IsTooBigFor term extents fields (leaf_cells (kinds_of fields)) → ⊥) → 8 * 2 ^ 30 < live_bits views + blob_bits (zeros_of fields extents term) → made views fields extents term ≡ Faults fault.TooBig
-made_full views fields extents term good small full =
-    let slots = slots_within (2 ^ 24) (most_slots term extents) (λ over. small (inl over)) in
-    let bits = slots_within (8 * 2 ^ 28) (blob_bits (zeros_of fields extents term)) (λ over. small (inr over)) in
-    let all = passed (8 * 2 ^ 30) (live_bits views + blob_bits (zeros_of fields extents term)) full in
-    rw (good, slots, bits, all) refl
+limited_goes : (a b c d : Bool) (table : Table) → a ≡ false → b ≡ false → c ≡ false → d ≡ false → limited a b c d table ≡ Goes table
+limited_goes a b c d table p q r s = rw (p, q, r, s) refl
 
-pub made_big : (views : List (Entry Table)) (fields : Fields) (extents : List ℕ) (term : MapTerm) → accepted term fields (leaf_cells (kinds_of fields)) ≡ Ok tt → IsTooBigFor term extents fields (leaf_cells (kinds_of fields)) → made views fields extents term ≡ Faults fault.TooBig
-made_big views fields extents term good big = ⊎_elim
-    (λ (slots : 2 ^ 24 < most_slots term extents). rw (good, passed (2 ^ 24) (most_slots term extents) slots) refl)
-    (λ (bits : 8 * 2 ^ 28 < blob_bits (zeros_of fields extents term)).
-    let over = passed (8 * 2 ^ 28) (blob_bits (zeros_of fields extents term)) bits in
-    ⊎_elim
-    (λ (e : nat_lt (2 ^ 24) (most_slots term extents) ≡ true). rw (good, e) refl)
-    (λ (e : nat_lt (2 ^ 24) (most_slots term extents) ≡ false). rw (good, e, over) refl)
-    (cases_Bool (nat_lt (2 ^ 24) (most_slots term extents))))
-    big
+limited_over : (a b c d : Bool) (table : Table) → (a || (b || (c || d))) ≡ true → limited a b c d table ≡ Faults fault.TooBig
+limited_over true b c d table over = refl
+limited_over false true c d table over = refl
+limited_over false false true d table over = refl
+limited_over false false false true table over = refl
+limited_over false false false false table over = absurd (false≢true over)
+
+first : (a b : Bool) → a ≡ true → (a || b) ≡ true
+first a b over = rw over refl
+
+either : (a b : Bool) → b ≡ true → (a || b) ≡ true
+either true b over = refl
+either false b over = over
+
+module _ (views : List (Entry Table)) (fields : Fields) (extents : List ℕ) (term : MapTerm) (good : accepted term fields (leaf_cells (kinds_of fields)) ≡ Ok tt) where
+  abbrev slots : Bool
+  slots = nat_lt (2 ^ 24) (most_slots term extents)
+
+  abbrev bits : Bool
+  bits = nat_lt (8 * 2 ^ 28) (blob_bits (zeros_of fields extents term))
+
+  abbrev granules : Bool
+  granules = nat_lt (2 ^ 24) (granules_for term (layout_by term extents fields))
+
+  abbrev all : Bool
+  all = nat_lt (8 * 2 ^ 30) (live_bits views + blob_bits (zeros_of fields extents term))
+
+  made_is : made views fields extents term ≡ limited slots bits granules all (zeros_of fields extents term)
+  made_is = rw good refl
+
+  over_is : (slots || (bits || (granules || all))) ≡ true → made views fields extents term ≡ Faults fault.TooBig
+  over_is over = made_is ∙ limited_over slots bits granules all (zeros_of fields extents term) over
+
+  pub made_goes : (IsOver term extents fields → ⊥) → (8 * 2 ^ 30 < live_bits views + blob_bits (zeros_of fields extents term) → ⊥) → made views fields extents term ≡ Goes (zeros_of fields extents term)
+  made_goes small room = made_is ∙ limited_goes slots bits granules all (zeros_of fields extents term)
+      (slots_within (2 ^ 24) (most_slots term extents) (λ over. small (inl (inl over))))
+      (slots_within (8 * 2 ^ 28) (blob_bits (zeros_of fields extents term)) (λ over. small (inl (inr over))))
+      (slots_within (2 ^ 24) (granules_for term (layout_by term extents fields)) (λ over. small (inr over)))
+      (slots_within (8 * 2 ^ 30) (live_bits views + blob_bits (zeros_of fields extents term)) room)
+
+  pub made_full : 8 * 2 ^ 30 < live_bits views + blob_bits (zeros_of fields extents term) → made views fields extents term ≡ Faults fault.TooBig
+  made_full full =
+      over_is (either slots _ (either bits _ (either granules all (passed (8 * 2 ^ 30) (live_bits views + blob_bits (zeros_of fields extents term)) full))))
+
+  pub made_big : IsOver term extents fields → made views fields extents term ≡ Faults fault.TooBig
+  made_big (inl (inl over)) = over_is (first slots _ (passed (2 ^ 24) (most_slots term extents) over))
+  made_big (inl (inr over)) = over_is (either slots _ (first bits _ (passed (8 * 2 ^ 28) (blob_bits (zeros_of fields extents term)) over)))
+  made_big (inr over) =
+      over_is (either slots _ (either bits _ (first granules all (passed (2 ^ 24) (granules_for term (layout_by term extents fields)) over))))
 
 -- bytes against bits
 pub bits_over : (live own bits more : ℕ) → 8 * live ≡ bits → 8 * own ≡ more → 2 ^ 30 < live + own → 8 * 2 ^ 30 < bits + more

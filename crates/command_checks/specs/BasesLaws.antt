@@ -1,5 +1,5 @@
--- Laws of mappings that are built and have no name, and of the rows that words ask for.
-use Rattle.std.proofs.Common.{◌≡◌, ◌⊎◌, inl, inr, ℕ, zero, suc, ◌+◌, ◌<◌, ◌/◌, ◌%◌, Bool, true, false, not, nat_lt, count_by, List, length, Option, Some, None, refl, sym, ap, ◌∙◌, arith, ⊎_elim}
+-- Laws of mappings without names, and of the rows that words ask for.
+use Rattle.std.proofs.Common.{◌≡◌, ◌⊎◌, inl, inr, ℕ, zero, suc, ◌<◌, ◌/◌, ◌%◌, Bool, true, false, not, nat_lt, count_by, List, length, Option, Some, None, refl, sym, ap, ◌∙◌, arith, ⊎_elim}
 use Rattle.std.specs.Prelude.{IsSome, IfSome, ◌==◌, ◌&&◌, if◌then◌else◌}
 use Rattle.std.proofs.lemmas.Bool.{false≢true, cases_Bool}
 use Rattle.std.proofs.lemmas.Bool.Decides.{nat_tests}
@@ -13,11 +13,10 @@ use Rattle.record_dim.specs.declared.path.PathStep.{PathStep}
 use Rattle.map_expr.specs.Terms.{Term, Aos, Soa, Aosoa, BitAos, BitSoa, Split, Byteswap, Bytesplit, Change, Count, Heat, Named}
 use Rattle.map_expr.specs.Checks.{IsNameless}
 use Rattle.map_any.specs.Mappings.{IsBuiltTerm}
-use Rattle.worlds.specs.Built.{is_built_map}
 use Rattle.worlds.specs.Outcomes.{Goes, Faults}
 use Rattle.worlds.specs.Tables.{resolved}
 use Rattle.worlds.specs.declared.fault.CommandFault.TheVariants.{BadExtents}
-use Rattle.command_checks.specs.Bases.{has_no_name, is_base, rows_for}
+use Rattle.command_checks.specs.Bases.{is_nameless, rows_for}
 
 both : (a b : Bool) → (a && b) ≡ true → (a ≡ true) × (b ≡ true)
 both true b e = (refl, e)
@@ -26,37 +25,32 @@ both false b e = absurd (false≢true e)
 either : (a b : Bool) → a ≡ true → b ≡ true → (a && b) ≡ true
 either a b p q = rw (p, q) refl
 
--- a mapping that is built has a layout, where no name stands in it
-built_term : (term : Term) → is_built_map term ≡ true → has_no_name term ≡ true → IsBuiltTerm term
-built_term (Aos form order) built plain = tt
-built_term (Soa form order) built plain = tt
-built_term (Aosoa lanes order) built plain = tt
-built_term (BitAos width order) built plain = tt
-built_term (BitSoa width order) built plain = tt
-built_term (Split path first rest) built plain =
-    let parts = both (is_built_map first) (is_built_map rest) built in
-    let names = both (has_no_name first) (has_no_name rest) plain in
-    (built_term first parts.0 names.0, built_term rest parts.1 names.1)
-built_term (Byteswap inner) built plain = built_term inner built plain
-built_term (Bytesplit inner) built plain = built_term inner built plain
-built_term (Change from to inner) built plain = built_term inner built plain
-built_term (Count inner) built plain = absurd (false≢true built)
-built_term (Heat granule inner) built plain = absurd (false≢true built)
-built_term (Named name) built plain = absurd (false≢true plain)
+-- a mapping without names has a layout
+pub nameless_built : (term : Term) → is_nameless term ≡ true → IsBuiltTerm term
+nameless_built (Aos form order) e = tt
+nameless_built (Soa form order) e = tt
+nameless_built (Aosoa lanes order) e = tt
+nameless_built (BitAos width order) e = tt
+nameless_built (BitSoa width order) e = tt
+nameless_built (Split path first rest) e =
+    let names = both (is_nameless first) (is_nameless rest) e in
+    (nameless_built first names.0, nameless_built rest names.1)
+nameless_built (Byteswap inner) e = nameless_built inner e
+nameless_built (Bytesplit inner) e = nameless_built inner e
+nameless_built (Change from to inner) e = nameless_built inner e
+nameless_built (Count inner) e = nameless_built inner e
+nameless_built (Heat granule inner) e = nameless_built inner e
+nameless_built (Named name) e = absurd (false≢true e)
 
-pub base_built : (term : Term) → is_base term ≡ true → IsBuiltTerm term
-base_built term base =
-    let parts = both (has_no_name term) (is_built_map term) base in
-    built_term term parts.1 parts.0
-
-nameless_term : (term : Term) → has_no_name term ≡ true → IsNameless term
+-- and can be checked
+pub nameless_term : (term : Term) → is_nameless term ≡ true → IsNameless term
 nameless_term (Aos form order) e = tt
 nameless_term (Soa form order) e = tt
 nameless_term (Aosoa lanes order) e = tt
 nameless_term (BitAos width order) e = tt
 nameless_term (BitSoa width order) e = tt
 nameless_term (Split path first rest) e =
-    let names = both (has_no_name first) (has_no_name rest) e in
+    let names = both (is_nameless first) (is_nameless rest) e in
     (nameless_term first names.0, nameless_term rest names.1)
 nameless_term (Byteswap inner) e = nameless_term inner e
 nameless_term (Bytesplit inner) e = nameless_term inner e
@@ -65,20 +59,9 @@ nameless_term (Count inner) e = nameless_term inner e
 nameless_term (Heat granule inner) e = nameless_term inner e
 nameless_term (Named name) e = absurd (false≢true e)
 
--- and no name stands in it
-pub base_nameless : (term : Term) → is_base term ≡ true → IsNameless term
-base_nameless term base = nameless_term term (both (has_no_name term) (is_built_map term) base).0
-
--- two mappings that are built, as the two sides of a split
-pub base_split : (path : List PathStep) (first rest : Term) → is_base first ≡ true → is_base rest ≡ true → is_base (Split path first rest) ≡ true
-base_split path first rest p q =
-    let one = both (has_no_name first) (is_built_map first) p in
-    let two = both (has_no_name rest) (is_built_map rest) q in
-    either _ _ (either _ _ one.0 two.0) (either _ _ one.1 two.1)
-
--- the sides of a split that is built are built
-pub split_built : (path : List PathStep) (first rest : Term) → is_built_map (Split path first rest) ≡ true → (is_built_map first ≡ true) × (is_built_map rest ≡ true)
-split_built path first rest built = both (is_built_map first) (is_built_map rest) built
+-- two mappings without names, as the two sides of a split
+pub nameless_split : (path : List PathStep) (first rest : Term) → is_nameless first ≡ true → is_nameless rest ≡ true → is_nameless (Split path first rest) ≡ true
+nameless_split path first rest p q = either _ _ p q
 
 -- a number of rows is given where there is a `?`
 pub rows_for_some : (words : List ExtentWord) (rows : Option ℕ) → HasRows words → IsSome (rows_for words rows)

@@ -10,7 +10,13 @@ use Rattle.command_checks.specs.declared.mapping_entry.MappingEntry.{MappingEntr
 
 -- the table that a view is
 abbrev pub table_of : Seen → Table
-table_of seen = record { fields = schema_fields seen.schema; extents = seen.extents; mapping = term_of seen.expr; rows = seen.table }
+table_of seen = record {
+  fields = schema_fields seen.schema;
+  extents = seen.extents;
+  mapping = term_of seen.expr;
+  rows = seen.table;
+  tally = seen.tally;
+}
 
 abbrev pub record_of : RecordEntry → Entry Fields
 record_of entry = record { name = entry.name; held = schema_fields entry.schema }

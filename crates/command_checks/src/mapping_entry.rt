@@ -1,14 +1,14 @@
 ghost use Rattle.std.specs.Prelude.{◌≡◌, true};
 ghost use Rattle.map_expr.specs.Terms.{term_of};
-ghost use Rattle.command_checks.specs.Bases.{is_base};
+ghost use Rattle.command_checks.specs.Bases.{is_nameless};
 
 use map_expr::MapExpr;
 use record_dim::Name;
 
-/// A mapping expression and its name. No name stands in it, and all of it is built.
+/// A mapping expression and its name. No other name stands in it.
 #[derive(Drop)]
 pub struct MappingEntry {
     pub name: Name,
     pub expr: MapExpr,
-    ghost built: { is_base (term_of expr) ≡ true },
+    ghost nameless: { is_nameless (term_of expr) ≡ true },
 }

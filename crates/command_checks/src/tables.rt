@@ -5,7 +5,7 @@ ghost use Rattle.extents.specs.Shapes.{is_rows, IsShape};
 ghost use Rattle.map_expr.specs.Terms.{term_of};
 ghost use Rattle.record_dim.specs.Schemas.{schema_fields};
 ghost use Rattle.worlds.specs.Tables.{room, shaped, resolved, made, zeros_of, live_bits};
-ghost use Rattle.command_checks.specs.Bases.{is_base, rows_for};
+ghost use Rattle.command_checks.specs.Bases.{is_nameless, rows_for};
 ghost use Rattle.command_checks.specs.Entries.{view_of, table_of};
 ghost use Rattle.command_checks.specs.Gives.{Gives};
 
@@ -87,7 +87,7 @@ fn is_rows(word: &ExtentWord) -> bool
 }
 
 /// A view of zeros beside the views that live.
-#[tactic(auto, using(crate::specs::BasesLaws::base_built))]
+#[tactic(auto, using(crate::specs::BasesLaws::nameless_built))]
 pub fn made(
     alloc: Global,
     views: &[ViewEntry],
@@ -95,7 +95,7 @@ pub fn made(
     extents: Extents,
     expr: &MapExpr,
 ) -> Result<View, StepFault>
-    requires base { is_base (term_of expr.now) ≡ true }
+    requires nameless { is_nameless (term_of expr.now) ≡ true }
     ensures zeros { IfOk result (λ view. table_of view ≡ zeros_of (schema_fields schema.now) extents (term_of expr.now)) }
     ensures made { Gives table_of result (made (map view_of views.now) (schema_fields schema.now) extents (term_of expr.now)) }
     ensures extents { IfOk result (λ view. view.extents ≡ extents) }

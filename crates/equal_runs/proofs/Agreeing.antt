@@ -1,6 +1,5 @@
 -- Outcomes that agree, or of which one is refused by a fault of how tables lie.
 use Rattle.std.proofs.Common.{◌≡◌, ℕ, Bool, true, false, List, Option, Some, None, Result, Ok, Err, subst}
-use Rattle.std.specs.Prelude.{if◌then◌else◌}
 use Rattle.worlds.specs.Outcomes.{Outcome, Goes, Faults, CannotRead, ◌>>=◌, refused_if, refused_by, ok_or}
 use Rattle.worlds.specs.declared.fault.CommandFault.{CommandFault}
 use Rattle.equal_runs.specs.Endings.{is_refused, is_of_layout}
@@ -51,13 +50,6 @@ module _ (m o : Bool) where
   both_told P Q R x y (told f is) other next = first f y is
   both_told P Q R x y (goes a p) (goes b q) next = go a b (next a b p q)
   both_told P Q R x y (goes a p) (told f is) next = second (Goes a) f is
-
-  -- a test for each
-  pub either : {A : Type 0} (R : A → A → Type 0) (test other : Bool) (f : CommandFault) (x y : Outcome A) → is_of_layout m f ≡ true → is_of_layout o f ≡ true → Agree m o R x y
-      → Agree m o R (if test then x else Faults f) (if other then y else Faults f)
-  either R true true f x y is other_is agree = agree
-  either R true false f x y is other_is agree = second x f other_is
-  either R false other f x y is other_is agree = first f (if other then y else Faults f) is
 
 module _ (m : Bool) where
   pub told_bind : {A B : Type 0} (P : A → Type 0) (Q : B → Type 0) (x : Outcome A) (f : A → Outcome B) → Told m P x → ((a : A) → P a → Told m Q (f a)) → Told m Q (x >>= f)

@@ -47,10 +47,16 @@ store_answers kind hold held value =
     of_tests true true false = second (Ok tt) Narrow refl
     of_tests true false k = first Narrow (by_hold k) refl
 
+-- two answers that are things, the same in both
+pub record Given {A E : Type 0} (x y : Result A E) (a b : A) : Type 0 where
+  pub same : b ≡ a
+  pub first : x ≡ Ok a
+  pub second : y ≡ Ok b
+
 -- from answers to outcomes
 pub ok_agree : {A E : Type 0} (m o : Bool) (told : E → Bool) (f : E → CommandFault) (x y : Result A E) → ((n : Bool) (e : E) → told e ≡ true → is_of_layout n (f e) ≡ true) → Answers told x y
-    → Agree m o (λ (a b : A). a ≡ b) (ok_or f x) (ok_or f y)
-ok_agree m o told f x y is (equal (Ok a)) = go a a refl
+    → Agree m o (Given x y) (ok_or f x) (ok_or f y)
+ok_agree m o told f x y is (equal (Ok a)) = go a a (record { same = refl; first = refl; second = refl })
 ok_agree m o told f x y is (equal (Err e)) = fault (f e)
 ok_agree m o told f x y is (first e z t) = first_told (f e) (ok_or f z) (is m e t)
 ok_agree m o told f x y is (second z e t) = second_told (ok_or f z) (f e) (is o e t)

@@ -4,6 +4,7 @@ pub mod Answers
 pub mod Updates
 pub mod Loads
 pub mod Kernels
+pub mod TallyCounts
 pub mod Tables
 pub mod Names
 pub mod Commands

@@ -1,20 +1,20 @@
 -- The commands with names and mapping expressions, done to alike worlds.
 use Rattle.std.proofs.Common.{◌≡◌, ℕ, Bool, true, ℤ, List, length, Option, Some, None, refl, sym, ap, subst, ◌∙◌}
 use Rattle.std.specs.Prelude.{◌^◌, ◌&&◌, is_some, nat_lt, nat_le}
-use Rattle.extents.specs.Indices.{indices}
 use Rattle.extents.specs.declared.words.ExtentWord.{ExtentWord}
 use Rattle.layout_io.specs.Files.{File}
 use Rattle.record_dim.specs.Trees.{Tree, Fields}
-use Rattle.record_dim.specs.Leaves.{leaves, kinds_of, texts_of}
+use Rattle.record_dim.specs.Leaves.{kinds_of, texts_of}
 use Rattle.map_expr.specs.Terms.{Term as MapTerm}
 use Rattle.map_expr.specs.Checks.{checked}
 use Rattle.map_any.specs.Mappings.{holds_by}
 use Rattle.map_any.specs.AnyLaws.{holds_cells, length-leaf_cells}
-use Rattle.piece_bits.specs.Tables.{zeros}
 use Rattle.csv_rows.specs.Datasets.{records_of, rows_of, dataset_table}
 use Rattle.csv_rows.specs.declared.fault.RowFault.{RowFault}
 use Rattle.csv_rows.specs.declared.fault.RowFault.TheVariants as row_fault
 use Rattle.worlds.specs.Worlds.{World, Entry, Table, found}
+use Rattle.views.specs.Tallies.{Tally, all_writes}
+use Rattle.worlds.specs.Accessed.{leaf_count, rewritten}
 use Rattle.worlds.specs.Outcomes.{Outcome, known, free, refused_if, ok_or}
 use Rattle.worlds.specs.Names.{nameless}
 use Rattle.worlds.specs.Tables.{room, shaped, resolved, made, zeros_of}
@@ -26,11 +26,12 @@ use Rattle.worlds.specs.Copy.{laid_anew, relayout}
 use Rattle.worlds.specs.declared.fault.CommandFault.TheVariants.{BadMapping, TooBig, TooManyViews}
 use Rattle.equal_runs.specs.Endings.{is_refused, is_of_layout}
 use Rattle.equal_runs.proofs.Agreeing.{Agree, go, bind, before, alone, both_told, Any, Both, told_ok, told_misses}
-use Rattle.equal_runs.proofs.Answers.{ok_agree}
+use Rattle.equal_runs.proofs.Answers.{Given, ok_agree}
 use Rattle.equal_runs.proofs.Entries.{At, known_agree, free_agree, entries_added, entries_replaced, length-entries}
 use Rattle.equal_runs.proofs.Loads.{is_narrow_row, dataset_answers}
 use Rattle.equal_runs.proofs.Names.{nameless_told}
-use Rattle.equal_runs.proofs.Tables.{AlikeTables, AlikeWorlds, AlikeLefts, of_mapping, alike_both, made_told, anew_told}
+use Rattle.equal_runs.proofs.Tables.{AlikeTables, AlikeWorlds, AlikeLefts, of_mapping, alike_both, rewritten_alike, zeros_alike, anew_of, anew_alike, made_told, anew_told}
+use Rattle.equal_runs.proofs.TallyCounts.{SameCounts}
 
 -- as many holds as leaves
 paired : (mapping : MapTerm) (fields : Fields) → length (holds_by mapping fields) ≡ length (kinds_of fields)
@@ -44,12 +45,6 @@ narrow_row fields n (row_fault.ShortRow row leaf) is = absurd (cc)
 narrow_row fields n (row_fault.Number row leaf) is = absurd (cc)
 narrow_row fields n (row_fault.Range row leaf) is = absurd (cc)
 narrow_row fields n row_fault.NoMemory is = absurd (cc)
-
-of_equal : (table other : Table) → other ≡ table → AlikeTables table other
-of_equal table other is = record { fields = ap (λ (t : Table). t.fields) is; extents = ap (λ (t : Table). t.extents) is; rows = ap (λ (t : Table). t.rows) is }
-
-zeros_alike : (fields others : Fields) (extents : List ℕ) (term changed : MapTerm) → others ≡ fields → AlikeTables (zeros_of fields extents term) (zeros_of others extents changed)
-zeros_alike fields others extents term changed is = record { fields = is; extents = refl; rows = ap (λ (f : Fields). zeros (length (indices extents)) (length (leaves f))) is }
 
 -- what the names of a new view stand for, but its mapping
 record AlikeNamed (whole other : Named) : Type 0 where
@@ -67,19 +62,22 @@ module _ (m o : Bool) where
   made_agree views others whole other extents same =
       both_told m o _ _ AlikeTables (made views whole.fields extents whole.mapping) (made others other.fields extents other.mapping)
       (made_told m views whole.fields extents whole.mapping) (made_told o others other.fields extents other.mapping)
-      (λ a b is also. alike_both (zeros_of whole.fields extents whole.mapping) (zeros_of other.fields extents other.mapping) a b
-      (zeros_alike whole.fields other.fields extents whole.mapping other.mapping same.fields) (of_equal (zeros_of whole.fields extents whole.mapping) a is)
-      (of_equal (zeros_of other.fields extents other.mapping) b also))
+      (alike_both (zeros_of whole.fields extents whole.mapping) (zeros_of other.fields extents other.mapping)
+      (zeros_alike whole.fields other.fields extents whole.mapping other.mapping same.fields))
 
-  filled_agree : (table : Table) (mapping : MapTerm) (records : List (List (List ℕ))) → Agree m o AlikeTables (filled table records) (filled (record table { mapping = mapping }) records)
-  filled_agree table mapping records =
+  filled_agree : (table : Table) (mapping : MapTerm) (tally : Tally) → SameCounts table.tally.counts tally.counts → (records : List (List (List ℕ)))
+      → Agree m o AlikeTables (filled table records) (filled (record table { mapping = mapping; tally = tally }) records)
+  filled_agree table mapping tally same records =
       let names = texts_of table.fields in
       let kinds = kinds_of table.fields in
-      bind m o (λ (a b : List (List ℤ)). a ≡ b) AlikeTables (ok_or (fault_of table.fields) (dataset_table names kinds (holds_by table.mapping table.fields) records))
+      let under : Table = record table { mapping = mapping; tally = tally } in
+      let log = all_writes (leaf_count table) (length table.rows) in
+      bind m o (Given _ _) AlikeTables (ok_or (fault_of table.fields) (dataset_table names kinds (holds_by table.mapping table.fields) records))
       (ok_or (fault_of table.fields) (dataset_table names kinds (holds_by mapping table.fields) records)) _ _
       (ok_agree m o is_narrow_row (fault_of table.fields) _ _ (narrow_row table.fields)
       (dataset_answers names kinds (holds_by table.mapping table.fields) (holds_by mapping table.fields) records (paired table.mapping table.fields) (paired mapping table.fields)))
-      (λ rows others same. go _ _ (record { fields = refl; extents = refl; rows = sym same }))
+      (λ rows others given. go _ _ (alike_both (rewritten table rows log) (rewritten under rows log) (rewritten_alike table mapping tally same rows log) _ _ refl
+      (ap (λ (r : List (List ℤ)). rewritten under r log) given.same)))
 
   loaded_agree : (views others : List (Entry Table)) (whole other : Named) (words : List ExtentWord) (bytes : List ℕ) → AlikeNamed whole other
       → Agree m o AlikeTables (loaded views whole words bytes) (loaded others other words bytes)
@@ -90,7 +88,7 @@ module _ (m o : Bool) where
       bind m o AlikeTables AlikeTables (made views whole.fields extents whole.mapping) (made others other.fields extents other.mapping) _ _
       (made_agree views others whole other extents same)
       (λ a b alike. of_mapping (λ (t : Table). Agree m o AlikeTables (filled a (records_of bytes)) (filled t (records_of bytes))) a b alike
-      (λ mapping. filled_agree a mapping (records_of bytes)))))
+      (λ mapping tally counts. filled_agree a mapping tally counts (records_of bytes)))))
 
 -- where a name was found, a mapping is missed where its expression is refused
 found_misses : {A B : Type 0} (x : Option A) (a : A) (y : Outcome B) → x ≡ Some a → is_refused y ≡ (is_some x && is_refused y)
@@ -196,8 +194,9 @@ module _ (world other : World) (alike : AlikeWorlds world other) where
       (found_misses (found name other.views) table_other (nameless other.mappings changed) at.second))
       (λ whole whole_other q.
       bind m o AlikeTables AlikeLefts (laid_anew world.views table whole) (laid_anew other.views table_other whole_other) _ _
-      (both_told m o (AlikeTables table) (AlikeTables table_other) AlikeTables (laid_anew world.views table whole) (laid_anew other.views table_other whole_other)
-      (anew_told m world.views table whole) (anew_told o other.views table_other whole_other) (λ a b is also. alike_both table table_other a b at.alike is also))
+      (both_told m o (λ (t : Table). t ≡ anew_of table whole) (λ (t : Table). t ≡ anew_of table_other whole_other) AlikeTables
+      (laid_anew world.views table whole) (laid_anew other.views table_other whole_other) (anew_told m world.views table whole) (anew_told o other.views table_other whole_other)
+      (alike_both (anew_of table whole) (anew_of table_other whole_other) (anew_alike table table_other whole whole_other at.alike)))
       (λ a b same. go _ _ (record {
         worlds = record {
           records = alike.records;

@@ -4,17 +4,11 @@ use Rattle.layout_io.specs.Files.{File}
 use Rattle.map_expr.specs.Terms.{Term as MapTerm}
 use Rattle.line_grammar.specs.Sentences as line
 use Rattle.worlds.specs.Worlds.{World}
-use Rattle.worlds.specs.Built.{is_built_map}
-use Rattle.worlds.specs.Mapping.{mapping}
-use Rattle.worlds.specs.View.{view}
-use Rattle.worlds.specs.Load.{load}
-use Rattle.worlds.specs.Copy.{relayout}
 use Rattle.worlds.specs.Step.{step}
-use Rattle.worlds.specs.declared.fault.CommandFault.TheVariants.{NotBuilt}
 use Rattle.equal_runs.specs.Lines.{with_term, shows_layout}
 use Rattle.equal_runs.specs.Endings.{misses_mapping}
-use Rattle.equal_runs.proofs.Agreeing.{Agree, go, fault, either}
-use Rattle.equal_runs.proofs.Commands.{assign_agree, update_agree, reduce_agree, count_agree, kernel_agree, copy_agree, print_agree, drop_agree}
+use Rattle.equal_runs.proofs.Agreeing.{Agree, go}
+use Rattle.equal_runs.proofs.Commands.{assign_agree, update_agree, reduce_agree, count_agree, kernel_agree, copy_agree, print_agree, counts_agree, drop_agree}
 use Rattle.equal_runs.proofs.News.{define_agree, mapping_agree, view_agree, load_agree, relayout_agree}
 use Rattle.equal_runs.proofs.Tables.{AlikeWorlds, AlikeLefts}
 
@@ -24,25 +18,19 @@ module _ (world other : World) (alike : AlikeWorlds world other) (term : MapTerm
   unfolding step
   step_agree line.Blank plain = go _ _ (record { worlds = alike; text = refl })
   step_agree (line.Define name tree) plain = define_agree world other alike false false name tree
-  step_agree (line.Mapping name old) plain =
-      either _ _ AlikeLefts (is_built_map old) (is_built_map term) NotBuilt (mapping world name old) (mapping other name term) refl refl (mapping_agree world other alike name old term)
-  step_agree (line.View name schema words old) plain =
-      either _ _ AlikeLefts (is_built_map old) (is_built_map term) NotBuilt (view world name schema words old) (view other name schema words term) refl refl
-      (view_agree world other alike schema old term name words)
-  step_agree (line.Load name schema words old file) plain =
-      either _ _ AlikeLefts (is_built_map old) (is_built_map term) NotBuilt (load world name schema words old file files unread) (load other name schema words term file files unread) refl refl
-      (load_agree world other alike schema old term name words file files unread)
+  step_agree (line.Mapping name old) plain = mapping_agree world other alike name old term
+  step_agree (line.View name schema words old) plain = view_agree world other alike schema old term name words
+  step_agree (line.Load name schema words old file) plain = load_agree world other alike schema old term name words file files unread
   step_agree (line.Assign name index path value) plain = assign_agree false false world other alike name index path value
   step_agree (line.Update name filter sets) plain = update_agree false false world other alike name filter sets
   step_agree (line.Kernel name text lanes) plain = kernel_agree false false world other alike name text lanes
   step_agree (line.Reduce name kind path) plain = reduce_agree false false world other alike name kind path
   step_agree (line.Count name filter) plain = count_agree false false world other alike name filter
   step_agree (line.Copy name target) plain = copy_agree false false world other alike name target
-  step_agree (line.Relayout name old) plain =
-      either _ _ AlikeLefts (is_built_map old) (is_built_map term) NotBuilt (relayout world name old) (relayout other name term) refl refl (relayout_agree world other alike name old term)
+  step_agree (line.Relayout name old) plain = relayout_agree world other alike name old term
   step_agree (line.Print name) plain = print_agree false false world other alike name
-  step_agree (line.Counts name) plain = fault NotBuilt
-  step_agree (line.Heat name) plain = fault NotBuilt
-  step_agree (line.Layout name) plain = fault NotBuilt
+  step_agree (line.Counts name) plain = counts_agree false false world other alike name
   step_agree (line.Drop name) plain = drop_agree false false world other alike name
+  step_agree (line.Heat name) plain = absurd (cc)
+  step_agree (line.Layout name) plain = absurd (cc)
   step_agree (line.Bytes name blob) plain = absurd (cc)

@@ -1,25 +1,31 @@
 -- Worlds of the same records and tables, under other mappings.
-use Rattle.std.proofs.Common.{◌≡◌, ℕ, Bool, List, refl, sym, subst, ◌∙◌}
+use Rattle.std.proofs.Common.{◌≡◌, ℕ, Bool, List, length, refl, sym, ap, subst}
 use Rattle.record_dim.specs.Trees.{Fields}
-use Rattle.record_dim.specs.Leaves.{kinds_of}
+use Rattle.extents.specs.Indices.{indices}
+use Rattle.record_dim.specs.Leaves.{leaves, kinds_of}
 use Rattle.map_expr.specs.Terms.{Term as MapTerm}
-use Rattle.map_any.specs.Mappings.{leaf_cells, most_slots, accepted}
+use Rattle.map_any.specs.Mappings.{leaf_cells, layout_by, most_slots, accepted}
+use Rattle.views.specs.Tallies.{Access, Tally, all_writes, granules_for, no_tally}
 use Rattle.layout_copy.specs.Copies.{refused_at}
+use Rattle.piece_bits.specs.Tables.{zeros}
 use Rattle.std.specs.Prelude.{ℤ, ◌+◌, ◌*◌, ◌^◌, nat_lt}
 use Rattle.worlds.specs.Worlds.{World, Entry, Table}
-use Rattle.worlds.specs.Outcomes.{Outcome, Left, refused_by, refused_if, ok_or}
+use Rattle.worlds.specs.Accessed.{owners_of, leaf_count, rewritten}
+use Rattle.worlds.specs.Outcomes.{Left, refused_by, refused_if, ok_or}
 use Rattle.worlds.specs.Tables.{made, zeros_of, blob_bits, live_bits}
 use Rattle.worlds.specs.Values.{answer_in}
 use Rattle.worlds.specs.Copy.{with_rows, laid_anew, narrow_fault}
 use Rattle.worlds.specs.declared.fault.CommandFault.TheVariants.{BadMapping, TooBig}
-use Rattle.equal_runs.proofs.Agreeing.{Told, goes, told, Any, Both, told_bind, told_if, told_ok, told_by}
+use Rattle.equal_runs.proofs.Agreeing.{Told, goes, Any, Both, told_bind, told_if, told_ok, told_by}
 use Rattle.equal_runs.proofs.Entries.{Entries}
+use Rattle.equal_runs.proofs.TallyCounts.{SameCounts, tallied_alike, no_tally_alike}
 
--- all that a table is but its mapping
+-- all that a table is but its mapping, and what both count by leaf
 pub record AlikeTables (table other : Table) : Type 0 where
   pub fields : other.fields ≡ table.fields
   pub extents : other.extents ≡ table.extents
   pub rows : other.rows ≡ table.rows
+  pub counts : SameCounts table.tally.counts other.tally.counts
 
 pub record AlikeWorlds (world other : World) : Type 0 where
   pub records : Entries (λ (a b : Fields). b ≡ a) world.records other.records
@@ -31,18 +37,51 @@ pub record AlikeLefts (left other : Left) : Type 0 where
   pub worlds : AlikeWorlds left.world other.world
   pub text : other.text ≡ left.text
 
--- what holds of a table under every mapping holds of a table that is alike
-pub of_mapping : (P : Table → Type 0) (table other : Table) → AlikeTables table other → ((mapping : MapTerm) → P (record table { mapping = mapping })) → P other
+-- what holds of a table under every mapping, with every tally that counts the same, holds of a table that is alike
+pub of_mapping : (P : Table → Type 0) (table other : Table) → AlikeTables table other
+    → ((mapping : MapTerm) (tally : Tally) → SameCounts table.tally.counts tally.counts → P (record table { mapping = mapping; tally = tally })) → P other
 of_mapping P table other alike each =
-    let is : record table { mapping = other.mapping } ≡ other = λ i. record { fields = sym alike.fields i; extents = sym alike.extents i; mapping = other.mapping; rows = sym alike.rows i } in
-    subst P is (each other.mapping)
+    let is : record table { mapping = other.mapping; tally = other.tally } ≡ other =
+    λ i. record { fields = sym alike.fields i; extents = sym alike.extents i; mapping = other.mapping; rows = sym alike.rows i; tally = other.tally } in
+    subst P is (each other.mapping other.tally alike.counts)
 
-pub alike_both : (first second table other : Table) → AlikeTables first second → AlikeTables first table → AlikeTables second other → AlikeTables table other
-alike_both first second table other alike a b = record {
-  fields = b.fields ∙ alike.fields ∙ sym a.fields;
-  extents = b.extents ∙ alike.extents ∙ sym a.extents;
-  rows = b.rows ∙ alike.rows ∙ sym a.rows;
+-- tables that are alike, by other words for them
+pub alike_both : (first second : Table) → AlikeTables first second → (table other : Table) → table ≡ first → other ≡ second → AlikeTables table other
+alike_both first second alike table other is also = subst (AlikeTables table) (sym also) (subst (λ (t : Table). AlikeTables t second) (sym is) alike)
+
+-- after the same accesses, which made both rows these
+pub rewritten_alike : (table : Table) (mapping : MapTerm) (tally : Tally) → SameCounts table.tally.counts tally.counts
+    → (rows : List (List ℤ)) (log : List Access) → AlikeTables (rewritten table rows log) (rewritten (record table { mapping = mapping; tally = tally }) rows log)
+rewritten_alike table mapping tally same rows log =
+    record { fields = refl; extents = refl; rows = refl; counts = tallied_alike (owners_of table) (owners_of (record table { mapping = mapping })) table.tally tally log same }
+
+pub zeros_alike : (fields others : Fields) (extents : List ℕ) (term changed : MapTerm) → others ≡ fields → AlikeTables (zeros_of fields extents term) (zeros_of others extents changed)
+zeros_alike fields others extents term changed is = record {
+  fields = is;
+  extents = refl;
+  rows = ap (λ (f : Fields). zeros (length (indices extents)) (length (leaves f))) is;
+  counts = subst (λ (f : Fields). SameCounts (zeros_of fields extents term).tally.counts (no_tally changed (layout_by changed extents others) (length (leaves f))).counts) (sym is)
+      (no_tally_alike term changed (layout_by term extents fields) (layout_by changed extents others) (length (leaves fields)));
 }
+
+-- with other rows, each value written once
+abbrev pub with_written : Table → List (List ℤ) → Table
+with_written table rows = rewritten table rows (all_writes (leaf_count table) (length rows))
+
+pub written_alike : (table other : Table) → AlikeTables table other → (rows : List (List ℤ)) → AlikeTables (with_written table rows) (with_written other rows)
+written_alike table other alike rows =
+    of_mapping (λ (t : Table). AlikeTables (with_written table rows) (with_written t rows)) table other alike
+    (λ mapping tally same. rewritten_alike table mapping tally same rows (all_writes (leaf_count table) (length rows)))
+
+-- the same rows under a new mapping
+abbrev pub anew_of : Table → MapTerm → Table
+anew_of table mapping = with_written (zeros_of table.fields table.extents mapping) table.rows
+
+pub anew_alike : (table other : Table) (term changed : MapTerm) → AlikeTables table other → AlikeTables (anew_of table term) (anew_of other changed)
+anew_alike table other term changed alike =
+    of_mapping (λ (t : Table). AlikeTables (anew_of table term) (anew_of t changed)) table other alike
+    (λ mapping tally same. written_alike (zeros_of table.fields table.extents term) (zeros_of table.fields table.extents changed)
+    (zeros_alike table.fields table.fields table.extents term changed refl) table.rows)
 
 module _ (m : Bool) where
   -- a new table is refused for its mapping or its size alone
@@ -50,27 +89,23 @@ module _ (m : Bool) where
       → Told m (λ (t : Table). t ≡ zeros_of fields extents mapping) (made views fields extents mapping)
   made_told views fields extents mapping =
       let table = zeros_of fields extents mapping in
+      let many = nat_lt (2 ^ 24) (granules_for mapping (owners_of table)) in
       told_bind m Any _ (ok_or BadMapping (accepted mapping fields (leaf_cells (kinds_of fields)))) _ (told_ok m BadMapping _ (λ e. refl)) (λ fit p.
       told_bind m Any _ (refused_if (nat_lt (2 ^ 24) (most_slots mapping extents)) TooBig) _ (told_if m _ TooBig refl) (λ slots q.
       told_bind m Any _ (refused_if (nat_lt (8 * 2 ^ 28) (blob_bits table)) TooBig) _ (told_if m _ TooBig refl) (λ bytes r.
-      told_bind m Any _ (refused_if (nat_lt (8 * 2 ^ 30) (live_bits views + blob_bits table)) TooBig) _ (told_if m _ TooBig refl) (λ all s. goes table refl))))
+      told_bind m Any _ (refused_if many TooBig) _ (told_if m many TooBig refl) (λ granules s.
+      told_bind m Any _ (refused_if (nat_lt (8 * 2 ^ 30) (live_bits views + blob_bits table)) TooBig) _ (told_if m _ TooBig refl) (λ all t. goes table refl)))))
 
   -- rows are refused for a hold alone
-  pub rows_told : (table : Table) (rows : List (List ℤ)) → Told m (λ (t : Table). t ≡ record table { rows = rows }) (with_rows table rows)
+  pub rows_told : (table : Table) (rows : List (List ℤ)) → Told m (λ (t : Table). t ≡ with_written table rows) (with_rows table rows)
   unfolding with_rows
   rows_told table rows =
       told_bind m Any _ (refused_by (narrow_fault table.fields) (refused_at (answer_in table) 0 rows)) _ (told_by m (narrow_fault table.fields) _ (λ e. refl)) (λ held p. goes _ refl)
 
-  pub anew_told : (views : List (Entry Table)) (table : Table) (mapping : MapTerm) → Told m (AlikeTables table) (laid_anew views table mapping)
+  pub anew_told : (views : List (Entry Table)) (table : Table) (mapping : MapTerm) → Told m (λ (t : Table). t ≡ anew_of table mapping) (laid_anew views table mapping)
   unfolding laid_anew
   anew_told views table mapping =
-      told_bind m (λ (t : Table). t ≡ zeros_of table.fields table.extents mapping) (AlikeTables table) (made views table.fields table.extents mapping) _
+      told_bind m (λ (t : Table). t ≡ zeros_of table.fields table.extents mapping) (λ (t : Table). t ≡ anew_of table mapping) (made views table.fields table.extents mapping) _
       (made_told views table.fields table.extents mapping)
-      (λ zeros is. subst (λ (z : Table). Told m (AlikeTables table) (with_rows z table.rows)) (sym is)
-      (told_weaker (λ (t : Table). t ≡ record (zeros_of table.fields table.extents mapping) { rows = table.rows }) (AlikeTables table)
-      (with_rows (zeros_of table.fields table.extents mapping) table.rows) (rows_told (zeros_of table.fields table.extents mapping) table.rows)
-      (λ t same. subst (AlikeTables table) (sym same) (record { fields = refl; extents = refl; rows = refl }))))
-    where
-      told_weaker : (P Q : Table → Type 0) (x : Outcome Table) → Told m P x → ((t : Table) → P t → Q t) → Told m Q x
-      told_weaker P Q x (goes t p) next = goes t (next t p)
-      told_weaker P Q x (told f is) next = told f is
+      (λ zeros is. subst (λ (z : Table). Told m (λ (t : Table). t ≡ anew_of table mapping) (with_rows z table.rows)) (sym is)
+      (rows_told (zeros_of table.fields table.extents mapping) table.rows))

@@ -1,13 +1,15 @@
 -- What an update answers, by the answers to its stores.
-use Rattle.std.proofs.Common.{◌≡◌, ℕ, Bool, true, false, ℤ, List, [], ◌∷◌, Option, Result, Ok, Err, refl}
-use Rattle.std.specs.Prelude.{if◌then◌else◌, slice_index_or}
-use Rattle.std.specs.List.{range_with_len}
+use Rattle.std.proofs.Common.{◌≡◌, ℕ, Bool, true, false, ℤ, List, [], ◌∷◌, Option, Result, Ok, Err, refl, ap, ◌∙◌}
+use Rattle.std.specs.Prelude.{◌++◌, if◌then◌else◌, slice_index_or}
+use Rattle.std.specs.List.{flat_map, range_with_len}
 use Rattle.expr_lang.specs.Terms.{Term}
 use Rattle.linearize.specs.Slots.{index_at}
 use Rattle.views.specs.Stores.{Answer}
+use Rattle.views.specs.Tallies.{Access}
 use Rattle.views.specs.declared.fault.StoreFault.{StoreFault}
 use Rattle.views.specs.declared.fault.StoreFault.TheVariants as store
 use Rattle.row_updates.specs.Rows.{Setting, ◌>>=◌, each, in_row, store_kind, value_of, passes, new_value, with_values, updated_row, updated_rows}
+use Rattle.row_updates.specs.Logs.{value_log, filter_log, if_ok, if_passes, sides_log, stores_log, row_log, rows_log}
 use Rattle.row_updates.specs.declared.fault.UpdateFault.{UpdateFault}
 use Rattle.row_updates.specs.declared.fault.UpdateKind.{UpdateKind}
 use Rattle.row_updates.specs.declared.fault.UpdateKind.TheVariants.{Narrow}
@@ -76,3 +78,78 @@ module _ (answer other : Answer) (alike : (leaf : ℕ) (value : ℤ) → Answers
       each_answers (λ number. updated_row answer filter sets number (slice_index_or rows number []) (index_at extents number))
       (λ number. updated_row other filter sets number (slice_index_or rows number []) (index_at extents number))
       (λ number. row_answers filter sets number (slice_index_or rows number []) (index_at extents number)) (range_with_len 0 count)
+
+-- the accesses of right sides that all fit, of a row and of rows
+abbrev fit_sides : ℕ → List ℤ → List ℕ → List Setting → List Access
+fit_sides number row index sets = flat_map (λ set. value_log number row index set.value) sets
+
+abbrev fit_row : Option (Term ℕ) → List Setting → ℕ → List ℤ → List ℕ → List Access
+fit_row filter sets number row index =
+    filter_log number row index filter ++ if_passes (passes number row index filter) (fit_sides number row index sets ++ stores_log number sets)
+
+abbrev pub fit_rows : Option (Term ℕ) → List Setting → List ℕ → List (List ℤ) → ℕ → List Access
+fit_rows filter sets extents rows count = flat_map (λ number. fit_row filter sets number (slice_index_or rows number []) (index_at extents number)) (range_with_len 0 count)
+
+-- where each step goes, these logs are those
+abbrev SameLogs : {A B : Type 0} → (A → Result B UpdateFault) → (A → List Access) → (A → List Access) → List A → Type 0
+SameLogs {A} {B} step logs others xs = (ys : List B) → each step xs ≡ Ok ys → flat_map logs xs ≡ flat_map others xs
+
+logs_of_each : {A B : Type 0} (step : A → Result B UpdateFault) (logs others : A → List Access) → ((a : A) (b : B) → step a ≡ Ok b → logs a ≡ others a) → (xs : List A)
+    → SameLogs step logs others xs
+logs_of_each step logs others same [] ys goes = refl
+logs_of_each {A} {B} step logs others same (x ∷ xs) ys goes = of_first (step x) refl goes (λ zs is. logs_of_each step logs others same xs zs is) where
+  of_rest : (y : B) → step x ≡ Ok y → (rest : Result (List B) UpdateFault) → each step xs ≡ rest → (rest >>= (λ zs. Ok (y ∷ zs))) ≡ Ok ys
+      → SameLogs step logs others xs → logs x ++ flat_map logs xs ≡ others x ++ flat_map others xs
+  of_rest y is (Err e) rest_is goes later = absurd (cc)
+  of_rest y is (Ok zs) rest_is goes later = ap (λ (log : List Access). log ++ flat_map logs xs) (same x y is) ∙ ap (λ (log : List Access). others x ++ log) (later zs rest_is)
+
+  of_first : (first : Result B UpdateFault) → step x ≡ first → (first >>= (λ y. each step xs >>= (λ zs. Ok (y ∷ zs)))) ≡ Ok ys
+      → SameLogs step logs others xs → logs x ++ flat_map logs xs ≡ others x ++ flat_map others xs
+  of_first (Err e) is goes later = absurd (cc)
+  of_first (Ok y) is goes later = of_rest y is (each step xs) refl goes later
+
+module _ (answer : Answer) where
+  -- where all right sides fit, which answers there were is no matter
+  abbrev SidesFit : ℕ → List ℤ → List ℕ → List Setting → Type 0
+  SidesFit number row index sets =
+      (values : List ℤ) → each (new_value answer number row index) sets ≡ Ok values → sides_log answer number row index sets ≡ fit_sides number row index sets
+
+  sides_are : (number : ℕ) (row : List ℤ) (index : List ℕ) (sets : List Setting) → SidesFit number row index sets
+  sides_are number row index [] values goes = refl
+  sides_are number row index (set ∷ sets) values goes =
+      ap (λ (log : List Access). value_log number row index set.value ++ log) (of_first (new_value answer number row index set) goes (λ zs is. sides_are number row index sets zs is))
+    where
+      of_rest : (y : ℤ) (rest : Result (List ℤ) UpdateFault) → each (new_value answer number row index) sets ≡ rest → (rest >>= (λ zs. Ok (y ∷ zs))) ≡ Ok values
+          → SidesFit number row index sets → sides_log answer number row index sets ≡ fit_sides number row index sets
+      of_rest y (Err e) is goes later = absurd (cc)
+      of_rest y (Ok zs) is goes later = later zs is
+
+      of_first : (first : Result ℤ UpdateFault) → (first >>= (λ y. each (new_value answer number row index) sets >>= (λ zs. Ok (y ∷ zs)))) ≡ Ok values
+          → SidesFit number row index sets → if_ok first (sides_log answer number row index sets) ≡ fit_sides number row index sets
+      of_first (Err e) goes later = absurd (cc)
+      of_first (Ok y) goes later = of_rest y (each (new_value answer number row index) sets) refl goes later
+
+  row_is : (filter : Option (Term ℕ)) (sets : List Setting) (number : ℕ) (row : List ℤ) (index : List ℕ) (new : List ℤ) → updated_row answer filter sets number row index ≡ Ok new
+      → row_log answer filter sets number row index ≡ fit_row filter sets number row index
+  row_is filter sets number row index new goes = ap (λ (log : List Access). filter_log number row index filter ++ log) (of_test (passes number row index filter) goes) where
+    of_values : (values : Result (List ℤ) UpdateFault) → each (new_value answer number row index) sets ≡ values → (values >>= (λ found. Ok (with_values sets found row))) ≡ Ok new
+        → sides_log answer number row index sets ++ if_ok values (stores_log number sets) ≡ fit_sides number row index sets ++ stores_log number sets
+    of_values (Err e) is goes = absurd (cc)
+    of_values (Ok found) is goes = ap (λ (log : List Access). log ++ stores_log number sets) (sides_are number row index sets found is)
+
+    of_test : (test : Result Bool UpdateFault)
+        → (test >>= (λ t. if t then (each (new_value answer number row index) sets >>= (λ values. Ok (with_values sets values row))) else Ok row)) ≡ Ok new
+        → if_passes test (sides_log answer number row index sets ++ if_ok (each (new_value answer number row index) sets) (stores_log number sets))
+        ≡ if_passes test (fit_sides number row index sets ++ stores_log number sets)
+    of_test (Err e) goes = refl
+    of_test (Ok false) goes = refl
+    of_test (Ok true) goes = of_values (each (new_value answer number row index) sets) refl goes
+
+  -- those of an update that goes
+  pub rows_are : (filter : Option (Term ℕ)) (sets : List Setting) (extents : List ℕ) (rows : List (List ℤ)) (count : ℕ) (new : List (List ℤ))
+      → updated_rows answer filter sets extents rows count ≡ Ok new → rows_log answer filter sets extents rows count ≡ fit_rows filter sets extents rows count
+  rows_are filter sets extents rows count new goes =
+      logs_of_each (λ number. updated_row answer filter sets number (slice_index_or rows number []) (index_at extents number))
+      (λ number. row_log answer filter sets number (slice_index_or rows number []) (index_at extents number))
+      (λ number. fit_row filter sets number (slice_index_or rows number []) (index_at extents number))
+      (λ number row is. row_is filter sets number (slice_index_or rows number []) (index_at extents number) row is) (range_with_len 0 count) new goes

@@ -7,7 +7,7 @@ use Rattle.worlds.specs.Outcomes.{Outcome, Goes, Faults, CannotRead, Left}
 use Rattle.worlds.specs.Names.{nameless}
 use Rattle.worlds.specs.Step.{step}
 use Rattle.worlds.specs.declared.fault.CommandFault.{CommandFault}
-use Rattle.worlds.specs.declared.fault.CommandFault.TheVariants.{BadMapping, TooBig, Narrow, NotCounted, NotBuilt, Unknown}
+use Rattle.worlds.specs.declared.fault.CommandFault.TheVariants.{BadMapping, TooBig, Narrow, NotCounted, Unknown}
 use Rattle.worlds.specs.declared.fault.UnknownName.TheVariants.{Name}
 use Rattle.script_runs.specs.Fold.{fails_at}
 
@@ -30,7 +30,6 @@ is_of_layout misses (BadMapping bad) = true
 is_of_layout misses TooBig = true
 is_of_layout misses (Narrow row leaf) = true
 is_of_layout misses NotCounted = true
-is_of_layout misses NotBuilt = true
 is_of_layout misses (Unknown (Name name)) = misses
 is_of_layout misses _ = false
 

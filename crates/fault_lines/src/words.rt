@@ -41,7 +41,6 @@ pub fn words_of(fault: &CommandFault) -> Words<'_>
         CommandFault::Narrow { row, leaf } => words("Narrow record ", place(*row, leaf)),
         CommandFault::Overflow { row } => words("Overflow record ", Detail::Count(*row)),
         CommandFault::DivideByZero { row } => words("DivideByZero record ", Detail::Count(*row)),
-        CommandFault::NotBuilt => name_alone("NotBuilt"),
     }
 }
 

@@ -1,9 +1,10 @@
 -- Tables that are copied from one place of a list to another.
-use Rattle.std.proofs.Common.{◌≡◌, ◌⊎◌, ⊎_elim, inl, inr, ◌<◌, ◌≤ℤ◌, ◌+◌, true, ℕ, zero, suc, ℤ, pos, List, [], ◌∷◌, length, map, get_or, Option, Some, None, Result, Ok, Err, refl, sym, ap, subst, ◌∙◌, arith}
+use Rattle.std.proofs.Common.{◌≡◌, ◌⊎◌, ⊎_elim, inl, inr, ◌<◌, ◌≤◌, ◌≤ℤ◌, ◌+◌, true, ℕ, zero, suc, ℤ, pos, List, [], ◌∷◌, ◌++◌, length, map, get_or, Some, None, Ok, Err, refl, sym, ap, subst, ◌∙◌, arith}
 use Rattle.std.specs.Prelude.{slice_set}
 use Rattle.std.proofs.lemmas.Int.{ints}
 use Rattle.std.specs.List.{insert, remove}
-use Rattle.std.proofs.lemmas.List.{length-map}
+use Rattle.std.proofs.lemmas.List.{append-nil, length-map, length-set, get_or_default, get_or-set_same, get_or-set_other, set-set, map-set}
+use Rattle.std.proofs.Math.ListN.{get_or-map}
 use Rattle.std.proofs.lemmas.List.Edits.{get_or-remove_below, get_or-remove_above}
 use Rattle.piece_bits.specs.Tables.{hold_at}
 use Rattle.record_dim.specs.LeafTypes.{least_of, greatest_of, least_in, greatest_in, IsIn, IsDeclared}
@@ -16,9 +17,11 @@ use Rattle.places.specs.declared.piece.Hold.{Hold}
 use Rattle.layout_copy.specs.Copies.{AreAlike, IsCopied, refusing, refused_at}
 use Rattle.layout_copy.specs.declared.fault.CopyFault.{CopyFault}
 use Rattle.layout_copy.specs.declared.fault.CopyFault.TheVariants as copy
-use Rattle.views.specs.Seen.{Seen, IsTable, leaf_types_of, seen_holds, answer_of}
+use Rattle.views.specs.Seen.{Seen, IsTable, leaf_count_of, leaf_types_of, seen_holds, answer_of, after_log}
+use Rattle.views.specs.Tallies.{Access, all_reads, all_writes, all_touches}
+use Rattle.views.specs.TallyLaws.{after_log-append}
 use Rattle.views.specs.Stores.{Answer, is_between, kind_at, store_answer}
-use Rattle.worlds.specs.Copy.{copied, with_rows, laid_anew, narrow_fault}
+use Rattle.worlds.specs.Copy.{copy, copied, with_rows, all_read, laid_anew, narrow_fault}
 use Rattle.worlds.specs.Tables.{made, zeros_of}
 use Rattle.worlds.specs.Values.{answer_in}
 use Rattle.map_expr.specs.Terms.{Term as MapTerm}
@@ -27,42 +30,38 @@ use Rattle.worlds.specs.declared.fault.CommandFault.TheVariants.{Unknown}
 use Rattle.worlds.specs.declared.fault.UnknownName.TheVariants.{Name}
 use Rattle.command_checks.specs.Places.{IsAt}
 use Rattle.worlds.specs.Outcomes.{Outcome, Goes, Faults, CannotRead, ◌>>=◌, quiet, known, some_or}
-use Rattle.worlds.specs.Worlds.{World, Entry, Table}
+use Rattle.worlds.specs.Worlds.{World, Entry, Table, replaced}
 use Rattle.command_checks.specs.AlikeLaws.{alike, not_alike}
 use Rattle.command_checks.specs.Entries.{table_of, view_of}
-use Rattle.command_checks.specs.Gives.{Gives, GivesUp}
+use Rattle.command_checks.specs.Gives.{GivesUp}
 use Rattle.command_checks.specs.GivesLaws.{GivesUp-then, goes_then}
 use Rattle.command_checks.specs.declared.entries.ViewEntry.{ViewEntry}
 use Rattle.command_checks.specs.declared.fault.StepFault.{StepFault}
-use Rattle.command_checks.specs.declared.fault.StepFault.TheVariants as step
-use Rattle.session.specs.Changes.{copied_at, Tells, TellsCopy}
+use Rattle.session.specs.Changes.{copied_at, made_like, zeros_like, Tells, TellsCopy}
 use Rattle.session.proofs.Exits.{tells_gives}
-
--- an element of a list, whatever stands for one that is missing
-pub any_default : {E : Type 0} (xs : List E) (i : ℕ) (d e : E) → i < length xs → get_or xs i d ≡ get_or xs i e
-any_default [] i d e small = absurd (omega (arith, small))
-any_default (x ∷ xs) zero d e small = refl
-any_default (x ∷ xs) (suc i) d e small = any_default xs i d e (omega (arith, small))
+use Rattle.session.proofs.Named.{IsFirst, first_found, first_replaced, first_still}
 
 pub first_of : {E : Type 0} (xs : List E) (i : ℕ) → i < length xs → E
 first_of [] i small = absurd (omega (arith, small))
 first_of (x ∷ xs) i small = x
 
--- lists whose element at a place is another one
-map_set : {A B : Type 0} (f : A → B) (xs : List A) (i : ℕ) (x : A) → map f (slice_set xs i x) ≡ slice_set (map f xs) i (f x)
-map_set f [] i x = refl
-map_set f (y ∷ xs) zero x = refl
-map_set f (y ∷ xs) (suc i) x = ap (λ ys. f y ∷ ys) (map_set f xs i x)
-
-set_self : {E : Type 0} (xs : List E) (i : ℕ) (x : E) → i < length xs → x ≡ get_or xs i x → slice_set xs i x ≡ xs
-set_self [] i x small is = absurd (omega (arith, small))
-set_self (y ∷ xs) zero x small is = ap (λ z. z ∷ xs) is
-set_self (y ∷ xs) (suc i) x small is = ap (λ ys. y ∷ ys) (set_self xs i x (omega (arith, small)) is)
-
+-- lists in which an element is put in at a place that another one was taken from
 put_back : {E : Type 0} (xs : List E) (i : ℕ) (x : E) → i < length xs → insert (remove xs i) i x ≡ slice_set xs i x
 put_back [] i x small = absurd (omega (arith, small))
 put_back (y ∷ xs) zero x small = refl
 put_back (y ∷ xs) (suc i) x small = ap (λ ys. y ∷ ys) (put_back xs i x (omega (arith, small)))
+
+set_before : {E : Type 0} (xs : List E) (gone place : ℕ) (x : E) → gone < length xs → place < gone → slice_set (remove xs gone) place x ≡ remove (slice_set xs place x) gone
+set_before [] gone place x small less = absurd (omega (arith, small))
+set_before (y ∷ xs) zero place x small less = absurd (omega (arith, less))
+set_before (y ∷ xs) (suc gone) zero x small less = refl
+set_before (y ∷ xs) (suc gone) (suc place) x small less = ap (λ ys. y ∷ ys) (set_before xs gone place x (omega (arith, small)) (omega (arith, less)))
+
+set_behind : {E : Type 0} (xs : List E) (gone now : ℕ) (x : E) → gone < length xs → gone ≤ now → slice_set (remove xs gone) now x ≡ remove (slice_set xs (suc now) x) gone
+set_behind [] gone now x small more = absurd (omega (arith, small))
+set_behind (y ∷ xs) zero now x small more = refl
+set_behind (y ∷ xs) (suc gone) zero x small more = absurd (omega (arith, more))
+set_behind (y ∷ xs) (suc gone) (suc now) x small more = ap (λ ys. y ∷ ys) (set_behind xs gone now x (omega (arith, small)) (omega (arith, more)))
 
 either_way : (a b : ℕ) → (a ≡ b → ⊥) → (a < b) ⊎ (b < a)
 either_way zero zero differ = absurd (differ refl)
@@ -76,6 +75,19 @@ still_there : {E : Type 0} (xs : List E) (gone place now : ℕ) (d : E) → gone
 still_there xs gone place now d small apart before behind = ⊎_elim
     (λ (less : place < gone). ap (λ i. get_or (remove xs gone) i d) (before less) ∙ get_or-remove_below xs gone d place less small)
     (λ (more : gone < place). let next = behind more in get_or-remove_above xs gone d now (omega (arith, next, more)) small ∙ ap (λ i. get_or xs i d) next)
+    (either_way place gone apart)
+
+-- and both are changed
+both_set : {E : Type 0} (xs : List E) (gone place now : ℕ) (x y : E) → gone < length xs → (place ≡ gone → ⊥) → (place < gone → now ≡ place) → (gone < place → now + 1 ≡ place) →
+    insert (slice_set (remove xs gone) now x) gone y ≡ slice_set (slice_set xs place x) gone y
+both_set xs gone place now x y small apart before behind =
+    let back : insert (remove (slice_set xs place x) gone) gone y ≡ slice_set (slice_set xs place x) gone y = put_back (slice_set xs place x) gone y (rw length-set small) in
+    ⊎_elim
+    (λ (less : place < gone). ap (λ i. insert (slice_set (remove xs gone) i x) gone y) (before less) ∙ ap (λ ys. insert ys gone y) (set_before xs gone place x small less) ∙ back)
+    (λ (more : gone < place).
+    let next = behind more in
+    let is : suc now ≡ place = omega (arith, next) in
+    ap (λ ys. insert ys gone y) (set_behind xs gone now x small (omega (arith, next, more)) ∙ ap (λ i. remove (slice_set xs i x) gone) is) ∙ back)
     (either_way place gone apart)
 
 -- a table holds all of its own values
@@ -119,42 +131,23 @@ copied_alike : (source target : Seen) → AreAlike source target → copied (tab
 unfolding copied
 copied_alike source target are = rw (alike source target are) refl
 
--- a copy onto itself
-pub copied_self : (seen : Seen) → IsTable seen → copied (table_of seen) (table_of seen) ≡ Goes (table_of seen)
+-- a copy onto itself reads each value and writes it
+touched_once : (leaf_count rows : ℕ) → all_reads leaf_count rows ++ all_writes leaf_count rows ≡ all_touches 1 1 leaf_count rows
+touched_once leaf_count rows =
+    ap (λ (log : List Access). log ++ all_writes leaf_count rows) (sym (append-nil (all_reads leaf_count rows)))
+    ∙ ap (λ (log : List Access). (all_reads leaf_count rows ++ []) ++ log) (sym (append-nil (all_writes leaf_count rows)))
+
+pub copied_self : (seen now : Seen) → IsTable seen → now ≡ after_log seen (all_touches 1 1 (leaf_count_of seen) (length seen.table)) →
+    copied (table_of seen) (all_read (table_of seen)) ≡ Goes (table_of now)
 unfolding with_rows
-copied_self seen is =
-    let held : refused_at (answer_in (table_of seen)) 0 seen.table ≡ None = own_values seen is in
-    copied_alike seen seen (refl, refl) ∙ rw held refl
-
--- the list of tables after a copy that goes or not
-pub copied_to : (views now : List ViewEntry) (target : ℕ) (source old changed : ViewEntry) (result : Result Unit StepFault) →
-    now ≡ slice_set views target changed → changed.name ≡ old.name → Gives (λ done. table_of changed.view) result (copied (table_of source.view) (table_of old.view)) →
-    Gives (λ done. map view_of now) result (copied_at (map view_of views) target (view_of source) (view_of old))
-copied_to views now target source old changed (Ok done) is name gives =
-    rw gives (ap (λ (n : List ℕ). Goes (slice_set (map view_of views) target (record { name = n; held = table_of changed.view }))) (sym name)
-    ∙ ap (λ (v : List (Entry Table)). Goes v) (sym (ap (map view_of) is ∙ map_set view_of views target changed)))
-copied_to views now target source old changed (Err fault) is name gives =
-    GivesUp-then (copied (table_of source.view) (table_of old.view)) (λ (new : Table). Goes (slice_set (map view_of views) target (record { name = old.name; held = new }))) fault gives
-
--- what a command leaves that changes the list of tables
-pub left_by : (world : World) (first : Outcome Table) (f g : Table → List (Entry Table)) (views : List (Entry Table)) → ((t : Table) → g t ≡ f t) → (first >>= (λ t. Goes (f t))) ≡ Goes views →
-    (first >>= (λ t. quiet (record world { views = g t }))) ≡ Goes (record { world = record world { views = views }; text = [] })
-left_by world (Goes t) f g views same is =
-    let made : f t ≡ views = cc in
-    ap (λ (v : List (Entry Table)). Goes (record { world = record world { views = v }; text = [] })) (same t ∙ made)
-left_by world (Faults fault) f g views same is = absurd (cc)
-left_by world (CannotRead name) f g views same is = absurd (cc)
-
--- a refusal does not come of what can't be refused
-pub gives_first : {A B C : Type 0} (first : Outcome A) (f : A → B) (next : A → Outcome C) (fault : StepFault) → GivesUp (first >>= (λ x. Goes (f x))) fault → GivesUp (first >>= next) fault
-gives_first (Goes x) f next (step.Command told) gives = absurd (cc)
-gives_first (Faults fault) f next (step.Command told) gives =
-    let same : fault ≡ told = cc in
-    ap (λ r. Faults r) same
-gives_first (CannotRead name) f next (step.Command told) gives = absurd (cc)
-gives_first first f next step.NoMemory gives = tt
-gives_first first f next step.Source gives = absurd gives
-gives_first first f next step.Sink gives = absurd gives
+copied_self seen now is touched =
+    let reads = all_reads (leaf_count_of seen) (length seen.table) in
+    let writes = all_writes (leaf_count_of seen) (length seen.table) in
+    let read : Seen = after_log seen reads in
+    let held : refused_at (answer_in (table_of read)) 0 seen.table ≡ None = own_values seen is in
+    let both : after_log read writes ≡ now =
+    after_log-append seen reads writes ∙ ap (after_log seen) (touched_once (leaf_count_of seen) (length seen.table)) ∙ sym touched in
+    copied_alike seen read (refl, refl) ∙ rw held (ap (λ (s : Seen). Goes (table_of s)) both)
 
 -- a table that is laid out anew is copied into the new one
 pub laid_copied : (views : List (Entry Table)) (term : MapTerm) (old fresh : Seen) → made views (schema_fields old.schema) old.extents term ≡ Goes (table_of fresh) →
@@ -164,6 +157,15 @@ laid_copied views term old fresh made_is zeros =
     let fields : schema_fields fresh.schema ≡ schema_fields old.schema = ap (λ (t : Table). t.fields) zeros in
     let extents : fresh.extents ≡ old.extents = ap (λ (t : Table). t.extents) zeros in
     goes_then _ _ _ made_is ∙ sym (copied_alike old fresh (sym fields, sym extents))
+
+-- the same of a table at a place
+pub laid_at : (views : List ViewEntry) (place : ℕ) (entry : ViewEntry) (term : MapTerm) (fresh : Seen) → entry ≡ get_or views place entry →
+    made_like (map view_of views) (table_of (get_or views place entry).view) term ≡ Goes (table_of fresh) → table_of fresh ≡ zeros_like (table_of (get_or views place entry).view) term →
+    laid_anew (map view_of views) (table_of entry.view) term ≡ copied (table_of entry.view) (table_of fresh)
+laid_at views place entry term fresh is made_is zeros =
+    let old = λ (e : ViewEntry). table_of e.view in
+    laid_copied (map view_of views) term entry.view fresh (subst (λ (e : ViewEntry). made_like (map view_of views) (old e) term ≡ Goes (table_of fresh)) (sym is) made_is)
+    (subst (λ (e : ViewEntry). table_of fresh ≡ zeros_like (old e) term) (sym is) zeros)
 
 -- what a copy answers is what the model's copy gives
 pub copied_goes : (source old new : Seen) → IsCopied source old new (Ok tt) → copied (table_of source) (table_of old) ≡ Goes (table_of new)
@@ -194,14 +196,35 @@ copy_refused source old new (copy.Narrow row leaf) told is tells =
 pub known_place : (name : List ℕ) (views : List ViewEntry) (place : ℕ) (d : ViewEntry) → IsAt view_of name views place → known name (map view_of views) ≡ Goes (table_of (get_or views place d).view)
 known_place name views place d at = ap (some_or (Unknown (Name name))) (at.is d)
 
+-- an entry that was read
+abbrev as_read : Entry Table → Entry Table
+as_read entry = record { name = entry.name; held = all_read entry.held }
+
+-- a copy in a list of tables, of a table to one that is as it is where that is read
+module _ (tables : List (Entry Table)) (source target : ℕ) (d from to : Entry Table) where
+  abbrev with_copy : Table → List (Entry Table)
+  with_copy new = slice_set (slice_set tables source (as_read from)) target (record { name = to.name; held = new })
+
+  pub copied_in : get_or tables source d ≡ from → get_or (slice_set tables source (as_read from)) target d ≡ to →
+      copied_at tables source target d ≡ (copied from.held to.held >>= (λ new. Goes (with_copy new)))
+  copied_in one two =
+      ap (λ (f : Entry Table). let read = slice_set tables source (as_read f) in
+      copied f.held (get_or read target d).held >>= (λ new. Goes (slice_set read target (record { name = (get_or read target d).name; held = new })))) one
+      ∙ ap (λ (t : Entry Table). copied from.held t.held >>= (λ new. Goes (slice_set (slice_set tables source (as_read from)) target (record { name = t.name; held = new })))) two
+
 -- a copy of a table onto itself, in its list
-pub kept_to : (views : List ViewEntry) (source target : ℕ) (old : ViewEntry) (new : Seen) (d : ViewEntry) → source ≡ target → target < length views → old ≡ get_or views target old → new ≡ old.view →
-    copied (table_of old.view) (table_of old.view) ≡ Goes (table_of old.view) →
-    copied_at (map view_of views) target (view_of (get_or views source d)) (view_of (get_or views target d)) ≡ Goes (map view_of (slice_set views target (record { name = old.name; view = new })))
-kept_to views source target old new d same small is now goes =
-    let at : old ≡ get_or views target d = is ∙ any_default views target old d small in
-    let from : get_or views source d ≡ get_or views target d = ap (λ i. get_or views i d) same in
-    rw (from, ← at) (copied_to views (slice_set views target (record { name = old.name; view = new })) target old old (record { name = old.name; view = new }) (Ok tt) refl refl (goes ∙ ap (λ (s : Seen). Goes (table_of s)) (sym now)))
+pub kept_to : (views : List ViewEntry) (place : ℕ) (old : ViewEntry) (new : Seen) (d : ViewEntry) → place < length views → old ≡ get_or views place old →
+    copied (table_of old.view) (all_read (table_of old.view)) ≡ Goes (table_of new) →
+    copied_at (map view_of views) place place (view_of d) ≡ Goes (map view_of (slice_set views place (record { name = old.name; view = new })))
+kept_to views place old new d small is goes =
+    let tables = map view_of views in
+    let from : get_or tables place (view_of d) ≡ view_of old = get_or-map view_of views place d ∙ ap view_of (get_or_default views place d old small ∙ sym is) in
+    let inside : place < length tables = rw length-map small in
+    let to : get_or (slice_set tables place (as_read (view_of old))) place (view_of d) ≡ as_read (view_of old) = get_or-set_same tables place (as_read (view_of old)) (view_of d) inside in
+    let changed : ViewEntry = record { name = old.name; view = new } in
+    copied_in tables place place (view_of d) (view_of old) (as_read (view_of old)) from to
+    ∙ goes_then _ _ _ goes
+    ∙ ap (λ (t : List (Entry Table)). Goes t) (set-set tables place (as_read (view_of old)) (view_of changed) ∙ sym (map-set view_of views place changed))
 
 -- the two views of a copy, of which the target is out of the list
 pub record AreApart (views : List ViewEntry) (source target place : ℕ) (entry old : ViewEntry) : Type 0 where
@@ -219,27 +242,64 @@ place_within source target place long less a b c apart before behind = ⊎_elim
     (λ (m : target < source). let e = behind m in omega (arith, e, a, c))
     (either_way source target apart)
 
-pub source_at : (views : List ViewEntry) (source target place : ℕ) (entry old d : ViewEntry) → AreApart views source target place entry old → entry ≡ get_or views source d
-source_at views source target place entry old d are =
-    are.entry_is ∙ any_default (remove views target) place entry d are.place_in ∙ still_there views target source place d are.inside are.apart are.before are.behind
+-- what they are in the list
+source_in : (views : List ViewEntry) (source target place : ℕ) (entry old d : ViewEntry) → AreApart views source target place entry old → get_or (map view_of views) source (view_of d) ≡ view_of entry
+source_in views source target place entry old d are =
+    get_or-map view_of views source d
+    ∙ ap view_of (sym (are.entry_is ∙ get_or_default (remove views target) place entry d are.place_in ∙ still_there views target source place d are.inside are.apart are.before are.behind))
 
-pub target_at : (views : List ViewEntry) (source target place : ℕ) (entry old d : ViewEntry) → AreApart views source target place entry old → old ≡ get_or views target d
-target_at views source target place entry old d are = are.old_is ∙ any_default views target old d are.inside
+target_in : (views : List ViewEntry) (source target place : ℕ) (entry old d : ViewEntry) (changed : Entry Table) → AreApart views source target place entry old →
+    get_or (slice_set (map view_of views) source changed) target (view_of d) ≡ view_of old
+target_in views source target place entry old d changed are =
+    get_or-set_other (map view_of views) source target changed (view_of d) (λ e. are.apart (sym e))
+    ∙ get_or-map view_of views target d ∙ ap view_of (sym (are.old_is ∙ get_or_default views target old d are.inside))
+
+-- a copy between them
+apart_is : (views : List ViewEntry) (source target place : ℕ) (entry old d : ViewEntry) → AreApart views source target place entry old →
+    copied_at (map view_of views) source target (view_of d) ≡ (copied (table_of entry.view) (table_of old.view) >>= (λ new. Goes (with_copy (map view_of views) source target (view_of d) (view_of entry) (view_of old) new)))
+apart_is views source target place entry old d are =
+    copied_in (map view_of views) source target (view_of d) (view_of entry) (view_of old) (source_in views source target place entry old d are)
+    (target_in views source target place entry old d (as_read (view_of entry)) are)
 
 pub apart_not : (views : List ViewEntry) (source target place : ℕ) (entry old d : ViewEntry) (fault : StepFault) → AreApart views source target place entry old → GivesUp (copied (table_of entry.view) (table_of old.view)) fault →
-    GivesUp (copied_at (map view_of views) target (view_of (get_or views source d)) (view_of (get_or views target d))) fault
+    GivesUp (copied_at (map view_of views) source target (view_of d)) fault
 apart_not views source target place entry old d fault are gives =
-    rw (← source_at views source target place entry old d are, ← target_at views source target place entry old d are)
-    (GivesUp-then (copied (table_of entry.view) (table_of old.view)) (λ (new : Table). Goes (slice_set (map view_of views) target (record { name = old.name; held = new }))) fault gives)
+    subst (λ (o : Outcome (List (Entry Table))). GivesUp o fault) (sym (apart_is views source target place entry old d are)) (GivesUp-then _ _ fault gives)
 
-pub apart_to : (views now : List ViewEntry) (source target place : ℕ) (entry old d : ViewEntry) (source_now target_now : Seen) → AreApart views source target place entry old → source_now ≡ entry.view →
+pub apart_to : (views now : List ViewEntry) (source target place : ℕ) (entry old d : ViewEntry) (source_now target_now : Seen) → AreApart views source target place entry old →
+    source_now ≡ after_log entry.view (all_reads (leaf_count_of entry.view) (length entry.view.table)) →
     now ≡ insert (slice_set (remove views target) place (record { name = entry.name; view = source_now })) target (record { name = old.name; view = target_now }) →
     copied (table_of entry.view) (table_of old.view) ≡ Goes (table_of target_now) →
-    copied_at (map view_of views) target (view_of (get_or views source d)) (view_of (get_or views target d)) ≡ Goes (map view_of now)
-apart_to views now source target place entry old d source_now target_now are same is goes =
-    let changed : ViewEntry = record { name = old.name; view = target_now } in
-    let kept : slice_set (remove views target) place (record { name = entry.name; view = source_now }) ≡ remove views target =
-    ap (λ (v : Seen). slice_set (remove views target) place (record { name = entry.name; view = v })) same ∙ set_self (remove views target) place entry are.place_in are.entry_is in
-    let list : now ≡ slice_set views target changed = is ∙ ap (λ (xs : List ViewEntry). insert xs target changed) kept ∙ put_back views target changed are.inside in
-    rw (← source_at views source target place entry old d are, ← target_at views source target place entry old d are)
-    (copied_to views now target entry old changed (Ok tt) list refl goes)
+    copied_at (map view_of views) source target (view_of d) ≡ Goes (map view_of now)
+apart_to views now source target place entry old d source_now target_now are read is goes =
+    let tables = map view_of views in
+    let from : ViewEntry = record { name = entry.name; view = source_now } in
+    let to : ViewEntry = record { name = old.name; view = target_now } in
+    let list : now ≡ slice_set (slice_set views source from) target to = is ∙ both_set views target source place from to are.inside are.apart are.before are.behind in
+    let seen : as_read (view_of entry) ≡ view_of from = ap (λ (s : Seen). record { name = entry.name; held = table_of s }) (sym read) in
+    apart_is views source target place entry old d are ∙ goes_then _ _ _ goes
+    ∙ ap (λ (t : List (Entry Table)). Goes t)
+    (ap (λ (e : Entry Table). slice_set (slice_set tables source e) target (view_of to)) seen
+    ∙ ap (λ (t : List (Entry Table)). slice_set t target (view_of to)) (sym (map-set view_of views source from))
+    ∙ sym (map-set view_of (slice_set views source from) target to) ∙ ap (map view_of) (sym list))
+
+-- one outcome behind another
+then_same : {A B C : Type 0} (first : Outcome A) (f : A → B) (g : A → Outcome C) (next : B → Outcome C) → ((a : A) → g a ≡ next (f a)) → (first >>= g) ≡ ((first >>= (λ a. Goes (f a))) >>= next)
+then_same (Goes a) f g next same = same a
+then_same (Faults fault) f g next same = refl
+then_same (CannotRead name) f g next same = refl
+
+-- a copy by the places of the two tables
+pub copy_in : (world : World) (name target_name : List ℕ) (source target : ℕ) (d : Entry Table) → IsFirst name world.views source → IsFirst target_name world.views target →
+    copy world name target_name ≡ (copied_at world.views source target d >>= (λ views. quiet (record world { views = views })))
+unfolding copy
+copy_in world name target_name source target d one two =
+    let from = get_or world.views source d in
+    let read = slice_set world.views source (as_read from) in
+    let to = get_or read target d in
+    let is : replaced name (all_read from.held) world.views ≡ read = first_replaced name world.views source d (all_read from.held) one in
+    let there : IsFirst target_name read target = first_still target_name world.views target source d (all_read from.held) two in
+    goes_then _ _ _ (ap (some_or (Unknown (Name name))) (first_found name world.views source d one))
+    ∙ goes_then _ _ _ (ap (known target_name) is ∙ ap (some_or (Unknown (Name target_name))) (first_found target_name read target d there))
+    ∙ then_same (copied from.held to.held) (λ (new : Table). slice_set read target (record { name = to.name; held = new })) _ (λ (views : List (Entry Table)). quiet (record world { views = views }))
+    (λ new. ap (λ (views : List (Entry Table)). quiet (record world { views = views })) (ap (replaced target_name new) is ∙ first_replaced target_name read target d new there))

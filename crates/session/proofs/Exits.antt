@@ -1,15 +1,17 @@
 -- How a command ends, and its answer.
-use Rattle.std.proofs.Common.{◌≡◌, ℕ, List, [], map, get_or, Option, Result, Ok, Err, sym, ap, ◌∙◌, arith}
+use Rattle.std.proofs.Common.{◌≡◌, ℕ, List, map, get_or, Option, Result, Err, sym, ap, ◌∙◌, arith}
 use Rattle.std.specs.Prelude.{slice_set}
+use Rattle.layout_io.specs.Writing.{Wrote}
 use Rattle.layout_io.specs.WritingLaws.{Wrote-nil, with_bytes-nil}
-use Rattle.worlds.specs.Worlds.{World, replaced}
-use Rattle.worlds.specs.Answers.{Refused, Fronted, text_of}
-use Rattle.worlds.specs.Outcomes.{Outcome, Goes, Faults, Left, ◌>>=◌, known, some_or}
+use Rattle.worlds.specs.Assign.{with_table}
+use Rattle.worlds.specs.Worlds.{World, Entry, Table, replaced}
+use Rattle.worlds.specs.Answers.{Did, Refused, Fronted, text_of}
+use Rattle.worlds.specs.Outcomes.{Outcome, Goes, Faults, Left, ◌>>=◌, known, some_or, shows}
 use Rattle.worlds.specs.declared.fault.CommandFault.{CommandFault}
 use Rattle.worlds.specs.declared.fault.CommandFault.TheVariants.{Unknown}
 use Rattle.worlds.specs.declared.fault.UnknownName.TheVariants.{Name}
 use Rattle.command_checks.specs.Entries.{table_of, view_of}
-use Rattle.command_checks.specs.GivesLaws.{GivesUp-then}
+use Rattle.command_checks.specs.GivesLaws.{GivesUp-then, goes_then}
 use Rattle.command_checks.specs.Places.{IsAt}
 use Rattle.command_checks.specs.declared.entries.ViewEntry.{ViewEntry}
 use Rattle.session.specs.declared.session.Session.{Session}
@@ -18,6 +20,7 @@ use Rattle.command_checks.specs.declared.fault.StepFault.{StepFault}
 use Rattle.command_checks.specs.declared.fault.StepFault.TheVariants as step
 use Rattle.session.specs.Answers.{Answers}
 use Rattle.session.specs.Changes.{Tells}
+use Rattle.session.specs.Stands.{Stands, world_of}
 
 -- a refusal, with nothing written
 pub refused : {K : Type 0} (taken : K → Option (List ℕ)) (faults : K → ℕ) (old : K) (outcome : Outcome Left) (fault : CommandFault) → outcome ≡ Faults fault → Refused taken faults old old outcome (Faults fault)
@@ -59,3 +62,19 @@ table_changed session name place entry changed at is same = sym (at.other entry 
 -- a test that is passed, and what comes behind it gives up
 pub goes_gives : {A B : Type 0} (first : Outcome A) (x : A) (next : A → Outcome B) (fault : StepFault) → first ≡ Goes x → GivesUp (next x) fault → GivesUp (first >>= next) fault
 goes_gives first x next fault is gives = rw is gives
+
+-- a command that changes a view in its place, and writes a text
+pub did_change : {B K : Type 0} (taken : K → Option (List ℕ)) (faults : K → ℕ) (old new : K) (session next : Session) (name : List ℕ) (place : ℕ) (entry changed : ViewEntry)
+    (run : Table → Outcome B) (table_in : B → Table) (text_in : B → List ℕ) (done : B) →
+    IsAt view_of name session.views.items place → entry ≡ get_or session.views.items place entry → changed.name ≡ entry.name →
+    run (table_of entry.view) ≡ Goes done → table_in done ≡ table_of changed.view →
+    Stands next (record (world_of session) { views = map view_of (slice_set session.views.items place changed) }) → Wrote taken faults old new (text_in done) →
+    Did Stands taken faults old new (known name (map view_of session.views.items) >>= (λ table. run table >>= (λ b. shows (with_table (world_of session) name (table_in b)) (text_in b)))) next
+did_change taken faults old new session next name place entry changed run table_in text_in done at is same goes gives stands wrote = record {
+  left = record { world = record (world_of session) { views = map view_of (slice_set session.views.items place changed) }; text = text_in done };
+  goes = goes_then _ _ _ (known_at name session.views.items place entry at is) ∙ goes_then _ _ _ goes
+      ∙ ap (λ (views : List (Entry Table)). Goes (record { world = record (world_of session) { views = views }; text = text_in done }))
+      (ap (λ (table : Table). replaced name table (map view_of session.views.items)) gives ∙ sym (table_changed session name place entry changed at is same));
+  stands = stands;
+  wrote = wrote;
+}

@@ -1,6 +1,5 @@
 -- Indices inside extents.
-use Rattle.std.proofs.Common.{◌≡◌, ℕ, zero, suc, ◌<◌, Bool, true, false, not, nat_eq, List, [], ◌∷◌, length, get_or, Some, refl, sym, ap, ◌∙◌, arith, ⊎_elim}
-use Rattle.std.specs.Prelude.{◌||◌}
+use Rattle.std.proofs.Common.{◌≡◌, ℕ, zero, suc, ◌<◌, true, false, nat_eq, List, [], ◌∷◌, ◌++◌, ℤ, length, get_or, Some, refl, sym, ap, ◌∙◌, arith, ⊎_elim}
 use Rattle.std.specs.Cmp.Lexicographic.{pointwise}
 use Rattle.std.specs.List.{list_any, slice_get}
 use Rattle.std.proofs.lemmas.Bool.{cases_Bool, false≢true}
@@ -12,10 +11,16 @@ use Rattle.extents.specs.Indices.{indices, IsInside}
 use Rattle.extents.specs.IndicesLaws.{inside_of_entry, row_of_inside}
 use Rattle.line_grammar.specs.Sentences.{Value}
 use Rattle.linearize.specs.Slots.{place_in}
+use Rattle.piece_bits.specs.Tables.{with_entry}
 use Rattle.record_dim.specs.declared.path.PathStep.{PathStep}
+use Rattle.row_updates.specs.Logs.{value_log}
+use Rattle.views.specs.Tallies.{Access, Write, Tally}
+use Rattle.views.specs.TallyLaws.{tallied-append}
+use Rattle.worlds.specs.Accessed.{accessed, rewritten, owners_of}
 use Rattle.worlds.specs.Assign.{inside, assigned}
 use Rattle.worlds.specs.Names.{leaf_of, bound}
-use Rattle.worlds.specs.Outcomes.{Goes, Faults}
+use Rattle.worlds.specs.Outcomes.{Outcome, Goes, Faults, CannotRead, ◌>>=◌}
+use Rattle.worlds.specs.Values.{value_on, storable}
 use Rattle.worlds.specs.Worlds.{Table}
 use Rattle.worlds.specs.declared.fault.CommandFault.TheVariants.{BadIndex}
 use Rattle.session.specs.Changes.{set_row}
@@ -63,9 +68,23 @@ inside_not extents index none = ⊎_elim
 pub other_rank : (extents index : List ℕ) (rank : ℕ) → rank ≡ length extents → (length index ≡ rank → ⊥) → IsInside extents index → ⊥
 other_rank extents index rank is other inside = other (length_all_zip (λ i n. i < n) index extents inside ∙ sym is)
 
+-- outcomes that go on in the same way
+then_same : {A B : Type 0} (first : Outcome A) (f g : A → Outcome B) → ((x : A) → f x ≡ g x) → (first >>= f) ≡ (first >>= g)
+then_same (Goes x) f g same = same x
+then_same (Faults fault) f g same = refl
+then_same (CannotRead name) f g same = refl
+
+-- a table that is read and then stored in
+read_stored : (table : Table) (rows : List (List ℤ)) (log more : List Access) → rewritten table rows (log ++ more) ≡ rewritten (accessed table log) rows more
+read_stored table rows log more = ap (λ (tally : Tally). record table { rows = rows; tally = tally }) (sym (tallied-append (owners_of table) table.tally log more))
+
 -- the value of an expression in a leaf of the row of an index
 pub assigned_is : (table : Table) (index : List ℕ) (path : List PathStep) (value : Value) (leaf : ℕ) (term : Term ℕ) →
     leaf_of table.fields path ≡ Goes leaf → bound table.fields (length table.extents) value ≡ Goes term → inside table.extents index ≡ Goes tt →
     assigned table index path value ≡ set_row table (place_in (indices table.extents) index) index leaf term
 unfolding assigned
-assigned_is table index path value leaf term a b c = rw (a, b, c) refl
+assigned_is table index path value leaf term a b c =
+    let row = place_in (indices table.extents) index in
+    let log = value_log row (get_or table.rows row []) index term in
+    rw (a, b, c) (then_same (value_on row (get_or table.rows row []) index term) _ _ (λ number.
+    then_same (storable table row leaf number) _ _ (λ fits. ap (λ (t : Table). Goes t) (read_stored table (with_entry table.rows row leaf number) log (Write row leaf ∷ [])))))

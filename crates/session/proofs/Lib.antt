@@ -1,7 +1,9 @@
 pub mod Exits
+pub mod Named
 pub mod Copies
 pub mod Indexing
 pub mod Reading
 pub mod Reductions
+pub mod Runs
 pub mod Sets
 pub mod Steps

@@ -1,6 +1,8 @@
 -- Reductions of a column.
-use Rattle.std.proofs.Common.{◌≡◌, ℕ, ◌+◌, ◌<◌, ◌^◌, List, [], ◌∷◌, ◌++◌, length, take, get_or, ℤ, pos, neg_ℤ, ◌+ℤ◌, ◌≤ℤ◌, refl, sym, ap, ◌∙◌, arith, fold}
+use Rattle.std.proofs.Common.{◌≡◌, ℕ, zero, suc, ◌+◌, ◌-◌, ◌<◌, ◌≤◌, ◌^◌, List, [], ◌∷◌, ◌++◌, length, take, get_or, ℤ, pos, neg_ℤ, ◌+ℤ◌, ◌≤ℤ◌, refl, sym, ap, ◌∙◌, arith, fold, map}
 use Rattle.std.specs.Int.{int_min, int_max}
+use Rattle.std.specs.List.{range_with_len}
+use Rattle.std.proofs.lemmas.List.FromFn.{map-range_with_len_more}
 use Rattle.std.proofs.lemmas.Int.{ints, int_min_is, int_max_is}
 use Rattle.std.proofs.lemmas.List.{get_or-map, length-map, take_more}
 use Rattle.places.specs.Image.{entry}
@@ -8,11 +10,14 @@ use Rattle.places.specs.declared.piece.Hold.{Hold}
 use Rattle.record_dim.specs.declared.leaf_type.LeafType.{LeafType}
 use Rattle.record_dim.specs.declared.leaf_type.LeafType.TheVariants.{Bool as Truth, U8, U16, U32, U64, I8, I16, I32, I64}
 use Rattle.record_dim.specs.LeafTypes.{IsDeclared}
+use Rattle.views.specs.Seen.{Seen, after_log, after_read}
 use Rattle.views.specs.Stores.{Fits}
+use Rattle.views.specs.Tallies.{Read}
+use Rattle.views.specs.TallyLaws.{after_log-append, after_log-none}
 use Rattle.line_grammar.specs.declared.line.ReduceKind.{ReduceKind}
 use Rattle.line_grammar.specs.declared.line.ReduceKind.TheVariants.{Sum, Min, Max}
 use Rattle.worlds.specs.Outcomes.{Goes}
-use Rattle.worlds.specs.Reduce.{reduced, column}
+use Rattle.worlds.specs.Reduce.{reduced, column, column_log}
 use Rattle.session.specs.Columns.{combined, IsSmall}
 
 fold_push : {X Y : Type 0} (f : Y → X → Y) (a : Y) (xs : List X) (x : X) → fold f a (xs ++ x ∷ []) ≡ f (fold f a xs) x
@@ -73,3 +78,25 @@ reduced_one Max x = refl
 pub reduced_first : (kind : ReduceKind) (table : List (List ℤ)) (leaf : ℕ) (first : ℤ) → 0 < length table → first ≡ entry table 0 leaf → reduced kind (take 1 (column leaf table)) ≡ Goes first
 reduced_first kind [] leaf first some is = absurd (omega (arith, some))
 reduced_first kind (row ∷ rows) leaf first some is = reduced_one kind (get_or row leaf (pos 0)) ∙ ap (λ (v : ℤ). Goes v) (sym is)
+
+-- the reads of a leaf in rows, and one read more
+pub reads_more : (seen view : Seen) (leaf start row : ℕ) → start ≤ row → view ≡ after_log seen (map (λ r. Read r leaf) (range_with_len start (row - start))) →
+    after_read view row leaf ≡ after_log seen (map (λ r. Read r leaf) (range_with_len start (row + 1 - start)))
+reads_more seen view leaf start row past so_far =
+    let log = map (λ r. Read r leaf) (range_with_len start (row - start)) in
+    let one : row + 1 - start ≡ (row - start) + 1 = omega (arith, past) in
+    ap (λ (v : Seen). after_read v row leaf) so_far ∙ after_log-append seen log (Read row leaf ∷ [])
+    ∙ ap (after_log seen) (sym (ap (λ (n : ℕ). map (λ r. Read r leaf) (range_with_len start n)) one ∙ map-range_with_len_more (λ r. Read r leaf) start (row - start) row (omega (arith, past))))
+
+pub reads_none : (seen : Seen) (leaf start : ℕ) → seen ≡ after_log seen (map (λ r. Read r leaf) (range_with_len start (start - start)))
+reads_none seen leaf start =
+    let none : start - start ≡ 0 = omega arith in
+    sym (after_log-none seen) ∙ ap (λ (n : ℕ). after_log seen (map (λ r. Read r leaf) (range_with_len start n))) (sym none)
+
+-- the first row, and then the others
+pub reads_first : (seen : Seen) (leaf count : ℕ) → 0 < count → after_log (after_read seen 0 leaf) (map (λ row. Read row leaf) (range_with_len 1 (count - 1))) ≡ after_log seen (column_log leaf count)
+reads_first seen leaf zero some = absurd (omega (arith, some))
+reads_first seen leaf (suc count) some =
+    let less : suc count - 1 ≡ count = omega arith in
+    ap (λ (n : ℕ). after_log (after_read seen 0 leaf) (map (λ row. Read row leaf) (range_with_len 1 n))) less
+    ∙ after_log-append seen (Read 0 leaf ∷ []) (map (λ row. Read row leaf) (range_with_len 1 count))

@@ -1,16 +1,12 @@
 -- What the commands answer is what their lines answer.
-use Rattle.std.proofs.Common.{◌≡◌, ◌⊎◌, ◌≤◌, ℕ, Bool, true, false, List, [], Option, Some, Result, Ok, Err, inl, inr, ⊎_elim, refl, sym, ap, ◌∙◌, arith}
-use Rattle.std.specs.Prelude.{IsSome}
-use Rattle.layout_io.specs.Faults.{Rose}
+use Rattle.std.proofs.Common.{◌≡◌, ℕ, Bool, true, false, List, Option, Some, Result, Ok, Err, inl, inr, ⊎_elim, refl, ◌∙◌, arith}
 use Rattle.layout_io.specs.Files.{File}
 use Rattle.layout_io.specs.WritingLaws.{Wrote-nil, with_bytes-nil}
 use Rattle.line_grammar.specs.Sentences.{Sentence}
 use Rattle.worlds.specs.Worlds.{World}
-use Rattle.worlds.specs.Answers.{Did, Refused, Unreadable, Broke, Fronted, text_of}
-use Rattle.worlds.specs.Built.{is_built}
-use Rattle.worlds.specs.Outcomes.{Outcome, Goes, Faults, CannotRead, Left}
+use Rattle.worlds.specs.Answers.{text_of}
+use Rattle.worlds.specs.Outcomes.{Outcome, CannotRead, Left}
 use Rattle.worlds.specs.Step.{step, command}
-use Rattle.worlds.specs.declared.fault.CommandFault.TheVariants.{NotBuilt}
 use Rattle.command_checks.specs.Gives.{Gives}
 use Rattle.command_checks.specs.declared.fault.StepFault.{StepFault}
 use Rattle.command_checks.specs.declared.fault.StepFault.TheVariants as fault
@@ -20,10 +16,10 @@ use Rattle.session.specs.Stands.{Stands, left_of}
 use Rattle.session.specs.declared.session.Session.{Session}
 use Rattle.session.proofs.Exits.{refused, starved}
 
--- a line that is built is done by its command
-pub step_is : (world : World) (sentence : Sentence) (files : List File) (unread : Bool) → is_built sentence ≡ true → step world sentence files unread ≡ command world sentence files unread
+-- a line is done by its command
+pub step_is : (world : World) (sentence : Sentence) (files : List File) (unread : Bool) → step world sentence files unread ≡ command world sentence files unread
 unfolding step
-step_is world sentence files unread built = rw built refl
+step_is world sentence files unread = refl
 
 -- the same outcome, said otherwise
 pub steps_by : {K : Type 0} (taken : K → Option (List ℕ)) (faults : K → ℕ) (old new : K) (whole outcome : Bool → Outcome Left) (read_failed : Type 0) (result : Result Session StepFault) →
@@ -49,11 +45,6 @@ steps_load taken faults old outcome read_failed (Err (fault.Command refusal)) is
 steps_load taken faults old outcome read_failed (Err fault.Source) unread = (unread.name, record { is = unread.is; cause = unread.cause; wrote = Wrote-nil taken faults old })
 steps_load taken faults old outcome read_failed (Err fault.Sink) loads = absurd loads
 steps_load taken faults old outcome read_failed (Err fault.NoMemory) loads = starved taken faults old (text_of (outcome false))
-
--- a line that is not built
-pub step_not : (world : World) (sentence : Sentence) (files : List File) (unread : Bool) → is_built sentence ≡ false → step world sentence files unread ≡ Faults NotBuilt
-unfolding step
-step_not world sentence files unread none = rw none refl
 
 -- the same outcomes of a line that reads this file, said otherwise
 pub unread_by : (file : Option (List ℕ)) (name : List ℕ) (whole outcome : List File → Bool → Outcome Left) (result : Result Session StepFault) →
@@ -84,12 +75,12 @@ quiet_by taken faults old whole outcome result is gives = rw is (answers_quiet t
 
 -- a line that reads no file
 pub steps_shown : {K : Type 0} (taken : K → Option (List ℕ)) (faults : K → ℕ) (old new : K) (world : World) (sentence : Sentence) (files : List File) (read_failed : Type 0) (result : Result Session StepFault) →
-    is_built sentence ≡ true → Answers Stands taken faults old new (command world sentence files false) result → StepsTo Stands taken faults old new (step world sentence files) read_failed result
-steps_shown taken faults old new world sentence files read_failed (Ok next) built answers = rw (step_is world sentence files false built) answers
-steps_shown taken faults old new world sentence files read_failed (Err (fault.Command refusal)) built answers = rw (step_is world sentence files false built) answers
-steps_shown taken faults old new world sentence files read_failed (Err fault.Source) built answers = absurd answers
-steps_shown taken faults old new world sentence files read_failed (Err fault.Sink) built answers = rw (step_is world sentence files false built) answers
-steps_shown taken faults old new world sentence files read_failed (Err fault.NoMemory) built answers = rw (step_is world sentence files false built) answers
+    Answers Stands taken faults old new (command world sentence files false) result → StepsTo Stands taken faults old new (step world sentence files) read_failed result
+steps_shown taken faults old new world sentence files read_failed (Ok next) answers = rw (step_is world sentence files false) answers
+steps_shown taken faults old new world sentence files read_failed (Err (fault.Command refusal)) answers = rw (step_is world sentence files false) answers
+steps_shown taken faults old new world sentence files read_failed (Err fault.Source) answers = absurd answers
+steps_shown taken faults old new world sentence files read_failed (Err fault.Sink) answers = rw (step_is world sentence files false) answers
+steps_shown taken faults old new world sentence files read_failed (Err fault.NoMemory) answers = rw (step_is world sentence files false) answers
 
 pub cause_shown : {K : Type 0} (taken : K → Option (List ℕ)) (faults : K → ℕ) (old new : K) (outcome : Outcome Left) (files : Option (List File)) (reads : ℕ) (result : Result Session StepFault) →
     Answers Stands taken faults old new outcome result → StepCause files reads reads (faults old) (faults new) result

@@ -1,5 +1,5 @@
 -- The parts of commands.
-use Rattle.std.specs.Prelude.{◌≡◌, ℕ, ℤ, List, [], length, slice_index_or, slice_set, Option}
+use Rattle.std.specs.Prelude.{◌≡◌, ℕ, ℤ, List, [], ◌∷◌, length, slice_index_or, slice_set, Option}
 use Rattle.expr_lang.specs.Terms.{Term}
 use Rattle.piece_bits.specs.Tables.{with_entry}
 use Rattle.record_dim.specs.Trees.{Fields}
@@ -11,6 +11,10 @@ use Rattle.csv_rows.specs.declared.fault.RowFault.{RowFault}
 use Rattle.csv_rows.specs.declared.fault.RowFault.TheVariants as rows
 use Rattle.worlds.specs.Load.{row_fault}
 use Rattle.row_updates.specs.Rows.{Setting, updated_rows}
+use Rattle.row_updates.specs.Logs.{value_log, rows_log}
+use Rattle.views.specs.Tallies.{Write}
+use Rattle.worlds.specs.Accessed.{accessed, rewritten}
+use Rattle.worlds.specs.Reduce.{Measured}
 use Rattle.worlds.specs.Update.{update_fault}
 use Rattle.worlds.specs.Values.{value_on, storable, answer_in}
 use Rattle.command_checks.specs.declared.fault.StepFault.{StepFault}
@@ -19,7 +23,7 @@ use Rattle.worlds.specs.declared.fault.CommandFault.{CommandFault}
 use Rattle.worlds.specs.declared.fault.CommandFault.TheVariants.{BadMapping, Mismatch}
 use Rattle.layout_copy.specs.declared.fault.CopyFault.{CopyFault}
 use Rattle.layout_copy.specs.declared.fault.CopyFault.TheVariants as copy
-use Rattle.worlds.specs.Copy.{copied, narrow_fault}
+use Rattle.worlds.specs.Copy.{all_read, copied, narrow_fault}
 use Rattle.worlds.specs.Kernel.{Ran}
 use Rattle.worlds.specs.Tables.{made, zeros_of}
 
@@ -38,13 +42,13 @@ with_mapping world name term = record world { mappings = added name term world.m
 abbrev pub stored : Table → ℕ → ℕ → ℤ → Outcome Table
 stored table row leaf value = do
   fits ← storable table row leaf value
-  Goes (record table { rows = with_entry table.rows row leaf value })
+  Goes (rewritten table (with_entry table.rows row leaf value) (Write row leaf ∷ []))
 
 -- the same of the value of an expression on a row
 abbrev pub set_row : Table → ℕ → List ℕ → ℕ → Term ℕ → Outcome Table
 set_row table row index leaf term = do
   number ← value_on row (slice_index_or table.rows row []) index term
-  stored table row leaf number
+  stored (accessed table (value_log row (slice_index_or table.rows row []) index term)) row leaf number
 
 -- this refusal, or want of memory
 abbrev pub Tells : CommandFault → StepFault → Type 0
@@ -61,13 +65,16 @@ TellsRow fields fault told = Tells (row_fault fields fault) told
 abbrev pub rows_updated : Table → Option (Term ℕ) → List Setting → Outcome Table
 rows_updated table test settings = do
   rows ← ok_or (update_fault table.fields) (updated_rows (answer_in table) test settings table.extents table.rows (length table.rows))
-  Goes (record table { rows = rows })
+  Goes (rewritten table rows (rows_log (answer_in table) test settings table.extents table.rows (length table.rows)))
 
--- the tables beside one another, that at a place as a copy of another one
-abbrev pub copied_at : List (Entry Table) → ℕ → Entry Table → Entry Table → Outcome (List (Entry Table))
-copied_at views place source target = do
-  new ← copied source.held target.held
-  Goes (slice_set views place (record { name = target.name; held = new }))
+-- the tables beside one another, that at one place read, and then that at a place as a copy of it
+abbrev pub copied_at : List (Entry Table) → ℕ → ℕ → Entry Table → Outcome (List (Entry Table))
+copied_at views place target d =
+    let source = slice_index_or views place d in
+    let read = slice_set views place (record { name = source.name; held = all_read source.held }) in
+    let old = slice_index_or read target d in do
+      new ← copied source.held old.held
+      Goes (slice_set read target (record { name = old.name; held = new }))
 
 -- a table of zeros of the record and the extents of another one, and its making beside these
 abbrev pub zeros_like : Table → MapTerm → Table
@@ -84,3 +91,7 @@ TellsCopy fields (copy.Narrow row leaf) told = Tells (narrow_fault fields (recor
 -- what a kernel leaves: a table and a number
 abbrev pub ran_to : Table → Option ℤ → Ran
 ran_to table number = record { table = table; number = number }
+
+-- what a reduction leaves: a table and a number
+abbrev pub measured : Table → ℤ → Measured
+measured table number = record { table = table; number = number }

@@ -5,7 +5,8 @@ ghost use Rattle.expr_lang.specs.Terms.{term_of};
 ghost use Rattle.extents.specs.Indices.{indices, IsInside};
 ghost use Rattle.linearize.specs.Slots.{place_in};
 ghost use Rattle.row_updates.specs.Rows.{IsOver};
-ghost use Rattle.views.specs.Seen.{leaf_count_of};
+ghost use Rattle.row_updates.specs.Logs.{value_log};
+ghost use Rattle.views.specs.Seen.{leaf_count_of, after_log};
 ghost use Rattle.worlds.specs.Assign.{assign, assigned, inside};
 ghost use Rattle.worlds.specs.Values.{value_on};
 ghost use Rattle.session.specs.Changes.{set_row, stored};
@@ -143,7 +144,7 @@ fn row_value<L: Ledger>(
     requires rank { length index.now ≡ length view.old.extents }
     requires over { IsOver view.old value.now }
     ensures value { Gives (λ number. number) result (value_on row (slice_index_or view.old.table row []) index.now (bound_term value.now)) }
-    ensures same { view.new ≡ view.old }
+    ensures read { view.new ≡ after_log view.old (value_log row (slice_index_or view.old.table row []) index.now (bound_term value.now)) }
 {
     match value_on(view, row, value, index, steps) {
         Ok(number) => Ok(number),

@@ -1,7 +1,9 @@
 // `copy V to W`.
-ghost use Rattle.std.specs.Prelude.{◌≡◌, ◌+◌, ◌<◌, length, map, slice_index_or};
+ghost use Rattle.std.specs.Prelude.{◌≡◌, ◌+◌, ◌<◌, OnOk, length, map};
+ghost use Rattle.views.specs.Seen.{leaf_count_of, after_log};
+ghost use Rattle.views.specs.Tallies.{all_reads};
 ghost use Rattle.record_dim.specs.Schemas.{schema_fields};
-ghost use Rattle.worlds.specs.Copy.{copy, copied};
+ghost use Rattle.worlds.specs.Copy.{copy, copied, all_read};
 ghost use Rattle.worlds.specs.Outcomes.{Goes};
 ghost use Rattle.command_checks.specs.Entries.{table_of, view_of};
 ghost use Rattle.command_checks.specs.Gives.{Gives};
@@ -48,8 +50,7 @@ fn copy_between<L: Ledger>(
 ) -> Result<(), StepFault>
     requires source { source < length views.old.items }
     requires target { target < length views.old.items }
-    ensures { (d : ViewEntry) → Gives (λ done. map view_of views.new.items) result (copied_at (map view_of views.old.items) target
-        (view_of (slice_index_or views.old.items source d)) (view_of (slice_index_or views.old.items target d))) }
+    ensures { (d : ViewEntry) → Gives (λ done. map view_of views.new.items) result (copied_at (map view_of views.old.items) source target (view_of d)) }
 {
     if source == target {
         keep(&mut views[target].view);
@@ -70,8 +71,7 @@ fn copy_apart<L: Ledger>(
     requires source { source < length views.old.items }
     requires target { target < length views.old.items }
     requires apart { source ≡ target → ⊥ }
-    ensures { (d : ViewEntry) → Gives (λ done. map view_of views.new.items) result (copied_at (map view_of views.old.items) target
-        (view_of (slice_index_or views.old.items source d)) (view_of (slice_index_or views.old.items target d))) }
+    ensures { (d : ViewEntry) → Gives (λ done. map view_of views.new.items) result (copied_at (map view_of views.old.items) source target (view_of d)) }
 {
     let mut entry = views.remove(target);
     let place = place_without(source, target);
@@ -91,8 +91,7 @@ fn place_without(place: usize, gone: usize) -> usize
 
 // A copy of a view onto itself, which has all of its own values.
 fn keep(view: &mut View)
-    ensures same { view.new ≡ view.old }
-    ensures copied { copied (table_of view.old) (table_of view.old) ≡ Goes (table_of view.old) }
+    ensures { copied (table_of view.old) (all_read (table_of view.old)) ≡ Goes (table_of view.new) }
 {
     let _table = view.schema();
     copy_self(view);
@@ -106,7 +105,7 @@ pub fn copy_into<L: Ledger>(
     steps: &mut Steps<L>,
 ) -> Result<(), StepFault>
     ensures copied { Gives (λ done. table_of target.new) result (copied (table_of source.old) (table_of target.old)) }
-    ensures source { source.new ≡ source.old }
+    ensures read { OnOk result (source.new ≡ after_log source.old (all_reads (leaf_count_of source.old) (length source.old.table))) }
 {
     match layout_copy::copy(source, target, steps) {
         Ok(()) => Ok(()),

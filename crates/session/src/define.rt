@@ -3,10 +3,9 @@ ghost use Rattle.std.specs.Prelude.{◌≡◌, IfOk, IfErr, true};
 ghost use Rattle.map_expr.specs.Terms.{term_of};
 ghost use Rattle.record_dim.specs.Schemas.{schema_fields};
 ghost use Rattle.record_dim.specs.Trees.{tree_of, IsRecord};
-ghost use Rattle.worlds.specs.Built.{is_built_map};
 ghost use Rattle.worlds.specs.Define.{define, fit};
 ghost use Rattle.worlds.specs.Mapping.{mapping};
-ghost use Rattle.command_checks.specs.Bases.{is_base};
+ghost use Rattle.command_checks.specs.Bases.{is_nameless};
 ghost use Rattle.command_checks.specs.Gives.{Gives};
 ghost use Rattle.session.specs.Changes.{mapping_fits, with_record, with_mapping};
 
@@ -43,7 +42,6 @@ impl Session {
     /// Names a mapping expression, the names in it replaced.
     #[tactic(auto, unfolding(worlds::specs::Mapping::mapping))]
     pub(crate) fn mapping(self, name: Name, expr: &MapExpr) -> Result<Session, StepFault>
-        requires { is_built_map (term_of expr.now) ≡ true }
         ensures { Gives left_of result (mapping (world_of self) name (term_of expr.now)) }
     {
         free_mapping(self.mappings.as_slice(), name)?;
@@ -54,7 +52,7 @@ impl Session {
 
     // One mapping more.
     fn with_mapping(mut self, name: Name, expr: MapExpr) -> Result<Session, StepFault>
-        requires { is_base (term_of expr) ≡ true }
+        requires { is_nameless (term_of expr) ≡ true }
         ensures added { IfOk result (λ next. Stands next (with_mapping (world_of self) name (term_of expr))) }
         ensures starved { IfErr result (λ fault. fault ≡ StepFault.NoMemory) }
     {
@@ -78,9 +76,9 @@ fn new_schema(alloc: Global, dim: &Dim) -> Result<Schema, StepFault>
 }
 
 // That an expression can be a mapping, whatever its cells are.
-#[tactic(auto, using(command_checks::specs::BasesLaws::base_nameless))]
+#[tactic(auto, using(command_checks::specs::BasesLaws::nameless_term))]
 fn fits(expr: &MapExpr) -> Result<(), StepFault>
-    requires { is_base (term_of expr.now) ≡ true }
+    requires { is_nameless (term_of expr.now) ≡ true }
     ensures { Gives (λ done. tt) result (mapping_fits (term_of expr.now)) }
 {
     match expr.check() {

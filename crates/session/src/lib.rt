@@ -2,7 +2,6 @@
 #![tactic(auto)]
 
 mod assign;
-mod built;
 mod copy;
 mod define;
 mod kernel;

@@ -7,10 +7,9 @@ ghost use Rattle.layout_io.specs.Files.{File};
 ghost use Rattle.map_expr.specs.Terms.{term_of};
 ghost use Rattle.record_dim.specs.Schemas.{schema_fields};
 ghost use Rattle.csv_rows.specs.Datasets.{records_of, rows_of};
-ghost use Rattle.worlds.specs.Built.{is_built_map};
 ghost use Rattle.worlds.specs.Load.{load, loaded_table, filled};
 ghost use Rattle.worlds.specs.Tables.{resolved};
-ghost use Rattle.command_checks.specs.Bases.{is_base};
+ghost use Rattle.command_checks.specs.Bases.{is_nameless};
 ghost use Rattle.command_checks.specs.Entries.{table_of, view_of};
 ghost use Rattle.command_checks.specs.Gives.{Gives};
 ghost use Rattle.session.specs.Changes.{TellsRow};
@@ -48,7 +47,6 @@ impl Session {
         shelf: &mut H,
         steps: &mut Steps<L>,
     ) -> Result<Session, StepFault>
-        requires { is_built_map (term_of expr.now) ≡ true }
         ensures loads { (files : List File) → H.files shelf.old ≡ Some files
             → Loads left_of (load (world_of self) name schema words.now (term_of expr.now) file.now files)
             (Rose (H.faults shelf.old) (H.faults shelf.new)) result }
@@ -90,7 +88,6 @@ fn loaded_view<H: Shelf, L: Ledger>(
     shelf: &mut H,
     steps: &mut Steps<L>,
 ) -> Result<View, StepFault>
-    requires { is_built_map (term_of expr.now) ≡ true }
     ensures loads { (files : List File) → H.files shelf.old ≡ Some files
         → Loads table_of (loaded_table (world_in records.now mappings.now views.now) name schema words.now (term_of expr.now) file.now files)
         (Rose (H.faults shelf.old) (H.faults shelf.new)) result }
@@ -118,7 +115,7 @@ fn filled_view<L: Ledger>(
     bytes: &[u8],
     steps: &mut Steps<L>,
 ) -> Result<View, StepFault>
-    requires base { is_base (term_of found.now.expr) ≡ true }
+    requires nameless { is_nameless (term_of found.now.expr) ≡ true }
     requires shape { found.now.shape ≡ words.now }
     requires is_shape { IsShape words.now }
     requires few { length views.now < 64 }
@@ -127,8 +124,10 @@ fn filled_view<L: Ledger>(
     let extents = dataset_extents(alloc, &found.shape, words, bytes)?;
     let mut view = made(alloc, views, found.schema, extents, &found.expr)?;
     let _rows = view.schema();
-    fill(alloc, &mut view, bytes, steps)?;
-    Ok(view)
+    match fill(alloc, &mut view, bytes, steps) {
+        Ok(()) => Ok(view),
+        Err(fault) => Err(fault),
+    }
 }
 
 // The extents for the rows of a dataset.

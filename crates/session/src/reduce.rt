@@ -1,11 +1,14 @@
 // `reduce V sum|min|max path` and `reduce V count where ..`.
-ghost use Rattle.std.specs.Prelude.{◌≡◌, ◌<◌, ◌≤◌, ◌+◌, ◌^◌, length, take};
+ghost use Rattle.std.specs.Prelude.{◌≡◌, ◌<◌, ◌≤◌, ◌+◌, ◌-◌, ◌^◌, OnOk, pos, length, map, take};
+ghost use Rattle.std.specs.List.{range_with_len};
 ghost use Rattle.expr_lang.specs.Terms.{term_of};
-ghost use Rattle.views.specs.Seen.{leaf_count_of};
+ghost use Rattle.views.specs.Seen.{leaf_count_of, after_log};
+ghost use Rattle.views.specs.Tallies.{Read};
 ghost use Rattle.worlds.specs.Outcomes.{Goes};
-ghost use Rattle.worlds.specs.Reduce.{reduce, reduced, reduction, column, count, counting};
+ghost use Rattle.worlds.specs.Reduce.{reduce, reduced, reduction, column, column_log, count, counting};
 ghost use Rattle.command_checks.specs.Entries.{table_of};
 ghost use Rattle.command_checks.specs.Gives.{Gives};
+ghost use Rattle.session.specs.Changes.{measured};
 ghost use Rattle.session.specs.Columns.{combined, IsSmall};
 
 use crate::numbers::{write_count, write_number};
@@ -76,8 +79,7 @@ fn reduction<L: Ledger>(
     path: &Path,
     steps: &mut Steps<L>,
 ) -> Result<i128, StepFault>
-    ensures value { Gives (λ value. value) result (reduction (table_of view.old) kind path.now) }
-    ensures same { view.new ≡ view.old }
+    ensures { Gives (measured (table_of view.new)) result (reduction (table_of view.old) kind path.now) }
 {
     let leaf = leaf_of(alloc, view, path)?;
     reduced(view, leaf, kind, steps)
@@ -91,8 +93,7 @@ fn counting<L: Ledger>(
     filter: &Expr,
     steps: &mut Steps<L>,
 ) -> Result<u64, StepFault>
-    ensures value { Gives (λ rows. rows) result (counting (table_of view.old) (term_of filter.now)) }
-    ensures same { view.new ≡ view.old }
+    ensures { Gives (λ rows. measured (table_of view.new) (pos rows)) result (counting (table_of view.old) (term_of filter.now)) }
 {
     let filter = bound(alloc, view, filter)?;
     match count_where(view, &filter, steps) {
@@ -110,7 +111,7 @@ fn reduced<L: Ledger>(
 ) -> Result<i128, StepFault>
     requires { leaf < leaf_count_of view.old }
     ensures value { Gives (λ value. value) result (reduced kind (column leaf view.old.table)) }
-    ensures same { view.new ≡ view.old }
+    ensures read { OnOk result (view.new ≡ after_log view.old (column_log leaf (length view.old.table))) }
 {
     match kind {
         ReduceKind::Sum => Ok(along(view, leaf, kind, 0, 0, steps)),
@@ -138,7 +139,7 @@ fn along<L: Ledger>(
     requires before { reduced kind (take start (column leaf view.old.table)) ≡ Goes value }
     requires small { IsSmall start value }
     ensures value { reduced kind (column leaf view.old.table) ≡ Goes result }
-    ensures same { view.new ≡ view.old }
+    ensures read { view.new ≡ after_log view.old (map (λ row. Read row leaf) (range_with_len start (length view.old.table - start))) }
 {
     let mut reached = value;
     for row in start..view.extents().count() {

@@ -1,19 +1,16 @@
-ghost use Rattle.std.specs.Prelude.{◌≡◌, Bool, true, List, None};
+ghost use Rattle.std.specs.Prelude.{◌≡◌, Bool, List, None};
 ghost use Rattle.layout_io.specs.Faults.{Rose};
 ghost use Rattle.layout_io.specs.Files.{File};
 ghost use Rattle.line_grammar.specs.Sentences.{sentence_of};
-ghost use Rattle.worlds.specs.Built.{is_built};
 ghost use Rattle.worlds.specs.Step.{step, command};
 ghost use Rattle.worlds.specs.Worlds.{empty};
 
-use crate::built::is_built;
 use command_checks::{MappingList, RecordList, StepFault, ViewList};
 use layout_io::{Shelf, Sink};
 use line_grammar::Line;
 use std::alloc::Global;
 use std::sync::ledger::Ledger;
 use steps::Steps;
-use worlds::CommandFault;
 
 /// What a script has named so far.
 #[derive(Drop)]
@@ -61,9 +58,6 @@ impl Session {
         ensures unread { UnreadOnly (file_in (sentence_of line.now)) (step (world_of self) (sentence_of line.now)) result }
         ensures untaken { TookNone K.taken out.old out.new result }
     {
-        if !is_built(line) {
-            return Err(StepFault::Command(CommandFault::NotBuilt));
-        }
         match line {
             Line::Load {
                 name,
@@ -84,7 +78,6 @@ impl Session {
         steps: &mut Steps<L>,
     ) -> Result<Session, StepFault>
         requires fit { IsFit line.now }
-        requires built { is_built (sentence_of line.now) ≡ true }
         requires no_file { file_in (sentence_of line.now) ≡ None }
         ensures { (files : List File) (unread : Bool) → Answers Stands K.taken K.faults out.old out.new
             (command (world_of self) (sentence_of line.now) files unread) result }
@@ -119,8 +112,11 @@ impl Session {
             Line::Count { view, filter } => self.count(*view, filter, out, steps),
             Line::Print(view) => self.print(*view, out, steps),
             Line::Drop(view) => self.drop_view(*view),
+            Line::Counts(view) => self.counts(*view, out),
+            Line::Heat(view) => self.heat(*view, out),
+            Line::Layout(view) => self.layout(*view, out),
             Line::Bytes { view, blob } => self.bytes(*view, *blob, out),
-            _ => unreachable!(),
+            Line::Load { .. } => unreachable!(),
         }
     }
 }

@@ -2,9 +2,8 @@
 ghost use Rattle.std.specs.Prelude.{◌≡◌, ◌<◌, IfOk, IfErr, OnOk, true, length};
 ghost use Rattle.extents.specs.Shapes.{IsShape};
 ghost use Rattle.map_expr.specs.Terms.{term_of};
-ghost use Rattle.worlds.specs.Built.{is_built_map};
 ghost use Rattle.worlds.specs.View.{named, new_table, view, with_view};
-ghost use Rattle.command_checks.specs.Bases.{is_base};
+ghost use Rattle.command_checks.specs.Bases.{is_nameless};
 ghost use Rattle.command_checks.specs.Entries.{table_of};
 ghost use Rattle.command_checks.specs.Gives.{Gives};
 
@@ -39,7 +38,6 @@ impl Session {
         words: &[ExtentWord],
         expr: &MapExpr,
     ) -> Result<Session, StepFault>
-        requires { is_built_map (term_of expr.now) ≡ true }
         ensures { Gives left_of result (view (world_of self) name schema words.now (term_of expr.now)) }
     {
         let view = new_view(
@@ -79,9 +77,8 @@ pub fn named<'a>(
     words: &[ExtentWord],
     expr: &MapExpr,
 ) -> Result<Found<'a>, StepFault>
-    requires { is_built_map (term_of expr.now) ≡ true }
     ensures named { Gives named_of result (named (world_in records.now mappings.now views.now) name schema words.now (term_of expr.now)) }
-    ensures base { IfOk result (λ found. is_base (term_of found.expr) ≡ true) }
+    ensures nameless { IfOk result (λ found. is_nameless (term_of found.expr) ≡ true) }
     ensures shape { IfOk result (λ found. found.shape ≡ words.now) }
     ensures is_shape { OnOk result (IsShape words.now) }
     ensures room { OnOk result (length views.now < 64) }
@@ -110,7 +107,6 @@ fn new_view(
     words: &[ExtentWord],
     expr: &MapExpr,
 ) -> Result<View, StepFault>
-    requires { is_built_map (term_of expr.now) ≡ true }
     ensures { Gives table_of result (new_table (world_in records.now mappings.now views.now) name schema words.now (term_of expr.now)) }
 {
     let found = named(alloc, records, mappings, views, name, schema, words, expr)?;

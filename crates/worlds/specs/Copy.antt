@@ -1,11 +1,13 @@
 -- `copy V to W` makes the table of W that of V, and `relayout V as ..` lays a table out anew.
-use Rattle.std.specs.Prelude.{ℕ, ℤ, ◌&&◌, Bool, true, false, not, nat_eq, List}
+use Rattle.std.specs.Prelude.{ℕ, ℤ, ◌&&◌, Bool, true, false, not, nat_eq, List, length}
 use Rattle.std.specs.Cmp.Lexicographic.{pointwise}
 use Rattle.record_dim.specs.Trees.{Tree, Fields, Single, Record, Array, End, Field}
 use Rattle.map_expr.specs.Terms.{Term as MapTerm}
 use Rattle.map_bytes.specs.Cells.{kind_number}
 use Rattle.layout_copy.specs.Copies.{Spot, refused_at}
+use Rattle.views.specs.Tallies.{all_reads, all_writes}
 use Rattle.worlds.specs.Worlds.{World, Entry, Table}
+use Rattle.worlds.specs.Accessed.{leaf_count, accessed, rewritten}
 use Rattle.worlds.specs.Outcomes.{Outcome, Goes, ◌>>=◌, Left, quiet, known, refused_if, refused_by}
 use Rattle.worlds.specs.Names.{nameless, text_of_leaf}
 use Rattle.worlds.specs.Tables.{made}
@@ -36,11 +38,11 @@ are_alike source target = same_fields source.fields target.fields && pointwise n
 abbrev pub narrow_fault : Fields → Spot → CommandFault
 narrow_fault fields spot = Narrow spot.row (text_of_leaf fields spot.leaf)
 
--- a table with the rows of another, where it holds them
+-- a table with the rows of another, where it holds them, each value written once
 unfoldable pub with_rows : Table → List (List ℤ) → Outcome Table
 with_rows table rows = do
   held ← refused_by (narrow_fault table.fields) (refused_at (answer_in table) 0 rows)
-  Goes (record table { rows = rows })
+  Goes (rewritten table rows (all_writes (leaf_count table) (length rows)))
 
 -- the target with the rows of the source
 unfoldable pub copied : Table → Table → Outcome Table
@@ -48,12 +50,18 @@ copied source target = do
   alike ← refused_if (not (are_alike source target)) Mismatch
   with_rows target source.rows
 
+-- the source, each of its values read once
+abbrev pub all_read : Table → Table
+all_read source = accessed source (all_reads (leaf_count source) (length source.rows))
+
+-- of a table onto itself, each value is read and is written
 unfoldable pub copy : World → List ℕ → List ℕ → Outcome Left
 copy world name target_name = do
   source ← known name world.views
-  target ← known target_name world.views
+  let read = with_table world name (all_read source)
+  target ← known target_name read.views
   new ← copied source target
-  quiet (with_table world target_name new)
+  quiet (with_table read target_name new)
 
 -- the same rows under a new mapping, in a table beside all of these, the old one among them
 unfoldable pub laid_anew : List (Entry Table) → Table → MapTerm → Outcome Table

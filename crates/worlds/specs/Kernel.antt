@@ -17,7 +17,9 @@ use Rattle.lane_kernels.specs.declared.kernel.Compare.TheVariants.{Eq, Ne, Lt, L
 use Rattle.lane_kernels.specs.declared.kernel.Kernel.{Kernel}
 use Rattle.lane_kernels.specs.declared.kernel.Kernel.TheVariants.{Axpy, Clamp, Sum, Least, Greatest, CountWhere}
 use Rattle.lane_kernels.specs.Kernels as kernels
+use Rattle.lane_kernels.specs.Logs.{rows_log}
 use Rattle.worlds.specs.Worlds.{World, Table}
+use Rattle.worlds.specs.Accessed.{rewritten}
 use Rattle.worlds.specs.Outcomes.{Outcome, Goes, ◌>>=◌, Left, shows, known, refused_if, refused_by}
 use Rattle.worlds.specs.Names.{leaf_of, text_of_leaf}
 use Rattle.worlds.specs.Texts.{number_line}
@@ -106,7 +108,7 @@ abbrev pub run : Table → Kernel → Outcome Ran
 run table kernel = do
   done ← refused_by (run_fault table.fields) (kernels.kernel_fault (answer_in table) kernel table.rows)
   Goes (record {
-    table = record table { rows = kernels.run_rows kernel (length table.rows) table.rows };
+    table = rewritten table (kernels.run_rows kernel (length table.rows) table.rows) (rows_log kernel (length table.rows));
     number = kernels.number_of kernel table.rows;
   })
 

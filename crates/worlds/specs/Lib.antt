@@ -15,6 +15,6 @@ pub mod Reduce
 pub mod Copy
 pub mod Kernel
 pub mod Show
-pub mod Built
+pub mod Accessed
 pub mod Step
 pub mod FaultTexts

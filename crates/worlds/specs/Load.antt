@@ -9,7 +9,9 @@ use Rattle.map_any.specs.Mappings.{holds_by}
 use Rattle.csv_rows.specs.Datasets.{records_of, rows_of, dataset_table}
 use Rattle.csv_rows.specs.declared.fault.RowFault.{RowFault}
 use Rattle.csv_rows.specs.declared.fault.RowFault.TheVariants as rows
+use Rattle.views.specs.Tallies.{all_writes}
 use Rattle.worlds.specs.Worlds.{World, Entry, Table}
+use Rattle.worlds.specs.Accessed.{leaf_count, rewritten}
 use Rattle.worlds.specs.Outcomes.{Outcome, Goes, CannotRead, ◌>>=◌, Left, quiet, refused_if, ok_or}
 use Rattle.worlds.specs.Names.{text_of_leaf}
 use Rattle.worlds.specs.Tables.{resolved, made}
@@ -36,12 +38,12 @@ row_fault fields (rows.Range row leaf) = fault.Range row (text_of_leaf fields le
 row_fault fields (rows.Narrow row leaf) = fault.Narrow row (text_of_leaf fields leaf)
 row_fault fields rows.NoMemory = fault.TooBig
 
--- a table of zeros with the values of a dataset in place of them
+-- a table of zeros with the values of a dataset in place of them, each written once
 abbrev pub filled : Table → List (List (List ℕ)) → Outcome Table
 filled table records = do
   rows ← ok_or (row_fault table.fields)
       (dataset_table (texts_of table.fields) (kinds_of table.fields) (holds_by table.mapping table.fields) records)
-  Goes (record table { rows = rows })
+  Goes (rewritten table rows (all_writes (leaf_count table) (length table.rows)))
 
 -- the table of a dataset of these bytes, beside these views
 unfoldable pub loaded : List (Entry Table) → Named → List ExtentWord → List ℕ → Outcome Table

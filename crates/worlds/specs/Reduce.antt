@@ -1,15 +1,19 @@
 -- `reduce V sum|min|max path` and `reduce V count where ..` write one number of all rows.
 use Rattle.std.specs.Prelude.{ℕ, ℤ, pos, ◌+ℤ◌, List, [], ◌∷◌, length, map, fold}
-use Rattle.std.specs.List.{slice_index_or}
+use Rattle.std.specs.List.{slice_index_or, range_with_len}
 use Rattle.std.specs.Int.{int_min, int_max}
 use Rattle.line_grammar.specs.Sentences.{Value}
 use Rattle.line_grammar.specs.declared.line.ReduceKind.{ReduceKind}
 use Rattle.line_grammar.specs.declared.line.ReduceKind.TheVariants.{Sum, Min, Max}
 use Rattle.record_dim.specs.declared.path.PathStep.{PathStep}
 use Rattle.worlds.specs.Worlds.{World, Table}
+use Rattle.worlds.specs.Accessed.{accessed}
+use Rattle.worlds.specs.Assign.{with_table}
 use Rattle.worlds.specs.Outcomes.{Outcome, Goes, Faults, ◌>>=◌, Left, shows, known, ok_or}
 use Rattle.worlds.specs.Names.{leaf_of, bound}
 use Rattle.row_updates.specs.Rows.{counted}
+use Rattle.row_updates.specs.Logs.{count_log}
+use Rattle.views.specs.Tallies.{Access, Read}
 use Rattle.worlds.specs.Update.{update_fault}
 use Rattle.worlds.specs.Texts.{number_line}
 use Rattle.worlds.specs.declared.fault.CommandFault.TheVariants.{Empty}
@@ -25,26 +29,37 @@ reduced Max (value ∷ values) = Goes (fold int_max value values)
 abbrev pub column : ℕ → List (List ℤ) → List ℤ
 column leaf rows = map (λ row. slice_index_or row leaf (pos 0)) rows
 
+-- one read of a leaf in each of so many rows
+abbrev pub column_log : ℕ → ℕ → List Access
+column_log leaf rows = map (λ row. Read row leaf) (range_with_len 0 rows)
+
+-- a number, and the table after the accesses that gave it
+pub record Measured : Type 0 where
+  pub table : Table
+  pub number : ℤ
+
 -- one number of the values of a leaf
-unfoldable pub reduction : Table → ReduceKind → List PathStep → Outcome ℤ
+unfoldable pub reduction : Table → ReduceKind → List PathStep → Outcome Measured
 reduction table kind path = do
   leaf ← leaf_of table.fields path
-  reduced kind (column leaf table.rows)
+  number ← reduced kind (column leaf table.rows)
+  Goes (record { table = accessed table (column_log leaf (length table.rows)); number = number })
 
 unfoldable pub reduce : World → List ℕ → ReduceKind → List PathStep → Outcome Left
 reduce world name kind path = do
   table ← known name world.views
-  value ← reduction table kind path
-  shows world (number_line value)
+  done ← reduction table kind path
+  shows (with_table world name done.table) (number_line done.number)
 
 -- in how many rows the filter is not 0
-unfoldable pub counting : Table → Value → Outcome ℕ
+unfoldable pub counting : Table → Value → Outcome Measured
 counting table filter = do
   term ← bound table.fields (length table.extents) filter
-  ok_or (update_fault table.fields) (counted term table.extents table.rows)
+  rows ← ok_or (update_fault table.fields) (counted term table.extents table.rows)
+  Goes (record { table = accessed table (count_log term table.extents table.rows (length table.rows)); number = pos rows })
 
 unfoldable pub count : World → List ℕ → Value → Outcome Left
 count world name filter = do
   table ← known name world.views
-  rows ← counting table filter
-  shows world (number_line (pos rows))
+  done ← counting table filter
+  shows (with_table world name done.table) (number_line done.number)

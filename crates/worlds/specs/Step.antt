@@ -1,10 +1,9 @@
 -- What a line does to a world.
-use Rattle.std.specs.Prelude.{Bool, List, if◌then◌else◌}
+use Rattle.std.specs.Prelude.{Bool, List}
 use Rattle.layout_io.specs.Files.{File}
 use Rattle.line_grammar.specs.Sentences as line
 use Rattle.worlds.specs.Worlds.{World}
-use Rattle.worlds.specs.Outcomes.{Outcome, Faults, Left, quiet}
-use Rattle.worlds.specs.Built.{is_built}
+use Rattle.worlds.specs.Outcomes.{Outcome, Left, quiet}
 use Rattle.worlds.specs.Define.{define}
 use Rattle.worlds.specs.Mapping.{mapping}
 use Rattle.worlds.specs.View.{view}
@@ -14,8 +13,7 @@ use Rattle.worlds.specs.Update.{update}
 use Rattle.worlds.specs.Reduce.{reduce, count}
 use Rattle.worlds.specs.Copy.{copy, relayout}
 use Rattle.worlds.specs.Kernel.{kernel}
-use Rattle.worlds.specs.Show.{print, bytes, drop_view}
-use Rattle.worlds.specs.declared.fault.CommandFault.TheVariants.{NotBuilt}
+use Rattle.worlds.specs.Show.{print, counts, heat, layout, bytes, drop_view}
 
 -- the command of a line over these files; `unread`: reading fails in this command
 abbrev pub command : World → line.Sentence → List File → Bool → Outcome Left
@@ -34,8 +32,10 @@ command world (line.Relayout name term) files unread = relayout world name term
 command world (line.Print name) files unread = print world name
 command world (line.Bytes name blob) files unread = bytes world name blob
 command world (line.Drop name) files unread = drop_view world name
-command world _ files unread = Faults NotBuilt
+command world (line.Counts name) files unread = counts world name
+command world (line.Heat name) files unread = heat world name
+command world (line.Layout name) files unread = layout world name
 
--- a line that is not built yet is refused, whatever stands in it
+-- what a line does
 unfoldable pub step : World → line.Sentence → List File → Bool → Outcome Left
-step world sentence files unread = if is_built sentence then command world sentence files unread else Faults NotBuilt
+step world sentence files unread = command world sentence files unread

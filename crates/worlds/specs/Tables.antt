@@ -8,7 +8,9 @@ use Rattle.record_dim.specs.Leaves.{leaves, kinds_of}
 use Rattle.map_expr.specs.Terms.{Term as MapTerm}
 use Rattle.map_any.specs.Mappings.{leaf_cells, layout_by, most_slots, accepted}
 use Rattle.piece_bits.specs.Tables.{zeros}
+use Rattle.views.specs.Tallies.{no_tally, granules_for}
 use Rattle.worlds.specs.Worlds.{Entry, Table}
+use Rattle.worlds.specs.Accessed.{owners_of}
 use Rattle.worlds.specs.Outcomes.{Outcome, Goes, ◌>>=◌, refused_if, refused_by, ok_or}
 use Rattle.worlds.specs.declared.fault.CommandFault.TheVariants.{TooManyViews, TooBig, BadExtents, BadMapping}
 
@@ -28,24 +30,30 @@ resolved words rows = do
 
 -- the bits of the blobs of a table
 abbrev pub blob_bits : Table → ℕ
-blob_bits table = sum_by length (layout_by table.mapping table.extents table.fields)
+blob_bits table = sum_by length (owners_of table)
 
 -- of all live views together
 abbrev pub live_bits : List (Entry Table) → ℕ
 live_bits views = sum_by (λ entry. blob_bits entry.held) views
 
--- a table of zeros
+-- a table of zeros, to which there was no access
 abbrev pub zeros_of : Fields → List ℕ → MapTerm → Table
-zeros_of fields extents mapping =
-    record { fields = fields; extents = extents; mapping = mapping; rows = zeros (length (indices extents)) (length (leaves fields)) }
+zeros_of fields extents mapping = record {
+  fields = fields;
+  extents = extents;
+  mapping = mapping;
+  rows = zeros (length (indices extents)) (length (leaves fields));
+  tally = no_tally mapping (layout_by mapping extents fields) (length (leaves fields));
+}
 
--- a table of zeros beside these views, where its mapping is one and no limit is passed: the slots, the bytes of its blobs, and those
--- of all live views
+-- a table of zeros beside these views, where its mapping is one and no limit is passed: the slots, the bytes of its blobs, the granules
+-- that are counted, and the bytes of all live views
 abbrev pub made : List (Entry Table) → Fields → List ℕ → MapTerm → Outcome Table
 made views fields extents mapping =
     let table = zeros_of fields extents mapping in do
       fit ← ok_or BadMapping (accepted mapping fields (leaf_cells (kinds_of fields)))
       slots ← refused_if (nat_lt (2 ^ 24) (most_slots mapping extents)) TooBig
       bytes ← refused_if (nat_lt (8 * 2 ^ 28) (blob_bits table)) TooBig
+      granules ← refused_if (nat_lt (2 ^ 24) (granules_for mapping (owners_of table))) TooBig
       all ← refused_if (nat_lt (8 * 2 ^ 30) (live_bits views + blob_bits table)) TooBig
       Goes table

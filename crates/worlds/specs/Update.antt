@@ -3,10 +3,12 @@ use Rattle.std.specs.Prelude.{ℕ, List, [], length, Option}
 use Rattle.line_grammar.specs.Sentences.{Value, Assignment}
 use Rattle.record_dim.specs.Trees.{Fields}
 use Rattle.row_updates.specs.Rows.{updated_rows}
+use Rattle.row_updates.specs.Logs.{rows_log}
 use Rattle.row_updates.specs.declared.fault.UpdateFault.{UpdateFault}
 use Rattle.row_updates.specs.declared.fault.UpdateKind.{UpdateKind}
 use Rattle.row_updates.specs.declared.fault.UpdateKind.TheVariants as kind
 use Rattle.worlds.specs.Worlds.{World, Table}
+use Rattle.worlds.specs.Accessed.{rewritten}
 use Rattle.worlds.specs.Outcomes.{Outcome, Goes, ◌>>=◌, Left, quiet, known, ok_or}
 use Rattle.worlds.specs.Names.{text_of_leaf, bound_filter, bound_sets, each_once, leaves_of}
 use Rattle.worlds.specs.Values.{answer_in}
@@ -31,7 +33,7 @@ updated table filter sets = do
   settings ← bound_sets table.fields (length table.extents) sets
   once ← each_once table.fields [] (leaves_of settings)
   rows ← ok_or (update_fault table.fields) (updated_rows (answer_in table) test settings table.extents table.rows (length table.rows))
-  Goes (record table { rows = rows })
+  Goes (rewritten table rows (rows_log (answer_in table) test settings table.extents table.rows (length table.rows)))
 
 unfoldable pub update : World → List ℕ → Option Value → List Assignment → Outcome Left
 update world name filter sets = do

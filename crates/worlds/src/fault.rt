@@ -50,8 +50,6 @@ pub enum CommandFault {
     /// A result lies outside 128 bits.
     Overflow { row: u64 },
     DivideByZero { row: u64 },
-    /// The line has a command or a mapping form that is not built yet.
-    NotBuilt,
 }
 
 /// A name, a path or an index that names nothing.

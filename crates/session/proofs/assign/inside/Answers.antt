@@ -1,6 +1,5 @@
 use Rattle.std.proofs.Common.{rules, tests, ◌≡◌, ◌∙◌, true, false, sym}
 use Rattle.std.proofs.lemmas.Bool.{false≢true}
-use Rattle.extents.specs.Indices.{IsInside}
 use Rattle.session.proofs.Indexing.{inside_goes, inside_not, other_rank}
 use Rattle.session.proofs.assign.inside.Goals as goal
 

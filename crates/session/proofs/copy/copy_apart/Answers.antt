@@ -1,4 +1,4 @@
-use Rattle.std.proofs.Common.{rules, arith, ◌≡◌, ◌<◌, ◌∙◌, length, Err, sym}
+use Rattle.std.proofs.Common.{rules, ◌≡◌, length, Err}
 use Rattle.std.specs.List.{remove}
 use Rattle.std.proofs.lemmas.List.Edits.{length-remove}
 use Rattle.session.proofs.Copies.{AreApart, apart_not, apart_to, place_within}
@@ -35,11 +35,11 @@ returns g c = λ d.
       entry_is = rw gone at c.index_mut.ensures.value;
       old_is = c.remove-entry.ensures.value;
     } in
-    apart_to views c.insert.new.self.items c.args.source c.args.target c.place_without-place.result c.index_mut.result.now c.remove-entry.result d c.copy_into.new.source c.copy_into.new.target are c.copy_into.ensures.source
+    apart_to views c.insert.new.self.items c.args.source c.args.target c.place_without-place.result c.index_mut.result.now c.remove-entry.result d c.copy_into.new.source c.copy_into.new.target are c.in_ok-copy_into.ensures.read
     (rw gone at c.in_ok-insert.ensures.items) c.in_ok-copy_into.ensures.copied
 
 -- a mapping that is dropped is one still
 pub invariant_of-entry : goal.invariant_of-entry
 invariant_of-entry g c =
     let m = c.drop.inside.map in
-    record { built = m.built; numbers = m.numbers; full = m.full; held = m.held; sized = m.sized; ruled = m.ruled }
+    record { built = m.built; numbers = m.numbers; full = m.full; held = m.held; sized = m.sized; ruled = m.ruled; uncounted = m.uncounted }

@@ -3,4 +3,4 @@ use Rattle.session.proofs.copy.copy_between.Goals as goal
 
 pub returns-then-source-target : goal.returns-then-source-target
 returns-then-source-target g c = λ d.
-    kept_to c.args.views.now.items c.args.source c.args.target c.index_mut.result.now c.keep.new.view d c.if-source-target.true c.requires.target c.index_mut.ensures.value c.keep.ensures.same c.keep.ensures.copied
+    rw c.if-source-target.true (kept_to c.args.views.now.items c.args.target c.index_mut.result.now c.keep.new.view d c.requires.target c.index_mut.ensures.value c.keep.ensures)

@@ -1,16 +1,14 @@
-use Rattle.std.proofs.Common.{rules, ◌≡◌, ◌⊎◌, ◌<◌, ◌^◌, ◌∙◌, Bool, List, ℕ, length, map, Some, None, Err, refl, inl, inr, ⊎_elim, sym, ap, subst}
+use Rattle.std.proofs.Common.{rules, ◌≡◌, ◌⊎◌, ◌<◌, ◌^◌, ◌∙◌, Bool, length, map, Some, None, Err, refl, inl, inr, ⊎_elim, sym, ap}
 use Rattle.layout_io.specs.Faults.{Rose}
 use Rattle.layout_io.specs.Files.{file_of, IsMissing}
 use Rattle.worlds.specs.Load.{loaded_table, loaded, read}
-use Rattle.worlds.specs.Outcomes.{Outcome, ◌>>=◌}
+use Rattle.worlds.specs.Outcomes.{◌>>=◌}
 use Rattle.worlds.specs.View.{Named}
-use Rattle.worlds.specs.Worlds.{Table}
 use Rattle.map_expr.specs.Terms.{term_of}
 use Rattle.views.specs.Seen.{Seen}
 use Rattle.session.specs.Stands.{world_in}
 use Rattle.command_checks.specs.Entries.{table_of, view_of}
-use Rattle.command_checks.specs.Gives.{Gives}
-use Rattle.session.specs.Loads.{named_of, filled_table}
+use Rattle.session.specs.Loads.{named_of}
 use Rattle.session.proofs.Reading.{file_there, file_missing, before_reading, was_read, was_unread, was_long, not_long, unread_test, unread_gives}
 use Rattle.session.proofs.load.loaded_view.Goals as goal
 

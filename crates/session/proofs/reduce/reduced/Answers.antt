@@ -2,7 +2,7 @@ use Rattle.std.proofs.Common.{rules, arith, ◌≡◌, ◌<◌, ◌∙◌, lengt
 use Rattle.std.specs.Int.{w128}
 use Rattle.std.proofs.lemmas.Int.{to_z-of_z}
 use Rattle.extents.specs.Indices.{indices}
-use Rattle.session.proofs.Reductions.{reduced_first, fits_small}
+use Rattle.session.proofs.Reductions.{reduced_first, reads_first, fits_small}
 use Rattle.session.proofs.reduce.reduced.Goals as goal
 
 pub along-requires-in-Min : goal.along-requires-in-Min
@@ -16,4 +16,15 @@ along-requires-in-Min g c =
       start = some;
       before = reduced_first c.args.kind view.table c.args.leaf c.get-first.result some c.get-first.ensures.value;
       small = fits_small _ _ c.get-first.result c.get-first.ensures.fits;
+    })
+
+pub returns-else-count-eq0 : goal.returns-else-count-eq0
+returns-else-count-eq0 g c =
+    let view = c.args.view.now in
+    let fits : FitsSigned w128 c.along-in-Min.result = search rules in
+    let rows : length (indices c.extents.result) ≡ length view.table = ap (λ (e : List ℕ). length (indices e)) c.extents.ensures.value ∙ sym c.extents.ensures.table.rows in
+    let some : 0 < length view.table = omega arith in
+    rw (to_z-of_z w128 c.along-in-Min.result fits) (record {
+      value = rw c.get-first.ensures.same at c.along-in-Min.ensures.value;
+      read = (rw c.get-first.ensures.same at c.along-in-Min.ensures.read) ∙ reads_first view c.args.leaf (length view.table) some;
     })

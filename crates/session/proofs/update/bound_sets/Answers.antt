@@ -4,7 +4,7 @@ use Rattle.line_grammar.specs.Sentences.{Assignment, assignment_of}
 use Rattle.record_dim.specs.Schemas.{schema_fields}
 use Rattle.row_updates.specs.Rows.{Setting, setting_of, IsSetOf}
 use Rattle.std.proofs.lemmas.List.{map-append}
-use Rattle.worlds.specs.Names.{bound_set, bound_sets}
+use Rattle.worlds.specs.Names.{bound_sets}
 use Rattle.worlds.specs.Outcomes.{Goes}
 use Rattle.command_checks.specs.Gives.{GivesUp}
 use Rattle.session.proofs.Sets.{map_at, map_more, sets_push, sets_stop}

@@ -1,4 +1,4 @@
-use Rattle.std.proofs.Common.{◌≡◌, ◌∙◌, map, Ok, sym, ap}
+use Rattle.std.proofs.Common.{◌∙◌, map, Ok, sym, ap}
 use Rattle.std.specs.Prelude.{option_map}
 use Rattle.expr_lang.specs.Terms.{term_of as value_of}
 use Rattle.line_grammar.specs.Sentences.{sentence_of, assignment_of}
@@ -11,7 +11,7 @@ use Rattle.worlds.specs.Define.{define}
 use Rattle.worlds.specs.Kernel.{kernel}
 use Rattle.worlds.specs.Mapping.{mapping}
 use Rattle.worlds.specs.Reduce.{reduce, count}
-use Rattle.worlds.specs.Show.{print, bytes, drop_view}
+use Rattle.worlds.specs.Show.{print, counts, heat, layout, bytes, drop_view}
 use Rattle.worlds.specs.Step.{command}
 use Rattle.worlds.specs.Update.{update}
 use Rattle.worlds.specs.View.{view}
@@ -86,3 +86,18 @@ pub returns-in-Bytes : goal.returns-in-Bytes
 returns-in-Bytes g c = λ files unread.
     answers_by g.K.Sink.taken g.K.Sink.faults c.args.out.now c.bytes.new.out _ (bytes (world_of c.args.self) c.in-Bytes.view c.in-Bytes.blob) c.bytes.result
     (ap (λ (line : Line). command (world_of c.args.self) (sentence_of line) files unread) c.in-Bytes.is) c.bytes.ensures
+
+pub returns-in-Counts : goal.returns-in-Counts
+returns-in-Counts g c = λ files unread.
+    answers_by g.K.Sink.taken g.K.Sink.faults c.args.out.now c.counts.new.out _ (counts (world_of c.args.self) c.in-Counts.view) c.counts.result
+    (ap (λ (line : Line). command (world_of c.args.self) (sentence_of line) files unread) c.in-Counts.is) c.counts.ensures
+
+pub returns-in-Heat : goal.returns-in-Heat
+returns-in-Heat g c = λ files unread.
+    answers_by g.K.Sink.taken g.K.Sink.faults c.args.out.now c.heat.new.out _ (heat (world_of c.args.self) c.in-Heat.view) c.heat.result
+    (ap (λ (line : Line). command (world_of c.args.self) (sentence_of line) files unread) c.in-Heat.is) c.heat.ensures
+
+pub returns-in-Layout : goal.returns-in-Layout
+returns-in-Layout g c = λ files unread.
+    answers_by g.K.Sink.taken g.K.Sink.faults c.args.out.now c.layout.new.out _ (layout (world_of c.args.self) c.in-Layout.view) c.layout.result
+    (ap (λ (line : Line). command (world_of c.args.self) (sentence_of line) files unread) c.in-Layout.is) c.layout.ensures

@@ -1,13 +1,17 @@
-use Rattle.std.proofs.Common.{rules, ℕ, ℤ, pos}
-use Rattle.expr_lang.specs.Terms.{term_of}
+use Rattle.std.proofs.Common.{rules, FitsSigned, refl}
+use Rattle.std.specs.Int.{w128}
+use Rattle.std.proofs.lemmas.Int.{to_z-of_z}
+use Rattle.worlds.specs.Assign.{with_table}
 use Rattle.worlds.specs.Outcomes.{shows}
-use Rattle.worlds.specs.Reduce.{reduce, reduction}
+use Rattle.worlds.specs.Reduce.{Measured, reduce, reduction}
 use Rattle.worlds.specs.Texts.{number_line}
 use Rattle.worlds.specs.Worlds.{Table}
-use Rattle.command_checks.specs.Entries.{view_of}
+use Rattle.command_checks.specs.Entries.{table_of, view_of}
 use Rattle.command_checks.specs.Places.{IsAt}
+use Rattle.command_checks.specs.declared.entries.ViewEntry.{ViewEntry}
+use Rattle.session.specs.Changes.{measured}
 use Rattle.session.specs.Stands.{Stands, world_of}
-use Rattle.session.proofs.Exits.{gave_up, known_at, second_gives_up}
+use Rattle.session.proofs.Exits.{did_change, gave_up, known_at, second_gives_up}
 use Rattle.session.proofs.session.Session.reduce.Goals as goal
 
 pub returns-in_err-value : goal.returns-in_err-value
@@ -16,4 +20,15 @@ returns-in_err-value g c =
     let at : IsAt view_of c.args.name c.args.self.views.items c.in_ok-place.place = rw c.as_slice.ensures.value at c.in_ok-place.ensures.at in
     let known_is = known_at c.args.name c.args.self.views.items c.in_ok-place.place c.index_mut.result.now at c.index_mut.ensures.value in
     gave_up Stands g.K.Sink.taken g.K.Sink.faults c.args.out.now _ c.in_err-value.field-0.0 _ (search rules)
-    (second_gives_up _ _ (λ (table : Table). reduction table c.args.kind c.args.path.now) (λ (table : Table) (value : ℤ). shows (world_of c.args.self) (number_line value)) c.in_err-value.field-0.0 known_is c.in_err-value.ensures.value)
+    (second_gives_up _ _ (λ (table : Table). reduction table c.args.kind c.args.path.now)
+    (λ (table : Table) (done : Measured). shows (with_table (world_of c.args.self) c.args.name done.table) (number_line done.number)) c.in_err-value.field-0.0 known_is c.in_err-value.ensures)
+
+pub returns-in-Ok : goal.returns-in-Ok
+unfolding reduce
+returns-in-Ok g c =
+    let at : IsAt view_of c.args.name c.args.self.views.items c.in_ok-place.place = rw c.as_slice.ensures.value at c.in_ok-place.ensures.at in
+    let entry = c.index_mut.result.now in
+    let changed : ViewEntry = record { name = entry.name; view = c.reduction.new.view } in
+    let fits : FitsSigned w128 c.in_ok-value.value = search rules in
+    did_change g.K.Sink.taken g.K.Sink.faults c.args.out.now _ c.args.self _ c.args.name c.in_ok-place.place entry changed (λ (table : Table). reduction table c.args.kind c.args.path.now)
+    (λ (done : Measured). done.table) (λ (done : Measured). number_line done.number) (measured (table_of c.reduction.new.view) c.in_ok-value.value) at c.index_mut.ensures.value refl c.in_ok-value.ensures refl refl (rw (to_z-of_z w128 c.in_ok-value.value fits) at c.in-Ok.ensures)

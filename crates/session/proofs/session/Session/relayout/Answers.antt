@@ -1,15 +1,16 @@
-use Rattle.std.proofs.Common.{rules, ◌≡◌, ◌∙◌, List, [], map, get_or, Err, refl, sym, ap}
-use Rattle.std.specs.Prelude.{slice_set}
-use Rattle.worlds.specs.Copy.{relayout}
-use Rattle.worlds.specs.Outcomes.{Goes}
+use Rattle.std.proofs.Common.{rules, ◌≡◌, ◌∙◌, List, [], Err, refl, sym, ap, subst}
+use Rattle.map_expr.specs.Terms.{term_of}
+use Rattle.worlds.specs.Copy.{relayout, laid_anew}
+use Rattle.worlds.specs.Outcomes.{Outcome, Goes}
 use Rattle.worlds.specs.Worlds.{Entry, Table}
 use Rattle.command_checks.specs.Entries.{view_of}
+use Rattle.command_checks.specs.Gives.{GivesUp}
 use Rattle.command_checks.specs.GivesLaws.{GivesUp-then, goes_then}
 use Rattle.command_checks.specs.Places.{IsAt}
 use Rattle.command_checks.specs.declared.entries.ViewEntry.{ViewEntry}
 use Rattle.session.specs.Stands.{world_of}
-use Rattle.session.proofs.Exits.{goes_gives, table_changed}
-use Rattle.session.proofs.Copies.{first_of, known_place}
+use Rattle.session.proofs.Exits.{goes_gives, known_at, table_changed}
+use Rattle.session.proofs.Copies.{first_of, known_place, laid_at}
 use Rattle.session.proofs.session.Session.relayout.Goals as goal
 
 pub returns-in_err-expr : goal.returns-in_err-expr
@@ -23,17 +24,32 @@ returns-in_err-expr g c =
     let whole = rw c.as_slice-2.ensures.value at c.in_err-expr.ensures.whole in
     rw is (goes_gives _ _ _ fault (known_place c.args.name items c.in_ok-place.place d at) (GivesUp-then _ _ fault whole))
 
-pub returns-in_err-view : goal.returns-in_err-view
-unfolding relayout
-returns-in_err-view g c =
+pub returns-in_err-fresh : goal.returns-in_err-fresh
+unfolding relayout laid_anew
+returns-in_err-fresh g c =
     let items = c.args.self.views.items in
     let at : IsAt view_of c.args.name items c.in_ok-place.place = rw c.as_slice.ensures.value at c.in_ok-place.ensures.at in
     let d = first_of items c.in_ok-place.place at.inside in
-    let fault = c.in_err-view.field-0.0 in
-    let is : c.from_residual-in_err-view.result ≡ Err fault = search rules in
+    let fault = c.in_err-fresh.field-0.0 in
+    let is : c.from_residual-in_err-fresh.result ≡ Err fault = search rules in
     let whole = rw c.as_slice-2.ensures.value at c.in_ok-expr.ensures.whole in
-    let gives = c.in_err-view.ensures.laid d in
-    rw is (goes_gives _ _ _ fault (known_place c.args.name items c.in_ok-place.place d at) (goes_gives _ _ _ fault whole (GivesUp-then _ _ fault gives)))
+    let made = rw c.as_slice-3.ensures.value at (c.in_err-fresh.ensures.made d) in
+    rw is (goes_gives _ _ _ fault (known_place c.args.name items c.in_ok-place.place d at) (goes_gives _ _ _ fault whole (GivesUp-then _ _ fault (GivesUp-then _ _ fault made))))
+
+pub returns-in_err-laid_over : goal.returns-in_err-laid_over
+unfolding relayout
+returns-in_err-laid_over g c =
+    let items = c.args.self.views.items in
+    let at : IsAt view_of c.args.name items c.in_ok-place.place = rw c.as_slice.ensures.value at c.in_ok-place.ensures.at in
+    let entry = c.index_mut.result.now in
+    let fault = c.in_err-laid_over.field-0.0 in
+    let is : c.from_residual-in_err-laid_over.result ≡ Err fault = search rules in
+    let whole = rw c.as_slice-2.ensures.value at c.in_ok-expr.ensures.whole in
+    let made = rw c.as_slice-3.ensures.value at (c.in_ok-fresh.ensures.made entry) in
+    let zeros = rw c.as_slice-3.ensures.value at (c.in_ok-fresh.ensures.zeros entry) in
+    let laid = laid_at items c.in_ok-place.place entry (term_of c.in_ok-expr.expr) c.in_ok-fresh.fresh c.index_mut.ensures.value made zeros in
+    rw is (goes_gives _ _ _ fault (known_at c.args.name items c.in_ok-place.place entry at c.index_mut.ensures.value)
+    (goes_gives _ _ _ fault whole (GivesUp-then _ _ fault (subst (λ (o : Outcome Table). GivesUp o fault) (sym laid) c.in_err-laid_over.ensures))))
 
 pub returns : goal.returns
 unfolding relayout
@@ -41,11 +57,11 @@ returns g c =
     let items = c.args.self.views.items in
     let at : IsAt view_of c.args.name items c.in_ok-place.place = rw c.as_slice.ensures.value at c.in_ok-place.ensures.at in
     let entry = c.index_mut.result.now in
-    let changed : ViewEntry = record { name = entry.name; view = c.in_ok-view.view } in
+    let changed : ViewEntry = record { name = entry.name; view = c.laid_over.new.view } in
     let whole = rw c.as_slice-2.ensures.value at c.in_ok-expr.ensures.whole in
-    let laid = c.in_ok-view.ensures.laid entry in
-    let kept : c.laid_anew.new.views.items ≡ items = c.in_ok-view.ensures.same in
-    let same = table_changed c.args.self c.args.name c.in_ok-place.place entry changed at (rw kept at c.index_mut.ensures.value) refl in
-    goes_then _ _ _ (known_place c.args.name items c.in_ok-place.place entry at) ∙ goes_then _ _ _ whole ∙ goes_then _ _ _ laid
-    ∙ ap (λ (views : List (Entry Table)). Goes (record { world = record (world_of c.args.self) { views = views }; text = [] }))
-    (sym same ∙ ap (λ (xs : List ViewEntry). map view_of (slice_set xs c.in_ok-place.place changed)) (sym kept))
+    let made = rw c.as_slice-3.ensures.value at (c.in_ok-fresh.ensures.made entry) in
+    let zeros = rw c.as_slice-3.ensures.value at (c.in_ok-fresh.ensures.zeros entry) in
+    let laid = laid_at items c.in_ok-place.place entry (term_of c.in_ok-expr.expr) c.in_ok-fresh.fresh c.index_mut.ensures.value made zeros in
+    let same = table_changed c.args.self c.args.name c.in_ok-place.place entry changed at c.index_mut.ensures.value refl in
+    goes_then _ _ _ (known_at c.args.name items c.in_ok-place.place entry at c.index_mut.ensures.value) ∙ goes_then _ _ _ whole ∙ goes_then _ _ _ (laid ∙ c.in_ok-laid_over.ensures)
+    ∙ ap (λ (views : List (Entry Table)). Goes (record { world = record (world_of c.args.self) { views = views }; text = [] })) (sym same)

@@ -1,39 +1,26 @@
-use Rattle.std.proofs.Common.{rules, tests, ◌≡◌, ◌∙◌, Bool, true, false, List, [], Option, Some, sym, ap, subst}
-use Rattle.std.specs.Prelude.{IfSome}
-use Rattle.layout_io.specs.Files.{File}
+use Rattle.std.proofs.Common.{◌≡◌, ◌∙◌, false, [], Some, sym, ap, subst}
 use Rattle.line_grammar.specs.Sentences.{sentence_of}
 use Rattle.line_grammar.specs.declared.line.Line.{Line}
 use Rattle.map_expr.specs.Terms.{term_of}
 use Rattle.worlds.specs.Load.{load}
 use Rattle.worlds.specs.Step.{step, command}
-use Rattle.worlds.specs.declared.fault.CommandFault.TheVariants.{NotBuilt}
 use Rattle.session.specs.Loads.{file_in, ToldFor}
 use Rattle.session.specs.Stands.{world_of}
-use Rattle.session.proofs.Exits.{refused}
-use Rattle.session.proofs.Steps.{step_is, step_not, steps_by, steps_load, steps_shown, cause_shown, unread_by, unread_shown, untaken_quiet, untaken_shown}
+use Rattle.session.proofs.Steps.{step_is, steps_by, steps_load, steps_shown, cause_shown, unread_by, unread_shown, untaken_quiet, untaken_shown}
 use Rattle.session.proofs.session.Session.step.Goals as goal
-
-pub returns-then-not-is_built-clause-step : goal.returns-then-not-is_built-clause-step
-returns-then-not-is_built-clause-step g c = λ files told.
-    let off : c.is_built.result ≡ false = search (rules, tests) in
-    refused g.K.Sink.taken g.K.Sink.faults c.args.out.now _ NotBuilt (step_not (world_of c.args.self) (sentence_of c.args.line.now) files false (sym c.is_built.ensures ∙ off))
 
 pub returns-in-Load-clause-step : goal.returns-in-Load-clause-step
 returns-in-Load-clause-step g c = λ files told.
-    let on : c.is_built.result ≡ true = search (rules, tests) in
-    let built = sym c.is_built.ensures ∙ on in
     let is : g.H.Shelf.files c.args.shelf.now ≡ Some files = subst (λ (line : Line). ToldFor (g.H.Shelf.files c.args.shelf.now) (sentence_of line) files) c.in-Load.is told in
     steps_by g.K.Sink.taken g.K.Sink.faults c.args.out.now c.args.out.now _ (load (world_of c.args.self) c.in-Load.name c.in-Load.schema c.as_slice.result.now (term_of c.in-Load.expr) c.in-Load.file files) _ c.load.result
-    (λ unread. step_is (world_of c.args.self) (sentence_of c.args.line.now) files unread built ∙ ap (λ (line : Line). command (world_of c.args.self) (sentence_of line) files unread) c.in-Load.is ∙ ap (λ words. load (world_of c.args.self) c.in-Load.name c.in-Load.schema words (term_of c.in-Load.expr) c.in-Load.file files unread) (sym c.as_slice.ensures))
+    (λ unread. step_is (world_of c.args.self) (sentence_of c.args.line.now) files unread ∙ ap (λ (line : Line). command (world_of c.args.self) (sentence_of line) files unread) c.in-Load.is ∙ ap (λ words. load (world_of c.args.self) c.in-Load.name c.in-Load.schema words (term_of c.in-Load.expr) c.in-Load.file files unread) (sym c.as_slice.ensures))
     (steps_load g.K.Sink.taken g.K.Sink.faults c.args.out.now (load (world_of c.args.self) c.in-Load.name c.in-Load.schema c.as_slice.result.now (term_of c.in-Load.expr) c.in-Load.file files) _ c.load.result (c.load.ensures.loads files is))
 
 pub returns-in-Load-clause-unread : goal.returns-in-Load-clause-unread
 returns-in-Load-clause-unread g c =
-    let on : c.is_built.result ≡ true = search (rules, tests) in
-    let built = sym c.is_built.ensures ∙ on in
     unread_by _ c.in-Load.file (step (world_of c.args.self) (sentence_of c.args.line.now)) (load (world_of c.args.self) c.in-Load.name c.in-Load.schema c.as_slice.result.now (term_of c.in-Load.expr) c.in-Load.file) c.load.result
     (ap (λ (line : Line). file_in (sentence_of line)) c.in-Load.is)
-    (λ files unread. step_is (world_of c.args.self) (sentence_of c.args.line.now) files unread built ∙ ap (λ (line : Line). command (world_of c.args.self) (sentence_of line) files unread) c.in-Load.is ∙ ap (λ words. load (world_of c.args.self) c.in-Load.name c.in-Load.schema words (term_of c.in-Load.expr) c.in-Load.file files unread) (sym c.as_slice.ensures))
+    (λ files unread. step_is (world_of c.args.self) (sentence_of c.args.line.now) files unread ∙ ap (λ (line : Line). command (world_of c.args.self) (sentence_of line) files unread) c.in-Load.is ∙ ap (λ words. load (world_of c.args.self) c.in-Load.name c.in-Load.schema words (term_of c.in-Load.expr) c.in-Load.file files unread) (sym c.as_slice.ensures))
     c.load.ensures.unread
 
 pub returns-in-Load-clause-untaken : goal.returns-in-Load-clause-untaken
@@ -41,9 +28,7 @@ returns-in-Load-clause-untaken g c = untaken_quiet g.K.Sink.taken c.args.out.now
 
 pub returns-in_default-clause-step : goal.returns-in_default-clause-step
 returns-in_default-clause-step g c = λ files told.
-    let on : c.is_built.result ≡ true = search (rules, tests) in
-    let built = sym c.is_built.ensures ∙ on in
-    steps_shown g.K.Sink.taken g.K.Sink.faults c.args.out.now c.command.new.out (world_of c.args.self) (sentence_of c.args.line.now) files _ c.command.result built (c.command.ensures files false)
+    steps_shown g.K.Sink.taken g.K.Sink.faults c.args.out.now c.command.new.out (world_of c.args.self) (sentence_of c.args.line.now) files _ c.command.result (c.command.ensures files false)
 
 pub returns-in_default-clause-cause : goal.returns-in_default-clause-cause
 returns-in_default-clause-cause g c =

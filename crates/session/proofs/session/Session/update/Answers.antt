@@ -1,4 +1,4 @@
-use Rattle.std.proofs.Common.{◌≡◌, ◌∙◌, List, [], refl, sym, ap}
+use Rattle.std.proofs.Common.{◌∙◌, List, [], refl, sym, ap}
 use Rattle.worlds.specs.Update.{update}
 use Rattle.worlds.specs.Outcomes.{Goes}
 use Rattle.worlds.specs.Worlds.{Entry, Table}

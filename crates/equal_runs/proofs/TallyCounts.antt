@@ -1,0 +1,39 @@
+-- The counts by leaf after some accesses, which are the same however a table lies.
+use Rattle.std.proofs.Common.{◌≡◌, ℕ, Bool, true, false, List, Option, Some, None, option_map, refl, sym, ap, subst}
+use Rattle.std.specs.Prelude.{⊤, if◌then◌else◌}
+use Rattle.std.specs.List.{fold}
+use Rattle.instrument.specs.Counters.{LeafCounts, no_counts}
+use Rattle.map_any.specs.Counters.{has_count}
+use Rattle.map_expr.specs.Terms.{Term as MapTerm}
+use Rattle.places.specs.Layout.{Owner}
+use Rattle.views.specs.Tallies.{Access, Tally, counted_by, tallied, no_tally}
+use Rattle.views.specs.TallyLaws.{tallied-counts}
+
+-- some counts after accesses
+abbrev counts_after : List Access → LeafCounts → LeafCounts
+counts_after log counts = fold (λ (c : LeafCounts) (access : Access). counted_by access c) counts log
+
+-- equal counts, where both are there
+abbrev pub SameCounts : Option LeafCounts → Option LeafCounts → Type 0
+SameCounts (Some counts) (Some others) = others ≡ counts
+SameCounts _ _ = ⊤
+
+same_after : (log : List Access) (counts others : Option LeafCounts) → SameCounts counts others → SameCounts (option_map (counts_after log) counts) (option_map (counts_after log) others)
+same_after log None others same = tt
+same_after log (Some counts) None same = tt
+same_after log (Some counts) (Some others) same = ap (counts_after log) same
+
+-- after the same accesses to tables that lie so and so
+pub tallied_alike : (layout changed : List (List Owner)) (tally other : Tally) (log : List Access) → SameCounts tally.counts other.counts
+    → SameCounts (tallied layout tally log).counts (tallied changed other log).counts
+tallied_alike layout changed tally other log same =
+    subst (λ (counts : Option LeafCounts). SameCounts counts (tallied changed other log).counts) (sym (tallied-counts layout tally log))
+    (subst (SameCounts (option_map (counts_after log) tally.counts)) (sym (tallied-counts changed other log)) (same_after log tally.counts other.counts same))
+
+-- after none
+pub no_tally_alike : (term changed : MapTerm) (layout other : List (List Owner)) (leaves : ℕ) → SameCounts (no_tally term layout leaves).counts (no_tally changed other leaves).counts
+no_tally_alike term changed layout other leaves = of_tests (has_count term) (has_count changed) where
+  of_tests : (a b : Bool) → SameCounts (if a then Some (no_counts leaves) else None) (if b then Some (no_counts leaves) else None)
+  of_tests false b = tt
+  of_tests true false = tt
+  of_tests true true = refl
