@@ -1,5 +1,5 @@
 -- The runs of scripts that are within the limits are those over their lines.
-use Rattle.std.proofs.Common.{◌≡◌, ℕ, ◌≤◌, ◌^◌, Bool, false, ltb, List, length, Option, Some, None, sym, ap, ◌∙◌, arith}
+use Rattle.std.proofs.Common.{◌≡◌, ℕ, ◌≤◌, ◌^◌, Bool, false, ltb, List, length, Option, None, sym, ap, ◌∙◌, arith}
 use Rattle.std.specs.Prelude.{if◌then◌else◌, Result}
 use Rattle.std.proofs.lemmas.Bool.Decides.{nat_tests}
 use Rattle.layout_io.specs.Files.{File, file_of}
@@ -12,7 +12,7 @@ use Rattle.worlds.specs.declared.fault.CommandFault.TheVariants.{LineTooLong, To
 use Rattle.script_runs.specs.Fold.{run_from, fails_at}
 use Rattle.equal_runs.specs.EqualRuns.{DoesLines, EqualRuns}
 use Rattle.layout_cli.specs.Steps.{step_text, step_line}
-use Rattle.layout_cli.specs.Run.{run_words, run_script, run_form, faulted, script_lines}
+use Rattle.layout_cli.specs.Run.{run_file, run_script, run_form, faulted, script_lines}
 use Rattle.layout_cli.specs.EqualScripts.{IsScript, EqualScripts}
 
 -- a text that is a line within the limits does what the line does
@@ -29,7 +29,7 @@ text_does files world text line unread is =
 
 -- a script within the limits is run line by line
 script_run : (files : List File) (name : List ℕ) (lines : List Sentence) (unread : Option ℕ) (is : IsScript files name lines) → fails_at unread 0 ≡ false
-    → run_words (Some name) files unread ≡ run_from (step_text files) 1 empty (script_lines is.script) unread
+    → run_file name files unread ≡ run_from (step_text files) 1 empty (script_lines is.script) unread
 unfolding run_form
 script_run files name lines unread is reads =
     let short : ltb (2 ^ 20) (length is.script) ≡ false = below (2 ^ 20) (length is.script) is.short in

@@ -1,3 +1,8 @@
 pub mod Runs
 pub mod Texts
 pub mod Equals
+pub mod Readable
+pub mod ScriptLines
+pub mod NoFile
+pub mod FileLines
+pub mod Generated

@@ -15,7 +15,7 @@ use Rattle.script_runs.specs.Fold.{run_from, after, fails_at}
 use Rattle.script_runs.specs.declared.status.Status.{Status}
 use Rattle.script_runs.specs.declared.status.Status.TheVariants.{Done, CommandFault, Usage, SourceFault, SinkFault, NoMemory}
 use Rattle.layout_cli.specs.Steps.{step_text}
-use Rattle.layout_cli.specs.Run.{run_words, run_script, run_form, faulted, script_lines}
+use Rattle.layout_cli.specs.Run.{run_file, run_script, run_form, faulted, script_lines}
 
 -- nothing was taken, and there was no memory
 pub run_starved : {K : Type 0} (taken : K → Option (List ℕ)) (old : K) (run : Option ℕ → Output) (read_failed : Type 0) → IsRun taken old old run read_failed NoMemory
@@ -55,7 +55,7 @@ form_later script files line text gives = of_test (ltb 65536 (length (script_lin
   of_test false is = unread_later (step_text files) 1 empty (script_lines script) (Some line) line is
 
 -- the run goes on with a script that was read
-goes_on : (files : List File) (name script : List ℕ) (unread : Option ℕ) → file_of files name ≡ Some script → length script ≤ 2 ^ 20 → fails_at unread 0 ≡ false → run_words (Some name) files unread ≡ run_form script files unread
+goes_on : (files : List File) (name script : List ℕ) (unread : Option ℕ) → file_of files name ≡ Some script → length script ≤ 2 ^ 20 → fails_at unread 0 ≡ false → run_file name files unread ≡ run_form script files unread
 goes_on files name script unread is small reads =
     let short : ltb (2 ^ 20) (length script) ≡ false = search (rules, tests) in
     ap (λ (b : Bool). run_script name (if b then None else file_of files name) files unread) reads ∙ ap (λ file. run_script name file files unread) is ∙ ap (λ (b : Bool). if b then faulted 0 ScriptTooLong else run_form script files unread) short
@@ -81,13 +81,13 @@ same_answer first whole read_failed SinkFault out same answer = (answer.0, text_
 same_answer first whole read_failed NoMemory out same answer = (answer.0, text_of_same first whole read_failed answer.0 same answer.1, answer.2, answer.3, answer.4)
 
 -- a script that was read is run as the words say that name it
-pub run_read : {K : Type 0} (taken : K → Option (List ℕ)) (old new : K) (files : List File) (name script : List ℕ) (read_failed : Type 0) (status : Status) → file_of files name ≡ Some script → length script ≤ 2 ^ 20 → IsRun taken old new (run_form script files) read_failed status → IsRun taken old new (run_words (Some name) files) read_failed status
+pub run_read : {K : Type 0} (taken : K → Option (List ℕ)) (old new : K) (files : List File) (name script : List ℕ) (read_failed : Type 0) (status : Status) → file_of files name ≡ Some script → length script ≤ 2 ^ 20 → IsRun taken old new (run_form script files) read_failed status → IsRun taken old new (run_file name files) read_failed status
 run_read taken old new files name script read_failed status is small run =
-    let same : IsSame (run_form script files) (run_words (Some name) files) = record {
+    let same : IsSame (run_form script files) (run_file name files) = record {
       unfailed = goes_on files name script None is small refl;
       failed = λ line text gives. goes_on files name script (Some line) is small (later line (form_later script files line text gives));
     } in
-    record { out = run.out; bytes = run.bytes; answer = same_answer (run_form script files) (run_words (Some name) files) read_failed status run.out same run.answer }
+    record { out = run.out; bytes = run.bytes; answer = same_answer (run_form script files) (run_file name files) read_failed status run.out same run.answer }
   where
     later : (line : ℕ) → 1 ≤ line → fails_at (Some line) 0 ≡ false
     later line some = grind (arith, nat_tests)

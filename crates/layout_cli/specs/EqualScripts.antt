@@ -5,7 +5,7 @@ use Rattle.line_grammar.specs.Sentences.{Sentence}
 use Rattle.script_runs.specs.Fold.{fails_at}
 use Rattle.equal_runs.specs.Lines.{AreLines}
 use Rattle.equal_runs.specs.EqualRuns.{DifferInTerms}
-use Rattle.layout_cli.specs.Run.{script_lines, run_words}
+use Rattle.layout_cli.specs.Run.{script_lines, run_file}
 
 -- the file of this name is a script of these lines, within the limits on scripts
 pub record IsScript (files : List File) (name : List ℕ) (lines : List Sentence) : Type 0 where
@@ -19,4 +19,4 @@ pub record IsScript (files : List File) (name : List ℕ) (lines : List Sentence
 abbrev pub EqualScripts : List File → Type 0
 EqualScripts files =
     (name other : List ℕ) (lines others : List Sentence) (unread : Option ℕ) → fails_at unread 0 ≡ false → IsScript files name lines → IsScript files other others
-    → DifferInTerms files unread lines others → run_words (Some name) files unread ≡ run_words (Some other) files unread
+    → DifferInTerms files unread lines others → run_file name files unread ≡ run_file other files unread

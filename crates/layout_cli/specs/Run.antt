@@ -2,6 +2,8 @@
 use Rattle.std.specs.Prelude.{ℕ, ◌^◌, List, ◌∷◌, [], length, Option, None, Some, codes, bytes_eq, nat_lt, if◌then◌else◌}
 use Rattle.csv.specs.Reading.{strip_bom}
 use Rattle.layout_io.specs.Files.{File, file_of}
+use Rattle.generator.specs.Generated.{script_text, dataset_text, generated_files}
+use Rattle.generator.specs.Numbers.{number_of}
 use Rattle.worlds.specs.Worlds.{empty}
 use Rattle.worlds.specs.FaultTexts.{fault_text, unread_text}
 use Rattle.worlds.specs.declared.fault.CommandFault.{CommandFault}
@@ -18,6 +20,11 @@ usage_text = codes "usage: llama run FILE | llama gen N\n"
 abbrev pub script_name : List (List ℕ) → Option (List ℕ)
 script_name (verb ∷ file ∷ []) = if bytes_eq verb (codes "run") then Some file else None
 script_name words = None
+
+-- the number of rows that words of the form `gen N` name
+abbrev pub gen_words : List (List ℕ) → Option ℕ
+gen_words (verb ∷ number ∷ []) = if bytes_eq verb (codes "gen") then number_of number else None
+gen_words words = None
 
 -- what reading a file at a line gives
 abbrev pub read_at_line : List File → Option ℕ → ℕ → List ℕ → Option (List ℕ)
@@ -47,10 +54,20 @@ run_script name None files unread = unread_at 0 name
 run_script name (Some script) files unread =
     if nat_lt (2 ^ 20) (length script) then faulted 0 ScriptTooLong else run_form script files unread
 
-abbrev pub run_words : Option (List ℕ) → List File → Option ℕ → Output
-run_words None files unread = record { bytes = usage_text; end = Misused }
-run_words (Some name) files unread = run_script name (read_at_line files unread 0 name) files unread
+-- the script in a file
+abbrev pub run_file : List ℕ → List File → Option ℕ → Output
+run_file name files unread = run_script name (read_at_line files unread 0 name) files unread
+
+-- the generated script of so many rows, over its dataset alone; no read fails there
+abbrev pub run_generated : ℕ → Output
+run_generated rows = run_form (script_text rows) (generated_files (dataset_text rows)) None
+
+-- `run FILE`, or `gen N`, or other words
+abbrev pub run_words : Option (List ℕ) → Option ℕ → List File → Option ℕ → Output
+run_words (Some name) rows files unread = run_file name files unread
+run_words None (Some rows) files unread = run_generated rows
+run_words None None files unread = record { bytes = usage_text; end = Misused }
 
 -- the whole run
 abbrev pub run : List (List ℕ) → List File → Option ℕ → Output
-run words files unread = run_words (script_name words) files unread
+run words files unread = run_words (script_name words) (gen_words words) files unread

@@ -1,13 +1,14 @@
-ghost use Rattle.std.specs.Prelude.{◌≡◌, ◌<◌, ◌⊎◌, ℕ, List, Option, Some, None, map, string_bytes, option_map};
+ghost use Rattle.std.specs.Prelude.{◌≡◌, ◌≢◌, ◌<◌, ◌≤◌, ◌⊎◌, ℕ, List, Option, Some, None, map, string_bytes, option_map, IfSome};
 ghost use Rattle.csv.specs.Reading.{strip_bom};
 ghost use Rattle.layout_io.specs.Faults.{Rose};
 ghost use Rattle.layout_io.specs.Files.{File};
 ghost use Rattle.layout_io.specs.Writing.{Writes};
-ghost use Rattle.script_runs.specs.Answers.{IsRun, HasCause};
-ghost use Rattle.layout_cli.specs.Run.{run, run_words, run_form, script_name, usage_text};
+ghost use Rattle.script_runs.specs.Answers.{IsRun, HasCause, HasSinkCause};
+ghost use Rattle.layout_cli.specs.Run.{run, run_file, run_generated, run_form, script_name, gen_words, usage_text};
 
 use crate::lines::Running;
 use fault_lines::{write_fault, write_unread};
+use generator::{GeneratedShelf, gen_dataset, gen_number, gen_script};
 use layout_io::{Failed, ReadEnd, Shelf, Sink, read_all, write_all};
 use script_runs::{Status, ended, line_count, run_lines};
 use session::{CommandFault, Session};
@@ -26,7 +27,7 @@ const SCRIPT_LINES: usize = 65_536;
 ///
 /// Where the shelf tells its files, or the words name no script, the bytes that the sink took are
 /// those of `run`, as the status says: all of them, or a prefix where a write failed or memory was
-/// wanting.
+/// wanting. Words that name no script ask the shelf nothing.
 pub fn llama<H: Shelf, K: Sink>(
     alloc: Global,
     words: &[String],
@@ -40,11 +41,17 @@ pub fn llama<H: Shelf, K: Sink>(
     ensures cause { HasCause (H.files shelf.old) (H.faults shelf.old) (H.faults shelf.new)
         (K.faults sink.old) (K.faults sink.new) result }
     ensures untouched { script_name (map string_bytes words.now) ≡ None
-        → (shelf.new ≡ shelf.old) × (result ≡ Status.Usage ⊎ result ≡ Status.SinkFault) }
+        → (shelf.new ≡ shelf.old) × (result ≢ Status.SourceFault) }
+    ensures usage { script_name (map string_bytes words.now) ≡ None
+        → gen_words (map string_bytes words.now) ≡ None
+        → result ≡ Status.Usage ⊎ result ≡ Status.SinkFault }
 {
     match script_name(words) {
         Some(name) => run_script(alloc, name, shelf, sink),
-        None => ended(write_usage(sink), Status::Usage),
+        None => match gen_words(words) {
+            Some(rows) => run_generated(alloc, rows, sink),
+            None => ended(write_usage(sink), Status::Usage),
+        },
     }
 }
 
@@ -58,9 +65,36 @@ fn script_name(words: &[String]) -> Option<&str>
     }
 }
 
+// The number of rows that words of the form `gen N` name.
+fn gen_words(words: &[String]) -> Option<u32>
+    ensures is { result ≡ gen_words (map string_bytes words.now) }
+    ensures few { IfSome result (λ rows. (1 ≤ rows) × (rows ≤ 65536)) }
+{
+    match words {
+        [verb, number] if verb.as_str() == "gen" => gen_number(number.as_str()),
+        _ => None,
+    }
+}
+
+// The generated script of so many rows, over a shelf that has its dataset alone.
+fn run_generated<K: Sink>(alloc: Global, rows: u32, sink: &mut K) -> Status
+    requires { (1 ≤ rows) × (rows ≤ 65536) }
+    ensures run { IsRun K.taken sink.old sink.new (λ unread. run_generated rows) ⊥ result }
+    ensures cause { HasSinkCause (K.faults sink.old) (K.faults sink.new) result }
+{
+    let Ok(script) = gen_script(alloc, rows) else {
+        return Status::NoMemory;
+    };
+    let Ok(dataset) = gen_dataset(alloc, rows) else {
+        return Status::NoMemory;
+    };
+    let mut shelf = GeneratedShelf::new(dataset);
+    run_form(alloc, script.as_str().as_bytes(), &mut shelf, sink)
+}
+
 fn run_script<H: Shelf, K: Sink>(alloc: Global, name: &str, shelf: &mut H, sink: &mut K) -> Status
     ensures run { (files : List File) → H.files shelf.old ≡ Some files
-        → IsRun K.taken sink.old sink.new (run_words (Some name.now) files)
+        → IsRun K.taken sink.old sink.new (run_file name.now files)
         (Rose (H.faults shelf.old) (H.faults shelf.new)) result }
     ensures cause { HasCause (H.files shelf.old) (H.faults shelf.old) (H.faults shelf.new)
         (K.faults sink.old) (K.faults sink.new) result }

@@ -1,4 +1,5 @@
-// The program: `llama run FILE` does the commands of a script over views of whole-number records.
+// The program: `llama run FILE` does the commands of a script over views of whole-number records, and `llama gen N` those of one
+// that is made of the number.
 #![tactic(auto)]
 
 mod laws;

@@ -1,0 +1,121 @@
+-- Which of the generated lines read a file, and which.
+use Rattle.std.proofs.Common.{◌≡◌, ℕ, suc, ◌+◌, Bool, false, List, [], ◌∷◌, ◌++◌, length, Some, None, Result, Ok, Err, codes, nat_eq, refl, sym, ap, subst, ◌∙◌, arith}
+use Rattle.std.specs.Prelude.{◌||◌, if◌then◌else◌, IfSome}
+use Rattle.std.specs.List.{AllByRecursion}
+use Rattle.std.proofs.lemmas.Bool.Decides.{nat_tests}
+use Rattle.line_tokens.specs.Bytes.{is_hash}
+use Rattle.line_tokens.specs.Next.{token_at, placed}
+use Rattle.line_tokens.specs.declared.token.Next.TheVariants.{End}
+use Rattle.line_grammar.specs.Reads.{tokens_of}
+use Rattle.line_grammar.specs.Sentences.{Sentence, Load, Blank}
+use Rattle.line_phrases.specs.Lists.{bracket_list_at, listed_at, rest_at, extent_at, fixed_at}
+use Rattle.line_phrases.specs.Maps.{map_at, form_or_name_at, form_at, aos_at}
+use Rattle.phrases.specs.Reading.{steps_at}
+use Rattle.map_expr.specs.Terms.{Aos, Count}
+use Rattle.extents.specs.declared.words.ExtentWord.TheVariants.{Rows}
+use Rattle.extents.specs.declared.order.Order.TheVariants.{Row}
+use Rattle.places.specs.declared.forms.AosForm.TheVariants.{Packed}
+use Rattle.schema_lang.specs.Bodies.{line_at, command_at, body_at, load_at}
+use Rattle.schema_lang.specs.LineOf.{line_of, told, spots_in, spots_within, spots_behind}
+use Rattle.generator.specs.Generated.{generated_lines, generated_files}
+use Rattle.layout_io.specs.Files.{file_of}
+use Rattle.line_tokens.specs.declared.spots.Spot.{Spot}
+use Rattle.line_grammar.specs.declared.token.Token.{Token}
+use Rattle.layout_io.specs.Decimal.{digits_text}
+use Rattle.layout_cli.proofs.NoFile.{loads, ReadsNone, gives, stops, line_none}
+use Rattle.session.specs.Loads.{file_in}
+
+abbrev sentence_in : Result Sentence ℕ → Sentence
+sentence_in (Ok sentence) = sentence
+sentence_in (Err column) = Blank
+
+-- where the line reads a file, it is the dataset
+abbrev pub ReadsDataset : List ℕ → List ℕ → Type 0
+ReadsDataset dataset text = (sentence : Sentence) → line_of text ≡ Ok sentence → IfSome (file_in sentence) (λ file. file_of (generated_files dataset) file ≡ Some dataset)
+
+-- the load
+load_line : line_of (codes "load A : P [?] as count(aos(packed, row)) from \"gen.csv\"") ≡ Ok (Load (codes "A") (codes "P") (Rows ∷ []) (Count (Aos Packed Row)) (codes "gen.csv"))
+unfolding line_of line_at command_at body_at load_at bracket_list_at listed_at rest_at steps_at extent_at fixed_at map_at form_or_name_at form_at aos_at
+load_line = refl
+
+load_reads : (dataset : List ℕ) → ReadsDataset dataset (codes "load A : P [?] as count(aos(packed, row)) from \"gen.csv\"")
+load_reads dataset sentence is =
+    let load = Load (codes "A") (codes "P") (Rows ∷ []) (Count (Aos Packed Row)) (codes "gen.csv") in
+    let there : file_of (generated_files dataset) (codes "gen.csv") ≡ Some dataset = refl in
+    subst (λ (s : Sentence). IfSome (file_in s) (λ file. file_of (generated_files dataset) file ≡ Some dataset)) (ap sentence_in (sym load_line ∙ is)) there
+
+-- a line that begins otherwise
+told_none : (spots : List Spot) (read : Result (Sentence × List Token) ℕ) (sentence : Sentence) → ReadsNone read → told spots read ≡ Ok sentence → file_in sentence ≡ None
+told_none spots (Ok _) sentence (gives one rest none) is = subst (λ (s : Sentence). file_in s ≡ None) (ap sentence_in is) none
+told_none spots (Err _) sentence (stops left) is = absurd (cc)
+
+no_file : (dataset text : List ℕ) → loads (tokens_of text (spots_in text)) ≡ false → ReadsDataset dataset text
+unfolding line_of
+no_file dataset text other sentence is =
+    let tokens = tokens_of text (spots_in text) in
+    let none : file_in sentence ≡ None = told_none (spots_in text) (line_at (length tokens) tokens) sentence (line_none (length tokens) tokens other) is in
+    rw none tt
+
+-- a line that begins with `view`
+view_first : (dataset rest : List ℕ) → ReadsDataset dataset (codes "view " ++ rest)
+view_first dataset rest =
+    let text = codes "view " ++ rest in
+    let room : length text + 1 ≡ suc (length text) = omega arith in
+    let some : nat_eq (length text) 0 ≡ false = grind (arith, nat_tests) in
+    no_file dataset text
+    (ap (λ r. loads (tokens_of text (spots_within r text 0 0))) room
+    ∙ ap (λ (none : Bool). loads (tokens_of text (spots_behind (if none || is_hash 118 then End else placed 0 (token_at text 0)) (spots_within (length text) text) 0))) some)
+
+pub lines_read : (dataset : List ℕ) (n : ℕ) → AllByRecursion (ReadsDataset dataset) (generated_lines n)
+lines_read dataset n = (
+  no_file dataset _ refl,
+  (
+    load_reads dataset,
+    (
+      view_first dataset (codes "B : P [" ++ digits_text n ++ codes "] as soa(multi, row)"),
+      (
+        view_first dataset (codes "C : P [" ++ digits_text n ++ codes "] as aosoa(8, row)"),
+        (
+          view_first dataset (codes "D : P [" ++ digits_text n ++ codes "] as bitaos(40, row)"),
+          (
+            view_first dataset (codes "E : P [" ++ digits_text n ++ codes "] as split(pos, byteswap(soa(single, col)), bitsoa(34, row))"),
+            (
+              view_first dataset (codes "F : P [" ++ digits_text n ++ codes "] as bytesplit(aos(aligned, morton))"),
+              (
+                no_file dataset _ refl,
+                (
+                  no_file dataset _ refl,
+                  (
+                    no_file dataset _ refl,
+                    (
+                      no_file dataset _ refl,
+                      (
+                        no_file dataset _ refl,
+                        (
+                          no_file dataset _ refl,
+                          (
+                            no_file dataset _ refl,
+                            (
+                              no_file dataset _ refl,
+                              (
+                                no_file dataset _ refl,
+                                (
+                                  no_file dataset _ refl,
+                                  (no_file dataset _ refl, (no_file dataset _ refl, (no_file dataset _ refl, tt))),
+                                ),
+                              ),
+                            ),
+                          ),
+                        ),
+                      ),
+                    ),
+                  ),
+                ),
+              ),
+            ),
+          ),
+        ),
+      ),
+    ),
+  ),
+)

@@ -1,0 +1,329 @@
+-- Lines that can read what they read.
+use Rattle.std.proofs.Common.{◌≡◌, ℕ, ◌+◌, ◌*◌, ◌^◌, not, nat_lt, Bool, true, false, List, [], ◌∷◌, ◌++◌, length, Option, Some, None, is_some, nat_eq, ◌||◌, Result, Ok, Err, ℤ, sym, subst}
+use Rattle.std.specs.Prelude.{IfSome, if◌then◌else◌}
+use Rattle.std.specs.List.{list_any, slice_index_or}
+use Rattle.extents.specs.Indices.{indices}
+use Rattle.linearize.specs.Slots.{place_in}
+use Rattle.layout_io.specs.Files.{File, file_of}
+use Rattle.extents.specs.declared.words.ExtentWord.{ExtentWord}
+use Rattle.record_dim.specs.Trees.{Tree, Fields}
+use Rattle.map_expr.specs.Terms.{Term as MapTerm, Aos, Soa, Aosoa, BitAos, BitSoa, Split, Byteswap, Bytesplit, Change, Count, Heat, Named as NamedTerm}
+use Rattle.line_grammar.specs.Sentences as line
+use Rattle.worlds.specs.Worlds.{World, Entry, Table, found}
+use Rattle.worlds.specs.declared.fault.CommandFault.{CommandFault}
+use Rattle.worlds.specs.Outcomes.{Outcome, Goes, Faults, ◌>>=◌, refused_if, refused_by, ok_or, some_or, known, free}
+use Rattle.worlds.specs.declared.fault.CommandFault.TheVariants.{BadMapping, BadKernel, TooBig, Taken, Unknown}
+use Rattle.worlds.specs.declared.fault.BadKernel.TheVariants.{Lanes, Wide, Constant}
+use Rattle.worlds.specs.declared.fault.UnknownName.TheVariants.{Name}
+use Rattle.csv_rows.specs.Datasets.{records_of, rows_of}
+use Rattle.record_dim.specs.declared.path.PathStep.{PathStep}
+use Rattle.line_grammar.specs.Sentences.{Value}
+use Rattle.line_grammar.specs.declared.line.ReduceKind.{ReduceKind}
+use Rattle.line_grammar.specs.declared.line.ReduceKind.TheVariants.{Sum, Min, Max}
+use Rattle.line_grammar.specs.declared.line.KernelText.{KernelText}
+use Rattle.line_grammar.specs.declared.line.KernelText.TheVariants as text
+use Rattle.lane_kernels.specs.declared.kernel.Kernel.{Kernel}
+use Rattle.expr_lang.specs.Terms.{Term}
+use Rattle.record_dim.specs.Leaves.{kinds_of}
+use Rattle.map_any.specs.Mappings.{accepted, leaf_cells, most_slots}
+use Rattle.views.specs.Tallies.{granules_for}
+use Rattle.worlds.specs.Accessed.{owners_of}
+use Rattle.worlds.specs.Define.{define, fit}
+use Rattle.worlds.specs.Mapping.{mapping}
+use Rattle.worlds.specs.View.{view, new_table, named, Named}
+use Rattle.worlds.specs.Load.{load, loaded_table, loaded, filled, read, there}
+use Rattle.worlds.specs.Assign.{assign, assigned, with_table, inside}
+use Rattle.worlds.specs.Update.{update, updated}
+use Rattle.worlds.specs.Reduce.{reduce, count, reduction, reduced, counting, column}
+use Rattle.worlds.specs.Copy.{copy, relayout, with_rows, copied, laid_anew, all_read}
+use Rattle.worlds.specs.Kernel.{kernel, kernel_run, fit_kernel, fits, fit_leaf, run, is_wide, is_factor, is_constant, are_bounds, are_lanes}
+use Rattle.worlds.specs.Show.{print, counts, heat, layout, bytes, drop_view, shown, small}
+use Rattle.worlds.specs.Tables.{made, resolved, room, shaped, zeros_of, blob_bits, live_bits}
+use Rattle.worlds.specs.Names.{nameless, leaf_of, bound, bound_filter, bound_set, bound_sets, each_once, leaves_of}
+use Rattle.worlds.specs.Values.{value_on, storable}
+use Rattle.worlds.specs.Step.{step}
+use Rattle.session.specs.Loads.{file_in}
+
+-- it goes on or is refused, and is not that a file can't be read
+pub data IsReadable {A : Type 0} : Outcome A → Type 0 where
+  goes : (x : A) → IsReadable (Goes x)
+  faults : (fault : CommandFault) → IsReadable (Faults fault)
+
+pub next : {A B : Type 0} {outcome : Outcome A} {more : A → Outcome B} → IsReadable outcome → ((x : A) → IsReadable (more x)) → IsReadable (outcome >>= more)
+next (goes x) behind = behind x
+next (faults fault) behind = faults fault
+
+tested : (test : Bool) (fault : CommandFault) → IsReadable (refused_if test fault)
+tested true fault = faults fault
+tested false fault = goes tt
+
+pub refused_or : {A : Type 0} {outcome : Outcome A} (test : Bool) (fault : CommandFault) → IsReadable outcome → IsReadable (if test then Faults fault else outcome)
+refused_or true fault reads = faults fault
+refused_or false fault reads = reads
+
+caused : {E : Type 0} (fault : E → CommandFault) (cause : Option E) → IsReadable (refused_by fault cause)
+caused fault None = goes tt
+caused fault (Some cause) = faults (fault cause)
+
+answered : {A E : Type 0} (fault : E → CommandFault) (answer : Result A E) → IsReadable (ok_or fault answer)
+answered fault (Ok x) = goes x
+answered fault (Err e) = faults (fault e)
+
+given : {A : Type 0} (fault : CommandFault) (answer : Option A) → IsReadable (some_or fault answer)
+given fault (Some x) = goes x
+given fault None = faults fault
+
+free_reads : {A : Type 0} (name : List ℕ) (entries : List (Entry A)) → IsReadable (free name entries)
+free_reads name entries = tested (is_some (found name entries)) (Taken name)
+
+known_reads : {A : Type 0} (name : List ℕ) (entries : List (Entry A)) → IsReadable (known name entries)
+known_reads name entries = given (Unknown (Name name)) (found name entries)
+
+nameless_reads : (mappings : List (Entry MapTerm)) (term : MapTerm) → IsReadable (nameless mappings term)
+nameless_reads mappings (Split path first rest) = next (nameless_reads mappings first) (λ a. next (nameless_reads mappings rest) (λ b. goes _))
+nameless_reads mappings (Byteswap inner) = next (nameless_reads mappings inner) (λ a. goes _)
+nameless_reads mappings (Bytesplit inner) = next (nameless_reads mappings inner) (λ a. goes _)
+nameless_reads mappings (Change from to inner) = next (nameless_reads mappings inner) (λ a. goes _)
+nameless_reads mappings (Count inner) = next (nameless_reads mappings inner) (λ a. goes _)
+nameless_reads mappings (Heat granule inner) = next (nameless_reads mappings inner) (λ a. goes _)
+nameless_reads mappings (NamedTerm name) = known_reads name mappings
+nameless_reads mappings (Aos form order) = goes _
+nameless_reads mappings (Soa form order) = goes _
+nameless_reads mappings (Aosoa lanes order) = goes _
+nameless_reads mappings (BitAos width order) = goes _
+nameless_reads mappings (BitSoa width order) = goes _
+
+fit_reads : (tree : Tree) → IsReadable (fit tree)
+fit_reads tree = next (caused _ _) (λ good. goes _)
+
+define_reads : (world : World) (name : List ℕ) (tree : Tree) → IsReadable (define world name tree)
+unfolding define
+define_reads world name tree = next (free_reads name world.records) (λ new. next (fit_reads tree) (λ fields. goes _))
+
+mapping_reads : (world : World) (name : List ℕ) (term : MapTerm) → IsReadable (mapping world name term)
+unfolding mapping
+mapping_reads world name term = next (free_reads name world.mappings) (λ new. next (nameless_reads world.mappings term) (λ whole. next (answered _ _) (λ fit. goes _)))
+
+made_reads : (views : List (Entry Table)) (fields : Fields) (extents : List ℕ) (mapping : MapTerm) → IsReadable (made views fields extents mapping)
+made_reads views fields extents mapping =
+    let table = zeros_of fields extents mapping in
+    next (answered BadMapping (accepted mapping fields (leaf_cells (kinds_of fields)))) (λ fit.
+    next (tested (nat_lt (2 ^ 24) (most_slots mapping extents)) TooBig) (λ slots.
+    next (tested (nat_lt (8 * 2 ^ 28) (blob_bits table)) TooBig) (λ bytes.
+    next (tested (nat_lt (2 ^ 24) (granules_for mapping (owners_of table))) TooBig) (λ granules.
+    next (tested (nat_lt (8 * 2 ^ 30) (live_bits views + blob_bits table)) TooBig) (λ all. goes table)))))
+
+room_reads : (views : List (Entry Table)) → IsReadable (room views)
+room_reads views = tested _ _
+
+shaped_reads : (words : List ExtentWord) → IsReadable (shaped words)
+shaped_reads words = caused _ _
+
+named_reads : (world : World) (name schema : List ℕ) (words : List ExtentWord) (term : MapTerm) → IsReadable (named world name schema words term)
+named_reads world name schema words term =
+    next (free_reads name world.views) (λ new.
+    next (known_reads schema world.records) (λ fields.
+    next (nameless_reads world.mappings term) (λ whole.
+    next (room_reads world.views) (λ space.
+    next (shaped_reads words) (λ ranked. goes _)))))
+
+resolved_reads : (words : List ExtentWord) (rows : Option ℕ) → IsReadable (resolved words rows)
+resolved_reads words rows = next (caused _ _) (λ fit. goes _)
+
+view_reads : (world : World) (name schema : List ℕ) (words : List ExtentWord) (term : MapTerm) → IsReadable (view world name schema words term)
+unfolding view new_table
+view_reads world name schema words term =
+    next (next (named_reads world name schema words term) (λ whole.
+    next (resolved_reads words None) (λ extents. made_reads world.views whole.fields extents whole.mapping))) (λ table. goes _)
+
+filled_reads : (table : Table) (records : List (List (List ℕ))) → IsReadable (filled table records)
+filled_reads table records = next (answered _ _) (λ rows. goes _)
+
+loaded_reads : (views : List (Entry Table)) (whole : Named) (words : List ExtentWord) (dataset : List ℕ) → IsReadable (loaded views whole words dataset)
+unfolding loaded
+loaded_reads views whole words dataset =
+    next (tested _ _) (λ short.
+    next (resolved_reads words (Some (length (rows_of (records_of dataset))))) (λ extents.
+    next (made_reads views whole.fields extents whole.mapping) (λ zeros. filled_reads zeros (records_of dataset))))
+
+-- a file that is there can be read
+read_reads : (files : List File) (name dataset : List ℕ) → file_of files name ≡ Some dataset → IsReadable (read files false name)
+read_reads files name dataset is = subst (λ (file : Option (List ℕ)). IsReadable (there name file)) (sym is) (goes dataset)
+
+load_reads : (world : World) (name schema : List ℕ) (words : List ExtentWord) (term : MapTerm) (file dataset : List ℕ) (files : List File) → file_of files file ≡ Some dataset → IsReadable (load world name schema words term file files false)
+unfolding load loaded_table
+load_reads world name schema words term file dataset files is =
+    next (next (named_reads world name schema words term) (λ whole.
+    next (read_reads files file dataset is) (λ bytes. loaded_reads world.views whole words bytes))) (λ table. goes _)
+
+leaf_reads : (fields : Fields) (path : List PathStep) → IsReadable (leaf_of fields path)
+leaf_reads fields path = given _ _
+
+bound_reads : (fields : Fields) (rank : ℕ) (value : Value) → IsReadable (bound fields rank value)
+bound_reads fields rank value = next (caused _ _) (λ known. goes _)
+
+filter_reads : (fields : Fields) (rank : ℕ) (filter : Option Value) → IsReadable (bound_filter fields rank filter)
+filter_reads fields rank None = goes _
+filter_reads fields rank (Some filter) = next (bound_reads fields rank filter) (λ a. goes _)
+
+set_reads : (fields : Fields) (rank : ℕ) (set : line.Assignment) → IsReadable (bound_set fields rank set)
+set_reads fields rank set = next (leaf_reads fields set.path) (λ leaf. next (bound_reads fields rank set.value) (λ value. goes _))
+
+sets_reads : (fields : Fields) (rank : ℕ) (sets : List line.Assignment) → IsReadable (bound_sets fields rank sets)
+sets_reads fields rank [] = goes _
+sets_reads fields rank (set ∷ sets) = next (set_reads fields rank set) (λ setting. next (sets_reads fields rank sets) (λ settings. goes _))
+
+once_reads : (fields : Fields) (before leaves : List ℕ) → IsReadable (each_once fields before leaves)
+once_reads fields before [] = goes _
+once_reads fields before (leaf ∷ leaves) = refused_or (list_any (nat_eq leaf) before) _ (once_reads fields (before ++ leaf ∷ []) leaves)
+
+updated_reads : (table : Table) (filter : Option Value) (sets : List line.Assignment) → IsReadable (updated table filter sets)
+unfolding updated
+updated_reads table filter sets =
+    next (filter_reads table.fields (length table.extents) filter) (λ test.
+    next (sets_reads table.fields (length table.extents) sets) (λ settings.
+    next (once_reads table.fields [] (leaves_of settings)) (λ once.
+    next (answered _ _) (λ rows. goes _))))
+
+update_reads : (world : World) (name : List ℕ) (filter : Option Value) (sets : List line.Assignment) → IsReadable (update world name filter sets)
+unfolding update
+update_reads world name filter sets = next (known_reads name world.views) (λ table. next (updated_reads table filter sets) (λ new. goes _))
+
+reduced_reads : (kind : ReduceKind) (values : List ℤ) → IsReadable (reduced kind values)
+reduced_reads Sum values = goes _
+reduced_reads Min [] = faults _
+reduced_reads Max [] = faults _
+reduced_reads Min (value ∷ values) = goes _
+reduced_reads Max (value ∷ values) = goes _
+
+reduce_reads : (world : World) (name : List ℕ) (kind : ReduceKind) (path : List PathStep) → IsReadable (reduce world name kind path)
+unfolding reduce reduction
+reduce_reads world name kind path =
+    next (known_reads name world.views) (λ table.
+    next (next (leaf_reads table.fields path) (λ leaf. next (reduced_reads kind (column leaf table.rows)) (λ number. goes _))) (λ done. goes _))
+
+count_reads : (world : World) (name : List ℕ) (filter : Value) → IsReadable (count world name filter)
+unfolding count counting
+count_reads world name filter =
+    next (known_reads name world.views) (λ table.
+    next (next (bound_reads table.fields (length table.extents) filter) (λ term. next (answered _ _) (λ rows. goes _))) (λ done. goes _))
+
+rows_reads : (table : Table) (rows : List (List ℤ)) → IsReadable (with_rows table rows)
+unfolding with_rows
+rows_reads table rows = next (caused _ _) (λ held. goes _)
+
+copied_reads : (source target : Table) → IsReadable (copied source target)
+unfolding copied
+copied_reads source target = next (tested _ _) (λ alike. rows_reads target source.rows)
+
+copy_reads : (world : World) (name target_name : List ℕ) → IsReadable (copy world name target_name)
+unfolding copy
+copy_reads world name target_name =
+    next (known_reads name world.views) (λ source.
+    next (known_reads target_name (with_table world name (all_read source)).views) (λ target.
+    next (copied_reads source target) (λ new. goes _)))
+
+relayout_reads : (world : World) (name : List ℕ) (term : MapTerm) → IsReadable (relayout world name term)
+unfolding relayout laid_anew
+relayout_reads world name term =
+    next (known_reads name world.views) (λ table.
+    next (nameless_reads world.mappings term) (λ whole.
+    next (next (made_reads world.views table.fields table.extents whole) (λ zeros. rows_reads zeros table.rows)) (λ new. goes _)))
+
+fits_reads : (lanes : ℕ) (wide constants : Bool) → IsReadable (fits lanes wide constants)
+fits_reads lanes wide constants =
+    next (tested (not (are_lanes lanes)) (BadKernel Lanes)) (λ even. next (tested wide (BadKernel Wide)) (λ narrow. tested (not constants) (BadKernel Constant)))
+
+fit_leaf_reads : (fields : Fields) (path : List PathStep) (lanes : ℕ) (constants : Bool) → IsReadable (fit_leaf fields path lanes constants)
+fit_leaf_reads fields path lanes constants = next (leaf_reads fields path) (λ leaf. next (fits_reads lanes (is_wide fields leaf) constants) (λ fit. goes _))
+
+fit_kernel_reads : (fields : Fields) (kernel : KernelText) (lanes : ℕ) → IsReadable (fit_kernel fields kernel lanes)
+fit_kernel_reads fields (text.Axpy a x y) lanes =
+    next (leaf_reads fields x) (λ from. next (leaf_reads fields y) (λ to. next (fits_reads lanes (is_wide fields from || is_wide fields to) (is_factor a)) (λ fit. goes _)))
+fit_kernel_reads fields (text.Clamp x lo hi) lanes = next (fit_leaf_reads fields x lanes (are_bounds lo hi)) (λ leaf. goes _)
+fit_kernel_reads fields (text.Sum x) lanes = next (fit_leaf_reads fields x lanes true) (λ leaf. goes _)
+fit_kernel_reads fields (text.Least x) lanes = next (fit_leaf_reads fields x lanes true) (λ leaf. goes _)
+fit_kernel_reads fields (text.Greatest x) lanes = next (fit_leaf_reads fields x lanes true) (λ leaf. goes _)
+fit_kernel_reads fields (text.CountWhere x op c) lanes = next (fit_leaf_reads fields x lanes (is_constant c)) (λ leaf. goes _)
+
+run_reads : (table : Table) (kernel : Kernel) → IsReadable (run table kernel)
+run_reads table kernel = next (caused _ _) (λ done. goes _)
+
+kernel_reads : (world : World) (name : List ℕ) (kernel_text : KernelText) (lanes : ℕ) → IsReadable (kernel world name kernel_text lanes)
+unfolding kernel kernel_run
+kernel_reads world name kernel_text lanes =
+    next (known_reads name world.views) (λ table.
+    next (next (fit_kernel_reads table.fields kernel_text lanes) (λ fit. run_reads table fit)) (λ done. goes _))
+
+counts_reads : (world : World) (name : List ℕ) → IsReadable (counts world name)
+unfolding counts
+counts_reads world name = next (known_reads name world.views) (λ table. next (given _ _) (λ numbers. goes _))
+
+inside_reads : (extents index : List ℕ) → IsReadable (inside extents index)
+inside_reads extents index = tested _ _
+
+value_reads : (row : ℕ) (values : List ℤ) (index : List ℕ) (term : Term ℕ) → IsReadable (value_on row values index term)
+value_reads row values index term = answered _ _
+
+store_reads : (table : Table) (row leaf : ℕ) (value : ℤ) → IsReadable (storable table row leaf value)
+store_reads table row leaf value = answered _ _
+
+print_reads : (world : World) (name : List ℕ) → IsReadable (print world name)
+unfolding print
+print_reads world name = next (known_reads name world.views) (λ table. goes _)
+
+heat_reads : (world : World) (name : List ℕ) → IsReadable (heat world name)
+unfolding heat
+heat_reads world name = next (known_reads name world.views) (λ table. next (given _ _) (λ numbers. goes _))
+
+small_reads : (table : Table) → IsReadable (small table)
+small_reads table = tested _ _
+
+layout_reads : (world : World) (name : List ℕ) → IsReadable (layout world name)
+unfolding layout
+layout_reads world name = next (known_reads name world.views) (λ table. next (small_reads table) (λ few. goes _))
+
+bytes_reads : (world : World) (name : List ℕ) (blob : ℕ) → IsReadable (bytes world name blob)
+unfolding bytes shown
+bytes_reads world name blob =
+    next (known_reads name world.views) (λ table. next (next (tested _ _) (λ there. next (small_reads table) (λ few. goes _))) (λ text. goes _))
+
+drop_reads : (world : World) (name : List ℕ) → IsReadable (drop_view world name)
+unfolding drop_view
+drop_reads world name = next (known_reads name world.views) (λ table. goes _)
+
+assigned_reads : (table : Table) (index : List ℕ) (path : List PathStep) (value : Value) → IsReadable (assigned table index path value)
+unfolding assigned
+assigned_reads table index path value =
+    let row = place_in (indices table.extents) index in
+    next (leaf_reads table.fields path) (λ leaf.
+    next (bound_reads table.fields (length table.extents) value) (λ term.
+    next (inside_reads table.extents index) (λ is_inside.
+    next (value_reads row (slice_index_or table.rows row []) index term) (λ number.
+    next (store_reads table row leaf number) (λ fits. goes _)))))
+
+assign_reads : (world : World) (name index : List ℕ) (path : List PathStep) (value : Value) → IsReadable (assign world name index path value)
+unfolding assign
+assign_reads world name index path value = next (known_reads name world.views) (λ table. next (assigned_reads table index path value) (λ new. goes _))
+
+-- a line whose file, if it reads one, is there
+pub step_reads : (world : World) (sentence : line.Sentence) (files : List File) (dataset : List ℕ) → IfSome (file_in sentence) (λ file. file_of files file ≡ Some dataset) → IsReadable (step world sentence files false)
+unfolding step
+step_reads world line.Blank files dataset is = goes _
+step_reads world (line.Define name tree) files dataset is = define_reads world name tree
+step_reads world (line.Mapping name term) files dataset is = mapping_reads world name term
+step_reads world (line.View name schema words term) files dataset is = view_reads world name schema words term
+step_reads world (line.Load name schema words term file) files dataset is = load_reads world name schema words term file dataset files is
+step_reads world (line.Assign name index path value) files dataset is = assign_reads world name index path value
+step_reads world (line.Update name filter sets) files dataset is = update_reads world name filter sets
+step_reads world (line.Reduce name kind path) files dataset is = reduce_reads world name kind path
+step_reads world (line.Count name filter) files dataset is = count_reads world name filter
+step_reads world (line.Kernel name kernel lanes) files dataset is = kernel_reads world name kernel lanes
+step_reads world (line.Copy name target) files dataset is = copy_reads world name target
+step_reads world (line.Relayout name term) files dataset is = relayout_reads world name term
+step_reads world (line.Print name) files dataset is = print_reads world name
+step_reads world (line.Bytes name blob) files dataset is = bytes_reads world name blob
+step_reads world (line.Drop name) files dataset is = drop_reads world name
+step_reads world (line.Counts name) files dataset is = counts_reads world name
+step_reads world (line.Heat name) files dataset is = heat_reads world name
+step_reads world (line.Layout name) files dataset is = layout_reads world name
