@@ -37,7 +37,8 @@ no_copy source target form rows fault fields expr written ends =
     (source.table, written, subst (λ (answer : Answer). IsNoCopyOf answer source.table fault) (same_answers target form fields expr) ends)
 
 -- a copy that ends later ends as the first would
-pub still_no_copy : (source target now held new : Seen) (fault : CopyFault) → AreAlike source target → now ≡ source → held ≡ record target { table = source.table }
+pub still_no_copy : (source target now held new : Seen) (fault : CopyFault) → AreAlike source target → now ≡ record source { tally = now.tally }
+    → held ≡ record target { table = source.table; tally = held.tally }
     → IsCopied now held new (Err fault) → IsNoCopyOf (answer_of target) source.table fault
 still_no_copy source target now held new Mismatch alike same copied ended =
     ended.0 (subst (λ (s : Seen). AreAlike s held) (sym same) (subst (λ (t : Seen). AreAlike source t) (sym copied) alike))

@@ -14,6 +14,7 @@ use Rattle.lane_kernels.specs.declared.kernel.Kernel.{Kernel}
 use Rattle.bench_layouts.specs.Copies.{IsWritten}
 use Rattle.bench_layouts.specs.KernelRuns.{all_given, table_after, written, IsRefusedRun, IsSumOfRuns}
 use Rattle.bench_layouts.specs.Tables.{value}
+use Rattle.bench_layouts.proofs.Counted.{still_stored}
 
 -- what stands at a place of a list that is worked out place by place
 at_place : {A : Type 0} (f : ℕ → A) (count place : ℕ) (d : A) → place < count → get_or (map f (range_with_len 0 count)) place d ≡ f place
@@ -42,21 +43,23 @@ written_is rows table is =
     get_or_default table row d [] inside ∙ row_is rows table is row small ∙ sym (at_place row_of rows row d small))
 
 -- one run more
-pub run_more : (old view new : Seen) (kernel : Kernel) (round : ℕ) (number : Option ℤ) → view ≡ record old { table = table_after kernel round old.table }
-    → IsRun view new kernel (Ok number) → new ≡ record old { table = table_after kernel (round + 1) old.table }
+pub run_more : (old view new : Seen) (kernel : Kernel) (round : ℕ) (number : Option ℤ)
+    → view ≡ record old { table = table_after kernel round old.table; tally = view.tally } → IsRun view new kernel (Ok number)
+    → new ≡ record old { table = table_after kernel (round + 1) old.table; tally = new.tally }
 run_more old view new kernel round number same run =
     let one : round + 1 ≡ suc round = omega arith in
-    rw one (run.2 ∙ ap (λ (v : Seen). record v { table = run_rows kernel (length v.table) v.table }) same)
+    rw one (still_stored view new _ _ run.2 ∙ ap (λ (v : Seen). record v { table = run_rows kernel (length v.table) v.table; tally = new.tally }) same)
 
-pub given_more : (old view new : Seen) (kernel : Kernel) (round : ℕ) (number : Option ℤ) (total more : ℤ) → view ≡ record old { table = table_after kernel round old.table }
-    → IsRun view new kernel (Ok number) → total ≡ all_given kernel round old.table → more ≡ unwrap_or number (pos 0) → total +ℤ more ≡ all_given kernel (round + 1) old.table
+pub given_more : (old view new : Seen) (kernel : Kernel) (round : ℕ) (number : Option ℤ) (total more : ℤ)
+    → view ≡ record old { table = table_after kernel round old.table; tally = view.tally } → IsRun view new kernel (Ok number)
+    → total ≡ all_given kernel round old.table → more ≡ unwrap_or number (pos 0) → total +ℤ more ≡ all_given kernel (round + 1) old.table
 given_more old view new kernel round number total more same run so_far is =
     let one : round + 1 ≡ suc round = omega arith in
     let number_is = run.1 ∙ ap (λ (v : Seen). number_of kernel v.table) same in
     rw (one, so_far, is, number_is) refl
 
-pub refused_run : (old view new : Seen) (kernel : Kernel) (round rounds : ℕ) (fault : KernelFault) → round < rounds → view ≡ record old { table = table_after kernel round old.table }
-    → IsRun view new kernel (Err fault) → IsRefusedRun (answer_of old) kernel rounds old.table fault
+pub refused_run : (old view new : Seen) (kernel : Kernel) (round rounds : ℕ) (fault : KernelFault) → round < rounds
+    → view ≡ record old { table = table_after kernel round old.table; tally = view.tally } → IsRun view new kernel (Err fault) → IsRefusedRun (answer_of old) kernel rounds old.table fault
 refused_run old view new kernel round rounds fault small same run =
     (round, small, sym (ap (λ (v : Seen). kernel_fault (answer_of v) kernel v.table) same) ∙ run.0)
 

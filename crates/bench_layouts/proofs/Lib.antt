@@ -1,4 +1,5 @@
 pub mod Copied
+pub mod Counted
 pub mod KernelRuns
 pub mod Rounds
 pub mod Sums

@@ -6,28 +6,25 @@ use Rattle.places.specs.Image.{entry}
 use Rattle.piece_bits.specs.Tables.{HasShape, with_entry}
 use Rattle.piece_bits.specs.TableLaws.{with_entry_shape, with_entry_same, with_entry_other}
 use Rattle.views.specs.declared.fault.StoreFault.{StoreFault}
-use Rattle.views.specs.Seen.{Seen, answer_of}
+use Rattle.views.specs.Seen.{Seen, answer_of, after_write}
 use Rattle.bench_layouts.specs.Tables.{value, entry_after, row_sum, round_sum, sum_read}
 use Rattle.bench_layouts.specs.Rounds.{IsRewritten, AreSmall, HasEntries, HasValues, OthersStand, IsRefusedInRow}
+use Rattle.bench_layouts.proofs.Counted.{still_with}
 use Rattle.bench_layouts.proofs.TableSums.{same_sums}
 
--- the view that a store leaves
-abbrev pub stored : Seen → ℕ → ℕ → ℤ → Seen
-stored view row leaf number = record view { table = with_entry view.table row leaf number }
-
 module _ (old mid new : Seen) (row leaf : ℕ) (number : ℤ) (still : IsRewritten old mid) (row_in : row < length old.table) (leaf_in : leaf < 4)
-    (is : new ≡ stored mid row leaf number) where
+    (is : new ≡ after_write mid row leaf number) where
   row_mid : row < length mid.table
   row_mid = omega (arith, still.rows)
 
   shape_after : HasShape (length mid.table) 4 (with_entry mid.table row leaf number)
   shape_after = with_entry_shape (length mid.table) 4 mid.table still.measured.shape row leaf number row_mid leaf_in
 
-  here : IsRewritten old (stored mid row leaf number)
+  here : IsRewritten old (after_write mid row leaf number)
   here =
       let after = shape_after in
       record {
-        same = ap (λ (view : Seen). stored view row leaf number) still.same;
+        same = ap (λ (view : Seen). record view { table = with_entry mid.table row leaf number; tally = (after_write mid row leaf number).tally }) still.same;
         rows = after.row_count ∙ still.rows;
         measured = record {
           leaf_count = still.measured.leaf_count;
@@ -61,7 +58,7 @@ module _ (old mid new : Seen) (row leaf : ℕ) (number : ℤ) (still : IsRewritt
 -- a rewriting after another
 pub rewritten_more : (old mid new : Seen) → IsRewritten old mid → IsRewritten mid new → IsRewritten old new
 rewritten_more old mid new one two = record {
-  same = two.same ∙ ap (λ (view : Seen). record view { table = new.table }) one.same;
+  same = still_with old mid new mid.table new.table one.same two.same;
   rows = two.rows ∙ one.rows;
   measured = two.measured;
 }

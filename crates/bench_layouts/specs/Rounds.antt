@@ -11,9 +11,9 @@ pub record IsMeasured (view : Seen) : Type 0 where
   pub leaf_count : leaf_count_of view ≡ 4
   pub shape : HasShape (length view.table) 4 view.table
 
--- the same view with another table of as many rows
+-- the same view with another table of as many rows, but for what was counted
 pub record IsRewritten (old new : Seen) : Type 0 where
-  pub same : new ≡ record old { table = new.table }
+  pub same : new ≡ record old { table = new.table; tally = new.tally }
   pub rows : length new.table ≡ length old.table
   pub measured : IsMeasured new
 

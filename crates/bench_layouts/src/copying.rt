@@ -105,7 +105,7 @@ fn copy_rounds<L: Ledger>(
     steps: &mut Steps<L>,
 ) -> Result<(), CopyFault>
     requires { AreAlike source.old target.old }
-    ensures copied { OnOk result (target.new ≡ record target.old { table = source.old.table }) }
+    ensures copied { OnOk result (target.new ≡ record target.old { table = source.old.table; tally = target.new.tally }) }
     ensures refused { IfErr result (IsNoCopyOf (answer_of target.old) source.old.table) }
 {
     copy(source, target, steps)?;

@@ -143,7 +143,7 @@ fn run_rounds<L: Ledger>(
     requires { IsKernelOf view.old kernel.now }
     ensures given { IfOk result (λ given. given ≡ all_given kernel.now rounds view.old.table) }
     ensures bound { IfOk result (IsSumOfRuns rounds) }
-    ensures table { OnOk result (view.new ≡ record view.old { table = table_after kernel.now rounds view.old.table }) }
+    ensures table { OnOk result (view.new ≡ record view.old { table = table_after kernel.now rounds view.old.table; tally = view.new.tally }) }
     ensures refused { IfErr result (IsRefusedRun (answer_of view.old) kernel.now rounds view.old.table) }
 {
     let mut total = 0i128;

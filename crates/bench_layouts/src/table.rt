@@ -133,7 +133,7 @@ pub fn read_rounds<L: Ledger>(view: &mut View, rows: u32, rounds: u32, steps: &m
     requires rows { rows ≤ length view.old.table }
     requires small { AreSmall view.old }
     ensures sum { result ≡ sum_read (entry view.old.table) rows rounds }
-    ensures same { view.new ≡ view.old }
+    ensures same { view.new ≡ record view.old { tally = view.new.tally } }
 {
     let mut total = 0i128;
     for _round in 0..rounds {
@@ -148,7 +148,7 @@ fn read_round<L: Ledger>(view: &mut View, rows: u32, steps: &mut Steps<L>) -> i1
     requires rows { rows ≤ length view.old.table }
     requires small { AreSmall view.old }
     ensures sum { result ≡ round_sum (entry view.old.table) rows }
-    ensures same { view.new ≡ view.old }
+    ensures same { view.new ≡ record view.old { tally = view.new.tally } }
 {
     let mut total = 0i128;
     for row in 0..rows {
@@ -164,7 +164,7 @@ fn read_row<L: Ledger>(view: &mut View, row: u32, steps: &mut Steps<L>) -> i128
     requires row_in { row < length view.old.table }
     requires small { AreSmall view.old }
     ensures sum { result ≡ row_sum (entry view.old.table) row }
-    ensures same { view.new ≡ view.old }
+    ensures same { view.new ≡ record view.old { tally = view.new.tally } }
 {
     let mut total = 0i128;
     for leaf in 0..LEAVES {

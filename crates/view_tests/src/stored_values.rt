@@ -30,7 +30,7 @@ const KINDS: [LeafType; 9] = [
 ];
 
 // A leaf of one byte, one of four and one of two.
-const THREE: [LeafType; 3] = [LeafType::U8, LeafType::U32, LeafType::U16];
+pub(crate) const THREE: [LeafType; 3] = [LeafType::U8, LeafType::U32, LeafType::U16];
 
 // A flat schema with a leaf of each of these types.
 fn schema_of(alloc: Global, kinds: &[LeafType]) -> Result<Schema, Fail> {
@@ -51,7 +51,12 @@ fn extents_of(rows: u64) -> Result<Extents, Fail> {
     Ok(shape.resolve(Some(rows)).ok().ok_or("no extents")?)
 }
 
-fn view_of(alloc: Global, kinds: &[LeafType], rows: u64, expr: &MapExpr) -> Result<View, Fail>
+pub(crate) fn view_of(
+    alloc: Global,
+    kinds: &[LeafType],
+    rows: u64,
+    expr: &MapExpr,
+) -> Result<View, Fail>
     requires { IsBuiltTerm (term_of expr.now) }
 {
     let schema = schema_of(alloc, kinds)?;
@@ -59,7 +64,7 @@ fn view_of(alloc: Global, kinds: &[LeafType], rows: u64, expr: &MapExpr) -> Resu
     Ok(view.ok().ok_or("no view")?)
 }
 
-fn aos(form: AosForm) -> MapExpr
+pub(crate) fn aos(form: AosForm) -> MapExpr
     ensures { IsBuiltTerm (term_of result) }
 {
     MapExpr::Aos {
@@ -127,7 +132,7 @@ fn row_from<L: Ledger>(
     requires some { 0 < blank.parts }
     requires row_in { row < length view.old.table }
     requires leaf_in { leaf < leaf_count_of view.old }
-    ensures { OnOk result.0 (view.new ≡ record view.old { table = with_entry view.old.table row leaf value }) }
+    ensures { OnOk result.0 (view.new ≡ record view.old { table = with_entry view.old.table row leaf value; tally = view.new.tally }) }
 {
     let mut steps = Steps::<L>::new(blank);
     let mut borrowed = view.row_mut(row);
@@ -136,7 +141,7 @@ fn row_from<L: Ledger>(
     (answer, value)
 }
 
-fn set(
+pub(crate) fn set(
     view: &mut View,
     row: u64,
     leaf: usize,
@@ -148,7 +153,7 @@ fn set(
     Err(Fail::new("outside"))
 }
 
-fn get(view: &mut View, row: u64, leaf: usize) -> Result<i128, Fail> {
+pub(crate) fn get(view: &mut View, row: u64, leaf: usize) -> Result<i128, Fail> {
     if row < view.extents().count() && leaf < view.schema().leaf_count() {
         return Ok(get_from::<Brand>(view, row, leaf, Blank::new(1)));
     }

@@ -1,9 +1,9 @@
--- the target has the table of the source
+-- the target has the table of the source; what was counted is free
 use Rattle.std.proofs.Common.{◌≡◌}
 use Rattle.bench_layouts.proofs.copying.copy_rounds.Given as goal
 
 abbrev pub invariant-loop-round : goal.invariant-loop-round
 invariant-loop-round g l = record {
-  source : l.source ≡ l.initial.source;
-  target : l.target ≡ record l.initial.target { table = l.initial.source.table };
+  source : l.source ≡ record l.initial.source { tally = l.source.tally };
+  target : l.target ≡ record l.initial.target { table = l.initial.source.table; tally = l.target.tally };
 }

@@ -5,6 +5,7 @@ use Rattle.std.proofs.lemmas.Int.{to_z-of_z}
 use Rattle.places.specs.Image.{entry}
 use Rattle.views.specs.Seen.{Seen}
 use Rattle.bench_layouts.specs.Tables.{row_sum, round_sum}
+use Rattle.bench_layouts.proofs.Counted.{still}
 use Rattle.bench_layouts.proofs.TableSums.{small_row, small_sum, fits_in, sum_next}
 use Rattle.bench_layouts.proofs.table.read_round.Given as given
 use Rattle.bench_layouts.proofs.table.read_round.Goals as goal
@@ -36,5 +37,5 @@ loop-row-preserved g c =
     let here = (goal.at.loop-row-preserved g c).After-read_row-total in
     record {
       sum = next g here ∙ sym (to_z-of_z w128 _ (fitting g here));
-      same = c.read_row-total.ensures.same ∙ c.loop-row.invariant.same;
+      same = still c.args.view.now c.loop-row.view c.read_row-total.new.view c.loop-row.invariant.same c.read_row-total.ensures.same;
     }

@@ -5,6 +5,7 @@ use Rattle.std.proofs.lemmas.Int.{to_z-of_z}
 use Rattle.places.specs.Image.{entry}
 use Rattle.views.specs.Seen.{Seen}
 use Rattle.bench_layouts.specs.Tables.{round_sum, sum_read}
+use Rattle.bench_layouts.proofs.Counted.{still}
 use Rattle.bench_layouts.proofs.TableSums.{small_round, small_sum, fits_in, sum_next}
 use Rattle.bench_layouts.proofs.table.read_rounds.Given as given
 use Rattle.bench_layouts.proofs.table.read_rounds.Goals as goal
@@ -38,5 +39,5 @@ loop-round-preserved g c =
     let here = (goal.at.loop-round-preserved g c).After-read_round-total in
     record {
       sum = next g here ∙ sym (to_z-of_z w128 _ (fitting g here));
-      same = c.read_round-total.ensures.same ∙ c.loop-round.invariant.same;
+      same = still c.args.view.now c.loop-round.view c.read_round-total.new.view c.loop-round.invariant.same c.read_round-total.ensures.same;
     }

@@ -5,6 +5,7 @@ use Rattle.std.proofs.lemmas.Int.{to_z-of_z}
 use Rattle.places.specs.Image.{entry}
 use Rattle.views.specs.Seen.{Seen}
 use Rattle.bench_layouts.specs.Tables.{sum_to}
+use Rattle.bench_layouts.proofs.Counted.{still, still_logged}
 use Rattle.bench_layouts.proofs.TableSums.{small_sum, fits_in, sum_next}
 use Rattle.bench_layouts.proofs.table.read_row.Given as given
 use Rattle.bench_layouts.proofs.table.read_row.Goals as goal
@@ -36,5 +37,5 @@ loop-leaf-preserved g c =
     let here = (goal.at.loop-leaf-preserved g c).After-get-total in
     record {
       sum = next g here ∙ sym (to_z-of_z w128 _ (fitting g here));
-      same = c.get-total.ensures.same ∙ c.loop-leaf.invariant.same;
+      same = still c.args.view.now c.loop-leaf.view c.get-total.new.self c.loop-leaf.invariant.same (still_logged c.loop-leaf.view c.get-total.new.self _ c.get-total.ensures.same);
     }

@@ -1,6 +1,7 @@
 use Rattle.std.proofs.Common.{◌≡◌, refl, arith}
+use Rattle.views.specs.Seen.{after_write}
 use Rattle.bench_layouts.specs.Tables.{value}
-use Rattle.bench_layouts.proofs.Rounds.{stored, rewritten_on, values_on, others_on}
+use Rattle.bench_layouts.proofs.Rounds.{rewritten_on, values_on, others_on}
 use Rattle.bench_layouts.proofs.table.write_row.Goals as goal
 
 pub loop-leaf-preserved : goal.loop-leaf-preserved
@@ -12,7 +13,7 @@ loop-leaf-preserved g c =
     let leaf = c.loop-leaf.leaf in
     let number = value c.args.round row leaf in
     let still = c.loop-leaf.invariant.rewritten in
-    let is : new ≡ stored mid row leaf number = grind arith in
+    let is : new ≡ after_write mid row leaf number = grind arith in
     record {
       rewritten = rewritten_on old mid new row leaf number still c.requires.row_in (omega arith) is;
       values = values_on old mid new row leaf number still c.requires.row_in (omega arith) is c.args.round refl c.loop-leaf.invariant.values;
