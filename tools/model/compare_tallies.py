@@ -1,5 +1,5 @@
 #!/usr/bin/env python3
-"""Compares the model with the second account of counts, heat and layout (tables/tallies.py) over thrown scripts, built or not."""
+"""Compares the model with the second account of counts, heat and layout (tables/tallies.py) over thrown scripts."""
 import sys
 
 import llama_model

@@ -11,15 +11,14 @@ import pathlib
 import sys
 import tempfile
 
-import built
 import generator
 from accesses import Log, heat_of, runs_of
 from datasets import DatasetFault, records_of, table_of, without_mark
 from grammar import COMMANDS, SyntaxFault, depth, expressions_of, path_text, read_line
 from kernels import bad_kernel, leaves_of as leaves_of_kernel, number_of, stored
-from layouts import BLOBS, image, product
+from layouts import image, product
 from mappings import (Cell, bad_alone, bad_mapping, blobs_of, counters_of, full, granules_of, holds_of, inner_of, lengths_of, most_slots,
-                      nodes_of, range_of)
+                      range_of)
 from values import ValueFault, value_of
 
 USAGE = b'usage: llama run FILE | llama gen N\n'
@@ -505,19 +504,10 @@ DOES = {
     'kernel': kernel, 'reduce': reduce, 'copy': copy, 'relayout': relayout, 'print': print_view, 'counts': counts, 'heat': heat,
     'layout': layout, 'bytes': bytes_of, 'drop': drop,
 }
-assert built.COMMANDS <= set(DOES) == set(COMMANDS)
+assert set(DOES) == set(COMMANDS)
 
 
 # lines and the run
-
-def is_built_node(node):
-    return node[0] in built.FORMS and (node[0] not in BLOBS or node[2] in built.ORDERS)
-
-
-def is_built(command, parts):
-    nodes = nodes_of(parts['map']) if 'map' in parts else []
-    return command in built.COMMANDS and all(map(is_built_node, nodes))
-
 
 def step(world, text):
     """What a line prints."""
@@ -532,8 +522,6 @@ def step(world, text):
     command, parts = line
     if any(depth(expr) > MOST_DEPTH for expr in expressions_of(command, parts)):
         raise Fault('TooDeep')
-    if not is_built(command, parts):
-        raise Fault('NotBuilt')
     return DOES[command](world, parts) or b''
 
 
@@ -558,7 +546,7 @@ def run_lines(world, lines):
 
 def run(words, folder):
     """The bytes that are printed, and the status."""
-    if built.GENERATOR and len(words) == 2 and words[0] == 'gen' and generator.rows_in(words[1]):
+    if len(words) == 2 and words[0] == 'gen' and generator.rows_in(words[1]):
         return generated(generator.rows_in(words[1]))
     if len(words) != 2 or words[0] != 'run':
         return USAGE, 2

@@ -7,7 +7,6 @@ import pathlib
 import sys
 import tempfile
 
-import built
 import llama_model
 
 PAIR = 'record P { a:u8, b:i32 }'
@@ -125,23 +124,21 @@ EXAMPLES = [
     (DEEP, b'', 'line 2: BadMapping TooDeep', 1),
     (DEEP.replace('byteswap(', '', 1).replace(')', '', 1), b'', '', 0),
 ] + [(SAME.replace('{}', form), b'', 'a,b | 1,-10 | 2,-20 | 3,-30 | 4,-40', 0) for form in EVERYWHERE]
-if built.COUNTERS:
-    EXAMPLES += [
-        (three('aos(aligned, row)').replace('bytes V 0', 'layout V'), b'', DRAWN, 0),
-        (HEATED, b'', 'leaf,reads,writes | a,16,16 | b,0,8 | blob,granule,accesses | 0,0,38 | 0,1,2', 0),
-        (COPIED, b'', 'a,b | 0,300 | 1,301 | 2,302 | 3,303 | 4,304 | leaf,reads,writes | a,10,10 | b,10,10 | line 10: Mismatch', 1),
-    ]
+EXAMPLES += [
+    (three('aos(aligned, row)').replace('bytes V 0', 'layout V'), b'', DRAWN, 0),
+    (HEATED, b'', 'leaf,reads,writes | a,16,16 | b,0,8 | blob,granule,accesses | 0,0,38 | 0,1,2', 0),
+    (COPIED, b'', 'a,b | 0,300 | 1,301 | 2,302 | 3,303 | 4,304 | leaf,reads,writes | a,10,10 | b,10,10 | line 10: Mismatch', 1),
+]
 
 # words, printed, status
 WORDS = [(words, 'usage: llama run FILE | llama gen N\n', 2) for words in (
     ['run'], ['run', 'a', 'b'], ['gen', '0'], ['gen', '01'], ['gen', '65537'], [])] + [
     (['run', 's'], 'line 0: cannot read s\n', 3)]
-if built.GENERATOR:
-    WORDS += [
-        (['gen', '65536'], lines('3221192704 | 4294934528 | 4294967295 | 16384 | leaf,reads,writes | pos.x,98304,98304 | pos.y,65536,65536 | mass,98304,98304'
-                                 ' | hot,131072,65536 | h[0],65536,65536 | h[1],65536,65536 | id,65536,65536'), 0),
-        (['gen', '2'], lines('2 | 3 | 65537 | 0 | leaf,reads,writes | pos.x,3,3 | pos.y,2,2 | mass,3,3 | hot,4,2 | h[0],2,2 | h[1],2,2 | id,2,2'), 0),
-    ]
+WORDS += [
+    (['gen', '65536'], lines('3221192704 | 4294934528 | 4294967295 | 16384 | leaf,reads,writes | pos.x,98304,98304 | pos.y,65536,65536 | mass,98304,98304'
+                             ' | hot,131072,65536 | h[0],65536,65536 | h[1],65536,65536 | id,65536,65536'), 0),
+    (['gen', '2'], lines('2 | 3 | 65537 | 0 | leaf,reads,writes | pos.x,3,3 | pos.y,2,2 | mass,3,3 | hot,4,2 | h[0],2,2 | h[1],2,2 | id,2,2'), 0),
+]
 
 
 def run_example(script, dataset):

@@ -1,5 +1,4 @@
 """How often each leaf is read and written: after each command, in parts of expressions that are left out, and under each form."""
-import built
 
 from .case import BOTH, Case, LOAD, PAIR
 
@@ -166,4 +165,4 @@ REFUSED = [
     Case('counts_not_counted_of_a_loaded_view', LOAD + 'counts V', 'line 3: NotCounted', b'a,b\n'),
 ]
 
-CASES = COMMANDS + COPIES + LEFT_OUT + LAID + LANES + OTHERS + REFUSED if built.COUNTERS else []
+CASES = COMMANDS + COPIES + LEFT_OUT + LAID + LANES + OTHERS + REFUSED

@@ -1,5 +1,4 @@
 """How often each granule is touched: granules that leaves share, bits over bytes, granules of 1 to 4,096 bytes, and each command and form."""
-import built
 
 from .case import BOTH, Case, PAIR
 
@@ -158,4 +157,4 @@ REFUSED = [
          'line 5: NotCounted'),
 ]
 
-CASES = SHARED + BITS + SIZES + FORMS + AFTER + REFUSED if built.COUNTERS else []
+CASES = SHARED + BITS + SIZES + FORMS + AFTER + REFUSED

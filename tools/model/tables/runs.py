@@ -1,7 +1,6 @@
 """The runs that `layout` tells, drawn for each form; maximal runs, padding, limits and refusals."""
 import re
 
-import built
 
 from .case import BOTH, Case, PAIR
 
@@ -126,4 +125,4 @@ REFUSED = [
          'line 4: TooBig'),
 ]
 
-CASES = BASES + ORDERS + FORMS + OTHERS + REFUSED if built.COUNTERS else []
+CASES = BASES + ORDERS + FORMS + OTHERS + REFUSED

@@ -5,7 +5,6 @@ tables stay 0, so that each mapping holds them.
 """
 import itertools
 
-import built
 
 from .addresses import BYTES, laid, runs, touched
 from .case import Case
@@ -203,4 +202,4 @@ def thrown_case(number, depth):
     return Case(f'tallies_thrown_of_depth_{depth}_number_{number}', ' | '.join(script), ' | '.join(line for line in due if line))
 
 
-CASES = [thrown_case(number, depth) for depth in range(1, 9) for number in range(5)] if built.COUNTERS else []
+CASES = [thrown_case(number, depth) for depth in range(1, 9) for number in range(5)]

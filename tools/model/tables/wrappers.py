@@ -1,5 +1,4 @@
 """The forms count and heat: where they may stand, the sizes of granules, what they leave as it is, and what refuses them in its order."""
-import built
 
 from .case import BOTH, Case, PAIR
 
@@ -163,4 +162,4 @@ ORDER = [
     Case('wrapper_heat_without_a_bracket_is_a_name', BOTH + 'relayout V as heat', 'line 3: Unknown heat'),
 ]
 
-CASES = COUNTER + DEPTH + GRANULE + SIDES + HELD + LIMITS + ORDER if built.COUNTERS else []
+CASES = COUNTER + DEPTH + GRANULE + SIDES + HELD + LIMITS + ORDER
