@@ -90,7 +90,7 @@ none_mapped f None e = refl
 none_mapped f (Some x) e = cc
 
 -- so accesses leave it all
-idle_touched : (layout : List (List Owner)) (tally : Tally) (access : Access) → tally.counts ≡ None → tally.heat ≡ None → touched layout tally access ≡ tally
+pub idle_touched : (layout : List (List Owner)) (tally : Tally) (access : Access) → tally.counts ≡ None → tally.heat ≡ None → touched layout tally access ≡ tally
 idle_touched layout tally access counts heat =
     let same_counts : option_map (counted_by access) tally.counts ≡ tally.counts = ap (option_map (counted_by access)) counts ∙ sym counts in
     let same_heat : option_map (heated layout access) tally.heat ≡ tally.heat = ap (option_map (heated layout access)) heat ∙ sym heat in

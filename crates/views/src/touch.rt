@@ -1,4 +1,5 @@
-// What an access adds to the counts of a view. What counts one access is inlined, so that a view that counts nothing pays two tests.
+// What an access adds to the counts of a view. The test for counters is inlined and the counting is not, so that
+// a view that counts nothing pays two tests.
 ghost use Rattle.std.specs.Prelude.{◌≡◌, ◌<◌, length, flat_map, option_map, IfSome};
 ghost use Rattle.std.specs.List.{range_with_len};
 ghost use Rattle.map_any.specs.Maps.{term_of_map};
@@ -13,6 +14,27 @@ use places::{Mapping, laws_of};
 /// Counts a read of a leaf in a row.
 #[inline(always)]
 pub fn count_read(
+    map: &AnyMap,
+    counts: &mut Option<Counts>,
+    heat: &mut Option<Heat>,
+    row: u64,
+    leaf: usize,
+)
+    requires row_in { row < ⟦<AnyMap as Mapping>⟧.slot_count map.now }
+    requires leaf_in { leaf < length (⟦<AnyMap as Mapping>⟧.cell_list map.now) }
+    requires tallied { IsTallied (term_of_map map.now) (⟦<AnyMap as Mapping>⟧.layout map.now) (length (⟦<AnyMap as Mapping>⟧.cell_list map.now))
+        (tally_of counts.old heat.old) }
+    ensures { tally_of counts.new heat.new ≡ touched (⟦<AnyMap as Mapping>⟧.layout map.now) (tally_of counts.old heat.old) (Read row leaf) }
+{
+    if counts.is_none() && heat.is_none() {
+        return;
+    }
+    add_read(map, counts, heat, row, leaf);
+}
+
+// The same where there are counters.
+#[inline(never)]
+fn add_read(
     map: &AnyMap,
     counts: &mut Option<Counts>,
     heat: &mut Option<Heat>,
@@ -46,6 +68,27 @@ pub fn count_write(
         (tally_of counts.old heat.old) }
     ensures { tally_of counts.new heat.new ≡ touched (⟦<AnyMap as Mapping>⟧.layout map.now) (tally_of counts.old heat.old) (Write row leaf) }
 {
+    if counts.is_none() && heat.is_none() {
+        return;
+    }
+    add_write(map, counts, heat, row, leaf);
+}
+
+// The same where there are counters.
+#[inline(never)]
+fn add_write(
+    map: &AnyMap,
+    counts: &mut Option<Counts>,
+    heat: &mut Option<Heat>,
+    row: u64,
+    leaf: usize,
+)
+    requires row_in { row < ⟦<AnyMap as Mapping>⟧.slot_count map.now }
+    requires leaf_in { leaf < length (⟦<AnyMap as Mapping>⟧.cell_list map.now) }
+    requires tallied { IsTallied (term_of_map map.now) (⟦<AnyMap as Mapping>⟧.layout map.now) (length (⟦<AnyMap as Mapping>⟧.cell_list map.now))
+        (tally_of counts.old heat.old) }
+    ensures { tally_of counts.new heat.new ≡ touched (⟦<AnyMap as Mapping>⟧.layout map.now) (tally_of counts.old heat.old) (Write row leaf) }
+{
     if let Some(counts) = counts {
         counts.touch_write(leaf);
     }
@@ -53,7 +96,6 @@ pub fn count_write(
 }
 
 // One more in each granule that holds a bit of the leaf in the row.
-#[inline(always)]
 fn warm(map: &AnyMap, heat: &mut Option<Heat>, row: u64, leaf: usize)
     requires row_in { row < ⟦<AnyMap as Mapping>⟧.slot_count map.now }
     requires leaf_in { leaf < length (⟦<AnyMap as Mapping>⟧.cell_list map.now) }
