@@ -1,5 +1,5 @@
 -- How the logic stores terms: a number for the case, then its parts.
-use Rattle.std.proofs.Common.{◌≡◌, ℕ, ap, arith}
+use Rattle.std.proofs.Common.{◌≡◌, ap, arith}
 use Rattle.std.specs.Coded.{Coded, coded_ℕ}
 use base.Stored.{Gv, gnum, gcons}
 use Rattle.extents.specs.contracts.order.Order as order
