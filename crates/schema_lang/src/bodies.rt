@@ -5,7 +5,7 @@ ghost use Rattle.schema_lang.specs.Bodies.{assign_at, body_at, bytes_at, command
 
 use crate::kernels::read_kernel;
 use crate::updates::{read_filter, read_sets};
-use line_grammar::{Command, Count, FileName, Line, ReduceKind};
+use line_grammar::{Command, Count, FileName, Line, ReduceKind, Version};
 use line_phrases::{
     ReadError, Tokens, read_expr, read_extents, read_fields, read_fixed_extents, read_index,
     read_map, read_path,
@@ -14,40 +14,42 @@ use line_tokens::Sign;
 use record_dim::{Dim, Name};
 use std::alloc::Global;
 
-// A command, whose brackets nest at most `room` deep.
+// A command of a version of the language, whose brackets nest at most `room` deep.
 #[tactic(auto, unfolding(crate::specs::Bodies::command_at))]
 pub(crate) fn read_command(
     alloc: Global,
+    version: Version,
     room: usize,
     tokens: &mut Tokens,
 ) -> Result<Line, ReadError>
-    ensures { Gives (λ x. (sentence_of x, tokens.new)) result (command_at room tokens.old) }
+    ensures { Gives (λ x. (sentence_of x, tokens.new)) result (command_at version room tokens.old) }
 {
     let command = tokens.item::<Command>()?;
-    read_body(alloc, room, command, tokens)
+    read_body(alloc, version, room, command, tokens)
 }
 
 // What stands behind the word of a command.
 #[tactic(auto, unfolding(crate::specs::Bodies::body_at))]
 fn read_body(
     alloc: Global,
+    version: Version,
     room: usize,
     command: Command,
     tokens: &mut Tokens,
 ) -> Result<Line, ReadError>
-    ensures { Gives (λ x. (sentence_of x, tokens.new)) result (body_at room command tokens.old) }
+    ensures { Gives (λ x. (sentence_of x, tokens.new)) result (body_at version room command tokens.old) }
 {
     match command {
         Command::Record => read_define(alloc, room, tokens),
-        Command::Mapping => read_mapping(alloc, room, tokens),
-        Command::View => read_view(alloc, room, tokens),
-        Command::Load => read_load(alloc, room, tokens),
+        Command::Mapping => read_mapping(alloc, version, room, tokens),
+        Command::View => read_view(alloc, version, room, tokens),
+        Command::Load => read_load(alloc, version, room, tokens),
         Command::Set => read_assign(alloc, room, tokens),
         Command::Update => read_update(alloc, room, tokens),
         Command::Kernel => read_kernel_line(alloc, tokens),
         Command::Reduce => read_reduce(alloc, room, tokens),
         Command::Copy => read_copy(tokens),
-        Command::Relayout => read_relayout(alloc, room, tokens),
+        Command::Relayout => read_relayout(alloc, version, room, tokens),
         Command::Print => Ok(Line::Print(tokens.item::<Name>()?)),
         Command::Counts => Ok(Line::Counts(tokens.item::<Name>()?)),
         Command::Heat => Ok(Line::Heat(tokens.item::<Name>()?)),
@@ -70,25 +72,35 @@ fn read_define(alloc: Global, room: usize, tokens: &mut Tokens) -> Result<Line, 
 }
 
 #[tactic(auto, unfolding(crate::specs::Bodies::mapping_at))]
-fn read_mapping(alloc: Global, room: usize, tokens: &mut Tokens) -> Result<Line, ReadError>
-    ensures { Gives (λ x. (sentence_of x, tokens.new)) result (mapping_at room tokens.old) }
+fn read_mapping(
+    alloc: Global,
+    version: Version,
+    room: usize,
+    tokens: &mut Tokens,
+) -> Result<Line, ReadError>
+    ensures { Gives (λ x. (sentence_of x, tokens.new)) result (mapping_at version room tokens.old) }
 {
     let name = tokens.item::<Name>()?;
     tokens.sign(Sign::Equals)?;
-    let expr = read_map(alloc, room, tokens)?;
+    let expr = read_map(alloc, version, room, tokens)?;
     Ok(Line::Mapping { name, expr })
 }
 
 #[tactic(auto, unfolding(crate::specs::Bodies::view_at))]
-fn read_view(alloc: Global, room: usize, tokens: &mut Tokens) -> Result<Line, ReadError>
-    ensures { Gives (λ x. (sentence_of x, tokens.new)) result (view_at room tokens.old) }
+fn read_view(
+    alloc: Global,
+    version: Version,
+    room: usize,
+    tokens: &mut Tokens,
+) -> Result<Line, ReadError>
+    ensures { Gives (λ x. (sentence_of x, tokens.new)) result (view_at version room tokens.old) }
 {
     let name = tokens.item::<Name>()?;
     tokens.sign(Sign::Colon)?;
     let schema = tokens.item::<Name>()?;
     let words = read_fixed_extents(alloc, tokens)?;
     tokens.word("as")?;
-    let expr = read_map(alloc, room, tokens)?;
+    let expr = read_map(alloc, version, room, tokens)?;
     Ok(Line::View {
         name,
         schema,
@@ -98,15 +110,20 @@ fn read_view(alloc: Global, room: usize, tokens: &mut Tokens) -> Result<Line, Re
 }
 
 #[tactic(auto, unfolding(crate::specs::Bodies::load_at))]
-fn read_load(alloc: Global, room: usize, tokens: &mut Tokens) -> Result<Line, ReadError>
-    ensures { Gives (λ x. (sentence_of x, tokens.new)) result (load_at room tokens.old) }
+fn read_load(
+    alloc: Global,
+    version: Version,
+    room: usize,
+    tokens: &mut Tokens,
+) -> Result<Line, ReadError>
+    ensures { Gives (λ x. (sentence_of x, tokens.new)) result (load_at version room tokens.old) }
 {
     let name = tokens.item::<Name>()?;
     tokens.sign(Sign::Colon)?;
     let schema = tokens.item::<Name>()?;
     let words = read_extents(alloc, tokens)?;
     tokens.word("as")?;
-    let expr = read_map(alloc, room, tokens)?;
+    let expr = read_map(alloc, version, room, tokens)?;
     tokens.word("from")?;
     let file = tokens.item::<FileName>()?;
     Ok(Line::Load {
@@ -190,12 +207,17 @@ fn read_copy(tokens: &mut Tokens) -> Result<Line, ReadError>
 }
 
 #[tactic(auto, unfolding(crate::specs::Bodies::relayout_at))]
-fn read_relayout(alloc: Global, room: usize, tokens: &mut Tokens) -> Result<Line, ReadError>
-    ensures { Gives (λ x. (sentence_of x, tokens.new)) result (relayout_at room tokens.old) }
+fn read_relayout(
+    alloc: Global,
+    version: Version,
+    room: usize,
+    tokens: &mut Tokens,
+) -> Result<Line, ReadError>
+    ensures { Gives (λ x. (sentence_of x, tokens.new)) result (relayout_at version room tokens.old) }
 {
     let view = tokens.item::<Name>()?;
     tokens.word("as")?;
-    let expr = read_map(alloc, room, tokens)?;
+    let expr = read_map(alloc, version, room, tokens)?;
     Ok(Line::Relayout { view, expr })
 }
 
