@@ -24,7 +24,7 @@ use Rattle.line_grammar.specs.declared.line.MapWord.{MapWord}
 use Rattle.line_grammar.specs.declared.line.MapWord.TheVariants as form
 use Rattle.line_grammar.specs.declared.version.Version.{Version}
 use Rattle.line_grammar.specs.Tokens.{name_of, number_of, count_of, string_of, type_of, integer_type_of, order_of, aos_form_of, soa_form_of, map_word, index_of, choice_of, or_of, and_of, comparison_of, sum_of, product_of, kernel_word_of, reduction_of, command_of}
-use Rattle.line_grammar.specs.Sentences.{Assignment, Sentence, Value, Blank, Define, Mapping, View, Load, Assign, Update, Kernel, Reduce, Count, Copy, Relayout, Print, Counts, Heat, Layout, Drop, Bytes}
+use Rattle.line_grammar.specs.Sentences.{Assignment, New, Sentence, Value, Blank, Define, Mapping, View, Load, Assign, Update, Kernel, Reduce, Count, Copy, Relayout, Print, Counts, Heat, Layout, Drop, Bytes}
 
 -- what is said of phrases: a list of tokens, and the value that it has
 abbrev pub Phrase : Type 0 → Type 1
@@ -243,6 +243,11 @@ IsKernelInside kernel_word.CountWhere = Joined IsPath (λ x. Joined (IsItem comp
 abbrev pub IsKernel : Phrase KernelText
 IsKernel = Joined (IsItem kernel_word_of) (λ word. Behind (Sign OpenParen) (Joined (IsKernelInside word) (λ kernel. Behind (Sign CloseParen) (IsNothing kernel))))
 
+-- NAME ":" NAME "[" phrase ("," phrase)* "]" "as" map
+abbrev pub IsNew : Version → Phrase ExtentWord → ℕ → Phrase New
+IsNew version IsWord n = Joined IsName (λ name. Behind (Sign Colon) (Joined IsName (λ schema. Joined (IsBracketList IsWord) (λ words.
+    Behind (Word (codes "as")) (Joined (IsMap version n) (λ map. IsNothing (record { name = name; schema = schema; words = words; term = map })))))))
+
 -- what stands behind the word of a command
 abbrev pub IsBody : Version → ℕ → Command → Phrase Sentence
 -- "record" NAME fields
@@ -250,11 +255,9 @@ IsBody version n command.Record = Joined IsName (λ name. Joined (IsFields n) (�
 -- "mapping" NAME "=" map
 IsBody version n command.Mapping = Joined IsName (λ name. Behind (Sign Equals) (Joined (IsMap version n) (λ map. IsNothing (Mapping name map))))
 -- "view" NAME ":" NAME "[" COUNT ("," COUNT)* "]" "as" map
-IsBody version n command.View = Joined IsName (λ name. Behind (Sign Colon) (Joined IsName (λ schema. Joined (IsBracketList IsFixed) (λ words.
-    Behind (Word (codes "as")) (Joined (IsMap version n) (λ map. IsNothing (View name schema words map)))))))
+IsBody version n command.View = Joined (IsNew version IsFixed n) (λ new. IsNothing (View new))
 -- "load" NAME ":" NAME "[" ext ("," ext)* "]" "as" map "from" STRING
-IsBody version n command.Load = Joined IsName (λ name. Behind (Sign Colon) (Joined IsName (λ schema. Joined (IsBracketList IsExtent) (λ words.
-    Behind (Word (codes "as")) (Joined (IsMap version n) (λ map. Behind (Word (codes "from")) (Joined IsString (λ file. IsNothing (Load name schema words map file)))))))))
+IsBody version n command.Load = Joined (IsNew version IsExtent n) (λ new. Behind (Word (codes "from")) (Joined IsString (λ file. IsNothing (Load new file))))
 -- "set" NAME "[" COUNT ("," COUNT)* "]" "." path "=" expr
 IsBody version n command.Set = Joined IsName (λ view. Joined (IsBracketList IsCount)
     (λ index. Behind (Sign Dot) (Joined IsPath (λ path. Behind (Sign Equals) (Joined (IsExpr n) (λ value. IsNothing (Assign view index path value)))))))

@@ -12,12 +12,12 @@ use Rattle.line_grammar.specs.declared.line.Command.{Command}
 use Rattle.line_grammar.specs.declared.line.Command.TheVariants as command
 use Rattle.line_grammar.specs.declared.line.KernelWord.{KernelWord}
 use Rattle.line_grammar.specs.Sentences.{Assignment, Sentence, Blank, Define, Mapping, View, Load, Assign, Update, Kernel, Reduce, Count, Copy, Relayout, Print, Counts, Heat, Layout, Drop, Bytes}
-use Rattle.line_grammar.specs.Grammar.{Phrase, IsName, IsMore, IsListed, IsAssignment, IsFilter, IsKernel, IsBody, IsLine}
+use Rattle.line_grammar.specs.Grammar.{Phrase, IsName, IsMore, IsListed, IsAssignment, IsFilter, IsKernel, IsNew, IsBody, IsLine}
 use Rattle.line_grammar.specs.Words.{reduction_word, command_word}
-use Rattle.line_writer.specs.Canonical.{count_token, bracket_list, extent_tokens, map_tokens, path_tokens, view_tokens, line_tokens}
+use Rattle.line_writer.specs.Canonical.{count_token, bracket_list, extent_tokens, map_tokens, path_tokens, new_tokens, line_tokens}
 use Rattle.line_writer.proofs.Gives.{Each, each_append, Gives, nothing_gives, behind_gives, joined_gives, either_gives, repeats_gives, gives_also}
 use Rattle.line_writer.proofs.Words.{name_gives, count_gives, string_gives, reduction_gives, command_gives, kernel_word_gives}
-use Rattle.line_writer.proofs.Phrases.{sound, path_gives, fields_give, map_gives, bracket_list_gives, fixed_gives, extent_gives}
+use Rattle.line_writer.proofs.Phrases.{IsWritten, sound, path_gives, fields_give, map_gives, bracket_list_gives, fixed_gives, extent_gives}
 use Rattle.line_writer.proofs.Leaves.{expr_gives}
 use Rattle.line_writer.proofs.Kept.{kept_from, kept_gives, KeptKernel, kernel_inside_gives, IsGoodSet, IsGoodFilter, IsFull, index_tokens, IsKept, count_kept, kernel_kept, assign_kept, update_kept}
 
@@ -67,43 +67,30 @@ bytes_body version n = joined_gives {Q = IsBehind version (codes "bytes")} name_
     nothing_gives {Q = λ xs v. IsBehind version (codes "bytes") (front ++ (back ++ xs)) v} (Bytes view blob)
     (inl (ap (λ k. Word (codes "bytes") ∷ Word view ∷ (k ++ [])) same' ∙ ap (λ k. Word (codes "bytes") ∷ (k ++ (back ++ []))) same))))
 
--- the parts of a view, up to its mapping
-view_same : (name schema : List ℕ) (words : List ExtentWord) (term : MapTerm) (f g w m : List Token) →
-    Word name ∷ [] ≡ f → Word schema ∷ [] ≡ g → bracket_list (map extent_tokens words) ≡ w → map_tokens term ≡ m →
-    view_tokens name schema words term ≡ f ++ (Sign Colon ∷ (g ++ (w ++ (Word (codes "as") ∷ m))))
-view_same name schema words term f g w m a b c d =
-    ap (λ k. Word name ∷ Sign Colon ∷ Word schema ∷ (bracket_list (map extent_tokens words) ++ Word (codes "as") ∷ k)) d
-    ∙ ap (λ k. Word name ∷ Sign Colon ∷ Word schema ∷ (k ++ Word (codes "as") ∷ m)) c
-    ∙ ap (λ k. Word name ∷ Sign Colon ∷ (k ++ (w ++ Word (codes "as") ∷ m))) b
-    ∙ ap (λ k. k ++ (Sign Colon ∷ (g ++ (w ++ Word (codes "as") ∷ m)))) a
+-- what makes a view
+new_gives : (version : Version) {IsWord : Phrase ExtentWord} (n : ℕ) → Gives IsWord (IsWritten extent_tokens) → Gives (IsNew version IsWord n) (IsWritten new_tokens)
+new_gives version n one = joined_gives {Q = IsWritten new_tokens} name_gives (λ f name i1 a s1. behind_gives {Q = λ xs v. new_tokens v ≡ f ++ xs} (Sign Colon) sound
+    (joined_gives {Q = λ xs v. new_tokens v ≡ f ++ (Sign Colon ∷ xs)} name_gives (λ g schema i2 b s2.
+    joined_gives {Q = λ xs v. new_tokens v ≡ f ++ (Sign Colon ∷ (g ++ xs))} (bracket_list_gives extent_tokens one) (λ w words i3 c s3.
+    behind_gives {Q = λ xs v. new_tokens v ≡ f ++ (Sign Colon ∷ (g ++ (w ++ xs)))} (Word (codes "as")) sound
+    (joined_gives {Q = λ xs v. new_tokens v ≡ f ++ (Sign Colon ∷ (g ++ (w ++ (Word (codes "as") ∷ xs))))} (map_gives version n) (λ m term i4 d s4.
+    nothing_gives {Q = λ xs v. new_tokens v ≡ f ++ (Sign Colon ∷ (g ++ (w ++ (Word (codes "as") ∷ (m ++ xs)))))} (record { name = name; schema = schema; words = words; term = term })
+    (ap (λ k. Word name ∷ Sign Colon ∷ Word schema ∷ (bracket_list (map extent_tokens words) ++ Word (codes "as") ∷ k)) (d ∙ sym (append-nil m))
+    ∙ ap (λ k. Word name ∷ Sign Colon ∷ Word schema ∷ (k ++ Word (codes "as") ∷ (m ++ []))) c
+    ∙ ap (λ k. Word name ∷ Sign Colon ∷ (k ++ (w ++ Word (codes "as") ∷ (m ++ [])))) b
+    ∙ ap (λ k. k ++ (Sign Colon ∷ (g ++ (w ++ Word (codes "as") ∷ (m ++ []))))) a)))))))
 
 view_body : (version : Version) (n : ℕ) → Gives (IsBody version n command.View) (IsBehind version (codes "view"))
-view_body version n = joined_gives {Q = IsBehind version (codes "view")} name_gives (λ f name i1 a s1. behind_gives {Q = λ xs v. IsBehind version (codes "view") (f ++ xs) v} (Sign Colon) sound
-    (joined_gives {Q = λ xs v. IsBehind version (codes "view") (f ++ (Sign Colon ∷ xs)) v} name_gives (λ g schema i2 b s2.
-    joined_gives {Q = λ xs v. IsBehind version (codes "view") (f ++ (Sign Colon ∷ (g ++ xs))) v} (bracket_list_gives extent_tokens fixed_gives) (λ w words i3 c s3.
-    behind_gives {Q = λ xs v. IsBehind version (codes "view") (f ++ (Sign Colon ∷ (g ++ (w ++ xs)))) v} (Word (codes "as")) sound
-    (joined_gives {Q = λ xs v. IsBehind version (codes "view") (f ++ (Sign Colon ∷ (g ++ (w ++ (Word (codes "as") ∷ xs))))) v} (map_gives version n) (λ m term i4 d s4.
-    nothing_gives {Q = λ xs v. IsBehind version (codes "view") (f ++ (Sign Colon ∷ (g ++ (w ++ (Word (codes "as") ∷ (m ++ xs)))))) v} (View name schema words term)
-    (inl (ap (λ k. Word (codes "view") ∷ k) (view_same name schema words term f g w (m ++ []) a b c (d ∙ sym (append-nil m)))))))))))
-
-load_same : (f g w m t : List Token) → (f ++ (Sign Colon ∷ (g ++ (w ++ (Word (codes "as") ∷ m))))) ++ Word (codes "from") ∷ t
-    ≡ f ++ (Sign Colon ∷ (g ++ (w ++ (Word (codes "as") ∷ (m ++ (Word (codes "from") ∷ t))))))
-load_same f g w m t =
-    append_assoc f (Sign Colon ∷ (g ++ (w ++ (Word (codes "as") ∷ m)))) (Word (codes "from") ∷ t)
-    ∙ ap (λ k. f ++ (Sign Colon ∷ k)) (append_assoc g (w ++ (Word (codes "as") ∷ m)) (Word (codes "from") ∷ t)
-    ∙ ap (λ k. g ++ k) (append_assoc w (Word (codes "as") ∷ m) (Word (codes "from") ∷ t)))
+view_body version n = joined_gives {Q = IsBehind version (codes "view")} (new_gives version n fixed_gives) (λ f new i same s.
+    nothing_gives {Q = λ xs v. IsBehind version (codes "view") (f ++ xs) v} (View new) (inl (ap (λ k. Word (codes "view") ∷ k) (same ∙ sym (append-nil f)))))
 
 load_body : (version : Version) (n : ℕ) → Gives (IsBody version n command.Load) (IsBehind version (codes "load"))
-load_body version n = joined_gives {Q = IsBehind version (codes "load")} name_gives (λ f name i1 a s1. behind_gives {Q = λ xs v. IsBehind version (codes "load") (f ++ xs) v} (Sign Colon) sound
-    (joined_gives {Q = λ xs v. IsBehind version (codes "load") (f ++ (Sign Colon ∷ xs)) v} name_gives (λ g schema i2 b s2.
-    joined_gives {Q = λ xs v. IsBehind version (codes "load") (f ++ (Sign Colon ∷ (g ++ xs))) v} (bracket_list_gives extent_tokens extent_gives) (λ w words i3 c s3.
-    behind_gives {Q = λ xs v. IsBehind version (codes "load") (f ++ (Sign Colon ∷ (g ++ (w ++ xs)))) v} (Word (codes "as")) sound
-    (joined_gives {Q = λ xs v. IsBehind version (codes "load") (f ++ (Sign Colon ∷ (g ++ (w ++ (Word (codes "as") ∷ xs))))) v} (map_gives version n) (λ m term i4 d s4.
-    behind_gives {Q = λ xs v. IsBehind version (codes "load") (f ++ (Sign Colon ∷ (g ++ (w ++ (Word (codes "as") ∷ (m ++ xs)))))) v} (Word (codes "from")) sound
-    (joined_gives {Q = λ xs v. IsBehind version (codes "load") (f ++ (Sign Colon ∷ (g ++ (w ++ (Word (codes "as") ∷ (m ++ (Word (codes "from") ∷ xs))))))) v} string_gives (λ t file i5 e s5.
-    nothing_gives {Q = λ xs v. IsBehind version (codes "load") (f ++ (Sign Colon ∷ (g ++ (w ++ (Word (codes "as") ∷ (m ++ (Word (codes "from") ∷ (t ++ xs)))))))) v} (Load name schema words term file)
-    (inl (ap (λ k. Word (codes "load") ∷ (k ++ Word (codes "from") ∷ Text file ∷ [])) (view_same name schema words term f g w m a b c d)
-    ∙ ap (λ k. Word (codes "load") ∷ k) (load_same f g w m (Text file ∷ []) ∙ ap (λ k. f ++ (Sign Colon ∷ (g ++ (w ++ (Word (codes "as") ∷ (m ++ (Word (codes "from") ∷ k))))))) (e ∙ sym (append-nil t)))))))))))))
+load_body version n = joined_gives {Q = IsBehind version (codes "load")} (new_gives version n extent_gives) (λ f new i same s.
+    behind_gives {Q = λ xs v. IsBehind version (codes "load") (f ++ xs) v} (Word (codes "from")) sound
+    (joined_gives {Q = λ xs v. IsBehind version (codes "load") (f ++ (Word (codes "from") ∷ xs)) v} string_gives (λ g file i' same' s'.
+    nothing_gives {Q = λ xs v. IsBehind version (codes "load") (f ++ (Word (codes "from") ∷ (g ++ xs))) v} (Load new file)
+    (inl (ap (λ k. Word (codes "load") ∷ (k ++ Word (codes "from") ∷ Text file ∷ [])) same
+    ∙ ap (λ k. Word (codes "load") ∷ (f ++ Word (codes "from") ∷ k)) (same' ∙ sym (append-nil g)))))))
 
 -- lines with expressions and kernels
 kept_behind : (version : Version) (word : List ℕ) {Is : Phrase Sentence} → Gives Is (λ xs v. IsKept version v) → Gives Is (IsBehind version word)

@@ -1,5 +1,5 @@
 -- How each command is read, and a whole line.
-use Rattle.std.proofs.Common.{ℕ, ◌≤◌, true, false, inl, inr, List, [], ◌++◌, codes, None, is_some, refl, ap, neg_ℤ, arith}
+use Rattle.std.proofs.Common.{ℕ, ◌≤◌, true, false, inl, inr, List, [], ◌++◌, codes, None, Result, is_some, refl, ap, neg_ℤ, arith}
 use Rattle.phrases.specs.Phrases.{Behind, IsItem, IsNothing}
 use Rattle.phrases.specs.Reading.{item_at, give_at}
 use Rattle.phrases.specs.ParsesLaws.{Always, Parses, behind_parses, either_parses, give_parses, item_parses, said_otherwise, then_parses}
@@ -11,6 +11,7 @@ use Rattle.phrases.specs.AlikeLaws.{Alike, either_alike, no_longer, same_alike, 
 use Rattle.phrases.specs.UnboundedLaws.{Nests}
 use Rattle.line_tokens.specs.declared.sign.Sign.TheVariants.{OpenParen, CloseParen, Colon, Comma, Dot, Equals, EqualEqual, Minus}
 use Rattle.record_dim.specs.Trees.{Record}
+use Rattle.extents.specs.declared.words.ExtentWord.{ExtentWord}
 use Rattle.expr_lang.specs.declared.expr.BinOp.TheVariants.{Eq}
 use Rattle.line_grammar.specs.declared.line.Command.{Command}
 use Rattle.line_grammar.specs.declared.line.Command.TheVariants as command
@@ -23,7 +24,7 @@ use Rattle.line_grammar.specs.declared.token.Token.TheVariants.{Word, Text, Sign
 use Rattle.line_grammar.specs.declared.version.Version.{Version}
 use Rattle.line_grammar.specs.Sentences.{Blank, Define, Mapping, View, Load, Assign, Update, Kernel, Reduce, Count, Copy, Relayout, Print, Counts, Heat, Layout, Drop, Bytes}
 use Rattle.line_grammar.specs.Tokens.{is_sign, is_word, number_of, string_of, comparison_of, kernel_word_of, reduction_of, command_of}
-use Rattle.line_grammar.specs.Grammar.{IsAssignment, IsBody, IsCommand, IsConst, IsFilter, IsKernel, IsKernelInside, IsLine}
+use Rattle.line_grammar.specs.Grammar.{IsAssignment, IsBody, IsCommand, IsConst, IsFilter, IsKernel, IsKernelInside, IsLine, IsNew}
 use Rattle.line_phrases.specs.Constants.{const_at}
 use Rattle.line_phrases.specs.BasicsLaws.{AfterLevel, Not, anything, apart, behind_after, behind_not, count_parses, exact_sign, exact_word, name_parses, number_parses, starts_level}
 use Rattle.line_phrases.specs.FieldLaws.{fields_parses}
@@ -35,7 +36,7 @@ use Rattle.line_phrases.specs.NestingLaws.{behind_kept, expr_alike, expr_wider, 
 use Rattle.line_phrases.specs.PathsLaws.{path_parses}
 use Rattle.schema_lang.specs.Kernels.{axpy_at, clamp_at, count_where_at, inside_at, kernel_at}
 use Rattle.schema_lang.specs.Updates.{assignment_at, filter_at}
-use Rattle.schema_lang.specs.Bodies.{any_token, assign_at, body_at, bytes_at, command_at, copy_at, define_at, kernel_line_at, line_at, load_at, mapping_at, reduce_at, relayout_at, update_at, view_at}
+use Rattle.schema_lang.specs.Bodies.{any_token, assign_at, body_at, bytes_at, command_at, copy_at, define_at, kernel_line_at, line_at, load_at, mapping_at, new_at, reduce_at, relayout_at, update_at, view_at}
 use Rattle.schema_lang.proofs.Assignments.{AfterFilter, assignment_parses, filter_parses}
 
 -- kernels
@@ -84,16 +85,22 @@ ended_after P f last a ys v rest h after = rw (h.0, after) last
 string_parses : Parses (IsItem string_of) (item_at string_of) Always
 string_parses = item_parses string_of (Text (codes "a")) (codes "a") refl
 
+new_parses : (version : Version) {IsWord : List Token → ExtentWord → Type 0} {read : List Token → Result (ExtentWord × List Token) ℕ} → Parses IsWord read Always → (n : ℕ)
+    → Parses (IsNew version IsWord n) (new_at version read n) (Not OpenParen)
+unfolding new_at
+new_parses version p n = then_parses Always name_parses (λ name. behind_parses (exact_sign Colon) (then_parses Always name_parses (λ schema. then_parses Always (bracket_list_parses p) (λ words.
+    behind_parses (exact_word (codes "as")) (then_parses (Not OpenParen) (map_parses version n) (λ map. give_parses (Not OpenParen) (record { name = name; schema = schema; words = words; term = map }))
+    (λ a ys v rest h after. rw h.0 after))) (anything _ _)) (anything _ _))) (anything _ _)
+
 body_parses : (version : Version) (n : ℕ) (c : Command) → Parses (IsBody version n c) (body_at version n c) AtEnd
 unfolding body_at define_at mapping_at view_at load_at assign_at update_at kernel_line_at reduce_at copy_at relayout_at bytes_at
 body_parses version n command.Record = then_parses Always name_parses (λ name. then_parses Always (fields_parses n) (λ fields. give_parses AtEnd (Define name (Record fields))) (anything _ _)) (anything _ _)
 body_parses version n command.Mapping = then_parses Always name_parses (λ name. behind_parses (exact_sign Equals)
     (then_parses (Not OpenParen) (map_parses version n) (λ map. give_parses AtEnd (Mapping name map)) (ended_after (Not OpenParen) (Mapping name) refl))) (anything _ _)
-body_parses version n command.View = then_parses Always name_parses (λ name. behind_parses (exact_sign Colon) (then_parses Always name_parses (λ schema. then_parses Always (bracket_list_parses fixed_parses) (λ words.
-    behind_parses (exact_word (codes "as")) (then_parses (Not OpenParen) (map_parses version n) (λ map. give_parses AtEnd (View name schema words map)) (ended_after (Not OpenParen) (View name schema words) refl))) (anything _ _)) (anything _ _))) (anything _ _)
-body_parses version n command.Load = then_parses Always name_parses (λ name. behind_parses (exact_sign Colon) (then_parses Always name_parses (λ schema. then_parses Always (bracket_list_parses extent_parses) (λ words.
-    behind_parses (exact_word (codes "as")) (then_parses (Not OpenParen) (map_parses version n) (λ map. behind_parses (exact_word (codes "from")) (then_parses Always string_parses (λ file. give_parses AtEnd (Load name schema words map file)) (anything _ _)))
-    (λ a ys v rest h after. behind_not OpenParen (Word (codes "from")) refl _ ys v rest h))) (anything _ _)) (anything _ _))) (anything _ _)
+body_parses version n command.View = then_parses (Not OpenParen) (new_parses version fixed_parses n) (λ new. give_parses AtEnd (View new)) (ended_after (Not OpenParen) View refl)
+body_parses version n command.Load = then_parses (Not OpenParen) (new_parses version extent_parses n)
+    (λ new. behind_parses (exact_word (codes "from")) (then_parses Always string_parses (λ file. give_parses AtEnd (Load new file)) (anything _ _)))
+    (λ a ys v rest h after. behind_not OpenParen (Word (codes "from")) refl _ ys v rest h)
 body_parses version n command.Set = then_parses Always name_parses (λ view. then_parses Always (bracket_list_parses count_parses) (λ index. behind_parses (exact_sign Dot) (then_parses (AfterLevel 6) path_parses
     (λ path. behind_parses (exact_sign Equals) (then_parses (AfterLevel 1) (expr_parses n) (λ value. give_parses AtEnd (Assign view index path value)) (ended_after (AfterLevel 1) (Assign view index path) (omega arith))))
     (λ a ys v rest h after. behind_after 6 (Signed Equals) (omega arith) _ ys v rest h))) (anything _ _)) (anything _ _)
@@ -141,11 +148,14 @@ assignment_wider n m le = joined_wider (same_wider _) (λ path. behind_wider _ (
 filter_wider : (n m : ℕ) → n ≤ m → Wider (IsFilter n) (IsFilter m)
 filter_wider n m le = either_wider (behind_wider _ (joined_wider (expr_wider n m le) (λ filter. same_wider _))) (same_wider _)
 
+new_wider : (version : Version) {IsWord : List Token → ExtentWord → Type 0} (n m : ℕ) → n ≤ m → Wider (IsNew version IsWord n) (IsNew version IsWord m)
+new_wider version n m le = joined_wider (same_wider _) (λ name. behind_wider _ (joined_wider (same_wider _) (λ schema. joined_wider (same_wider _) (λ words. behind_wider _ (joined_wider (map_wider version n m le) (λ map. same_wider _))))))
+
 body_wider : (version : Version) (n m : ℕ) → n ≤ m → (c : Command) → Wider (IsBody version n c) (IsBody version m c)
 body_wider version n m le command.Record = joined_wider (same_wider _) (λ name. joined_wider (fields_wider n m le) (λ fields. same_wider _))
 body_wider version n m le command.Mapping = joined_wider (same_wider _) (λ name. behind_wider _ (joined_wider (map_wider version n m le) (λ map. same_wider _)))
-body_wider version n m le command.View = joined_wider (same_wider _) (λ name. behind_wider _ (joined_wider (same_wider _) (λ schema. joined_wider (same_wider _) (λ words. behind_wider _ (joined_wider (map_wider version n m le) (λ map. same_wider _))))))
-body_wider version n m le command.Load = joined_wider (same_wider _) (λ name. behind_wider _ (joined_wider (same_wider _) (λ schema. joined_wider (same_wider _) (λ words. behind_wider _ (joined_wider (map_wider version n m le) (λ map. same_wider _))))))
+body_wider version n m le command.View = joined_wider (new_wider version n m le) (λ new. same_wider _)
+body_wider version n m le command.Load = joined_wider (new_wider version n m le) (λ new. same_wider _)
 body_wider version n m le command.Set = joined_wider (same_wider _) (λ view. joined_wider (same_wider _) (λ index. behind_wider _ (joined_wider (same_wider _) (λ path. behind_wider _ (joined_wider (expr_wider n m le) (λ value. same_wider _))))))
 body_wider version n m le command.Update = joined_wider (same_wider _) (λ view. joined_wider (filter_wider n m le) (λ filter. behind_wider _ (joined_wider (listed_wider (assignment_wider n m le)) (λ sets. same_wider _))))
 body_wider version n m le command.Kernel = same_wider _
@@ -170,14 +180,18 @@ filter_alike : (n m : ℕ) → n ≤ m → Alike n (filter_at n) (filter_at m)
 unfolding filter_at
 filter_alike n m le = either_alike n _ (behind_kept n _ (then_alike n (no_longer (expr_parses n)) (expr_alike n m le) (λ filter. same_alike n _))) (same_alike n (give_at None))
 
+new_alike : (version : Version) {IsWord : List Token → ExtentWord → Type 0} {read : List Token → Result (ExtentWord × List Token) ℕ} → Parses IsWord read Always → (n m : ℕ) → n ≤ m
+    → Alike n (new_at version read n) (new_at version read m)
+unfolding new_at
+new_alike version p n m le = then_alike n (no_longer name_parses) (same_alike n _) (λ name. behind_kept n _ (then_alike n (no_longer name_parses) (same_alike n _) (λ schema. then_alike n (no_longer (bracket_list_parses p)) (same_alike n _)
+    (λ words. behind_kept n _ (then_alike n (no_longer (map_parses version n)) (map_alike version n m le) (λ map. same_alike n _))))))
+
 body_alike : (version : Version) (n m : ℕ) → n ≤ m → (c : Command) → Alike n (body_at version n c) (body_at version m c)
 unfolding body_at define_at mapping_at view_at load_at assign_at update_at reduce_at relayout_at
 body_alike version n m le command.Record = then_alike n (no_longer name_parses) (same_alike n _) (λ name. then_alike n (no_longer (fields_parses n)) (fields_alike n m le) (λ fields. same_alike n _))
 body_alike version n m le command.Mapping = then_alike n (no_longer name_parses) (same_alike n _) (λ name. behind_kept n _ (then_alike n (no_longer (map_parses version n)) (map_alike version n m le) (λ map. same_alike n _)))
-body_alike version n m le command.View = then_alike n (no_longer name_parses) (same_alike n _) (λ name. behind_kept n _ (then_alike n (no_longer name_parses) (same_alike n _) (λ schema. then_alike n (no_longer (bracket_list_parses fixed_parses)) (same_alike n _)
-    (λ words. behind_kept n _ (then_alike n (no_longer (map_parses version n)) (map_alike version n m le) (λ map. same_alike n _))))))
-body_alike version n m le command.Load = then_alike n (no_longer name_parses) (same_alike n _) (λ name. behind_kept n _ (then_alike n (no_longer name_parses) (same_alike n _) (λ schema. then_alike n (no_longer (bracket_list_parses extent_parses)) (same_alike n _)
-    (λ words. behind_kept n _ (then_alike n (no_longer (map_parses version n)) (map_alike version n m le) (λ map. same_alike n _))))))
+body_alike version n m le command.View = then_alike n (no_longer (new_parses version fixed_parses n)) (new_alike version fixed_parses n m le) (λ new. same_alike n _)
+body_alike version n m le command.Load = then_alike n (no_longer (new_parses version extent_parses n)) (new_alike version extent_parses n m le) (λ new. same_alike n _)
 body_alike version n m le command.Set = then_alike n (no_longer name_parses) (same_alike n _) (λ view. then_alike n (no_longer (bracket_list_parses count_parses)) (same_alike n _) (λ index. behind_kept n _ (then_alike n (no_longer path_parses) (same_alike n _)
     (λ path. behind_kept n _ (then_alike n (no_longer (expr_parses n)) (expr_alike n m le) (λ value. same_alike n _))))))
 body_alike version n m le command.Update = then_alike n (no_longer name_parses) (same_alike n _) (λ view. then_alike n (no_longer (filter_parses n)) (filter_alike n m le)

@@ -22,7 +22,7 @@ use Rattle.line_phrases.specs.Maps.{map_at}
 use Rattle.line_phrases.specs.Paths.{path_at}
 use Rattle.schema_lang.specs.Kernels.{kernel_at}
 use Rattle.schema_lang.specs.Updates.{assignment_at, filter_at}
-use Rattle.schema_lang.specs.Bodies.{any_token, assign_at, body_at, bytes_at, command_at, copy_at, define_at, kernel_line_at, line_at, load_at, mapping_at, reduce_at, relayout_at, update_at, view_at}
+use Rattle.schema_lang.specs.Bodies.{any_token, assign_at, body_at, bytes_at, command_at, copy_at, define_at, kernel_line_at, line_at, load_at, mapping_at, new_at, reduce_at, relayout_at, update_at, view_at}
 use Rattle.schema_lang.specs.Parsing.{IsWhole}
 
 -- the record that a line defines has fields
@@ -78,10 +78,8 @@ body_whole : (version : Version) (n : ℕ) (word : Command) → Each (body_at ve
 unfolding body_at define_at mapping_at view_at load_at assign_at update_at kernel_line_at reduce_at copy_at relayout_at bytes_at
 body_whole version n command.Record = each_then (item_at name_of) (λ name. each_then (fields_at n) (λ fields. each_give (Define name (Record fields)) tt))
 body_whole version n command.Mapping = each_then (item_at name_of) (λ name. each_behind (is_sign Equals) (each_then (map_at version n) (λ map. each_give (Mapping name map) tt)))
-body_whole version n command.View = each_then (item_at name_of) (λ name. each_behind (is_sign Colon) (each_then (item_at name_of) (λ schema. each_then (bracket_list_at fixed_at) (λ words.
-    each_behind (is_word (codes "as")) (each_then (map_at version n) (λ map. each_give (View name schema words map) tt))))))
-body_whole version n command.Load = each_then (item_at name_of) (λ name. each_behind (is_sign Colon) (each_then (item_at name_of) (λ schema. each_then (bracket_list_at extent_at) (λ words.
-    each_behind (is_word (codes "as")) (each_then (map_at version n) (λ map. each_behind (is_word (codes "from")) (each_then (item_at string_of) (λ file. each_give (Load name schema words map file) tt))))))))
+body_whole version n command.View = each_then (new_at version fixed_at n) (λ new. each_give (View new) tt)
+body_whole version n command.Load = each_then (new_at version extent_at n) (λ new. each_behind (is_word (codes "from")) (each_then (item_at string_of) (λ file. each_give (Load new file) tt)))
 body_whole version n command.Set = each_then (item_at name_of) (λ view. each_then (bracket_list_at (item_at count_of)) (λ index. each_behind (is_sign Dot) (each_then path_at (λ path.
     each_behind (is_sign Equals) (each_then (expr_at n) (λ value. each_give (Assign view index path value) tt))))))
 body_whole version n command.Update = each_then (item_at name_of) (λ view. each_then (filter_at n) (λ filter. each_behind (is_word (codes "set")) (each_then (listed_at (assignment_at n)) (λ sets.

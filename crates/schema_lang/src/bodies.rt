@@ -1,16 +1,18 @@
 ghost use Rattle.std.specs.Prelude.{◌≡◌, IfErr};
 ghost use Rattle.line_grammar.specs.Sentences.{sentence_of};
 ghost use Rattle.line_phrases.specs.Gives.{Gives, IsSyntax};
-ghost use Rattle.schema_lang.specs.Bodies.{assign_at, body_at, bytes_at, command_at, copy_at, define_at, kernel_line_at, load_at, mapping_at, reduce_at, relayout_at, update_at, view_at};
+ghost use Rattle.line_phrases.specs.Lists.{bracket_list_at};
+ghost use Rattle.schema_lang.specs.Bodies.{assign_at, body_at, bytes_at, command_at, copy_at, define_at, kernel_line_at, load_at, mapping_at, new_at, new_of, reduce_at, relayout_at, update_at, view_at, word_at};
 
 use crate::kernels::read_kernel;
 use crate::updates::{read_filter, read_sets};
-use line_grammar::{Command, Count, FileName, Line, ReduceKind, Version};
+use line_grammar::{Command, Count, ExtentWords, FileName, Line, ReduceKind, Version};
 use line_phrases::{
     ReadError, Tokens, read_expr, read_extents, read_fields, read_fixed_extents, read_index,
     read_map, read_path,
 };
 use line_tokens::Sign;
+use map_expr::MapExpr;
 use record_dim::{Dim, Name};
 use std::alloc::Global;
 
@@ -86,6 +88,50 @@ fn read_mapping(
     Ok(Line::Mapping { name, expr })
 }
 
+// What makes a view.
+#[derive(Drop)]
+pub(crate) struct New {
+    pub(crate) name: Name,
+    pub(crate) schema: Name,
+    pub(crate) words: ExtentWords,
+    pub(crate) expr: MapExpr,
+}
+
+// What makes a view. `?` may stand among its extents where `is_loaded`.
+#[tactic(auto, unfolding(crate::specs::Bodies::new_at))]
+fn read_new(
+    alloc: Global,
+    version: Version,
+    room: usize,
+    is_loaded: bool,
+    tokens: &mut Tokens,
+) -> Result<New, ReadError>
+    ensures { Gives (λ x. (new_of x, tokens.new)) result (new_at version (word_at is_loaded) room tokens.old) }
+{
+    let name = tokens.item::<Name>()?;
+    tokens.sign(Sign::Colon)?;
+    let schema = tokens.item::<Name>()?;
+    let words = read_words(alloc, is_loaded, tokens)?;
+    tokens.word("as")?;
+    let expr = read_map(alloc, version, room, tokens)?;
+    Ok(New {
+        name,
+        schema,
+        words,
+        expr,
+    })
+}
+
+fn read_words(alloc: Global, is_loaded: bool, tokens: &mut Tokens) -> Result<ExtentWords, ReadError>
+    ensures { Gives (λ x. (x, tokens.new)) result (bracket_list_at (word_at is_loaded) tokens.old) }
+{
+    if is_loaded {
+        read_extents(alloc, tokens)
+    } else {
+        read_fixed_extents(alloc, tokens)
+    }
+}
+
 #[tactic(auto, unfolding(crate::specs::Bodies::view_at))]
 fn read_view(
     alloc: Global,
@@ -95,12 +141,12 @@ fn read_view(
 ) -> Result<Line, ReadError>
     ensures { Gives (λ x. (sentence_of x, tokens.new)) result (view_at version room tokens.old) }
 {
-    let name = tokens.item::<Name>()?;
-    tokens.sign(Sign::Colon)?;
-    let schema = tokens.item::<Name>()?;
-    let words = read_fixed_extents(alloc, tokens)?;
-    tokens.word("as")?;
-    let expr = read_map(alloc, version, room, tokens)?;
+    let New {
+        name,
+        schema,
+        words,
+        expr,
+    } = read_new(alloc, version, room, false, tokens)?;
     Ok(Line::View {
         name,
         schema,
@@ -118,12 +164,12 @@ fn read_load(
 ) -> Result<Line, ReadError>
     ensures { Gives (λ x. (sentence_of x, tokens.new)) result (load_at version room tokens.old) }
 {
-    let name = tokens.item::<Name>()?;
-    tokens.sign(Sign::Colon)?;
-    let schema = tokens.item::<Name>()?;
-    let words = read_extents(alloc, tokens)?;
-    tokens.word("as")?;
-    let expr = read_map(alloc, version, room, tokens)?;
+    let New {
+        name,
+        schema,
+        words,
+        expr,
+    } = read_new(alloc, version, room, true, tokens)?;
     tokens.word("from")?;
     let file = tokens.item::<FileName>()?;
     Ok(Line::Load {
