@@ -86,10 +86,6 @@ apart {test = test} exact value none token v e = elim (truth_cases (test token))
   | inr falls ↦ falls
 ]
 
--- nothing stands between
-pub nothing_after : {A B : Type 0} (f : A → B) (After : List Token → Type 0) (a : A) (ys : List Token) (v : B) (rest : List Token) → IsNothing (f a) ys v → After rest → After (ys ++ rest)
-nothing_after f After a ys v rest h after = rw h.0 after
-
 -- the sign does not stand next
 abbrev pub Not : Sign → List Token → Type 0
 Not sign rest = starts (is_sign sign) rest ≡ false
