@@ -1,6 +1,6 @@
 -- The tokens of phrases: the readers of one token, and which tokens may follow an expression.
 use Rattle.std.proofs.Common.{◌≡◌, ℕ, ◌<◌, Bool, true, false, if◌then◌else◌, inl, inr, List, [], ◌∷◌, ◌++◌, Option, Some, None, codes, bytes_eq, pos, refl, ap, sym, ◌∙◌, arith}
-use Rattle.phrases.specs.Phrases.{IsItem, Behind, IsNothing}
+use Rattle.phrases.specs.Phrases.{IsItem, Behind}
 use Rattle.phrases.specs.Reading.{starts, item_at}
 use Rattle.phrases.specs.ParsesLaws.{Always, Exact, Parses, item_parses, truth_cases}
 use Rattle.phrases.specs.MoreLaws.{behind_starts}
