@@ -1,3 +1,4 @@
 pub mod Values
 pub mod Wholes
 pub mod FieldValues
+pub mod Bytes

@@ -9,3 +9,4 @@ pub mod WritesLaws
 pub mod OnePieceLaws
 pub mod Words
 pub mod WordsLaws
+pub mod Scattered
