@@ -1,2 +1,2 @@
 pub mod Tails
-pub mod Fields
+pub mod Blocks

@@ -2,16 +2,15 @@
 use Rattle.std.proofs.Common.{◌≡◌, ℕ, zero, suc, ◌+◌, ◌*◌, ◌-◌, ◌/◌, ◌%◌, ◌^◌, ◌<◌, ◌≤◌, List, [], ◌++◌, length, get_or, take, drop, mod-eq_of_lt, refl, sym, ap, ◌∙◌, subst, ⊎_elim, arith}
 use Rattle.std.specs.Int.{bit_at, byte_at, bytes_low_first}
 use Rattle.std.proofs.lemmas.Bool.{cases_lt}
-use Rattle.std.proofs.lemmas.List.{append-nil, drop-take, get_or-drop, get_or-take, get_or_append_left, get_or-append_right, length-take, take_rest}
+use Rattle.std.proofs.lemmas.List.{append-nil, drop-take, get_or-drop, get_or-take, get_or_append_left, get_or-append_right, get_or_past, length-take, take_rest}
 use Rattle.std.proofs.lemmas.Nat.{pow-add}
-use Rattle.std.proofs.lemmas.Nat.Bits.{bit_at_cat_low, bit_at_cat_high}
+use Rattle.std.proofs.lemmas.Nat.Bits.{bit_at-lt, bit_at-zero, bit_at_above, bit_at_cat_low, bit_at_cat_high}
 use Rattle.std.proofs.Math.Nat.{pow-suc, div-one}
 use Rattle.byteorder.specs.Endian.{little_from}
 use Rattle.places.specs.Image.{number}
-use Rattle.places.specs.NumbersLaws.{number_same, number_bits}
-use Rattle.blobs.specs.Bits.{bit_of}
-use Rattle.blobs.specs.BytesLaws.{bit_of_byte, bit_of_part}
-use borrow.Rule.Slice.PartMut.{put_mid}
+use Rattle.places.specs.NumbersLaws.{number_same, number_bits, number_lt, bit_number}
+use Rattle.blobs.specs.Bits.{bit_of, AreBytes}
+use Rattle.blobs.specs.BytesLaws.{bit_of_byte, bit_of_part, IsPut}
 
 -- a bit of one byte and of the bytes behind it, given that the bytes behind have theirs
 byte_then : (xs : List ℕ) (i n k : ℕ) → get_or xs i 0 < 256
@@ -54,31 +53,25 @@ bytes_power (suc m) =
     let power : 2 ^ (8 * m + 8) ≡ 2 ^ (8 * m) * 2 ^ 8 = pow-add 2 (8 * m) 8 in
     pow-suc 256 m ∙ ap (λ (w : ℕ). w * 256) (bytes_power m) ∙ sym (ap (λ (w : ℕ). 2 ^ w) size ∙ power)
 
--- the number in the n bytes from byte `at` on
-module _ (bytes : List ℕ) (at n : ℕ) (fits : (j : ℕ) → get_or bytes j 0 < 256) where
-  abbrev tail : List ℕ
-  tail = take (length bytes - at) (drop at bytes)
+-- the number in the n bytes from byte `at` on is that of their bits
+pub little_number : (bytes : List ℕ) (at n : ℕ) → ((j : ℕ) → get_or bytes j 0 < 256) → little_from at n bytes ≡ number (λ k. bit_of bytes (8 * at + k)) (8 * n)
+little_number bytes at n fits =
+    let word : ℕ = little_from at n bytes in
+    let small : little_from at n bytes < 2 ^ (8 * n) = subst (λ (power : ℕ). little_from at n bytes < power) (bytes_power n) (little_small bytes at n fits) in
+    let whole : little_from at n bytes % 2 ^ (8 * n) ≡ little_from at n bytes = mod-eq_of_lt small in
+    sym whole ∙ sym (number_bits (little_from at n bytes) (8 * n))
+    ∙ number_same (λ k. (little_from at n bytes / 2 ^ k) % 2) (λ k. bit_of bytes (8 * at + k)) (8 * n)
+    (λ k h. bits_of_bytes bytes at n k fits h ∙ sym (bit_of_byte bytes (8 * at + k) (at + k / 8) (k % 8) (omega arith) (omega arith)))
 
-  tail_byte : (j : ℕ) → get_or tail j 0 ≡ get_or bytes (at + j) 0
-  tail_byte j = ap (λ (xs : List ℕ). get_or xs j 0) (take_rest bytes at) ∙ get_or-drop at bytes j 0
+-- a number that is read off m bytes is that of their bits
+pub whole_read : (bytes : List ℕ) (at m n word : ℕ) → n ≡ 8 * m → AreBytes bytes → word ≡ little_from at m bytes → word ≡ number (λ k. bit_of bytes (8 * at + k)) n
+whole_read bytes at m n word size fits is =
+    is ∙ little_number bytes at m fits ∙ ap (λ (w : ℕ). number (λ k. bit_of bytes (8 * at + k)) w) (sym size)
 
-  tail_small : (j : ℕ) → get_or tail j 0 < 256
-  tail_small j = omega (arith, tail_byte j, fits (at + j))
-
-  bits_read : (k : ℕ) → k < 8 * n → bit_at (little_from 0 n tail) k ≡ bit_of bytes (8 * at + k)
-  bits_read k h =
-      let index : 0 + k / 8 ≡ k / 8 = omega arith in
-      bits_of_bytes tail 0 n k tail_small h
-      ∙ ap (λ (w : ℕ). bit_at w (k % 8)) (ap (λ (j : ℕ). get_or tail j 0) index ∙ tail_byte (k / 8))
-      ∙ sym (bit_of_byte bytes (8 * at + k) (at + k / 8) (k % 8) (omega arith) (omega arith))
-
-  pub number_read : little_from 0 n (take (length bytes - at) (drop at bytes)) ≡ number (λ k. bit_of bytes (8 * at + k)) (8 * n)
-  number_read =
-      let word : ℕ = little_from 0 n tail in
-      let small : little_from 0 n tail < 2 ^ (8 * n) = subst (λ (power : ℕ). little_from 0 n tail < power) (bytes_power n) (little_small tail 0 n tail_small) in
-      let whole : little_from 0 n tail % 2 ^ (8 * n) ≡ little_from 0 n tail = mod-eq_of_lt small in
-      sym whole ∙ sym (number_bits (little_from 0 n tail) (8 * n))
-      ∙ number_same (λ k. (little_from 0 n tail / 2 ^ k) % 2) (λ k. bit_of bytes (8 * at + k)) (8 * n) bits_read
+-- a bit of it
+pub word_bit : (bytes : List ℕ) (at word k : ℕ) → AreBytes bytes → word ≡ little_from at 8 bytes → k < 64 → bit_at word k ≡ bit_of bytes (8 * at + k)
+word_bit bytes at word k fits is h =
+    ap (λ (w : ℕ). bit_at w k) is ∙ bits_of_bytes bytes at 8 k fits h ∙ sym (bit_of_byte bytes (8 * at + k) (at + k / 8) (k % 8) (omega arith) (omega arith))
 
 -- byte j of the bytes of a number
 byte_of : (i n j word : ℕ) → j < n → get_or (bytes_low_first i n word) j 0 ≡ byte_at (i + j) word
@@ -103,15 +96,7 @@ length-bytes i (suc n) word = let rest = length-bytes (suc i) n word in omega (a
 
 -- the bytes that a write of a number to n bytes gives
 abbrev pub put : List ℕ → ℕ → ℕ → ℕ → List ℕ
-put old at n word = take at old ++ (bytes_low_first 0 n word ++ drop n (drop at old))
-
-pub put_is : (old buf : List ℕ) (at n word : ℕ) → buf ≡ bytes_low_first 0 n word ++ drop n (take (at + n - at) (drop at old)) → put_mid at (at + n - at) old buf ≡ put old at n word
-put_is old buf at n word e =
-    let size : at + n - at ≡ n = omega arith in
-    let plain : n ≡ n + 0 = omega arith in
-    let none : drop n (take (at + n - at) (drop at old)) ≡ [] = ap (λ (w : ℕ). drop n (take w (drop at old))) (size ∙ plain) ∙ drop-take n 0 (drop at old) in
-    let whole : buf ≡ bytes_low_first 0 n word = e ∙ ap (λ (xs : List ℕ). bytes_low_first 0 n word ++ xs) none ∙ append-nil (bytes_low_first 0 n word) in
-    ap (λ (w : ℕ). put_mid at w old buf) size ∙ ap (λ (xs : List ℕ). take at old ++ (xs ++ drop n (drop at old))) whole
+put old at n word = take at old ++ (bytes_low_first 0 n word ++ drop (at + n) old)
 
 -- its bits: n bytes are the number's, and the others stand
 module _ (old : List ℕ) (at n word : ℕ) (within : at + n ≤ length old) where
@@ -121,11 +106,11 @@ module _ (old : List ℕ) (at n word : ℕ) (within : at + n ≤ length old) whe
   pub put_before : (k : ℕ) → k < 8 * at → bit_of (put old at n word) k ≡ bit_of old k
   put_before k h =
       ap (λ (w : ℕ). bit_at w (k % 8))
-      (get_or_append_left (take at old) (bytes_low_first 0 n word ++ drop n (drop at old)) 0 (k / 8) (omega (arith, front_long))
+      (get_or_append_left (take at old) (bytes_low_first 0 n word ++ drop (at + n) old) 0 (k / 8) (omega (arith, front_long))
       ∙ get_or-take at old (k / 8) 0 (omega arith))
 
-  behind_front : (index : ℕ) → at ≤ index → get_or (put old at n word) index 0 ≡ get_or (bytes_low_first 0 n word ++ drop n (drop at old)) (index - at) 0
-  behind_front index h = get_or-append_right (take at old) (bytes_low_first 0 n word ++ drop n (drop at old)) at index 0 front_long h
+  behind_front : (index : ℕ) → at ≤ index → get_or (put old at n word) index 0 ≡ get_or (bytes_low_first 0 n word ++ drop (at + n) old) (index - at) 0
+  behind_front index h = get_or-append_right (take at old) (bytes_low_first 0 n word ++ drop (at + n) old) at index 0 front_long h
 
   pub put_inside : (k : ℕ) → k < 8 * n → bit_of (put old at n word) (8 * at + k) ≡ bit_at word k
   put_inside k h =
@@ -136,18 +121,42 @@ module _ (old : List ℕ) (at n word : ℕ) (within : at + n ≤ length old) whe
       bit_of_byte (put old at n word) (8 * at + k) (at + k / 8) (k % 8) place (omega arith)
       ∙ ap (λ (w : ℕ). bit_at w (k % 8))
       (behind_front (at + k / 8) (omega arith)
-      ∙ ap (λ (w : ℕ). get_or (bytes_low_first 0 n word ++ drop n (drop at old)) w 0) back
-      ∙ get_or_append_left (bytes_low_first 0 n word) (drop n (drop at old)) 0 (k / 8) index
+      ∙ ap (λ (w : ℕ). get_or (bytes_low_first 0 n word ++ drop (at + n) old) w 0) back
+      ∙ get_or_append_left (bytes_low_first 0 n word) (drop (at + n) old) 0 (k / 8) index
       ∙ byte_of 0 n (k / 8) word (omega arith))
       ∙ bit_of_byte_at word (0 + k / 8) (k % 8) (omega arith)
       ∙ ap (bit_at word) whole
 
   pub put_after : (k : ℕ) → 8 * at + 8 * n ≤ k → bit_of (put old at n word) k ≡ bit_of old k
   put_after k h =
-      let rest : at + (n + (k / 8 - at - n)) ≡ k / 8 = omega arith in
+      let rest : at + n + (k / 8 - at - n) ≡ k / 8 = omega arith in
       ap (λ (w : ℕ). bit_at w (k % 8))
       (behind_front (k / 8) (omega arith)
-      ∙ get_or-append_right (bytes_low_first 0 n word) (drop n (drop at old)) n (k / 8 - at) 0 (length-bytes 0 n word) (omega arith)
-      ∙ get_or-drop n (drop at old) (k / 8 - at - n) 0
-      ∙ get_or-drop at old (n + (k / 8 - at - n)) 0
+      ∙ get_or-append_right (bytes_low_first 0 n word) (drop (at + n) old) n (k / 8 - at) 0 (length-bytes 0 n word) (omega arith)
+      ∙ get_or-drop (at + n) old (k / 8 - at - n) 0
       ∙ ap (λ (w : ℕ). get_or old w 0) rest)
+
+-- a number that is written to m bytes
+pub whole_put : (old new : List ℕ) (at m n word : ℕ) → n ≡ 8 * m → at + m ≤ length old → new ≡ put old at m word → IsPut old new (8 * at) n word
+whole_put old new at m n word size within is =
+    subst (λ (bytes : List ℕ). IsPut old bytes (8 * at) n word) (sym is) (record {
+      inside = λ k h. put_inside old at m word within k (omega arith);
+      before = λ k h. put_before old at m word within k h;
+      after = λ k h. put_after old at m word within k (omega arith);
+    })
+
+-- a bit past the end is 0
+pub past_end : (bytes : List ℕ) (k : ℕ) → 8 * length bytes ≤ k → bit_of bytes k ≡ 0
+past_end bytes k h =
+    let beyond : length bytes ≤ k / 8 = omega arith in
+    ap (λ (w : ℕ). bit_at w (k % 8)) (get_or_past bytes (k / 8) 0 beyond) ∙ bit_at-zero (k % 8)
+
+-- fewer than eight bytes before the end, as a number
+pub last_bit : (bytes : List ℕ) (at n word k : ℕ) → 8 * at + n ≡ 8 * length bytes → word ≡ number (λ k. bit_of bytes (8 * at + k)) n → bit_at word k ≡ bit_of bytes (8 * at + k)
+last_bit bytes at n word k end is =
+    let binary : (j : ℕ) → j < n → bit_of bytes (8 * at + j) < 2 = λ j h. bit_at-lt (get_or bytes ((8 * at + j) / 8) 0) ((8 * at + j) % 8) in
+    let small : number (λ k. bit_of bytes (8 * at + k)) n < 2 ^ n = number_lt (λ k. bit_of bytes (8 * at + k)) n binary in
+    ap (λ (w : ℕ). bit_at w k) is
+    ∙ ⊎_elim (λ (l : k < n). bit_number (λ k. bit_of bytes (8 * at + k)) n k binary l)
+    (λ (l : n ≤ k). bit_at_above (number (λ k. bit_of bytes (8 * at + k)) n) n k small l ∙ sym (past_end bytes (8 * at + k) (omega arith)))
+    (cases_lt k n)

@@ -2,8 +2,10 @@
 #![tactic(auto)]
 
 mod blob;
+mod raw;
 mod whole;
 mod word;
 
 pub use blob::Blob;
+pub use raw::Raw;
 pub use word::{bits_in_word, with_bits};

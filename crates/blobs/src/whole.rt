@@ -3,33 +3,7 @@ ghost use Rattle.std.specs.Int.{bit_at};
 ghost use Rattle.places.specs.Image.{number};
 ghost use Rattle.blobs.specs.Bits.{bit_of, IsWhole};
 
-use byteorder::{ByteOrder, LittleEndian};
-
-/// The `n` bytes from byte `at` on as a number, the least significant first.
-#[inline(always)]
-pub fn read_bytes(bytes: &[u8], at: usize, n: usize) -> u64
-    requires some { 0 < n }
-    requires few { n ≤ 8 }
-    requires within { at + n ≤ length bytes.now }
-    ensures { result ≡ number (λ k. bit_of bytes.now (8 * at + k)) (8 * n) }
-{
-    LittleEndian::read_uint(&bytes[at..], n)
-}
-
-/// Makes the `n` bytes from byte `at` on those of `value`, the least significant first. All others stay.
-#[inline(always)]
-pub fn write_bytes(bytes: &mut [u8], at: usize, n: usize, value: u64)
-    requires some { 0 < n }
-    requires few { n ≤ 8 }
-    requires within { at + n ≤ length bytes.old }
-    requires fits { value < 2 ^ (8 * n) }
-    ensures inside { (k : ℕ) → k < 8 * n → bit_of bytes.new (8 * at + k) ≡ bit_at value k }
-    ensures before { (k : ℕ) → k < 8 * at → bit_of bytes.new k ≡ bit_of bytes.old k }
-    ensures after { (k : ℕ) → 8 * at + 8 * n ≤ k → bit_of bytes.new k ≡ bit_of bytes.old k }
-    ensures len { length bytes.new ≡ length bytes.old }
-{
-    LittleEndian::write_uint(&mut bytes[at..at + n], value, n);
-}
+use crate::raw::Raw;
 
 /// Whether bits are one, two, four or eight bytes.
 #[inline(always)]
@@ -43,44 +17,44 @@ pub fn is_whole(n: u32) -> bool
 
 /// The `n` bits from byte `first` on, which are whole bytes. Few comparisons lead to a load of that size: a table of jumps takes longer.
 #[inline(always)]
-pub fn read_whole(bytes: &[u8], first: usize, n: u32) -> u64
+pub fn read_whole(raw: &Raw, first: usize, n: u32) -> u64
     requires whole { IsWhole n }
-    requires within { 8 * first + n ≤ 8 * length bytes.now }
-    ensures { result ≡ number (λ k. bit_of bytes.now (8 * first + k)) n }
+    requires within { 8 * first + n ≤ 8 * length raw.now }
+    ensures { result ≡ number (λ k. bit_of raw.now (8 * first + k)) n }
 {
     if n <= 16 {
         if n <= 8 {
-            read_bytes(bytes, first, 1)
+            u64::from(raw.get(first))
         } else {
-            read_bytes(bytes, first, 2)
+            u64::from(raw.two(first))
         }
     } else if n <= 32 {
-        read_bytes(bytes, first, 4)
+        u64::from(raw.four(first))
     } else {
-        read_bytes(bytes, first, 8)
+        raw.word(first)
     }
 }
 
 /// Makes the `n` bits from byte `first` on, which are whole bytes, those of `value`. All other bits stay.
 #[inline(always)]
-pub fn write_whole(bytes: &mut [u8], first: usize, n: u32, value: u64)
+pub fn write_whole(raw: &mut Raw, first: usize, n: u32, value: u64)
     requires whole { IsWhole n }
-    requires within { 8 * first + n ≤ 8 * length bytes.old }
+    requires within { 8 * first + n ≤ 8 * length raw.old }
     requires fits { value < 2 ^ n }
-    ensures inside { (k : ℕ) → k < n → bit_of bytes.new (8 * first + k) ≡ bit_at value k }
-    ensures before { (k : ℕ) → k < 8 * first → bit_of bytes.new k ≡ bit_of bytes.old k }
-    ensures after { (k : ℕ) → 8 * first + n ≤ k → bit_of bytes.new k ≡ bit_of bytes.old k }
-    ensures len { length bytes.new ≡ length bytes.old }
+    ensures inside { (k : ℕ) → k < n → bit_of raw.new (8 * first + k) ≡ bit_at value k }
+    ensures before { (k : ℕ) → k < 8 * first → bit_of raw.new k ≡ bit_of raw.old k }
+    ensures after { (k : ℕ) → 8 * first + n ≤ k → bit_of raw.new k ≡ bit_of raw.old k }
+    ensures len { length raw.new ≡ length raw.old }
 {
     if n <= 16 {
         if n <= 8 {
-            write_bytes(bytes, first, 1, value);
+            raw.put(first, value as u8);
         } else {
-            write_bytes(bytes, first, 2, value);
+            raw.put_two(first, value as u16);
         }
     } else if n <= 32 {
-        write_bytes(bytes, first, 4, value);
+        raw.put_four(first, value as u32);
     } else {
-        write_bytes(bytes, first, 8, value);
+        raw.put_word(first, value);
     }
 }

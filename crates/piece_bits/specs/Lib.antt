@@ -7,3 +7,4 @@ pub mod SpotsOfLaws
 pub mod TableLaws
 pub mod WritesLaws
 pub mod OnePieceLaws
+pub mod Words

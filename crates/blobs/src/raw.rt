@@ -1,0 +1,182 @@
+// The bytes of a blob as one allocation of raw memory. What holds the pointer stands here alone.
+ghost use Rattle.std.specs.Prelude.{◌≡◌, ◌+◌, ◌<◌, ◌≤◌, ◌++◌, IfOk, length, replicate, slice_index, slice_set, take, drop};
+ghost use Rattle.std.specs.Int.{bytes_low_first};
+ghost use Rattle.byteorder.specs.Endian.{little_from};
+ghost use Rattle.blobs.specs.Bits.{AreBytes};
+
+use byteorder::{ByteOrder, LittleEndian};
+use core::slots::{Lease, Slots, release, reserve};
+use std::alloc::{AllocError as NoMemory, Global};
+use std::marker::Model;
+
+/// Raw memory, each byte of which is written. Contracts see it as the list of its bytes.
+pub struct Raw {
+    places: Slots<u8>,
+    lease: Lease<u8, Global>,
+    alloc: Global,
+}
+
+impl Model for Raw {
+    ghost use Rattle.std.specs.Prelude.{◌≡◌, List, ℕ};
+    ghost use Rattle.core.specs.Mem.Slots.{slots_items, slots_ptr, slots_len, IsFull, lease_ptr, lease_len, lease_heap};
+    ghost use Rattle.blobs.specs.Bits.{AreBytes};
+
+    ghost Value = { List ℕ };
+
+    ghost view = { λ b. slots_items b.places };
+
+    ghost invariant = { λ b. IsFull b.places × (lease_ptr b.lease ≡ slots_ptr b.places) × (lease_len b.lease ≡ slots_len b.places)
+        × (lease_heap b.lease ≡ b.alloc) × AreBytes (slots_items b.places) };
+}
+
+impl Drop for Raw {
+    fn drop(self) {
+        let Raw {
+            places,
+            lease,
+            alloc,
+        } = self;
+        release(&alloc, places, lease);
+    }
+}
+
+impl Raw {
+    /// `len` bytes that are 0.
+    pub fn zeroed(alloc: Global, len: usize) -> Result<Raw, NoMemory>
+        ensures { IfOk result (λ b. b ≡ replicate len 0) }
+    {
+        // The length of the memory is taken from a slice.
+        let zeros = vec![in alloc; 0u8; len]?;
+        let (mut places, lease) = unsafe { reserve(&alloc, zeros.as_slice())? };
+        places.copy_in(0, zeros.as_slice());
+        Ok(Raw {
+            places,
+            lease,
+            alloc,
+        })
+    }
+
+    /// The number of bytes.
+    #[inline(always)]
+    pub fn len(&self) -> usize
+        ensures { result ≡ length self.now }
+    {
+        self.places.len()
+    }
+
+    /// The byte at `at`.
+    #[inline(always)]
+    pub fn get(&self, at: usize) -> u8
+        requires { at < length self.now }
+        ensures { result ≡ slice_index self.now at }
+    {
+        *self.places.get(at)
+    }
+
+    /// Makes the byte at `at` this one.
+    #[inline(always)]
+    pub fn put(&mut self, at: usize, byte: u8)
+        requires { at < length self.old }
+        ensures { self.new ≡ slice_set self.old at byte }
+    {
+        self.places.put(at, byte);
+    }
+
+    /// The two bytes from `at` on as a number, the least significant first. A copy into an array is one load.
+    #[inline(always)]
+    pub fn two(&self, at: usize) -> u16
+        requires { at + 2 ≤ length self.now }
+        ensures word { result ≡ little_from at 2 self.now }
+        ensures bytes { AreBytes self.now }
+    {
+        let places = &self.places;
+        LittleEndian::read_u16(&[*places.get(at), *places.get(at + 1)])
+    }
+
+    /// The four bytes from `at` on.
+    #[inline(always)]
+    pub fn four(&self, at: usize) -> u32
+        requires { at + 4 ≤ length self.now }
+        ensures word { result ≡ little_from at 4 self.now }
+        ensures bytes { AreBytes self.now }
+    {
+        let places = &self.places;
+        LittleEndian::read_u32(&[
+            *places.get(at),
+            *places.get(at + 1),
+            *places.get(at + 2),
+            *places.get(at + 3),
+        ])
+    }
+
+    /// The eight bytes from `at` on.
+    #[inline(always)]
+    pub fn word(&self, at: usize) -> u64
+        requires { at + 8 ≤ length self.now }
+        ensures word { result ≡ little_from at 8 self.now }
+        ensures bytes { AreBytes self.now }
+    {
+        let places = &self.places;
+        LittleEndian::read_u64(&[
+            *places.get(at),
+            *places.get(at + 1),
+            *places.get(at + 2),
+            *places.get(at + 3),
+            *places.get(at + 4),
+            *places.get(at + 5),
+            *places.get(at + 6),
+            *places.get(at + 7),
+        ])
+    }
+
+    /// Makes the bytes from `at` on these. A copy out of an array is one store.
+    #[inline(always)]
+    pub fn copy_in(&mut self, at: usize, bytes: &[u8])
+        requires { at + length bytes.now ≤ length self.old }
+        ensures { self.new ≡ take at self.old ++ (bytes.now ++ drop (at + length bytes.now) self.old) }
+    {
+        self.places.copy_in(at, bytes);
+    }
+
+    /// Makes the two bytes from `at` on those of a number, the least significant first.
+    #[inline(always)]
+    pub fn put_two(&mut self, at: usize, value: u16)
+        requires { at + 2 ≤ length self.old }
+        ensures { self.new ≡ take at self.old ++ (bytes_low_first 0 2 value ++ drop (at + 2) self.old) }
+    {
+        self.copy_in(at, &value.to_le_bytes());
+    }
+
+    /// Makes the four bytes from `at` on those of a number.
+    #[inline(always)]
+    pub fn put_four(&mut self, at: usize, value: u32)
+        requires { at + 4 ≤ length self.old }
+        ensures { self.new ≡ take at self.old ++ (bytes_low_first 0 4 value ++ drop (at + 4) self.old) }
+    {
+        self.copy_in(at, &value.to_le_bytes());
+    }
+
+    /// Makes the eight bytes from `at` on those of a number.
+    #[inline(always)]
+    pub fn put_word(&mut self, at: usize, value: u64)
+        requires { at + 8 ≤ length self.old }
+        ensures { self.new ≡ take at self.old ++ (bytes_low_first 0 8 value ++ drop (at + 8) self.old) }
+    {
+        self.copy_in(at, &value.to_le_bytes());
+    }
+    /// Makes the `len` bytes from `at` on those of other memory from `from` on. They go by an array, which is one copy into it and one out.
+    #[inline(always)]
+    pub fn move_block(&mut self, at: usize, source: &Raw, from: usize, len: usize)
+        requires few { len ≤ 64 }
+        requires room { at + len ≤ length self.old }
+        requires there { from + len ≤ length source.now }
+        ensures { self.new ≡ take at self.old ++ (take len (drop from source.now) ++ drop (at + len) self.old) }
+    {
+        let places = &source.places;
+        let mut block = [0u8; 64];
+        for k in 0..len {
+            block[k] = *places.get(from + k);
+        }
+        self.copy_in(at, &block[..len]);
+    }
+}
