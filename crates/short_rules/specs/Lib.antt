@@ -1,0 +1,6 @@
+pub mod Walks
+pub mod Paths
+pub mod Joins
+pub mod Shorts
+pub mod Stands
+pub mod Alongs
