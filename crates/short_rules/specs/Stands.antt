@@ -5,7 +5,7 @@ use Rattle.piece_rules.specs.declared.rule.PieceRule.{PieceRule}
 use Rattle.piece_bits.specs.declared.field.Field.{Field}
 use Rattle.piece_bits.specs.declared.word.Word.{Word}
 use Rattle.piece_bits.specs.declared.word.Word.TheVariants as stored
-use Rattle.short_rules.specs.Shorts.{place_by, Stands, IsHeldBy}
+use Rattle.short_rules.specs.Shorts.{Stands, IsHeldBy}
 use Rattle.short_rules.specs.declared.stand.Stand.{Stand}
 
 -- a word is whole bytes of this sign and width

@@ -49,12 +49,7 @@ impl ShortRule {
     }
 }
 
-fn shortened(
-    order: Order,
-    extents: &Extents,
-    pieces: &[PieceRule],
-    hold: Hold,
-) -> Option<ShortRule>
+fn shortened(order: Order, extents: &Extents, pieces: &[PieceRule], hold: Hold) -> Option<ShortRule>
     ensures { IfSome result (IsShortOf order extents.now pieces.now hold) }
 {
     if hold.width == 0 || hold.width > 64 {

@@ -37,8 +37,7 @@ pub fn stand_of(pieces: &[PieceRule], hold: Hold) -> Option<Stand>
 
 /// Of one piece: whole bytes, or a field of bits.
 fn alone(one: PieceRule, hold: Hold) -> Option<Stand>
-    ensures stand { IfSome result (IsStandFor (one ∷ []) hold) }
-    ensures together { IfSome result (λ stand. stand.word ≢ Scattered) }
+    ensures { IfSome result (λ stand. IsStandFor (one ∷ []) hold stand × (stand.word ≢ Scattered)) }
 {
     if one.bits != hold.width {
         return None;
@@ -52,8 +51,7 @@ fn alone(one: PieceRule, hold: Hold) -> Option<Stand>
 /// Of whole bytes in their order.
 fn whole(one: PieceRule, hold: Hold) -> Option<Stand>
     requires { one.bits ≡ hold.width }
-    ensures stand { IfSome result (IsStandFor (one ∷ []) hold) }
-    ensures together { IfSome result (λ stand. stand.word ≢ Scattered) }
+    ensures { IfSome result (λ stand. IsStandFor (one ∷ []) hold stand × (stand.word ≢ Scattered)) }
 {
     in_bytes(one, whole_word(hold)?)
 }

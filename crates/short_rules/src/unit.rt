@@ -20,8 +20,7 @@ fn power_of(lanes: u64) -> Option<u32>
 
 /// A field where a rule of at most 57 bits says.
 pub fn in_bits(piece: PieceRule) -> Option<Stand>
-    ensures stand { IfSome result (IsInBits piece) }
-    ensures narrow { IfSome result (λ _. piece.bits ≤ 57) }
+    ensures { IfSome result (λ stand. IsInBits piece stand × (piece.bits ≤ 57)) }
 {
     if piece.bits > MAX_FIELD {
         return None;

@@ -1,4 +1,4 @@
-use Rattle.std.proofs.Common.{◌≡◌, ℕ, ◌*◌, ◌^◌, arith}
+use Rattle.std.proofs.Common.{arith}
 use Rattle.short_rules.proofs.Places.{masked_slot}
 use Rattle.short_rules.proofs.short.ShortRule.lane_start.Goals as goal
 
