@@ -1,4 +1,5 @@
 pub mod Bits
+pub mod Turned
 pub mod Held
 pub mod BytesLaws
 pub mod WordsLaws

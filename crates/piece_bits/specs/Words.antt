@@ -3,7 +3,7 @@ use Rattle.std.specs.Prelude.{ℕ, zero, suc, ◌≡◌, ◌+◌, ◌-◌, ◌*�
 use Rattle.places.specs.declared.piece.Piece.{Piece}
 use Rattle.piece_bits.specs.declared.field.Field.{Field}
 use Rattle.piece_bits.specs.declared.word.Word.{Word}
-use Rattle.piece_bits.specs.declared.word.Word.TheVariants.{U8, U16, U32, U64, I8, I16, I32, I64, TurnedU16, TurnedU32, TurnedU64, TurnedI16, TurnedI32, TurnedI64, Field as FieldWord, Scattered}
+use Rattle.piece_bits.specs.declared.word.Word.TheVariants.{U8, U16, U32, I8, I16, I32, I64, TurnedU16, TurnedU32, TurnedU64, TurnedI16, TurnedI32, TurnedI64, Field as FieldWord, Scattered}
 
 -- half of the range, where there is a sign
 abbrev pub half_range : Bool → ℕ → ℕ

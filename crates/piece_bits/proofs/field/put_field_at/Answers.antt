@@ -1,15 +1,12 @@
-use Rattle.std.proofs.Common.{◌≡◌, ℕ, ℤ, ◌+◌, ◌*◌, ◌/◌, ◌%◌, ◌^◌, ◌<◌, ◌≤◌, length, sym, ap, ◌∙◌, subst, arith, rules, SFits, ⊎_elim}
+use Rattle.std.proofs.Common.{◌≡◌, ℕ, ℤ, ◌+◌, ◌/◌, ◌%◌, ◌^◌, ◌<◌, ◌≤◌, sym, ap, ◌∙◌, subst, arith, rules, SFits}
 use Rattle.std.specs.Int.{w128, bit_at}
 use Rattle.std.proofs.lemmas.Int.{to_z-of_z}
-use Rattle.std.proofs.lemmas.Bool.{cases_lt}
 use Rattle.places.specs.Image.{number, digit}
 use Rattle.places.specs.NumbersLaws.{number_lt, digit_lt}
-use Rattle.blobs.specs.Bits.{bit_of}
 use Rattle.blobs.specs.BytesLaws.{IsPut, byte_and_bit}
-use Rattle.blobs.specs.FieldsLaws.{field_put}
+use Rattle.blobs.specs.FieldsLaws.{field_put, window_written}
 use Rattle.piece_bits.proofs.field.put_field_at.Goals as goal
 use Rattle.piece_bits.proofs.field.put_field_at.Goals.{After-encode-code, After-put_window}
-use Rattle.piece_bits.proofs.FieldValues.{window_written}
 
 code : (c : goal.After-encode-code) → c.encode-code.result ≡ number (digit c.args.value) c.args.field.now.width
 code c =

@@ -1,5 +1,5 @@
-use Rattle.std.proofs.Common.{◌≡◌, ◌+◌, ◌-◌, ◌*◌, length, arith}
-use Rattle.blobs.proofs.Tails.{last_bit}
+use Rattle.std.proofs.Common.{◌-◌, ◌*◌, arith}
+use Rattle.blobs.proofs.Numbers.{last_bit}
 use Rattle.blobs.proofs.blob.Blob.last_window.Goals as goal
 
 pub returns : goal.returns

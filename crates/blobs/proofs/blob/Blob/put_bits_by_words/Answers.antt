@@ -1,7 +1,8 @@
 use Rattle.std.proofs.Common.{◌≡◌, ◌+◌, ◌*◌, ◌/◌, ◌%◌, ◌≤◌, length, arith}
 use Rattle.blobs.specs.BytesLaws.{IsPut, byte_and_bit}
 use Rattle.blobs.specs.FieldsLaws.{field_put}
-use Rattle.blobs.proofs.Tails.{word_bit, whole_put}
+use Rattle.blobs.proofs.Numbers.{word_bit}
+use Rattle.blobs.proofs.Splices.{whole_put}
 use Rattle.blobs.proofs.blob.Blob.put_bits_by_words.Goals as goal
 
 written : (c : goal.After-put_word) → IsPut c.args.self.now c.put_word.new.self c.args.at c.args.n c.args.value
@@ -10,7 +11,7 @@ written c =
     let room : c.args.at / 8 + 8 ≤ length c.args.self.now = omega arith in
     let word = whole_put c.args.self.now c.put_word.new.self (c.args.at / 8) 8 64 c.with_bits-word.result size room c.put_word.ensures in
     field_put c.args.self.now c.put_word.new.self c.args.at (c.args.at / 8) (c.args.at % 8) c.args.n c.args.value c.word.result c.with_bits-word.result
-    (byte_and_bit c.args.at) c.if-low-n-le64.true
+    (byte_and_bit c.args.at) c.if-low-n-gt64.false
     (λ k h. word_bit c.args.self.now (c.args.at / 8) c.word.result k c.word.ensures.bytes c.word.ensures.word h)
     c.with_bits-word.ensures.inside c.with_bits-word.ensures.before c.with_bits-word.ensures.after word.inside word.before word.after
 

@@ -1,6 +1,6 @@
-use Rattle.std.proofs.Common.{◌≡◌, ◌+◌, ◌*◌, ◌≤◌, length, arith}
+use Rattle.std.proofs.Common.{◌*◌, arith}
 use Rattle.blobs.specs.BytesLaws.{IsPut}
-use Rattle.blobs.proofs.Tails.{whole_put}
+use Rattle.blobs.proofs.Splices.{whole_put}
 use Rattle.blobs.proofs.blob.Blob.put_window.Goals as goal
 
 written : (c : goal.After-put_word) → IsPut c.args.self.now c.put_word.new.self (8 * c.args.at) 64 c.args.value

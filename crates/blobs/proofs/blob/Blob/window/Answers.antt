@@ -1,4 +1,4 @@
-use Rattle.blobs.proofs.Tails.{word_bit}
+use Rattle.blobs.proofs.Numbers.{word_bit}
 use Rattle.blobs.proofs.blob.Blob.window.Goals as goal
 
 pub returns-then-len-at-ge8 : goal.returns-then-len-at-ge8

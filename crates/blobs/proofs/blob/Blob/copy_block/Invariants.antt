@@ -1,6 +1,6 @@
 -- the bytes so far are copied
 use Rattle.std.proofs.Common.{◌≡◌, ℕ, ◌+◌, ◌<◌, length, get_or}
-use Rattle.blobs.proofs.raw.Raw.move_block.Given as goal
+use Rattle.blobs.proofs.blob.Blob.copy_block.Given as goal
 
 abbrev pub invariant-loop-k : goal.invariant-loop-k
 invariant-loop-k l = record {

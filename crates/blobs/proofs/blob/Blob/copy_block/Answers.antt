@@ -1,7 +1,7 @@
-use Rattle.std.proofs.Common.{◌≡◌, ℕ, ◌+◌, ◌<◌, ◌≤◌, ◌++◌, List, length, take, drop, ap, ◌∙◌, arith}
+use Rattle.std.proofs.Common.{◌≡◌, ℕ, ◌+◌, ◌++◌, List, length, take, drop, ap, ◌∙◌, arith}
 use Rattle.std.proofs.lemmas.List.{length-take, length-drop}
 use Rattle.blobs.proofs.Blocks.{copied}
-use Rattle.blobs.proofs.raw.Raw.move_block.Goals as goal
+use Rattle.blobs.proofs.blob.Blob.copy_block.Goals as goal
 
 pub returns : goal.returns
 returns c =
