@@ -1,5 +1,5 @@
 -- What accesses to leaves go by.
-use Rattle.std.specs.Prelude.{ℕ, ◌≡◌, ◌<◌, ℤ, ◌≤ℤ◌, true, false, List, length, map, slice_index, slice_index_or}
+use Rattle.std.specs.Prelude.{ℕ, ◌≡◌, ℤ, ◌≤ℤ◌, true, false, List, length, map, slice_index, slice_index_or}
 use Rattle.record_dim.specs.LeafTypes.{is_signed, IsIn, IsDeclared}
 use Rattle.record_dim.specs.declared.leaf_type.LeafType.{LeafType}
 use Rattle.record_dim.specs.declared.leaf_type.LeafType.TheVariants.{Bool as Truth}

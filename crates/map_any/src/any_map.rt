@@ -146,6 +146,18 @@ impl AnyMap {
     }
 }
 
+// Every field of a mapping stands here: it has a rule for each leaf, and no tree of mappings.
+fn every_field(map: &AnyMap) {
+    let AnyMap {
+        schema: _,
+        extents: _,
+        expr: _,
+        holds: _,
+        lengths: _,
+        rules: _,
+    } = map;
+}
+
 /// Whether an expression counts accesses, by leaf or by granule.
 fn is_counted(expr: &MapExpr) -> bool
     ensures { result ≡ is_counted (term_of expr.now) }

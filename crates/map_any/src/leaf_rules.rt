@@ -1,9 +1,10 @@
 ghost use Rattle.std.specs.Prelude.{ℤ, ◌≡◌, ◌≤ℤ◌, true, false, IfOk, length};
-ghost use Rattle.record_dim.specs.LeafTypes.{IsIn, IsDeclared};
+ghost use Rattle.record_dim.specs.LeafTypes.{is_signed, IsIn, IsDeclared};
 ghost use Rattle.record_dim.specs.Schemas.{schema_fields};
 ghost use Rattle.record_dim.specs.Leaves.{kinds_of};
 ghost use Rattle.map_any.specs.LeafRules.{IsSameRule, IsLeafRule, AreLeafRules};
 ghost use Rattle.map_any.specs.Ruled.{EachWith};
+ghost use Rattle.short_rules.specs.Shorts.{IsShortOf};
 ghost use Rattle.short_rules.specs.Walks.{leads};
 
 use crate::leaf_rule::{LeafRule, RuleList};
@@ -40,22 +41,15 @@ pub fn leaf_rules(
 }
 
 /// What the accesses to a leaf go by, given its type, how it is stored and where.
-fn leaf_rule(
-    kind: LeafType,
-    extents: &Extents,
-    hold: Hold,
-    rule: &Rule,
-    counted: bool,
-) -> LeafRule
+fn leaf_rule(kind: LeafType, extents: &Extents, hold: Hold, rule: &Rule, counted: bool) -> LeafRule
     ensures rule { IsSameRule rule.now result.rule }
     ensures whole { IsLeafRule kind extents.now hold result }
     ensures uncounted { counted ≡ true → leads result.short.walk ≡ false }
 {
-    // Another sign than the type's goes by the whole rule.
-    let short = if counted || hold.signed != kind.signed() {
+    let short = if counted {
         ShortRule::none()
     } else {
-        ShortRule::of(rule.order, extents, rule.pieces.as_slice(), hold)
+        short_rule(kind, extents, hold, rule)
     };
     let (least, greatest) = taken_range(kind, hold);
     LeafRule {
@@ -63,6 +57,18 @@ fn leaf_rule(
         short,
         least,
         greatest,
+    }
+}
+
+/// The short form of a rule, where it has one and the leaf is stored in the sign of its type.
+fn short_rule(kind: LeafType, extents: &Extents, hold: Hold, rule: &Rule) -> ShortRule
+    ensures form { leads result.walk ≡ true → IsShortOf rule.now.order extents.now rule.now.pieces.items hold result }
+    ensures sign { leads result.walk ≡ true → hold.signed ≡ is_signed kind }
+{
+    if hold.signed == kind.signed() {
+        ShortRule::of(rule.order, extents, rule.pieces.as_slice(), hold)
+    } else {
+        ShortRule::none()
     }
 }
 

@@ -33,6 +33,3 @@ pub use map_expr::{BadMapping, MapExpr};
 pub use plan::{HoldList, LengthList};
 pub use rule::Rule;
 pub use short_rules::{Field, ShortRule, Walk, Word};
-
-#[cfg(test)]
-mod tests;
