@@ -8,3 +8,4 @@ pub mod TableLaws
 pub mod WritesLaws
 pub mod OnePieceLaws
 pub mod Words
+pub mod WordsLaws

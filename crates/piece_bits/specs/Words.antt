@@ -1,6 +1,7 @@
 -- What stands at a place: whole bytes, the same in reverse order, a field of bits, or bytes each by itself.
 use Rattle.std.specs.Prelude.{ℕ, zero, suc, ◌≡◌, ◌+◌, ◌-◌, ◌*◌, ◌^◌, ◌≤◌, Bool, true, false, List, [], ◌∷◌}
 use Rattle.places.specs.declared.piece.Piece.{Piece}
+use Rattle.blobs.specs.Turned.{turned_place}
 use Rattle.piece_bits.specs.declared.field.Field.{Field}
 use Rattle.piece_bits.specs.declared.word.Word.{Word}
 use Rattle.piece_bits.specs.declared.word.Word.TheVariants.{U8, U16, U32, I8, I16, I32, I64, TurnedU16, TurnedU32, TurnedU64, TurnedI16, TurnedI32, TurnedI64, Field as FieldWord, Scattered}
@@ -45,6 +46,28 @@ word_width TurnedI32 field = 32
 word_width FieldWord field = field.width
 word_width Scattered field = field.width
 word_width _ field = 64
+
+-- the first of its bits, where it stands at a place: of a field that is a bit, and else a byte
+abbrev pub word_bit : Word → ℕ → ℕ
+word_bit FieldWord start = start
+word_bit _ start = 8 * start
+
+-- where bit k of it stands
+abbrev pub word_place : Word → ℕ → ℕ → ℕ
+word_place TurnedU16 start k = 8 * start + turned_place 16 k
+word_place TurnedI16 start k = 8 * start + turned_place 16 k
+word_place TurnedU32 start k = 8 * start + turned_place 32 k
+word_place TurnedI32 start k = 8 * start + turned_place 32 k
+word_place TurnedU64 start k = 8 * start + turned_place 64 k
+word_place TurnedI64 start k = 8 * start + turned_place 64 k
+word_place FieldWord start k = start + k
+word_place _ start k = 8 * start + k
+
+-- it stands at one place: a field has at most 57 bits, and scattered bytes do not
+abbrev pub IsWord : Word → Field → Type 0
+IsWord FieldWord field = IsField field × (field.width ≤ 57)
+IsWord Scattered field = ⊥
+IsWord _ field = Unit {0}
 
 -- so many whole bytes from a bit on in reverse order: their pieces, least significant first
 abbrev pub turned_pieces : ℕ → ℕ → ℕ → List Piece

@@ -29,7 +29,7 @@ pub fn value_at(blob: &Blob, first: u64, kind: LeafType) -> i128
 }
 
 #[inline(always)]
-fn loaded(blob: &Blob, first: u64, signed: bool, width: u32) -> i128
+pub(crate) fn loaded(blob: &Blob, first: u64, signed: bool, width: u32) -> i128
     requires whole { IsWhole width }
     requires within { 8 * first + width ≤ 8 * length blob.now }
     ensures { result ≡ decoded signed width (number (λ k. bit_of blob.now (8 * first + k)) width) }
@@ -60,7 +60,7 @@ pub fn put_value_at(blob: &mut Blob, first: u64, kind: LeafType, value: i128)
 }
 
 #[inline(always)]
-fn stored(blob: &mut Blob, first: u64, signed: bool, width: u32, value: i128)
+pub(crate) fn stored(blob: &mut Blob, first: u64, signed: bool, width: u32, value: i128)
     requires whole { IsWhole width }
     requires within { 8 * first + width ≤ 8 * length blob.old }
     requires held { IsIn signed width value }
