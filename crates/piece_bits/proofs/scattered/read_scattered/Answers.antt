@@ -1,62 +1,29 @@
-use Rattle.std.proofs.Common.{◌+◌, ◌*◌, ◌/◌, ◌%◌, ◌^◌, ◌≡◌, ◌<◌, ℕ, List, [], length, get_or, ap, ◌∙◌, arith}
-use Rattle.std.proofs.lemmas.List.{get_or_read}
-use Rattle.std.proofs.lemmas.Nat.Bits.{bit_at-lt}
-use Rattle.places.specs.Image.{number}
-use Rattle.blobs.specs.Bits.{bit_of, bit_in}
-use Rattle.piece_bits.specs.Scattered.{byte_of, scattered_pieces}
-use Rattle.piece_bits.specs.Spots.{spots_of, bit_at_spot}
-use Rattle.piece_bits.specs.SpotsOfLaws.{IsNext, read_next}
-use Rattle.piece_bits.proofs.Bytes.{byte_next, byte_within, byte_bound}
+use Rattle.std.proofs.Common.{◌≡◌, ◌^◌, ◌<◌, ◌≤◌, ◌∙◌, ℕ, length, get_or, ap, sym, subst, arith, SFits, rules}
+use Rattle.std.specs.Int.{w128}
+use Rattle.std.proofs.lemmas.Int.{to_z-of_z}
+use Rattle.places.specs.Image.{number, decoded}
+use Rattle.places.specs.NumbersLaws.{number_lt}
+use Rattle.blobs.specs.Bits.{bit_in}
+use Rattle.piece_bits.specs.CellsLaws.{bit_in_lt}
+use Rattle.piece_bits.specs.Scattered.{scattered_pieces}
+use Rattle.piece_bits.specs.Spots.{spots_of, spot_at, bit_at_spot}
 use Rattle.piece_bits.proofs.scattered.read_scattered.Goals as goal
 
-pub bounds-blobs-rule : goal.bounds-blobs-rule
-bounds-blobs-rule c =
-    (byte_within c.args.rules.now c.args.place c.loop-rule.rule-index c.rule-item.result c.loop-rule-test.true c.rule-item.is c.args.blobs.now c.requires.within).blob_in
+pub read_bytes-requires-clause-few : goal.read_bytes-requires-clause-few
+read_bytes-requires-clause-few c = omega (arith, c.requires.wide, c.requires.form.narrow)
 
-pub offset_bounds-blobs-rule : goal.offset_bounds-blobs-rule
-offset_bounds-blobs-rule c =
-    let low : c.rule-item.result.blob < length c.args.blobs.now =
-    (byte_within c.args.rules.now c.args.place c.loop-rule.rule-index c.rule-item.result c.loop-rule-test.true c.rule-item.is c.args.blobs.now c.requires.within).blob_in in
-    omega arith
+pub decode-requires-clause-fits : goal.decode-requires-clause-fits
+decode-requires-clause-fits c =
+    let spots = spots_of (scattered_pieces c.args.rules.now c.args.place) in
+    let bits = bit_at_spot (bit_in c.args.blobs.now) spots in
+    let small : number bits (length spots) < 2 ^ length spots =
+    number_lt bits (length spots) (λ k l. bit_in_lt c.args.blobs.now (spot_at spots k).0 (spot_at spots k).1) in
+    subst (λ (n : ℕ). c.read_bytes.result < 2 ^ n) c.requires.wide (subst (λ (n : ℕ). n < 2 ^ length spots) (sym c.read_bytes.ensures) small)
 
-pub overflow_add-rule : goal.overflow_add-rule
-overflow_add-rule c =
-    let low = byte_bound c.args.rules.now c.args.place c.loop-rule.rule-index c.rule-item.result c.loop-rule-test.true c.rule-item.is c.requires.bound in
-    let fits : c.rule-item.result.base / 8 + c.args.place < 2 ^ 64 = omega arith in
-    omega arith
-
-pub whole-requires-clause-within : goal.whole-requires-clause-within
-whole-requires-clause-within c =
-    let within = byte_within c.args.rules.now c.args.place c.loop-rule.rule-index c.rule-item.result c.loop-rule-test.true c.rule-item.is c.args.blobs.now c.requires.within in
-    let blob : c.index-blobs-rule.result ≡ get_or c.args.blobs.now c.rule-item.result.blob [] =
-    get_or_read c.args.blobs.now c.rule-item.result.blob c.index-blobs-rule.result within.blob_in c.index-blobs-rule.is [] in
-    omega (arith, within.bits_in, ap (length {A = ℕ}) blob)
-
-next : (c : goal.After-whole) → IsNext (scattered_pieces c.args.rules.now c.args.place) c.loop-rule.rule-index c.loop-rule.done (byte_of c.args.place c.rule-item.result)
-next c =
-    byte_next c.args.rules.now c.args.place c.loop-rule.rule-index c.rule-item.result c.loop-rule-test.true c.rule-item.is c.loop-rule.done c.loop-rule.invariant.so_far
-
-read_on : (c : goal.After-whole) →
-    (c.loop-rule.value + c.whole.result * 2 ^ c.loop-rule.done % 2 ^ 64
-    ≡ number (bit_at_spot (bit_in c.args.blobs.now) (spots_of (scattered_pieces c.args.rules.now c.args.place))) (c.loop-rule.done + 8))
-    × (c.loop-rule.value + c.whole.result * 2 ^ c.loop-rule.done % 2 ^ 64 < 2 ^ 64)
-read_on c =
-    let byte = byte_of c.args.place c.rule-item.result in
-    let within = byte_within c.args.rules.now c.args.place c.loop-rule.rule-index c.rule-item.result c.loop-rule-test.true c.rule-item.is c.args.blobs.now c.requires.within in
-    let blob : c.index-blobs-rule.result ≡ get_or c.args.blobs.now c.rule-item.result.blob [] =
-    get_or_read c.args.blobs.now c.rule-item.result.blob c.index-blobs-rule.result within.blob_in c.index-blobs-rule.is [] in
-    read_next (scattered_pieces c.args.rules.now c.args.place) c.loop-rule.rule-index c.loop-rule.done byte (bit_in c.args.blobs.now) c.loop-rule.value c.whole.result (next c)
-    (λ b p. bit_at-lt (get_or (get_or c.args.blobs.now b []) (p / 8) 0) (p % 8)) c.requires.few c.loop-rule.invariant.read
-    (c.whole.ensures ∙ ap (λ (w : List ℕ). number (λ k. bit_of w (byte.bit + k)) 8) blob)
-
-pub overflow_shl-value : goal.overflow_shl-value
-overflow_shl-value c = omega (arith, (next c).within, c.requires.few)
-
-pub overflow_add-value : goal.overflow_add-value
-overflow_add-value c = omega (arith, (read_on c).1)
-
-pub overflow_add-done : goal.overflow_add-done
-overflow_add-done c = omega (arith, (next c).within, c.requires.few)
-
-pub loop-rule-preserved : goal.loop-rule-preserved
-loop-rule-preserved c = record { so_far = (next c).more; read = (read_on c).0 }
+pub returns : goal.returns
+returns c =
+    let field = c.args.field.now in
+    let bits = bit_at_spot (bit_in c.args.blobs.now) (spots_of (scattered_pieces c.args.rules.now c.args.place)) in
+    let fits : SFits w128 c.decode.result = search rules in
+    to_z-of_z w128 c.decode.result fits ∙ c.decode.ensures
+    ∙ ap (decoded field.signed field.width) (c.read_bytes.ensures ∙ ap (number bits) c.requires.wide)

@@ -3,7 +3,7 @@ use Rattle.std.specs.Int.{bit_at}
 use Rattle.blobs.specs.Bits.{bit_in}
 use Rattle.piece_bits.specs.Scattered.{scattered_pieces}
 use Rattle.piece_bits.specs.Spots.{spots_of, spot_at, bit_at_spot}
-use Rattle.piece_bits.proofs.scattered.write_scattered.Given as goal
+use Rattle.piece_bits.proofs.scattered.write_bytes.Given as goal
 
 abbrev pub invariant-loop-rule : goal.invariant-loop-rule
 invariant-loop-rule l = record {

@@ -3,7 +3,7 @@ use Rattle.places.specs.Image.{number}
 use Rattle.blobs.specs.Bits.{bit_in}
 use Rattle.piece_bits.specs.Scattered.{scattered_pieces}
 use Rattle.piece_bits.specs.Spots.{spots_of, bit_at_spot}
-use Rattle.piece_bits.proofs.scattered.read_scattered.Given as goal
+use Rattle.piece_bits.proofs.scattered.read_bytes.Given as goal
 
 abbrev pub invariant-loop-rule : goal.invariant-loop-rule
 invariant-loop-rule l = record {
