@@ -3,7 +3,6 @@
 
 mod entry;
 mod field;
-mod load;
 mod pieces;
 mod scattered;
 mod value;
@@ -11,7 +10,6 @@ mod word;
 
 pub use entry::{read_entry, read_piece, write_entry, write_piece};
 pub use field::{Field, field_at, put_field_at};
-pub use load::{put_value_at, value_at};
 pub use pieces::{read_pieces, write_pieces};
 pub use scattered::{read_scattered, write_scattered};
 pub use value::{decode, encode, greatest_held, least_held};

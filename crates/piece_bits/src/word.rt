@@ -3,12 +3,11 @@ ghost use Rattle.std.specs.Prelude.{ℕ, ◌≡◌, ◌+◌, ◌*◌, ◌<◌, �
 ghost use Rattle.std.specs.Int.{bit_at};
 ghost use Rattle.record_dim.specs.LeafTypes.{IsIn};
 ghost use Rattle.places.specs.Image.{number, digit, decoded};
-ghost use Rattle.blobs.specs.Bits.{bit_of};
+ghost use Rattle.blobs.specs.Bits.{bit_of, IsWhole};
 ghost use Rattle.blobs.specs.Turned.{turned_place, IsTurned};
 ghost use Rattle.piece_bits.specs.Words.{IsWord, word_bit, word_place, word_signed, word_width};
 
 use crate::field::{Field, field_at, put_field_at};
-use crate::load::{loaded, stored};
 use crate::value::{decode, encode};
 use blobs::Blob;
 use places::Hold;
@@ -67,6 +66,15 @@ pub fn read_word(blob: &Blob, start: u64, word: Word, field: &Field) -> i128
 }
 
 #[inline(always)]
+fn loaded(blob: &Blob, first: u64, signed: bool, width: u32) -> i128
+    requires whole { IsWhole width }
+    requires within { 8 * first + width ≤ 8 * length blob.now }
+    ensures { result ≡ decoded signed width (number (λ k. bit_of blob.now (8 * first + k)) width) }
+{
+    decode(Hold { signed, width }, blob.whole(first, width))
+}
+
+#[inline(always)]
 fn turned_loaded(blob: &Blob, first: u64, signed: bool, width: u32) -> i128
     requires turned { IsTurned width }
     requires some { 1 ≤ width }
@@ -107,6 +115,19 @@ pub fn write_word(blob: &mut Blob, start: u64, word: Word, field: &Field, value:
         Word::Field => put_field_at(blob, start, field, value),
         Word::Scattered => unreachable!(),
     }
+}
+
+#[inline(always)]
+fn stored(blob: &mut Blob, first: u64, signed: bool, width: u32, value: i128)
+    requires whole { IsWhole width }
+    requires within { 8 * first + width ≤ 8 * length blob.old }
+    requires held { IsIn signed width value }
+    ensures inside { (k : ℕ) → k < width → bit_of blob.new (8 * first + k) ≡ bit_at (number (digit value) width) k }
+    ensures before { (k : ℕ) → k < 8 * first → bit_of blob.new k ≡ bit_of blob.old k }
+    ensures after { (k : ℕ) → 8 * first + width ≤ k → bit_of blob.new k ≡ bit_of blob.old k }
+    ensures len { length blob.new ≡ length blob.old }
+{
+    blob.put_whole(first, width, encode(Hold { signed, width }, value));
 }
 
 #[inline(always)]

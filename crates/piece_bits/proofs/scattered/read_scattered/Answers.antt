@@ -1,4 +1,4 @@
-use Rattle.std.proofs.Common.{◌≡◌, ◌^◌, ◌<◌, ◌≤◌, ◌∙◌, ℕ, length, get_or, ap, sym, subst, arith, SFits, rules}
+use Rattle.std.proofs.Common.{◌^◌, ◌<◌, ◌∙◌, ℕ, length, ap, sym, subst, arith, SFits, rules}
 use Rattle.std.specs.Int.{w128}
 use Rattle.std.proofs.lemmas.Int.{to_z-of_z}
 use Rattle.places.specs.Image.{number, decoded}

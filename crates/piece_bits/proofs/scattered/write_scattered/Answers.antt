@@ -1,7 +1,6 @@
-use Rattle.std.proofs.Common.{◌≡◌, ◌^◌, ◌<◌, ◌≤◌, ◌∙◌, ℕ, ℤ, length, ap, sym, subst, arith, SFits, rules}
+use Rattle.std.proofs.Common.{◌≡◌, ◌∙◌, ℕ, ℤ, length, ap, subst, arith, SFits, rules}
 use Rattle.std.specs.Int.{w128}
 use Rattle.std.proofs.lemmas.Int.{to_z-of_z}
-use Rattle.record_dim.specs.LeafTypes.{IsIn}
 use Rattle.places.specs.Image.{number, digit}
 use Rattle.piece_bits.specs.Scattered.{scattered_pieces}
 use Rattle.piece_bits.specs.Spots.{spots_of}

@@ -3,7 +3,7 @@ use Rattle.std.proofs.lemmas.Nat.Bits.{bit_at-lt}
 use Rattle.places.specs.NumbersLaws.{number_lt}
 use Rattle.blobs.specs.Bits.{bit_of}
 use Rattle.piece_bits.proofs.Wholes.{whole_some, whole_few}
-use Rattle.piece_bits.proofs.load.loaded.Goals as goal
+use Rattle.piece_bits.proofs.word.loaded.Goals as goal
 
 pub decode-requires-clause-some : goal.decode-requires-clause-some
 decode-requires-clause-some c = whole_some c.args.width c.requires.whole

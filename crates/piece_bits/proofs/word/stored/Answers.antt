@@ -5,8 +5,8 @@ use Rattle.record_dim.specs.LeafTypes.{IsIn}
 use Rattle.places.specs.Image.{number, digit}
 use Rattle.places.specs.NumbersLaws.{number_lt, digit_lt}
 use Rattle.piece_bits.proofs.Wholes.{whole_some, whole_few}
-use Rattle.piece_bits.proofs.load.stored.Goals as goal
-use Rattle.piece_bits.proofs.load.stored.Goals.{After-encode}
+use Rattle.piece_bits.proofs.word.stored.Goals as goal
+use Rattle.piece_bits.proofs.word.stored.Goals.{After-encode}
 
 pub encode-requires-clause-some : goal.encode-requires-clause-some
 encode-requires-clause-some c = whole_some c.args.width c.requires.whole
