@@ -1,2 +1,4 @@
-pub mod Tails
-pub mod Fields
+pub mod Numbers
+pub mod Splices
+pub mod Blocks
+pub mod Rows

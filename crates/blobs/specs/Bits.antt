@@ -1,5 +1,5 @@
 -- The bits of bytes, and of several blobs.
-use Rattle.std.specs.Prelude.{ℕ, ◌≡◌, ◌⊎◌, ◌*◌, ◌/◌, ◌%◌, List, [], length, map, slice_index_or}
+use Rattle.std.specs.Prelude.{ℕ, ◌≡◌, ◌⊎◌, ◌*◌, ◌/◌, ◌%◌, ◌<◌, List, [], length, map, slice_index_or}
 use Rattle.std.specs.Int.{bit_at}
 use Rattle.std.specs.List.{range_with_len}
 
@@ -18,3 +18,7 @@ bit_in blobs blob place = bit_of (slice_index_or blobs blob []) place
 -- a number of bits that is one, two, four or eight bytes
 abbrev pub IsWhole : ℕ → Type 0
 IsWhole n = (n ≡ 8) ⊎ ((n ≡ 16) ⊎ ((n ≡ 32) ⊎ (n ≡ 64)))
+
+-- each is a byte
+abbrev pub AreBytes : List ℕ → Type 0
+AreBytes bytes = (k : ℕ) → slice_index_or bytes k 0 < 256

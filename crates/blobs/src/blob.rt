@@ -1,25 +1,53 @@
-ghost use Rattle.std.specs.Prelude.{ℕ, ◌≡◌, ◌+◌, ◌*◌, ◌^◌, ◌<◌, ◌≤◌, IfOk, length, replicate, slice_index, slice_set};
-ghost use Rattle.std.specs.Int.{bit_at};
-ghost use Rattle.places.specs.Image.{number};
-ghost use Rattle.blobs.specs.Bits.{bit_of, IsWhole};
+// The bytes of a blob as one allocation of raw memory. What holds the pointer stands here alone.
+ghost use Rattle.std.specs.Prelude.{◌≡◌, ◌+◌, ◌<◌, ◌≤◌, ◌++◌, IfOk, length, replicate, slice_index, slice_set, take, drop};
+ghost use Rattle.std.specs.Int.{bytes_low_first, bytes_high_first};
+ghost use Rattle.byteorder.specs.Endian.{little_from};
+ghost use Rattle.blobs.specs.Bits.{AreBytes};
+ghost use Rattle.blobs.specs.Turned.{turned_from};
 
-use crate::whole::{is_whole, read_bytes, read_whole, write_bytes, write_whole};
-use crate::word::{bits_in_word, with_bits};
+use crate::none::no_places;
+use byteorder::{ByteOrder, LittleEndian};
+use core::slots::{Lease, Slots, release, reserve};
 use std::alloc::{AllocError as NoMemory, Global};
 use std::marker::Model;
+use std::sync::ledger::Ledger;
+use steps::Steps;
 
-/// A fixed number of bytes. Contracts see it as the list of its bytes. Bit `k` is bit `k % 8` of byte `k / 8`.
-#[derive(Drop)]
+/// A fixed number of bytes of raw memory. Contracts see it as the list of its bytes. Bit `k` is bit `k % 8` of byte `k / 8`.
 pub struct Blob {
-    bytes: Vec<u8>,
+    places: Slots<u8>,
+    /// The right to free the memory, where there is any: a blob of length 0 holds none.
+    lease: Option<Lease<u8, Global>>,
+    alloc: Global,
 }
 
 impl Model for Blob {
     ghost use Rattle.std.specs.Prelude.{List, ℕ};
+    ghost use Rattle.core.specs.Mem.Slots.{slots_items, IsFull};
+    ghost use Rattle.blobs.specs.Bits.{AreBytes};
+    ghost use Rattle.blobs.specs.Held.{IsLeaseOf};
 
     ghost Value = { List ℕ };
 
-    ghost view = { λ b. b.bytes.items };
+    ghost view = { λ b. slots_items b.places };
+
+    ghost invariant = { λ b. IsFull b.places × IsLeaseOf b.lease b.places b.alloc × AreBytes (slots_items b.places) };
+}
+
+impl Drop for Blob {
+    fn drop(self) {
+        let Blob {
+            places,
+            lease,
+            alloc,
+        } = self;
+        match lease {
+            Some(lease) => release(&alloc, places, lease),
+            None => {
+                let _parts = unsafe { places.into_raw_parts() };
+            }
+        }
+    }
 }
 
 impl Blob {
@@ -27,173 +55,247 @@ impl Blob {
     pub fn zeroed(alloc: Global, len: usize) -> Result<Blob, NoMemory>
         ensures { IfOk result (λ b. b ≡ replicate len 0) }
     {
+        if len == 0 {
+            return Ok(Blob {
+                places: no_places(),
+                lease: None,
+                alloc,
+            });
+        }
+        // The length of the memory is taken from a slice.
+        let zeros = vec![in alloc; 0u8; len]?;
+        let (mut places, lease) = unsafe { reserve(&alloc, zeros.as_slice())? };
+        places.copy_in(0, zeros.as_slice());
         Ok(Blob {
-            bytes: vec![in alloc; 0; len]?,
+            places,
+            lease: Some(lease),
+            alloc,
         })
     }
 
     /// The number of bytes.
+    #[inline(always)]
     pub fn len(&self) -> usize
         ensures { result ≡ length self.now }
     {
-        self.bytes.len()
+        self.places.len()
+    }
+
+    /// Each byte is below 256: proofs that read bytes one by one need it said.
+    #[inline(always)]
+    pub fn bytes_law(&self)
+        ensures { AreBytes self.now }
+    {
+        let _places = &self.places;
     }
 
     /// The byte at `at`.
+    #[inline(always)]
     pub fn get(&self, at: usize) -> u8
         requires { at < length self.now }
         ensures { result ≡ slice_index self.now at }
     {
-        self.bytes[at]
+        *self.places.get(at)
     }
 
     /// Makes the byte at `at` this one.
+    #[inline(always)]
     pub fn put(&mut self, at: usize, byte: u8)
         requires { at < length self.old }
         ensures { self.new ≡ slice_set self.old at byte }
     {
-        self.bytes[at] = byte;
+        self.places.put(at, byte);
     }
 
-    /// The `n` bits from byte `first` on as a number, least significant first, which are one, two, four or eight bytes: one load.
+    /// The two bytes from `at` on as a number, the least significant first. A copy into an array is one load.
     #[inline(always)]
-    pub fn whole(&self, first: u64, n: u32) -> u64
-        requires whole { IsWhole n }
-        requires within { 8 * first + n ≤ 8 * length self.now }
-        ensures { result ≡ number (λ k. bit_of self.now (8 * first + k)) n }
+    pub fn two(&self, at: usize) -> u16
+        requires { at + 2 ≤ length self.now }
+        ensures word { result ≡ little_from at 2 self.now }
+        ensures bytes { AreBytes self.now }
     {
-        read_whole(&self.bytes, first as usize, n)
+        let places = &self.places;
+        LittleEndian::read_u16(&[*places.get(at), *places.get(at + 1)])
     }
 
-    /// Makes the `n` bits from byte `first` on those of `value`, least significant first: one store. All other bits stay.
+    /// The four bytes from `at` on.
     #[inline(always)]
-    pub fn put_whole(&mut self, first: u64, n: u32, value: u64)
-        requires whole { IsWhole n }
-        requires within { 8 * first + n ≤ 8 * length self.old }
-        requires fits { value < 2 ^ n }
-        ensures inside { (k : ℕ) → k < n → bit_of self.new (8 * first + k) ≡ bit_at value k }
-        ensures before { (k : ℕ) → k < 8 * first → bit_of self.new k ≡ bit_of self.old k }
-        ensures after { (k : ℕ) → 8 * first + n ≤ k → bit_of self.new k ≡ bit_of self.old k }
-        ensures len { length self.new ≡ length self.old }
+    pub fn four(&self, at: usize) -> u32
+        requires { at + 4 ≤ length self.now }
+        ensures word { result ≡ little_from at 4 self.now }
+        ensures bytes { AreBytes self.now }
     {
-        write_whole(&mut self.bytes, first as usize, n, value);
+        let places = &self.places;
+        LittleEndian::read_u32(&[
+            *places.get(at),
+            *places.get(at + 1),
+            *places.get(at + 2),
+            *places.get(at + 3),
+        ])
     }
 
-    /// The `n` bits from bit `at` on as a number, least significant first. One, two, four or eight whole bytes are one load.
+    /// The eight bytes from `at` on.
     #[inline(always)]
-    pub fn bits(&self, at: u64, n: u32) -> u64
-        requires some { 0 < n }
-        requires few { n ≤ 64 }
-        requires within { at + n ≤ 8 * length self.now }
-        ensures { result ≡ number (λ k. bit_of self.now (at + k)) n }
+    pub fn word(&self, at: usize) -> u64
+        requires { at + 8 ≤ length self.now }
+        ensures word { result ≡ little_from at 8 self.now }
+        ensures bytes { AreBytes self.now }
     {
-        if at % 8 == 0 && is_whole(n) {
-            return self.whole(at / 8, n);
-        }
-        self.bits_by_words(at, n)
+        let places = &self.places;
+        LittleEndian::read_u64(&[
+            *places.get(at),
+            *places.get(at + 1),
+            *places.get(at + 2),
+            *places.get(at + 3),
+            *places.get(at + 4),
+            *places.get(at + 5),
+            *places.get(at + 6),
+            *places.get(at + 7),
+        ])
     }
 
-    /// The bits of a word, where they lie in one, and else byte after byte.
-    #[inline(never)]
-    fn bits_by_words(&self, at: u64, n: u32) -> u64
-        requires some { 0 < n }
-        requires few { n ≤ 64 }
-        requires within { at + n ≤ 8 * length self.now }
-        ensures { result ≡ number (λ k. bit_of self.now (at + k)) n }
-    {
-        let first = (at / 8) as usize;
-        let low = (at % 8) as u32;
-        if low + n <= 64 && self.bytes.len() - first >= 8 {
-            return bits_in_word(read_bytes(&self.bytes, first, 8), low, n);
-        }
-        self.bits_by_bytes(at, n)
-    }
-
-    /// Makes the `n` bits from bit `at` on those of `value`, least significant first. All other bits stay.
+    /// The two bytes from `at` on as a number, the most significant first. It is one load, and the bytes are turned.
     #[inline(always)]
-    pub fn put_bits(&mut self, at: u64, n: u32, value: u64)
-        requires some { 0 < n }
-        requires few { n ≤ 64 }
-        requires within { at + n ≤ 8 * length self.old }
-        requires fits { value < 2 ^ n }
-        ensures inside { (k : ℕ) → k < n → bit_of self.new (at + k) ≡ bit_at value k }
-        ensures before { (k : ℕ) → k < at → bit_of self.new k ≡ bit_of self.old k }
-        ensures after { (k : ℕ) → at + n ≤ k → bit_of self.new k ≡ bit_of self.old k }
-        ensures len { length self.new ≡ length self.old }
+    pub fn turned_two(&self, at: usize) -> u16
+        requires { at + 2 ≤ length self.now }
+        ensures word { result ≡ turned_from at 2 self.now }
+        ensures bytes { AreBytes self.now }
     {
-        if at % 8 == 0 && is_whole(n) {
-            self.put_whole(at / 8, n, value);
-            return;
-        }
-        self.put_bits_by_words(at, n, value);
+        let places = &self.places;
+        LittleEndian::read_u16(&[*places.get(at + 1), *places.get(at)])
     }
 
-    /// Writes the bits of a word, where they lie in one, and else byte after byte.
-    #[inline(never)]
-    fn put_bits_by_words(&mut self, at: u64, n: u32, value: u64)
-        requires some { 0 < n }
-        requires few { n ≤ 64 }
-        requires within { at + n ≤ 8 * length self.old }
-        requires fits { value < 2 ^ n }
-        ensures inside { (k : ℕ) → k < n → bit_of self.new (at + k) ≡ bit_at value k }
-        ensures before { (k : ℕ) → k < at → bit_of self.new k ≡ bit_of self.old k }
-        ensures after { (k : ℕ) → at + n ≤ k → bit_of self.new k ≡ bit_of self.old k }
-        ensures len { length self.new ≡ length self.old }
+    /// The four bytes from `at` on, the most significant first.
+    #[inline(always)]
+    pub fn turned_four(&self, at: usize) -> u32
+        requires { at + 4 ≤ length self.now }
+        ensures word { result ≡ turned_from at 4 self.now }
+        ensures bytes { AreBytes self.now }
     {
-        let first = (at / 8) as usize;
-        let low = (at % 8) as u32;
-        if low + n <= 64 && self.bytes.len() - first >= 8 {
-            let word = with_bits(read_bytes(&self.bytes, first, 8), low, n, value);
-            write_bytes(&mut self.bytes, first, 8, word);
-            return;
-        }
-        self.put_bits_by_bytes(at, n, value);
+        let places = &self.places;
+        LittleEndian::read_u32(&[
+            *places.get(at + 3),
+            *places.get(at + 2),
+            *places.get(at + 1),
+            *places.get(at),
+        ])
     }
 
-    /// The bits byte after byte, as many at once as lie in one byte.
-    fn bits_by_bytes(&self, at: u64, n: u32) -> u64
-        requires few { n ≤ 64 }
-        requires within { at + n ≤ 8 * length self.now }
-        ensures { result ≡ number (λ k. bit_of self.now (at + k)) n }
+    /// The eight bytes from `at` on, the most significant first.
+    #[inline(always)]
+    pub fn turned_word(&self, at: usize) -> u64
+        requires { at + 8 ≤ length self.now }
+        ensures word { result ≡ turned_from at 8 self.now }
+        ensures bytes { AreBytes self.now }
     {
-        let first = (at / 8) as usize;
-        let start = (at % 8) as u32;
-        let mut value = 0u64;
-        let mut done = 0u32;
-        while done < n {
-            let place = start + done;
-            let low = place % 8;
-            let part = (8 - low).min(n - done);
-            let byte = u64::from(self.get(first + (place / 8) as usize));
-            value += bits_in_word(byte, low, part) << done;
-            done += part;
-        }
-        value
+        let places = &self.places;
+        LittleEndian::read_u64(&[
+            *places.get(at + 7),
+            *places.get(at + 6),
+            *places.get(at + 5),
+            *places.get(at + 4),
+            *places.get(at + 3),
+            *places.get(at + 2),
+            *places.get(at + 1),
+            *places.get(at),
+        ])
     }
 
-    /// Writes the bits byte after byte, as many at once as lie in one byte.
-    fn put_bits_by_bytes(&mut self, at: u64, n: u32, value: u64)
-        requires few { n ≤ 64 }
-        requires within { at + n ≤ 8 * length self.old }
-        ensures inside { (k : ℕ) → k < n → bit_of self.new (at + k) ≡ bit_at value k }
-        ensures before { (k : ℕ) → k < at → bit_of self.new k ≡ bit_of self.old k }
-        ensures after { (k : ℕ) → at + n ≤ k → bit_of self.new k ≡ bit_of self.old k }
-        ensures len { length self.new ≡ length self.old }
+    /// Makes the bytes from `at` on these. A copy out of an array is one store.
+    #[inline(always)]
+    fn copy_in(&mut self, at: usize, bytes: &[u8])
+        requires { at + length bytes.now ≤ length self.old }
+        ensures { self.new ≡ take at self.old ++ (bytes.now ++ drop (at + length bytes.now) self.old) }
     {
-        let first = (at / 8) as usize;
-        let start = (at % 8) as u32;
-        let mut done = 0u32;
-        while done < n {
-            let place = start + done;
-            let low = place % 8;
-            let part = (8 - low).min(n - done);
-            let index = first + (place / 8) as usize;
-            let byte = u64::from(self.get(index));
-            self.put(
-                index,
-                with_bits(byte, low, part, bits_in_word(value, done, part)) as u8,
-            );
-            done += part;
+        self.places.copy_in(at, bytes);
+    }
+
+    /// Makes the two bytes from `at` on those of a number, the least significant first.
+    #[inline(always)]
+    pub fn put_two(&mut self, at: usize, value: u16)
+        requires { at + 2 ≤ length self.old }
+        ensures { self.new ≡ take at self.old ++ (bytes_low_first 0 2 value ++ drop (at + 2) self.old) }
+    {
+        self.copy_in(at, &value.to_le_bytes());
+    }
+
+    /// Makes the four bytes from `at` on those of a number.
+    #[inline(always)]
+    pub fn put_four(&mut self, at: usize, value: u32)
+        requires { at + 4 ≤ length self.old }
+        ensures { self.new ≡ take at self.old ++ (bytes_low_first 0 4 value ++ drop (at + 4) self.old) }
+    {
+        self.copy_in(at, &value.to_le_bytes());
+    }
+
+    /// Makes the eight bytes from `at` on those of a number.
+    #[inline(always)]
+    pub fn put_word(&mut self, at: usize, value: u64)
+        requires { at + 8 ≤ length self.old }
+        ensures { self.new ≡ take at self.old ++ (bytes_low_first 0 8 value ++ drop (at + 8) self.old) }
+    {
+        self.copy_in(at, &value.to_le_bytes());
+    }
+
+    /// Makes the two bytes from `at` on those of a number, the most significant first.
+    #[inline(always)]
+    pub fn put_turned_two(&mut self, at: usize, value: u16)
+        requires { at + 2 ≤ length self.old }
+        ensures { self.new ≡ take at self.old ++ (bytes_high_first 2 value ++ drop (at + 2) self.old) }
+    {
+        self.copy_in(at, &value.to_be_bytes());
+    }
+
+    /// Makes the four bytes from `at` on those of a number, the most significant first.
+    #[inline(always)]
+    pub fn put_turned_four(&mut self, at: usize, value: u32)
+        requires { at + 4 ≤ length self.old }
+        ensures { self.new ≡ take at self.old ++ (bytes_high_first 4 value ++ drop (at + 4) self.old) }
+    {
+        self.copy_in(at, &value.to_be_bytes());
+    }
+
+    /// Makes the eight bytes from `at` on those of a number, the most significant first.
+    #[inline(always)]
+    pub fn put_turned_word(&mut self, at: usize, value: u64)
+        requires { at + 8 ≤ length self.old }
+        ensures { self.new ≡ take at self.old ++ (bytes_high_first 8 value ++ drop (at + 8) self.old) }
+    {
+        self.copy_in(at, &value.to_be_bytes());
+    }
+
+    /// Makes the `len` bytes from `at` on those of another blob from `from` on, at most 64. It takes one step.
+    #[inline(always)]
+    pub fn move_block<L: Ledger>(
+        &mut self,
+        at: usize,
+        source: &Blob,
+        from: usize,
+        len: usize,
+        steps: &mut Steps<L>,
+    )
+        requires few { len ≤ 64 }
+        requires room { at + len ≤ length self.old }
+        requires there { from + len ≤ length source.now }
+        ensures bytes { self.new ≡ take at self.old ++ (take len (drop from source.now) ++ drop (at + len) self.old) }
+        ensures step { steps.new ≡ steps.old + 1 }
+    {
+        steps.tick();
+        self.copy_block(at, source, from, len);
+    }
+
+    /// The bytes go by an array, which is one copy into it and one out.
+    fn copy_block(&mut self, at: usize, source: &Blob, from: usize, len: usize)
+        requires few { len ≤ 64 }
+        requires room { at + len ≤ length self.old }
+        requires there { from + len ≤ length source.now }
+        ensures { self.new ≡ take at self.old ++ (take len (drop from source.now) ++ drop (at + len) self.old) }
+    {
+        let places = &source.places;
+        let mut block = [0u8; 64];
+        for k in 0..len {
+            block[k] = *places.get(from + k);
         }
+        self.copy_in(at, &block[..len]);
     }
 }

@@ -1,8 +1,9 @@
-// Bytes of a view: read and written byte by byte, and bit by bit.
+// Bytes of a view in raw memory: read and written byte by byte, by words, in blocks, and bit by bit.
 #![tactic(auto)]
 
+mod bits;
 mod blob;
-mod whole;
+mod none;
 mod word;
 
 pub use blob::Blob;

@@ -1,3 +1,4 @@
 pub mod SlotLemmas
 pub mod MortonLemmas
 pub mod SpreadLemmas
+pub mod Divided

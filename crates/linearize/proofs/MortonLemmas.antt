@@ -1,7 +1,8 @@
 -- How many binary digits there are, and what the loop over components keeps of them.
-use Rattle.std.proofs.Common.{◌≡◌, ◌≢◌, ℕ, zero, suc, ◌+◌, ◌-◌, ◌*◌, ◌/◌, ◌%◌, ◌^◌, ◌<◌, ◌≤◌, max, cond, eqb, ltb, List, length, get_or, sym, ap, ◌∙◌, ⊎_elim, arith, lit<}
+use Rattle.std.proofs.Common.{◌≡◌, ◌≢◌, ℕ, zero, suc, ◌+◌, ◌-◌, ◌*◌, ◌/◌, ◌%◌, ◌^◌, ◌<◌, ◌≤◌, max, cond, eqb, ltb, List, [], ◌∷◌, length, get_or, sym, ap, ◌∙◌, ⊎_elim, arith, lit<}
 use Rattle.std.specs.Prelude.{fold, nat_le, bit_or}
 use Rattle.std.specs.Int.{bit_at}
+use Rattle.std.specs.Int.Bits.{or_zero_l}
 use Rattle.std.specs.List.{position_or_len, range_with_len}
 use Rattle.std.proofs.lemmas.Bool.{cases_lt, cases_eq, cond-true, cond-false, lt-leb, le-leb, lt-ltb, le-ltb, eq-eqb, ne_eqb}
 use Rattle.std.proofs.lemmas.List.Elements.{length_all_zip}
@@ -130,3 +131,15 @@ front_all i n place some all front =
     front k
     ∙ cond-true (ltb (length i - 1 - k % length i) n) (digit_of i k) 0 (lt-ltb (length i - 1 - k % length i) n (omega arith))
     ∙ sym (bit_at-interleaved i k))
+
+-- two components give the slot: the first moved up by one place, between the digits of the second
+pub two_in_turn : (line column a b : ℕ) → a < 2 ^ 24 → b < 2 ^ 24 → IsSpread 2 line a → IsSpread 2 column b
+    → bit_or (a * 2 % 2 ^ 64) b ≡ interleaved (line ∷ column ∷ [])
+two_in_turn line column a b low low' one two =
+    let i : List ℕ = line ∷ column ∷ [] in
+    let first : IsFront i 1 (bit_or 0 (a * 2 % 2 ^ 64)) = front_more i 0 0 a (omega arith) (omega arith) low (front_none i) one in
+    let both : IsFront i 2 (bit_or (bit_or 0 (a * 2 % 2 ^ 64)) (b * 1 % 2 ^ 64)) =
+    front_more i 1 (bit_or 0 (a * 2 % 2 ^ 64)) b (omega arith) (omega arith) low' first two in
+    let same : b ≡ b * 1 % 2 ^ 64 = omega arith in
+    ap (λ (n : ℕ). bit_or n b) (sym (or_zero_l (a * 2 % 2 ^ 64))) ∙ ap (λ (n : ℕ). bit_or (bit_or 0 (a * 2 % 2 ^ 64)) n) same
+    ∙ front_all i 2 (bit_or (bit_or 0 (a * 2 % 2 ^ 64)) (b * 1 % 2 ^ 64)) (omega arith) (omega arith) both

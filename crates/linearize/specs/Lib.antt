@@ -2,5 +2,6 @@ pub mod Slots
 pub mod MortonLaws
 pub mod Spreads
 pub mod SlotsLaws
+pub mod LinesLaws
 pub use Rattle.extents.specs.Indices
 pub use Rattle.extents.specs.IndicesLaws

@@ -1,5 +1,6 @@
 // The binary digits of a component, moved apart by masks and shifts.
-ghost use Rattle.std.specs.Prelude.{◌≡◌, ◌/◌, ◌^◌, ◌<◌, ◌≤◌};
+ghost use Rattle.std.specs.Prelude.{◌≡◌, ◌/◌, ◌^◌, ◌<◌, ◌≤◌, [], ◌∷◌};
+ghost use Rattle.linearize.specs.Slots.{interleaved};
 ghost use Rattle.linearize.specs.Spreads.{IsSpread};
 
 /// The digits of a component, `rank` places apart.
@@ -17,6 +18,17 @@ pub fn spread(component: u64, rank: usize) -> u64
     }
 }
 
+/// The digits of a line and a column in turn, the column's lowest first.
+#[inline(always)]
+pub fn in_turn(line: u64, column: u64) -> u64
+    requires line { line < 2 ^ 12 }
+    requires column { column < 2 ^ 12 }
+    ensures { result ≡ interleaved (line ∷ column ∷ []) }
+{
+    (spread_by_two(line) << 1) | spread_by_two(column)
+}
+
+#[inline(always)]
 fn spread_by_two(component: u64) -> u64
     requires { component < 2 ^ 12 }
     ensures digits { IsSpread 2 component result }

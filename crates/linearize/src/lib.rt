@@ -5,8 +5,10 @@ ghost use Rattle.std.specs.Prelude.{◌≡◌, ◌-◌, ◌*◌, ◌^◌, ◌<�
 ghost use Rattle.extents.specs.Indices.{indices, product, IsInside};
 ghost use Rattle.linearize.specs.Slots.{digits_for, interleaved, place_in, row_at, slot_count, slot_of};
 
+mod columns;
 mod digits;
 
+pub use crate::columns::Columns;
 use crate::digits::spread;
 pub use extents::Order;
 

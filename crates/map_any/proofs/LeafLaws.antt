@@ -1,15 +1,13 @@
 -- What accesses to leaves go by: rules that are copied, and the short form of a rule by rows.
-use Rattle.std.proofs.Common.{◌≡◌, ℕ, ◌+◌, ◌%◌, ◌^◌, ◌<◌, ◌≤◌, List, ◌∷◌, [], All, Bool, true, false, map, length, get_or, slice_index, sum_by, ℤ, ◌≤ℤ◌, refl, sym, ap, ◌∙◌, subst, arith}
+use Rattle.std.proofs.Common.{◌≡◌, ℕ, ◌+◌, ◌%◌, ◌^◌, ◌<◌, ◌≤◌, List, All, Bool, true, false, map, length, get_or, slice_index, sum_by, refl, sym, ap, ◌∙◌, subst, arith}
 use Rattle.std.proofs.lemmas.List.{length-map}
 use Rattle.extents.specs.Indices.{indices}
 use Rattle.extents.specs.declared.order.Order.{Order}
 use Rattle.linearize.specs.Slots.{slot_at, slot_count}
-use Rattle.linearize.specs.SlotsLaws.{slot_at_by_rows}
 use Rattle.record_dim.specs.declared.leaf_type.LeafType.{LeafType}
 use Rattle.places.specs.Layout.{Owner}
 use Rattle.places.specs.Laws.{IsLocated}
 use Rattle.places.specs.declared.piece.Hold.{Hold}
-use Rattle.places.specs.declared.piece.Piece.{Piece}
 use Rattle.piece_rules.specs.PieceRules.{pieces_in}
 use Rattle.piece_rules.specs.declared.rule.PieceRule.{PieceRule}
 use Rattle.record_dim.specs.Trees.{Fields}
@@ -21,13 +19,15 @@ use Rattle.map_any.specs.Mappings.{leaf_cells, layout_of, holds_of, most_slots}
 use Rattle.map_any.specs.Plans.{IsPlanOf}
 use Rattle.map_any.specs.TermLaws.{length-holds}
 use Rattle.map_any.specs.declared.plan.Plan.{Plan}
-use Rattle.map_any.specs.LeafRules.{kind_in, hold_in, IsSameRule, IsLeafRule, AreLeafRules, AreRuled, IsShortIn}
-use Rattle.map_any.specs.Ruled.{EachWith, IsRuleOf, IsRuled}
-use Rattle.map_any.specs.Shorts.{IsShortOf, short_piece}
+use Rattle.map_any.specs.LeafRules.{kind_in, hold_in, IsSameRule, IsLeafRule, AreLeafRules, AreRuled}
+use Rattle.map_any.specs.Ruled.{IsRuleOf, IsRuled}
+use Rattle.short_rules.specs.Shorts.{IsShortOf, IsShortIn}
+use Rattle.short_rules.specs.ShortsLaws.{short_in}
+use Rattle.short_rules.specs.Walks.{leads}
+use Rattle.short_rules.specs.declared.short.ShortRule.{ShortRule}
 use Rattle.map_any.specs.declared.leaf_rule.LeafRule.{LeafRule}
 use Rattle.map_any.specs.declared.rule.Rule.{Rule}
 use Rattle.map_any.proofs.PlanLaws.{plan_holds, plan_rules}
-use Rattle.map_any.proofs.ShortLaws.{short_pieces}
 
 -- a rule that says the same is a rule of the same cell
 pub rule_same : (layout : List (List Owner)) (extents : List ℕ) (cell width : ℕ) (old new : Rule) → IsSameRule old new
@@ -47,7 +47,7 @@ rule_same layout extents cell width old new same h = record {
 
 -- what accesses to leaves go by, of the rules of a layout
 pub leaves_ruled : (layout : List (List Owner)) (extents : List ℕ) (kinds : List LeafType) (holds : List Hold) (rules : List Rule) (leaves : List LeafRule)
-    → IsRuled layout extents (map (λ (h : Hold). h.width) holds) rules → length holds ≡ length kinds → AreLeafRules kinds holds rules leaves
+    → IsRuled layout extents (map (λ (h : Hold). h.width) holds) rules → length holds ≡ length kinds → AreLeafRules kinds extents holds rules leaves
     → AreRuled layout extents kinds holds leaves
 leaves_ruled layout extents kinds holds rules leaves ruled paired h = record {
   each = h.each;
@@ -82,26 +82,22 @@ module _ (layout : List (List Owner)) (extents : List ℕ) (kinds : List LeafTyp
   leaf_placed =
       subst (λ (l : LeafRule). IsRuleOf layout extents k (slice_index (map (λ (x : Hold). x.width) holds) k) l.rule) (sym read) (h.places k leaf leaf_in)
 
-  pub leaf_whole : IsLeafRule (kind_in kinds k) (hold_in holds k) leaf
-  leaf_whole = subst (λ (l : LeafRule). IsLeafRule (kind_in kinds k) (hold_in holds k) l) (sym read) (h.whole k leaf leaf_in)
+  pub leaf_whole : IsLeafRule (kind_in kinds k) extents (hold_in holds k) leaf
+  leaf_whole = subst (λ (l : LeafRule). IsLeafRule (kind_in kinds k) extents (hold_in holds k) l) (sym read) (h.whole k leaf leaf_in)
 
 -- a short form says where its cell lies
-pub short_in : (layout : List (List Owner)) (extents : List ℕ) (cell width : ℕ) (kind : LeafType) (hold : Hold) (leaf : LeafRule)
-    → IsRuleOf layout extents cell width leaf.rule → IsLeafRule kind hold leaf → leaf.short.is_some ≡ true
-    → IsShortIn layout (length (indices extents)) cell width hold.signed leaf.short
-short_in layout extents cell width kind hold leaf placed whole some =
-    let form = whole.short some in
-    record {
-      signed = form.signed;
-      masked = form.masked;
-      low = form.low;
-      located = λ row inside.
-          let slot : slot_at leaf.rule.order extents row ≡ row =
-          ap (λ (o : Order). slot_at o extents row) form.by_rows ∙ slot_at_by_rows extents row inside in
-          let here : IsLocated layout row cell width (pieces_in leaf.rule.pieces.items row) =
-          subst (λ (s : ℕ). IsLocated layout row cell width (pieces_in leaf.rule.pieces.items s)) slot (placed.places row inside) in
-          subst (λ (ps : List Piece). IsLocated layout row cell width ps) (short_pieces leaf.rule.order leaf.rule.pieces.items hold leaf.short row form) here;
-    }
+pub leaf_short : (layout : List (List Owner)) (extents : List ℕ) (cell width : ℕ) (kind : LeafType) (hold : Hold) (leaf : LeafRule)
+    → IsRuleOf layout extents cell width leaf.rule → IsLeafRule kind extents hold leaf → leads leaf.short.walk ≡ true
+    → IsShortIn layout (length (indices extents)) cell width hold leaf.rule.pieces.items leaf.short
+leaf_short layout extents cell width kind hold leaf placed whole some =
+    short_in layout leaf.rule.order extents cell width hold leaf.rule.pieces.items leaf.short placed.few placed.places (whole.short some)
+
+-- a short form of a rule is one of a rule that says the same
+pub short_same : (extents : List ℕ) (hold : Hold) (old new : Rule) (short : ShortRule) → IsSameRule old new
+    → IsShortOf old.order extents old.pieces.items hold short → IsShortOf new.order extents new.pieces.items hold short
+short_same extents hold old new short same h =
+    subst (λ (o : Order). IsShortOf o extents new.pieces.items hold short) (sym same.order)
+    (subst (λ (ps : List PieceRule). IsShortOf old.order extents ps hold short) (sym same.pieces) h)
 
 -- where there is a short form, nothing is counted
 pub short_uncounted : (counted some : Bool) → (counted ≡ true → some ≡ false) → some ≡ true → counted ≡ false

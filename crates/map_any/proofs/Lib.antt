@@ -4,7 +4,6 @@ pub mod RuleLaws
 pub mod Limits
 pub mod AnyFacts
 pub mod SplitRules
-pub mod ShortLaws
 pub mod LeafLaws
 pub mod PlanLaws
 pub mod OrderLaws

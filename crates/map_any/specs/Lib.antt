@@ -9,7 +9,6 @@ pub mod TermLaws
 pub mod Ruled
 pub mod AnyLaws
 pub mod Splits
-pub mod Shorts
 pub mod LeafRules
 pub mod Maps
 pub mod Plans

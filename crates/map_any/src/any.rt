@@ -8,6 +8,7 @@ ghost use Rattle.map_any.specs.LeafRules.{AreRuled};
 ghost use Rattle.map_any.specs.Mappings.{layout_by, holds_by, leaf_cells, not_full, IsBuiltTerm};
 ghost use Rattle.map_any.specs.Orders.{IsBuiltTerm-prop};
 ghost use Rattle.map_any.specs.Ruled.{EachWith, HasLengths};
+ghost use Rattle.short_rules.specs.Walks.{leads};
 
 use crate::leaf_rule::RuleList;
 use crate::plan::{HoldList, LengthList};
@@ -33,5 +34,5 @@ pub struct AnyMap {
     ghost held: { holds ≡ holds_by (term_of expr) (schema_fields schema) },
     ghost sized: { HasLengths (layout_by (term_of expr) extents (schema_fields schema)) lengths },
     ghost ruled: { AreRuled (layout_by (term_of expr) extents (schema_fields schema)) extents (kinds_of (schema_fields schema)) holds rules },
-    ghost uncounted: { is_counted (term_of expr) ≡ true → EachWith (λ k leaf. leaf.short.is_some ≡ false) rules },
+    ghost uncounted: { is_counted (term_of expr) ≡ true → EachWith (λ k leaf. leads leaf.short.walk ≡ false) rules },
 }

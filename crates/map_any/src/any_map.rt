@@ -1,6 +1,6 @@
 ghost use Rattle.std.specs.Prelude.{ℕ, ◌≡◌, ◌<◌, ◌∷◌, List, [], true, false, IfOk, OnOk, IfErr, IfSome, Ok, length, map, slice_index};
 ghost use Rattle.extents.specs.Indices.{indices};
-ghost use Rattle.record_dim.specs.LeafTypes.{IsIn, IsDeclared};
+ghost use Rattle.record_dim.specs.LeafTypes.{is_signed, IsIn, IsDeclared};
 ghost use Rattle.record_dim.specs.Schemas.{schema_fields};
 ghost use Rattle.record_dim.specs.Leaves.{kinds_of};
 ghost use Rattle.places.specs.Laws.{IsLocated};
@@ -8,10 +8,11 @@ ghost use Rattle.map_expr.specs.Terms.{term_of};
 ghost use Rattle.map_any.specs.Mappings.{leaf_cells, layout_by, holds_by, accepted, IsBuiltTerm, IsTooBigFor, IsRefusal};
 ghost use Rattle.map_any.specs.AnyLaws.{any_laws, holds_cells};
 ghost use Rattle.map_any.specs.Counters.{is_counted};
-ghost use Rattle.map_any.specs.LeafRules.{kind_in, hold_in, IsLeafRule, IsShortIn};
+ghost use Rattle.map_any.specs.LeafRules.{kind_in, hold_in, IsLeafRule};
 ghost use Rattle.map_any.specs.Maps.{extents_of, term_of_map};
 ghost use Rattle.map_any.specs.Ruled.{IsRuleOf};
-ghost use Rattle.map_any.specs.Shorts.{IsPlain};
+ghost use Rattle.short_rules.specs.Shorts.{IsShortIn};
+ghost use Rattle.short_rules.specs.Walks.{leads};
 
 use crate::any::AnyMap;
 use crate::bad_side::has_bad_side;
@@ -23,7 +24,6 @@ use crate::make::make_plan;
 use crate::not_full::has_part_not_full;
 use crate::orders::slot_of_row;
 use crate::rule::Rule;
-use crate::short::ShortRule;
 use extents::Extents;
 use map_expr::{BadMapping, MapExpr};
 use piece_rules::pieces_in;
@@ -67,6 +67,7 @@ impl AnyMap {
         let rules = leaf_rules(
             alloc,
             schema,
+            extents,
             plan.holds.as_slice(),
             plan.rules.as_slice(),
             is_counted(expr),
@@ -92,17 +93,19 @@ impl AnyMap {
         self.leaf_rule(leaf).rule.copy()
     }
 
-    /// The short form of where a leaf lies, where there is one. A mapping that counts has none, so no access to it goes uncounted.
+    /// What accesses to a leaf go by: the short form of its rule, where it has one, and the rule. A short form is of the sign of the leaf's
+    /// type, and a mapping that counts has none, so no access to it goes uncounted.
     #[inline(always)]
-    pub fn short(&self, leaf: usize) -> &ShortRule
+    pub fn short(&self, leaf: usize) -> &LeafRule
         requires { leaf < length (⟦<AnyMap as Mapping>⟧.cell_list self.now) }
-        ensures plain { result.now.is_plain ≡ true → IsPlain result.now }
-        ensures form { result.now.is_some ≡ true → IsShortIn (⟦<AnyMap as Mapping>⟧.layout self.now) (⟦<AnyMap as Mapping>⟧.slot_count self.now) leaf
+        ensures form { leads result.now.short.walk ≡ true → IsShortIn (⟦<AnyMap as Mapping>⟧.layout self.now) (⟦<AnyMap as Mapping>⟧.slot_count self.now) leaf
             (slice_index (map (λ h. h.width) (⟦<AnyMap as Mapping>⟧.hold_list self.now)) leaf)
-            (hold_in (⟦<AnyMap as Mapping>⟧.hold_list self.now) leaf).signed result.now }
-        ensures uncounted { result.now.is_some ≡ true → is_counted (term_of_map self.now) ≡ false }
+            (hold_in (⟦<AnyMap as Mapping>⟧.hold_list self.now) leaf) result.now.rule.pieces.items result.now.short }
+        ensures sign { leads result.now.short.walk ≡ true → (hold_in (⟦<AnyMap as Mapping>⟧.hold_list self.now) leaf).signed
+            ≡ is_signed (kind_in (map (λ cell. cell.kind) (⟦<AnyMap as Mapping>⟧.cell_list self.now)) leaf) }
+        ensures uncounted { leads result.now.short.walk ≡ true → is_counted (term_of_map self.now) ≡ false }
     {
-        &self.leaf_rule(leaf).short
+        self.leaf_rule(leaf)
     }
 
     /// Whether a value is sure to be declared for a leaf and held by it. False says nothing.
@@ -136,11 +139,23 @@ impl AnyMap {
         requires { leaf < length (⟦<AnyMap as Mapping>⟧.cell_list self.now) }
         ensures places { IsRuleOf (⟦<AnyMap as Mapping>⟧.layout self.now) self.now.extents leaf
             (slice_index (map (λ h. h.width) self.now.holds) leaf) result.now.rule }
-        ensures whole { IsLeafRule (kind_in (kinds_of (schema_fields self.now.schema)) leaf) (hold_in self.now.holds leaf) result.now }
-        ensures uncounted { is_counted (term_of_map self.now) ≡ true → result.now.short.is_some ≡ false }
+        ensures whole { IsLeafRule (kind_in (kinds_of (schema_fields self.now.schema)) leaf) self.now.extents (hold_in self.now.holds leaf) result.now }
+        ensures uncounted { is_counted (term_of_map self.now) ≡ true → leads result.now.short.walk ≡ false }
     {
         &self.rules.as_slice()[leaf]
     }
+}
+
+// Every field of a mapping stands here: it has a rule for each leaf, and no tree of mappings.
+fn every_field(map: &AnyMap) {
+    let AnyMap {
+        schema: _,
+        extents: _,
+        expr: _,
+        holds: _,
+        lengths: _,
+        rules: _,
+    } = map;
 }
 
 /// Whether an expression counts accesses, by leaf or by granule.

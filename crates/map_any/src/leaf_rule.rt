@@ -1,6 +1,6 @@
 use crate::rule::Rule;
-use crate::short::ShortRule;
 use lists::Sequence;
+use short_rules::ShortRule;
 
 /// Where a leaf lies in every row, with what is worked out once for all accesses to it.
 #[derive(Drop)]

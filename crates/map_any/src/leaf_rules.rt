@@ -1,49 +1,55 @@
 ghost use Rattle.std.specs.Prelude.{ℤ, ◌≡◌, ◌≤ℤ◌, true, false, IfOk, length};
-ghost use Rattle.record_dim.specs.LeafTypes.{IsIn, IsDeclared};
+ghost use Rattle.record_dim.specs.LeafTypes.{is_signed, IsIn, IsDeclared};
 ghost use Rattle.record_dim.specs.Schemas.{schema_fields};
 ghost use Rattle.record_dim.specs.Leaves.{kinds_of};
 ghost use Rattle.map_any.specs.LeafRules.{IsSameRule, IsLeafRule, AreLeafRules};
 ghost use Rattle.map_any.specs.Ruled.{EachWith};
+ghost use Rattle.short_rules.specs.Shorts.{IsShortOf};
+ghost use Rattle.short_rules.specs.Walks.{leads};
 
 use crate::leaf_rule::{LeafRule, RuleList};
 use crate::plan::hold_at;
 use crate::rule::Rule;
-use crate::short::ShortRule;
+use extents::Extents;
+use piece_bits::{greatest_held, least_held};
 use places::Hold;
 use record_dim::{LeafType, Schema};
+use short_rules::ShortRule;
 use std::alloc::{AllocError as NoMemory, Global};
 
-/// What the accesses to each leaf of a schema go by, given how each is stored and where. Where accesses are counted there is no short form.
+/// What the accesses to each leaf of a schema over an array go by, given how each is stored and where. Where accesses are counted there is
+/// no short form.
 pub fn leaf_rules(
     alloc: Global,
     schema: &Schema,
+    extents: &Extents,
     holds: &[Hold],
     rules: &[Rule],
     counted: bool,
 ) -> Result<RuleList, NoMemory>
     requires holds { length holds.now ≡ length (kinds_of (schema_fields schema.now)) }
     requires rules { length rules.now ≡ length (kinds_of (schema_fields schema.now)) }
-    ensures whole { IfOk result (AreLeafRules (kinds_of (schema_fields schema.now)) holds.now rules.now) }
-    ensures uncounted { IfOk result (λ leaves. counted ≡ true → EachWith (λ k leaf. leaf.short.is_some ≡ false) leaves) }
+    ensures whole { IfOk result (AreLeafRules (kinds_of (schema_fields schema.now)) extents.now holds.now rules.now) }
+    ensures uncounted { IfOk result (λ leaves. counted ≡ true → EachWith (λ k leaf. leads leaf.short.walk ≡ false) leaves) }
 {
     let mut leaves = RuleList::new(alloc);
     for leaf in 0..schema.leaf_count() {
         let hold = hold_at(holds, leaf);
-        leaves.push(leaf_rule(schema.leaf_type(leaf), hold, &rules[leaf], counted))?;
+        leaves.push(leaf_rule(schema.leaf_type(leaf), extents, hold, &rules[leaf], counted))?;
     }
     Ok(leaves)
 }
 
 /// What the accesses to a leaf go by, given its type, how it is stored and where.
-fn leaf_rule(kind: LeafType, hold: Hold, rule: &Rule, counted: bool) -> LeafRule
+fn leaf_rule(kind: LeafType, extents: &Extents, hold: Hold, rule: &Rule, counted: bool) -> LeafRule
     ensures rule { IsSameRule rule.now result.rule }
-    ensures whole { IsLeafRule kind hold result }
-    ensures uncounted { counted ≡ true → result.short.is_some ≡ false }
+    ensures whole { IsLeafRule kind extents.now hold result }
+    ensures uncounted { counted ≡ true → leads result.short.walk ≡ false }
 {
     let short = if counted {
         ShortRule::none()
     } else {
-        ShortRule::of(rule, hold)
+        short_rule(kind, extents, hold, rule)
     };
     let (least, greatest) = taken_range(kind, hold);
     LeafRule {
@@ -54,13 +60,27 @@ fn leaf_rule(kind: LeafType, hold: Hold, rule: &Rule, counted: bool) -> LeafRule
     }
 }
 
-/// The least and the greatest value that are sure to be declared and held: those of the type, where it is stored as it is, and else none.
+/// The short form of a rule, where it has one and the leaf is stored in the sign of its type.
+fn short_rule(kind: LeafType, extents: &Extents, hold: Hold, rule: &Rule) -> ShortRule
+    ensures form { leads result.walk ≡ true → IsShortOf rule.now.order extents.now rule.now.pieces.items hold result }
+    ensures sign { leads result.walk ≡ true → hold.signed ≡ is_signed kind }
+{
+    if hold.signed == kind.signed() {
+        ShortRule::of(rule.order, extents, rule.pieces.as_slice(), hold)
+    } else {
+        ShortRule::none()
+    }
+}
+
+/// The least and the greatest value that are declared and held. Where no hold is so wide, none is sure to be.
 fn taken_range(kind: LeafType, hold: Hold) -> (i128, i128)
     ensures { (value : ℤ) → result.0 ≤ℤ value → value ≤ℤ result.1 → IsDeclared kind value × IsIn hold.signed hold.width value }
 {
-    if hold.width == kind.width() && hold.signed == kind.signed() {
-        (kind.least(), kind.greatest())
-    } else {
-        (1, 0)
+    if hold.width == 0 || hold.width > 64 {
+        return (1, 0);
     }
+    (
+        kind.least().max(least_held(hold)),
+        kind.greatest().min(greatest_held(hold)),
+    )
 }

@@ -21,8 +21,6 @@ mod orders;
 mod plan;
 mod rule;
 mod runs;
-mod short;
-mod shorten;
 mod sides;
 mod split_plan;
 mod split_rules;
@@ -34,7 +32,4 @@ pub use leaf_rule::{LeafRule, RuleList};
 pub use map_expr::{BadMapping, MapExpr};
 pub use plan::{HoldList, LengthList};
 pub use rule::Rule;
-pub use short::ShortRule;
-
-#[cfg(test)]
-mod tests;
+pub use short_rules::{Field, ShortRule, Walk, Word};

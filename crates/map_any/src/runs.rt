@@ -19,8 +19,8 @@ impl AnyMap {
         join_bits(alloc, blob, &owners)
     }
 
-    // Whose each bit of a blob is. Leaves with no piece in the blob take no time, however many rows there are.
-    fn bit_owners(&self, alloc: Global, blob: usize) -> Result<Vec<RunOwner>, NoMemory>
+    /// Whose each bit of a blob is. Leaves with no piece in the blob take no time, however many rows there are.
+    pub fn bit_owners(&self, alloc: Global, blob: usize) -> Result<Vec<RunOwner>, NoMemory>
         requires blob_in { blob < length (⟦<AnyMap as Mapping>⟧.layout self.now) }
         requires few { length (slice_index_or (⟦<AnyMap as Mapping>⟧.layout self.now) blob []) ≤ 8 * 65536 }
         ensures { IfOk result (λ owners. owners.items ≡ map run_owner (slice_index_or (⟦<AnyMap as Mapping>⟧.layout self.now) blob [])) }

@@ -1,2 +1,4 @@
 pub mod Values
 pub mod Wholes
+pub mod FieldValues
+pub mod Bytes

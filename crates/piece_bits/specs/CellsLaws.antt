@@ -14,7 +14,7 @@ use Rattle.places.specs.Laws.{IsLaidOut, IsLocated}
 use Rattle.places.specs.NumbersLaws.{number_lt, bit_number, digit_lt}
 use Rattle.blobs.specs.Bits.{bit_in}
 use Rattle.piece_bits.specs.Spots.{spots_of, bit_at_spot, IsWithin, AreApart, IsOutside}
-use Rattle.piece_bits.specs.Tables.{with_entry, signs_and_widths, table_in, hold_at, AreLaid}
+use Rattle.piece_bits.specs.Tables.{with_entry, signs_and_widths, table_in, hold_at, AreSized, AreLaid}
 use Rattle.piece_bits.specs.LocatedLaws.{spot_count, spots_apart, pieces_within}
 use Rattle.piece_bits.specs.EntriesLaws.{read_is, set_is, padding_stands}
 
@@ -68,7 +68,7 @@ module _ {layout : List (List Owner)} {slots : ℕ} {holds : List Hold} {slot ce
   apart = spots_apart layout slot cell hold.width pieces here
 
   pub within : (blobs : List (List ℕ)) → AreLaid layout blobs → All (IsWithin blobs) pieces
-  within blobs are_laid = pieces_within layout slot cell hold.width pieces here blobs are_laid
+  within blobs are_laid = pieces_within layout slot cell hold.width pieces here blobs are_laid.sized
 
   -- what is read fits the hold, and says the entry
   pub read_small : (blobs : List (List ℕ)) (value : ℕ) → value ≡ number (bit_at_spot (bit_in blobs) (spots_of pieces)) (length (spots_of pieces)) → value < 2 ^ hold.width
@@ -114,19 +114,26 @@ module _ {layout : List (List Owner)} {slots : ℕ} {holds : List Hold} {slot ce
     written_padding =
         padding_stands layout slots holds at.laid (bit_in old) (bit_in new) slot cell (record { signed = false; width = 0 }) pieces value at.slot_in at.cell_in there' digits_at outside
 
--- blobs of the same lengths, whose padding stands, are laid out as before
-pub still_laid : (layout : List (List Owner)) (old new : List (List ℕ)) → AreLaid layout old → map (length {A = ℕ}) new ≡ map (length {A = ℕ}) old →
-    ((b p : ℕ) → owner_at layout b p ≡ Pad → bit_in new b p ≡ bit_in old b p) → AreLaid layout new
-still_laid layout old new laid same stands =
+-- blobs of the same lengths have those of the layout as before
+pub still_sized : (layout : List (List Owner)) (old new : List (List ℕ)) → AreSized layout old → map (length {A = ℕ}) new ≡ map (length {A = ℕ}) old → AreSized layout new
+still_sized layout old new sized same =
     let count : length new ≡ length old =
     sym (length-map new (length {A = ℕ})) ∙ ap (length {A = ℕ}) same ∙ length-map old (length {A = ℕ}) in
     record {
-      count = count ∙ laid.count;
+      count = count ∙ sized.count;
       lengths = λ b l.
-          (let in_old : b < length old = omega (arith, laid.count) in
+          (let in_old : b < length old = omega (arith, sized.count) in
           let in_new : b < length new = omega arith in
           let long : length (get_or new b []) ≡ length (get_or old b []) =
           sym (get_or-map (length {A = ℕ}) new b [] 0 in_new) ∙ ap (λ (w : List ℕ). get_or w b 0) same ∙ get_or-map (length {A = ℕ}) old b [] 0 in_old in
-          ap (λ (w : ℕ). 8 * w) long ∙ laid.lengths b l);
-      padding = λ b p pad. stands b p pad ∙ laid.padding b p pad;
+          ap (λ (w : ℕ). 8 * w) long ∙ sized.lengths b l);
+    }
+
+-- where the padding stands too, they are laid out as before
+pub still_laid : (layout : List (List Owner)) (old new : List (List ℕ)) → AreLaid layout old → map (length {A = ℕ}) new ≡ map (length {A = ℕ}) old →
+    ((b p : ℕ) → owner_at layout b p ≡ Pad → bit_in new b p ≡ bit_in old b p) → AreLaid layout new
+still_laid layout old new laid same stands =
+    record {
+      sized = still_sized layout old new laid.sized same;
+      padded = record { padding = λ b p pad. stands b p pad ∙ laid.padded.padding b p pad };
     }

@@ -7,3 +7,6 @@ pub mod SpotsOfLaws
 pub mod TableLaws
 pub mod WritesLaws
 pub mod OnePieceLaws
+pub mod Words
+pub mod WordsLaws
+pub mod Scattered

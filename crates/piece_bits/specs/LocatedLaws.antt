@@ -7,7 +7,7 @@ use Rattle.places.specs.Layout.{Owner, Pad, Bit, owner_at, field}
 use Rattle.places.specs.Laws.{IsPiece, IsLocated, owners_in}
 use Rattle.places.specs.ExactLaws.{length-field, field_at}
 use Rattle.piece_bits.specs.Spots.{spots_of, spot_at, IsWithin, AreApart}
-use Rattle.piece_bits.specs.Tables.{AreLaid}
+use Rattle.piece_bits.specs.Tables.{AreSized}
 use Rattle.piece_bits.specs.SpotsOfLaws.{spots_in}
 
 -- the owner of a place
@@ -50,11 +50,11 @@ module _ (layout : List (List Owner)) (row cell width : ℕ) (pieces : List Piec
       cc
 
   -- the pieces lie within blobs of the layout's lengths
-  pub pieces_within : (blobs : List (List ℕ)) → AreLaid layout blobs → All (IsWithin blobs) pieces
-  pieces_within blobs laid i d l =
+  pub pieces_within : (blobs : List (List ℕ)) → AreSized layout blobs → All (IsWithin blobs) pieces
+  pieces_within blobs sized i d l =
       let piece : IsPiece layout (get_or pieces i d) = located.each i d l in
       record {
-        blob_in = omega (arith, piece.blob_in, laid.count);
-        bits_in = omega (arith, piece.bits_in, laid.lengths (get_or pieces i d).blob piece.blob_in);
+        blob_in = omega (arith, piece.blob_in, sized.count);
+        bits_in = omega (arith, piece.bits_in, sized.lengths (get_or pieces i d).blob piece.blob_in);
         some = piece.some;
       }

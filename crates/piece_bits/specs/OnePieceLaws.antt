@@ -24,7 +24,7 @@ one_count piece =
     let more : 0 + piece.bits ≡ length (spots_of (piece ∷ [])) = (one_next piece).more in
     omega arith
 
-one_at : (piece : Piece) (k : ℕ) → k < piece.bits → spot_at (spots_of (piece ∷ [])) k ≡ (piece.blob, piece.bit + k)
+pub one_at : (piece : Piece) (k : ℕ) → k < piece.bits → spot_at (spots_of (piece ∷ [])) k ≡ (piece.blob, piece.bit + k)
 one_at piece k l =
     let from : 0 + k ≡ k = omega arith in
     ap (spot_at (spots_of (piece ∷ []))) (sym from) ∙ (one_next piece).at k l

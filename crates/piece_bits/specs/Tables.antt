@@ -30,8 +30,16 @@ hold_at holds cell = slice_index_or holds cell (record { signed = false; width =
 abbrev pub table_in : List (List Owner) → ℕ → List Hold → List (List ℕ) → List (List ℤ)
 table_in layout rows holds blobs = table_of layout rows (signs_and_widths holds) (bit_in blobs)
 
--- blobs have the lengths of a layout, and their padding is 0
-pub record AreLaid (layout : List (List Owner)) (blobs : List (List ℕ)) : Type 0 where
+-- blobs have the lengths of a layout
+pub record AreSized (layout : List (List Owner)) (blobs : List (List ℕ)) : Type 0 where
   pub count : length blobs ≡ length layout
   pub lengths : (b : ℕ) → b < length layout → 8 * length (slice_index_or blobs b []) ≡ length (slice_index_or layout b [])
+
+-- the padding of a layout is 0 in blobs
+pub record ArePadded (layout : List (List Owner)) (blobs : List (List ℕ)) : Type 0 where
   pub padding : (b p : ℕ) → owner_at layout b p ≡ Pad → bit_in blobs b p ≡ 0
+
+-- blobs have the lengths of a layout, and its padding is 0 in them
+pub record AreLaid (layout : List (List Owner)) (blobs : List (List ℕ)) : Type 0 where
+  pub sized : AreSized layout blobs
+  pub padded : ArePadded layout blobs

@@ -2,11 +2,15 @@
 #![tactic(auto)]
 
 mod entry;
-mod load;
+mod field;
 mod pieces;
+mod scattered;
 mod value;
+mod word;
 
 pub use entry::{read_entry, read_piece, write_entry, write_piece};
-pub use load::{put_value_at, value_at};
+pub use field::{Field, field_at, put_field_at};
 pub use pieces::{read_pieces, write_pieces};
+pub use scattered::{read_scattered, write_scattered};
 pub use value::{decode, encode};
+pub use word::{Word, read_word, write_word};

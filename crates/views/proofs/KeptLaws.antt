@@ -61,7 +61,7 @@ module _ (term : Term) (extents : List ℕ) (fields : Fields) (blobs : List (Lis
 
   -- the bytes of all blobs
   pub byte_count : 8 * sum_by (length {A = ℕ}) blobs ≡ sum_by (length {A = Owner}) (layout_by term extents fields)
-  byte_count = sum_lengths (layout_by term extents fields) blobs kept.laid.count kept.laid.lengths
+  byte_count = sum_lengths (layout_by term extents fields) blobs kept.laid.sized.count kept.laid.sized.lengths
 
   pub few_bytes : sum_by (length {A = ℕ}) blobs ≤ 2 ^ 28
   few_bytes =
@@ -73,8 +73,8 @@ module _ (term : Term) (extents : List ℕ) (fields : Fields) (blobs : List (Lis
   pub kept_blob : (b : ℕ) → b < length (layout_by term extents fields) →
       bits_of (get_or blobs b []) ≡ get_or (image (layout_by term extents fields) (table_under term extents fields blobs)) b []
   kept_blob b l =
-      blob_is (layout_by term extents fields) (table_under term extents fields blobs) blobs b l (kept.laid.lengths b l)
-      (image_from_padding (layout_by term extents fields) (length (indices extents)) (holds_by term fields) kept.lawful (bit_in blobs) (bit_in_lt blobs) kept.laid.padding)
+      blob_is (layout_by term extents fields) (table_under term extents fields blobs) blobs b l (kept.laid.sized.lengths b l)
+      (image_from_padding (layout_by term extents fields) (length (indices extents)) (holds_by term fields) kept.lawful (bit_in blobs) (bit_in_lt blobs) kept.laid.padded.padding)
 
   -- one fitting value is written
   pub kept_set : (new : List (List ℕ)) (row leaf : ℕ) (value : ℤ) → row < length (indices extents) → leaf < length (kinds_of fields) → AreLaid (layout_by term extents fields) new →

@@ -7,8 +7,11 @@ ghost use Rattle.piece_bits.specs.Tables.{AreLaid, hold_at, table_in, with_entry
 
 use crate::view::BlobList;
 use blobs::Blob;
-use map_any::AnyMap;
-use piece_bits::{put_value_at, read_entry, read_piece, value_at, write_entry, write_piece};
+use map_any::{AnyMap, Word};
+use piece_bits::{
+    read_entry, read_piece, read_scattered, read_word, write_entry, write_piece, write_scattered,
+    write_word,
+};
 use places::{Mapping, laws_of};
 
 /// The value of a leaf in a row where its rule has a short form. A mapping that counts has none.
@@ -22,10 +25,12 @@ pub fn short_read(map: &AnyMap, blobs: &[Blob], row: u64, leaf: usize) -> Option
     ensures uncounted { is_some result ≡ true → is_counted (term_of_map map.now) ≡ false }
 {
     laws_of(map);
-    let short = map.short(leaf);
-    match short.first_byte(row) {
-        Some(first) => Some(value_at(&blobs[short.blob], first, short.kind)),
-        None => None,
+    let rule = map.short(leaf);
+    let short = &rule.short;
+    let start = short.start(row)?;
+    match short.word {
+        Word::Scattered => Some(read_scattered(blobs, rule.rule.pieces.as_slice(), start, &short.field)),
+        word => Some(read_word(&blobs[short.blob], start, word, &short.field)),
     }
 }
 
@@ -60,13 +65,20 @@ pub fn short_write(map: &AnyMap, blobs: &mut BlobList, row: u64, leaf: usize, va
     ensures none { result ≡ false → blobs.new.items ≡ blobs.old.items }
 {
     laws_of(map);
-    let short = map.short(leaf);
-    match short.first_byte(row) {
-        Some(first) => {
-            put_value_at(&mut blobs[short.blob], first, short.kind, value);
+    let rule = map.short(leaf);
+    let short = &rule.short;
+    let Some(start) = short.start(row) else {
+        return false;
+    };
+    match short.word {
+        Word::Scattered => {
+            write_scattered(blobs, rule.rule.pieces.as_slice(), start, &short.field, value);
             true
         }
-        None => false,
+        word => {
+            write_word(&mut blobs[short.blob], start, word, &short.field, value);
+            true
+        }
     }
 }
 

@@ -1,4 +1,4 @@
-use Rattle.std.proofs.Common.{◌≡◌, ◌*◌, ◌<◌, ◌∙◌, ℕ, List, length, get_or, refl, ap, arith}
+use Rattle.std.proofs.Common.{◌≡◌, ◌<◌, ◌∙◌, ℕ, List, length, get_or, refl, ap, arith}
 use Rattle.record_dim.specs.Schemas.{schema_fields}
 use Rattle.record_dim.specs.Leaves.{kinds_of}
 use Rattle.map_expr.specs.Terms.{term_of}
@@ -6,6 +6,7 @@ use Rattle.map_any.specs.declared.any.AnyMap.{AnyMap}
 use Rattle.map_any.specs.declared.leaf_rule.LeafRule.{LeafRule}
 use Rattle.map_any.specs.AnyLaws.{length-leaf_cells}
 use Rattle.map_any.specs.Mappings.{leaf_cells, layout_by}
+use Rattle.short_rules.specs.Walks.{leads}
 use Rattle.map_any.proofs.LeafLaws.{leaf_placed, leaf_whole}
 use Rattle.map_any.proofs.any.AnyMap.leaf_rule.Goals as goal
 
@@ -46,4 +47,4 @@ returns-clause-uncounted c = λ counted.
     let m = c.args.self.now in
     let item : LeafRule = c.index-as_slice-leaf.result in
     let read : item ≡ get_or m.rules c.args.leaf item = c.index-as_slice-leaf.is ∙ ap (λ (rs : List LeafRule). get_or rs c.args.leaf item) c.as_slice.ensures in
-    ap (λ (l : LeafRule). l.short.is_some) read ∙ m.uncounted counted c.args.leaf item (inside m m.rules c.args.leaf refl c.requires)
+    ap (λ (l : LeafRule). leads l.short.walk) read ∙ m.uncounted counted c.args.leaf item (inside m m.rules c.args.leaf refl c.requires)

@@ -6,7 +6,7 @@ use Rattle.places.specs.declared.piece.Cell.{Cell}
 use Rattle.places.specs.declared.piece.Hold.{Hold}
 use Rattle.map_expr.specs.Terms.{Term, term_of}
 use Rattle.map_expr.specs.Checks.{checked, bad_number}
-use Rattle.map_any.specs.Mappings.{leaf_cells, layout_of, layout_by, holds_by, not_full, IsBuiltTerm}
+use Rattle.map_any.specs.Mappings.{leaf_cells, layout_by, not_full, IsBuiltTerm}
 use Rattle.map_any.specs.Counters.{is_counted}
 use Rattle.map_any.specs.LeafRules.{AreLeafRules}
 use Rattle.map_any.specs.Ruled.{IsRuled}
@@ -64,9 +64,9 @@ invariant_of-result c =
       ruled = leaves_ruled (layout_by copy extents fields) extents (kinds_of fields) plan.holds plan.rules c.in_ok-rules.rules
           (subst (λ (hs : List Hold). IsRuled (layout_by copy extents fields) extents (map (λ (h : Hold). h.width) hs) plan.rules) (sym planned.held) planned.ruled)
           (whole_holds copy extents fields (leaf_cells (kinds_of fields)) plan planned refl)
-          (subst (λ (f : Fields). AreLeafRules (kinds_of f) plan.holds plan.rules c.in_ok-rules.rules) trees
-          (subst (λ (hs : List Hold). AreLeafRules (kinds_of (schema_fields c.args.schema.now)) hs plan.rules c.in_ok-rules.rules) c.as_slice.ensures
-          (subst (λ (rs : List Rule). AreLeafRules (kinds_of (schema_fields c.args.schema.now)) c.as_slice.result.now rs c.in_ok-rules.rules) c.as_slice-2.ensures
+          (subst (λ (f : Fields). AreLeafRules (kinds_of f) extents plan.holds plan.rules c.in_ok-rules.rules) trees
+          (subst (λ (hs : List Hold). AreLeafRules (kinds_of (schema_fields c.args.schema.now)) extents hs plan.rules c.in_ok-rules.rules) c.as_slice.ensures
+          (subst (λ (rs : List Rule). AreLeafRules (kinds_of (schema_fields c.args.schema.now)) extents c.as_slice.result.now rs c.in_ok-rules.rules) c.as_slice-2.ensures
           c.in_ok-rules.ensures.whole)));
       uncounted = λ counted. c.in_ok-rules.ensures.uncounted (c.is_counted.ensures ∙ ap is_counted (sym same) ∙ counted);
     }

@@ -1,11 +1,14 @@
-use Rattle.map_any.proofs.LeafLaws.{short_in, short_uncounted}
+use Rattle.record_dim.specs.Schemas.{schema_fields}
+use Rattle.record_dim.specs.Leaves.{kinds_of}
+use Rattle.map_any.specs.LeafCells.{leaf_cells_kinds}
+use Rattle.map_any.proofs.LeafLaws.{leaf_short, short_uncounted}
 use Rattle.map_any.proofs.any.AnyMap.short.Goals as goal
 
-pub returns-clause-plain : goal.returns-clause-plain
-returns-clause-plain c = λ one. c.leaf_rule.ensures.whole.plain one
-
 pub returns-clause-form : goal.returns-clause-form
-returns-clause-form c = λ some. short_in _ _ _ _ _ _ c.leaf_rule.result.now c.leaf_rule.ensures.places c.leaf_rule.ensures.whole some
+returns-clause-form c = λ some. leaf_short _ _ _ _ _ _ c.leaf_rule.result.now c.leaf_rule.ensures.places c.leaf_rule.ensures.whole some
+
+pub returns-clause-sign : goal.returns-clause-sign
+returns-clause-sign c = λ some. rw (leaf_cells_kinds (kinds_of (schema_fields c.args.self.now.schema))) (c.leaf_rule.ensures.whole.sign some)
 
 pub returns-clause-uncounted : goal.returns-clause-uncounted
 returns-clause-uncounted c = short_uncounted _ _ c.leaf_rule.ensures.uncounted

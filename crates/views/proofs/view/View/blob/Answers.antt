@@ -15,6 +15,6 @@ returns c =
     let blobs = a.blobs.items in
     let kept = c.self.invariant.1 in
     let b_in : b < length (layout_by (term_of a.expr) a.extents (schema_fields a.schema)) = subst (λ (s : Seen). b < length (seen_layout s)) (sym c.self.view_is) c.requires in
-    let in_blobs : b < length blobs = omega (arith, kept.laid.count) in
+    let in_blobs : b < length blobs = omega (arith, kept.laid.sized.count) in
     let same : c.index.result.now ≡ get_or blobs b [] = get_or_read blobs b c.index.result.now in_blobs c.index.ensures [] in
     ap bits_of same ∙ kept_blob (term_of a.expr) a.extents (schema_fields a.schema) blobs kept b b_in ∙ ap (λ (s : Seen). blob_bits_of s b) c.self.view_is

@@ -1,0 +1,111 @@
+-- Some bytes as one number, the least significant first or last.
+use Rattle.std.proofs.Common.{◌≡◌, ℕ, zero, suc, ◌+◌, ◌*◌, ◌-◌, ◌/◌, ◌%◌, ◌^◌, ◌<◌, ◌≤◌, List, length, get_or, mod-eq_of_lt, refl, sym, ap, ◌∙◌, subst, ⊎_elim, arith}
+use Rattle.std.specs.Int.{bit_at}
+use Rattle.std.proofs.lemmas.Bool.{cases_lt}
+use Rattle.std.proofs.lemmas.Nat.{pow-add}
+use Rattle.std.proofs.lemmas.Nat.Bits.{bit_at-lt, bit_at_above, bit_at_cat_low, bit_at_cat_high}
+use Rattle.std.proofs.Math.Nat.{pow-suc}
+use Rattle.byteorder.specs.Endian.{little_from}
+use Rattle.places.specs.Image.{number}
+use Rattle.places.specs.NumbersLaws.{number_same, number_bits, number_lt, bit_number}
+use Rattle.blobs.specs.Bits.{bit_of, AreBytes}
+use Rattle.blobs.specs.Turned.{turned_from, turned_place}
+use Rattle.blobs.specs.BytesLaws.{bit_of_byte}
+use Rattle.blobs.specs.FieldsLaws.{past_end}
+
+-- a bit of a byte and of the number above it
+low_bit : (byte above k : ℕ) → k < 8 → bit_at (byte + 256 * above) k ≡ bit_at byte k
+low_bit byte above k h =
+    let same : byte + 256 * above ≡ above * 2 ^ 8 + byte = omega arith in
+    ap (λ (w : ℕ). bit_at w k) same ∙ bit_at_cat_low above 8 byte k h
+
+high_bit : (byte above k : ℕ) → byte < 256 → 8 ≤ k → bit_at (byte + 256 * above) k ≡ bit_at above (k - 8)
+high_bit byte above k fits h =
+    let same : byte + 256 * above ≡ above * 2 ^ 8 + byte = omega arith in
+    ap (λ (w : ℕ). bit_at w k) same ∙ bit_at_cat_high above 8 byte k fits h
+
+-- bit k of the number in n bytes is bit k % 8 of byte k / 8 of them
+bits_of_bytes : (xs : List ℕ) (i n k : ℕ) → AreBytes xs → k < 8 * n → bit_at (little_from i n xs) k ≡ bit_at (get_or xs (i + k / 8) 0) (k % 8)
+bits_of_bytes xs i zero k fits h = absurd (omega arith)
+bits_of_bytes xs i (suc n) k fits h =
+    let byte : ℕ = get_or xs i 0 in
+    ⊎_elim
+    (λ (l : k < 8).
+    let index : i ≡ i + k / 8 = omega arith in
+    let bit : k ≡ k % 8 = omega arith in
+    low_bit byte (little_from (suc i) n xs) k l ∙ ap (λ (w : ℕ). bit_at (get_or xs w 0) k) index ∙ ap (bit_at (get_or xs (i + k / 8) 0)) bit)
+    (λ (l : 8 ≤ k).
+    let index : suc i + (k - 8) / 8 ≡ i + k / 8 = omega arith in
+    let bit : (k - 8) % 8 ≡ k % 8 = omega arith in
+    high_bit byte (little_from (suc i) n xs) k (fits i) l ∙ bits_of_bytes xs (suc i) n (k - 8) fits (omega arith)
+    ∙ ap (λ (w : ℕ). bit_at (get_or xs w 0) ((k - 8) % 8)) index ∙ ap (bit_at (get_or xs (i + k / 8) 0)) bit)
+    (cases_lt k 8)
+
+-- in reverse order it is that of the byte that stands k / 8 before the last
+bits_of_turned : (xs : List ℕ) (i n k : ℕ) → AreBytes xs → k < 8 * n → bit_at (turned_from i n xs) k ≡ bit_at (get_or xs (i + (n - 1 - k / 8)) 0) (k % 8)
+bits_of_turned xs i zero k fits h = absurd (omega arith)
+bits_of_turned xs i (suc n) k fits h =
+    let byte : ℕ = get_or xs (i + n) 0 in
+    ⊎_elim
+    (λ (l : k < 8).
+    let index : i + n ≡ i + (suc n - 1 - k / 8) = omega arith in
+    let bit : k ≡ k % 8 = omega arith in
+    low_bit byte (turned_from i n xs) k l ∙ ap (λ (w : ℕ). bit_at (get_or xs w 0) k) index ∙ ap (bit_at (get_or xs (i + (suc n - 1 - k / 8)) 0)) bit)
+    (λ (l : 8 ≤ k).
+    let index : i + (n - 1 - (k - 8) / 8) ≡ i + (suc n - 1 - k / 8) = omega arith in
+    let bit : (k - 8) % 8 ≡ k % 8 = omega arith in
+    high_bit byte (turned_from i n xs) k (fits (i + n)) l ∙ bits_of_turned xs i n (k - 8) fits (omega arith)
+    ∙ ap (λ (w : ℕ). bit_at (get_or xs w 0) ((k - 8) % 8)) index ∙ ap (bit_at (get_or xs (i + (suc n - 1 - k / 8)) 0)) bit)
+    (cases_lt k 8)
+
+-- the number in n bytes is below 256^n
+little_small : (xs : List ℕ) (i n : ℕ) → AreBytes xs → little_from i n xs < 256 ^ n
+little_small xs i zero fits = omega arith
+little_small xs i (suc n) fits = omega (arith, fits i, little_small xs (suc i) n fits, pow-suc 256 n)
+
+turned_small : (xs : List ℕ) (i n : ℕ) → AreBytes xs → turned_from i n xs < 256 ^ n
+turned_small xs i zero fits = omega arith
+turned_small xs i (suc n) fits = omega (arith, fits (i + n), turned_small xs i n fits, pow-suc 256 n)
+
+-- powers of 256
+pub bytes_power : (m : ℕ) → 256 ^ m ≡ 2 ^ (8 * m)
+bytes_power zero = refl
+bytes_power (suc m) =
+    let size : 8 * suc m ≡ 8 * m + 8 = omega arith in
+    let power : 2 ^ (8 * m + 8) ≡ 2 ^ (8 * m) * 2 ^ 8 = pow-add 2 (8 * m) 8 in
+    pow-suc 256 m ∙ ap (λ (w : ℕ). w * 256) (bytes_power m) ∙ sym (ap (λ (w : ℕ). 2 ^ w) size ∙ power)
+
+-- a number of n bits is that of its bits
+number_of : (word m n : ℕ) (bits : ℕ → ℕ) → n ≡ 8 * m → word < 256 ^ m → ((k : ℕ) → k < n → bit_at word k ≡ bits k) → word ≡ number bits n
+number_of word m n bits size small same =
+    let power : 256 ^ m ≡ 2 ^ n = bytes_power m ∙ ap (λ (w : ℕ). 2 ^ w) (sym size) in
+    let fits : word < 2 ^ n = subst (λ (w : ℕ). word < w) power small in
+    sym (mod-eq_of_lt fits) ∙ sym (number_bits word n) ∙ number_same (λ k. (word / 2 ^ k) % 2) bits n same
+
+-- a number that is read off m bytes is that of their bits
+pub whole_read : (bytes : List ℕ) (at m n word : ℕ) → n ≡ 8 * m → AreBytes bytes → word ≡ little_from at m bytes → word ≡ number (λ k. bit_of bytes (8 * at + k)) n
+whole_read bytes at m n word size fits is =
+    is ∙ number_of (little_from at m bytes) m n (λ k. bit_of bytes (8 * at + k)) size (little_small bytes at m fits)
+    (λ k h. bits_of_bytes bytes at m k fits (omega arith) ∙ sym (bit_of_byte bytes (8 * at + k) (at + k / 8) (k % 8) (omega arith) (omega arith)))
+
+pub turned_read : (bytes : List ℕ) (at m n word : ℕ) → n ≡ 8 * m → AreBytes bytes → word ≡ turned_from at m bytes
+    → word ≡ number (λ k. bit_of bytes (8 * at + turned_place n k)) n
+turned_read bytes at m n word size fits is =
+    is ∙ number_of (turned_from at m bytes) m n (λ k. bit_of bytes (8 * at + turned_place n k)) size (turned_small bytes at m fits)
+    (λ k h. bits_of_turned bytes at m k fits (omega arith)
+    ∙ sym (bit_of_byte bytes (8 * at + turned_place n k) (at + (m - 1 - k / 8)) (k % 8) (omega arith) (omega arith)))
+
+-- a bit of it
+pub word_bit : (bytes : List ℕ) (at word k : ℕ) → AreBytes bytes → word ≡ little_from at 8 bytes → k < 64 → bit_at word k ≡ bit_of bytes (8 * at + k)
+word_bit bytes at word k fits is h =
+    ap (λ (w : ℕ). bit_at w k) is ∙ bits_of_bytes bytes at 8 k fits h ∙ sym (bit_of_byte bytes (8 * at + k) (at + k / 8) (k % 8) (omega arith) (omega arith))
+
+-- fewer than eight bytes before the end, as a number
+pub last_bit : (bytes : List ℕ) (at n word k : ℕ) → 8 * at + n ≡ 8 * length bytes → word ≡ number (λ k. bit_of bytes (8 * at + k)) n → bit_at word k ≡ bit_of bytes (8 * at + k)
+last_bit bytes at n word k end is =
+    let binary : (j : ℕ) → j < n → bit_of bytes (8 * at + j) < 2 = λ j h. bit_at-lt (get_or bytes ((8 * at + j) / 8) 0) ((8 * at + j) % 8) in
+    let small : number (λ k. bit_of bytes (8 * at + k)) n < 2 ^ n = number_lt (λ k. bit_of bytes (8 * at + k)) n binary in
+    ap (λ (w : ℕ). bit_at w k) is
+    ∙ ⊎_elim (λ (l : k < n). bit_number (λ k. bit_of bytes (8 * at + k)) n k binary l)
+    (λ (l : n ≤ k). bit_at_above (number (λ k. bit_of bytes (8 * at + k)) n) n k small l ∙ sym (past_end bytes (8 * at + k) (omega arith)))
+    (cases_lt k n)

@@ -1,0 +1,76 @@
+-- The raw call that makes a row of places. Assumes `Logic`.
+use mathlib.Core.Path.{◌≡◌, refl, sym, subst, ap, ◌∙◌}
+use mathlib.Core.Bool.{Bool}
+use Prim.Native.Nat.{ℕ, ◌*◌, ◌<◌, ◌^◌}
+use mathlib.Core.List.{List, [], ◌∷◌}
+use lib.Dec.{T}
+use lib.ListN.{length}
+use seplogic.Ra.Ura.{Ura}
+use mir.Syntax.{w64}
+use mir.Val.{Val, vint, vptr, has_ty, WT}
+use base.Logic.{SProp, ent, sep, ex, guard, emp, id⊢}
+use base.Fml.{Lft, Share, ftrue, fsep, flft}
+use prog.Memory.{Memory}
+use prog.Routine.{Routine}
+use types.Logic.{Logic, sem}
+use contract.BorrowLft.{◌⊑◌}
+use contract.Monad.{Fun, fact, fact_i}
+use types.Kit.{Goal, Seq, Item, ‵, raw, ◌⊛◌, some, later, ◌$◌, ◌∵◌, !, qed, move, keep, drop, use0, use1, split, join, pick, rewrite, fjoin, fjoin3, feq_i, flt_i, check, show, await, updating, now, done}
+use denote.RattleType.{RattleType}
+use denote.Param.{layout}
+use denote.RawPtr.{block_ptr}
+use denote.Steps.{only, heard, nothing}
+use denote.Triple.Spec.{triple_of}
+use denote.Triple.Statement.{Contract}
+use Rattle.core.specs.Mem.Slots.Ownership.{slots}
+use Rattle.core.specs.Mem.Slots.{slots_items, slots_filled, slots_ptr, slots_len}
+use Rattle.core.specs.contracts.slots.Slots.from_raw_parts as FR
+use Rattle.core.proofs.mem.Param.{El, el_x, R}
+use Rattle.core.proofs.slots.Places.{sz}
+use Rattle.core.proofs.slots.Opens.{Sr, words_val, row_val, row_had, row_made}
+
+module _ (E : El) where
+  abbrev pub Row : RattleType
+  Row = Sr E
+
+  pub row_Typed : (v : Val) (b o n : ℕ) → v ≡ row_val b o n → n < 2 ^ 64 → T (has_ty (layout Row) v) × WT v
+  row_Typed v b o n e fn = subst (λ (z : Val). T (has_ty (layout Row) z) × WT z) (sym e) (tt, (tt, (record { fits = fn }, tt)))
+
+module _ (E : El) {M : Type 1} {𝓤 : Ura M} {𝓛 : Logic 𝓤} {K : Type 0} {Γ : List (Item 𝓤)} {G : Goal 𝓤 𝓛.H} where
+  -- the row's two words are learned, and the row stays
+  row_seen : K → (r : (Row E).Denot) (vs : List Val)
+      → ((b o : ℕ) → slots_ptr r ≡ block_ptr b o → vs ≡ row_val b o (slots_len r) ∷ [] → slots_len r < 2 ^ 64 → slots_len r * sz E < 2 ^ 63 → Seq K 𝓛 (‵ ((Row E).own_val r (row_val b o (slots_len r) ∷ [])) ∷ Γ) G)
+      → Seq K 𝓛 (‵ ((Row E).own_val r vs) ∷ Γ) G
+  row_seen t r vs k = row_had E t r vs (λ b o at e fn fit. row_made E t r b o at fn fit $ k b o at e fn fit)
+
+module _ (E : El) {M : Type 1} {𝓤 : Ura M} (𝓛 : Logic 𝓤) (at_mem : Memory → SProp 𝓤) (run : Routine → Fun 𝓤) where
+  open 𝓛 use {H, A}
+
+  abbrev pub From : Contract 𝓤
+  From = triple_of 𝓛 (FR.signature E.row) (FR.spec E.row 𝓛 at_mem run)
+
+  module _ (κ : Lft) (q : Share) (b o n : ℕ) (xs : List (el_x E)) (fs : List Bool) where
+    abbrev pub at_from : From.Ghost
+    at_from = (((κ, tt), (q, tt), tt, (block_ptr b o, (n, tt)), (vptr b o ∷ [], (vint w64 n ∷ [], tt))), (xs, fs))
+
+    abbrev pub Made : (Row E).Denot → Type 0
+    Made r = (slots_ptr r ≡ block_ptr b o) × (slots_len r ≡ n) × (slots_items r ≡ xs) × (slots_filled r ≡ fs)
+
+    pub from_goes : κ ⊑ E.row.lives → n ≡ length xs → n ≡ length fs → n < 2 ^ 64 → n * sz E < 2 ^ 63
+        → ent 𝓤 (sep 𝓤 (sem 𝓛 (slots (R E) (block_ptr b o) xs fs)) (A.lft κ q)) (From.pre at_from)
+    from_goes le lx lf fn fit =
+        let Ok : Type 0 = (n ≡ length xs) × (n ≡ length fs) in
+        qed 𝓛 (‵ (slots (R E) (block_ptr b o) xs fs) ∷ ‵ (flft κ q) ∷ []) ∵ flt_i ! (n * sz E) (2 ^ 63) fit $ fjoin ! $
+        use0 𝓛 (raw (fact 𝓤 Ok)) (fact_i 𝓤 Ok (emp 𝓤) (lx, lf)) $ join ! $ use0 𝓛 (raw (fact 𝓤 (κ ⊑ E.row.lives))) (fact_i 𝓤 (κ ⊑ E.row.lives) (emp 𝓤) le) $ join ! $
+        nothing ! $ flt_i ! n (2 ^ 64) fn $ feq_i ! (List Val) (vint w64 n ∷ []) (vint w64 n ∷ []) refl $ fjoin ! $ feq_i ! (List Val) (vptr b o ∷ []) (vptr b o ∷ []) refl $ fjoin3 ! $
+        nothing ! $ move ! (3 ∷ 0 ∷ []) $ join ! $ join ! $ done !
+
+    pub from_gives : (v : Val) → ent 𝓤 (From.post at_from v)
+        (H.⇛ (ex 𝓤 (λ (r : (Row E).Denot). guard 𝓤 ((v ≡ row_val b o n) × Made r) (sep 𝓤 (sem 𝓛 ((Row E).own_val r (row_val b o n ∷ []))) (A.lft κ q)))))
+    from_gives v =
+        qed 𝓛 (raw (From.post at_from v) ∷ []) ∵ updating ! $
+        use1 𝓛 (later (some (λ (r : (Row E).Denot). ((‵ (flft κ q) ⊛ ‵ ftrue) ⊛ ‵ ((Row E).own_val r (v ∷ []))) ⊛ some (λ (ws : Unit {0} × (Unit {0} × Unit {0})). ‵ (fsep ftrue (fsep ftrue ftrue)) ⊛ raw (fact 𝓤 (Made r)))))) (id⊢ 𝓤 _) $ await ! tt $ pick ! (λ r.
+        split ! $ move ! (1 ∷ []) $ pick ! (λ ws. split ! $ drop ! $ heard ! (Made r) (λ is. split ! $ split ! $ move ! (2 ∷ []) $ row_seen E ! r (v ∷ []) (λ b' o' at e fn fit.
+        let same : row_val b' o' (slots_len r) ≡ row_val b o n = λ i. words_val ((sym at ∙ is.0) i) (is.1 i) in
+        rewrite ! 0 (λ (u : Val). ‵ ((Row E).own_val r (u ∷ []))) same refl $ now ! $
+        show ! (λ (d : (Row E).Denot). guard 𝓤 ((v ≡ row_val b o n) × Made d) (sep 𝓤 (sem 𝓛 ((Row E).own_val d (row_val b o n ∷ []))) (A.lft κ q))) r $ check ! (ap only e ∙ same, is) $ keep ! (0 ∷ 1 ∷ []) $ done !))))

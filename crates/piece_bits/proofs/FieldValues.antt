@@ -1,0 +1,34 @@
+-- The number that a field of bits says, as the code works it out.
+use Rattle.std.proofs.Common.{◌≡◌, ℕ, ◌+◌, ◌-◌, ◌%◌, ◌^◌, ◌<◌, ◌≤◌, Bool, true, false, pos, ◌-ℤ◌, ap, ◌∙◌, ⊎_elim, arith}
+use Rattle.std.proofs.lemmas.Int.{ints}
+use Rattle.std.proofs.lemmas.Nat.{pow_pos}
+use Rattle.std.proofs.lemmas.Bool.{cases_lt}
+use Rattle.std.proofs.Math.Nat.{mod-eq_of_lt, mod-eq-sub-mod}
+use Rattle.places.specs.Image.{decoded}
+use Rattle.places.specs.NumbersLaws.{decoded_low, decoded_high, half_of}
+use Rattle.piece_bits.specs.Words.{half_range}
+
+-- half of the range is added within the width, and taken off again
+pub moved_field : (signed : Bool) (width bits : ℕ) → 1 ≤ width → bits < 2 ^ width
+    → pos ((bits + half_range signed width) % 2 ^ width) -ℤ pos (half_range signed width) ≡ decoded signed width bits
+moved_field false width bits some small =
+    let none : bits + 0 ≡ bits = omega arith in
+    let same : (bits + 0) % 2 ^ width ≡ bits = ap (λ (n : ℕ). n % 2 ^ width) none ∙ mod-eq_of_lt small in
+    omega (arith, ints, same)
+moved_field true width bits some small =
+    let double = half_of width some in
+    let power = pow_pos (width - 1) in
+    let half : ℕ = 2 ^ (width - 1) in
+    ⊎_elim
+    (λ (low : bits < 2 ^ (width - 1)).
+    let fits : bits + 2 ^ (width - 1) < 2 ^ width = omega (arith, double) in
+    let same : (bits + 2 ^ (width - 1)) % 2 ^ width ≡ bits + 2 ^ (width - 1) = mod-eq_of_lt fits in
+    let is : decoded true width bits ≡ pos bits = decoded_low width bits low in
+    omega (arith, ints, same, is))
+    (λ (high : 2 ^ (width - 1) ≤ bits).
+    let over : 2 ^ width ≤ bits + 2 ^ (width - 1) = omega (arith, double) in
+    let fits : bits + 2 ^ (width - 1) - 2 ^ width < 2 ^ width = omega (arith, double) in
+    let same : (bits + 2 ^ (width - 1)) % 2 ^ width ≡ bits + 2 ^ (width - 1) - 2 ^ width = mod-eq-sub-mod over ∙ mod-eq_of_lt fits in
+    let is : decoded true width bits ≡ pos bits -ℤ pos (2 ^ width) = decoded_high width bits high in
+    omega (arith, ints, double, same, is))
+    (cases_lt bits (2 ^ (width - 1)))

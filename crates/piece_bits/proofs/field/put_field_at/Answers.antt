@@ -1,0 +1,38 @@
+use Rattle.std.proofs.Common.{◌≡◌, ℕ, ℤ, ◌+◌, ◌/◌, ◌%◌, ◌^◌, ◌<◌, ◌≤◌, sym, ap, ◌∙◌, subst, arith, rules, SFits}
+use Rattle.std.specs.Int.{w128, bit_at}
+use Rattle.std.proofs.lemmas.Int.{to_z-of_z}
+use Rattle.places.specs.Image.{number, digit}
+use Rattle.places.specs.NumbersLaws.{number_lt, digit_lt}
+use Rattle.blobs.specs.BytesLaws.{IsPut, byte_and_bit}
+use Rattle.blobs.specs.FieldsLaws.{field_put, window_written}
+use Rattle.piece_bits.proofs.field.put_field_at.Goals as goal
+use Rattle.piece_bits.proofs.field.put_field_at.Goals.{After-encode-code, After-put_window}
+
+code : (c : goal.After-encode-code) → c.encode-code.result ≡ number (digit c.args.value) c.args.field.now.width
+code c =
+    let fits : SFits w128 c.args.value = search rules in
+    c.encode-code.ensures ∙ ap (λ (v : ℤ). number (digit v) c.args.field.now.width) (to_z-of_z w128 c.args.value fits)
+
+pub with_bits-word-requires-clause-fits : goal.with_bits-word-requires-clause-fits
+with_bits-word-requires-clause-fits c =
+    subst (λ (w : ℕ). w < 2 ^ c.args.field.now.width) (sym (code (goal.at.with_bits-word-requires-clause-fits c).After-encode-code))
+    (number_lt (digit c.args.value) c.args.field.now.width (λ k l. digit_lt c.args.value k))
+
+written : (c : goal.After-put_window) → IsPut c.args.blob.now c.put_window.new.self c.args.at c.args.field.now.width c.encode-code.result
+written c =
+    let at = c.args.at in
+    let old = c.args.blob.now in
+    let width = c.args.field.now.width in
+    let within : at % 8 + width ≤ 64 = omega (arith, c.requires.form.narrow) in
+    let changed = c.with_bits-word.ensures in
+    field_put old c.put_window.new.self at (at / 8) (at % 8) width c.encode-code.result c.window.result c.with_bits-word.result
+    (byte_and_bit at) within c.window.ensures changed.inside changed.before changed.after
+    (window_written old c.put_window.new.self at (at / 8) (at % 8) width c.window.result c.with_bits-word.result (byte_and_bit at) c.requires.within
+    c.put_window.ensures.len c.window.ensures changed.after c.put_window.ensures.inside)
+    c.put_window.ensures.before c.put_window.ensures.after
+
+pub returns-clause-inside : goal.returns-clause-inside
+returns-clause-inside c = λ k l. (written c).inside k l ∙ ap (λ (w : ℕ). bit_at w k) (code (goal.at.returns-clause-inside c).After-encode-code)
+
+pub returns-clause-after : goal.returns-clause-after
+returns-clause-after c = (written c).after

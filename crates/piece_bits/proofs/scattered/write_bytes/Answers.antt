@@ -1,0 +1,53 @@
+use Rattle.std.proofs.Common.{◌≡◌, ◌+◌, ◌/◌, ◌^◌, ◌<◌, ◌∙◌, ℕ, List, [], get_or, length, ap, arith}
+use Rattle.std.proofs.lemmas.Grind.{common_steps}
+use Rattle.std.proofs.lemmas.List.{get_or_default}
+use Rattle.blobs.specs.Bits.{bit_of}
+use Rattle.piece_bits.specs.Scattered.{byte_of, scattered_pieces}
+use Rattle.piece_bits.specs.Spots.{spots_of, IsWithin}
+use Rattle.piece_bits.specs.SpotsOfLaws.{IsNext}
+use Rattle.piece_bits.specs.WritesLaws.{AreWritten, within_same, write_next}
+use Rattle.piece_bits.proofs.Bytes.{byte_next, byte_within, byte_bound}
+use Rattle.piece_bits.proofs.scattered.write_bytes.Goals as goal
+use Rattle.piece_bits.proofs.scattered.write_bytes.Goals.{After-bits_in_word-byte}
+
+within : (c : After-bits_in_word-byte) → IsWithin c.loop-rule.blobs.items (byte_of c.args.place c.rule-item.result)
+within c =
+    within_same c.args.blobs.now.items c.loop-rule.blobs.items (byte_of c.args.place c.rule-item.result) c.loop-rule.invariant.lengths
+    (byte_within c.args.rules.now c.args.place c.loop-rule.rule-index c.rule-item.result c.loop-rule-test.true c.rule-item.is c.args.blobs.now.items c.requires.within)
+
+pub index_mut-requires : goal.index_mut-requires
+index_mut-requires c =
+    let low : c.rule-item.result.blob < length c.loop-rule.blobs.items = (within (goal.at.index_mut-requires c).After-bits_in_word-byte).blob_in in
+    grind (arith, common_steps, low)
+
+pub overflow_add-rule : goal.overflow_add-rule
+overflow_add-rule c =
+    let low = byte_bound c.args.rules.now c.args.place c.loop-rule.rule-index c.rule-item.result c.loop-rule-test.true c.rule-item.is c.requires.bound in
+    let fits : c.rule-item.result.base / 8 + c.args.place < 2 ^ 64 = omega arith in
+    omega arith
+
+pub put_whole-requires-clause-within : goal.put_whole-requires-clause-within
+put_whole-requires-clause-within c =
+    let d = (goal.at.put_whole-requires-clause-within c).After-bits_in_word-byte in
+    let blob : c.index_mut.result.now ≡ get_or c.loop-rule.blobs.items c.rule-item.result.blob [] =
+    c.index_mut.ensures.value ∙ get_or_default c.loop-rule.blobs.items c.rule-item.result.blob _ [] (within d).blob_in in
+    omega (arith, (within d).bits_in, ap (length {A = ℕ}) blob)
+
+pub loop-rule-preserved : goal.loop-rule-preserved
+loop-rule-preserved c =
+    let d = (goal.at.loop-rule-preserved c).After-bits_in_word-byte in
+    let byte = byte_of c.args.place c.rule-item.result in
+    let pieces = scattered_pieces c.args.rules.now c.args.place in
+    let next : IsNext (scattered_pieces c.args.rules.now c.args.place) c.loop-rule.rule-index c.loop-rule.done (byte_of c.args.place c.rule-item.result) =
+    byte_next c.args.rules.now c.args.place c.loop-rule.rule-index c.rule-item.result c.loop-rule-test.true c.rule-item.is c.loop-rule.done c.loop-rule.invariant.so_far in
+    let old = get_or c.loop-rule.blobs.items byte.blob [] in
+    let blob : c.index_mut.result.now ≡ old =
+    c.index_mut.ensures.value ∙ get_or_default c.loop-rule.blobs.items byte.blob _ [] (within d).blob_in in
+    let put = c.put_whole.ensures in
+    let same : (k : ℕ) → bit_of c.index_mut.result.now k ≡ bit_of old k = λ k. ap (λ (w : List ℕ). bit_of w k) blob in
+    let so_far : AreWritten c.args.blobs.now.items c.loop-rule.blobs.items (spots_of pieces) c.loop-rule.done c.args.value =
+    record { inside = c.loop-rule.invariant.inside; outside = c.loop-rule.invariant.outside; lengths = c.loop-rule.invariant.lengths } in
+    let now = write_next c.args.blobs.now.items c.loop-rule.blobs.items pieces c.loop-rule.rule-index c.loop-rule.done c.args.value byte
+    so_far next (within d) c.requires.apart c.put_whole.new.self c.bits_in_word-byte.result c.bits_in_word-byte.ensures
+    put.inside (λ k l. put.before k l ∙ same k) (λ k l. put.after k l ∙ same k) (put.len ∙ ap (length {A = ℕ}) blob) in
+    record { so_far = next.more; inside = now.inside; outside = now.outside; lengths = now.lengths }

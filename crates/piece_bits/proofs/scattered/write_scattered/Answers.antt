@@ -1,0 +1,23 @@
+use Rattle.std.proofs.Common.{◌≡◌, ◌∙◌, ℕ, ℤ, length, ap, subst, arith, SFits, rules}
+use Rattle.std.specs.Int.{w128}
+use Rattle.std.proofs.lemmas.Int.{to_z-of_z}
+use Rattle.places.specs.Image.{number, digit}
+use Rattle.piece_bits.specs.Scattered.{scattered_pieces}
+use Rattle.piece_bits.specs.Spots.{spots_of}
+use Rattle.piece_bits.specs.WritesLaws.{AreWritten}
+use Rattle.piece_bits.proofs.scattered.write_scattered.Goals as goal
+
+pub write_bytes-requires-clause-few : goal.write_bytes-requires-clause-few
+write_bytes-requires-clause-few c = omega (arith, c.requires.wide, c.requires.form.narrow)
+
+pub returns : goal.returns
+returns c =
+    let width = c.args.field.now.width in
+    let spots = spots_of (scattered_pieces c.args.rules.now c.args.place) in
+    let fits : SFits w128 c.args.value = search rules in
+    let code : c.encode.result ≡ number (digit c.args.value) width =
+    c.encode.ensures ∙ ap (λ (v : ℤ). number (digit v) width) (to_z-of_z w128 c.args.value fits) in
+    let written : AreWritten c.args.blobs.now.items c.write_bytes.new.blobs.items spots (length spots) c.encode.result =
+    record { inside = c.write_bytes.ensures.inside; outside = c.write_bytes.ensures.outside; lengths = c.write_bytes.ensures.lengths } in
+    subst (λ (v : ℕ). AreWritten c.args.blobs.now.items c.write_bytes.new.blobs.items spots width v) code
+    (subst (λ (n : ℕ). AreWritten c.args.blobs.now.items c.write_bytes.new.blobs.items spots n c.encode.result) c.requires.wide written)

@@ -1,0 +1,73 @@
+use Rattle.std.proofs.Common.{◌≡◌, ◌<◌, ℤ, ℕ, List, sym, subst, SFits, rules}
+use Rattle.std.specs.Int.{w128, bit_at}
+use Rattle.std.proofs.lemmas.Int.{to_z-of_z}
+use Rattle.places.specs.Image.{number, digit}
+use Rattle.blobs.specs.Bits.{bit_of}
+use Rattle.piece_bits.specs.Words.{word_place, word_width}
+use Rattle.piece_bits.specs.declared.field.Field.{Field}
+use Rattle.piece_bits.specs.declared.word.Word.{Word}
+use Rattle.piece_bits.specs.declared.word.Word.TheVariants.{I8, I16, I32, I64, TurnedU16, TurnedU32, TurnedU64, TurnedI16, TurnedI32, TurnedI64, Field as FieldWord}
+use Rattle.piece_bits.proofs.word.write_word.Goals as goal
+
+-- the bits of a word are those of a value that was handed on
+abbrev Stored : Word → Field → ℕ → List ℕ → ℤ → Type 0
+Stored word field start new value = (k : ℕ) → k < word_width word field → bit_of new (word_place word start k) ≡ bit_at (number (digit value) (word_width word field)) k
+
+stored_as : (word is : Word) (field : Field) (start : ℕ) (new : List ℕ) (value passed : ℤ) → word ≡ is → passed ≡ value → Stored is field start new passed → Stored word field start new value
+stored_as word is field start new value passed same handed stored =
+    subst (λ (w : Word). Stored w field start new value) (sym same) (subst (λ (v : ℤ). Stored is field start new v) handed stored)
+
+pub returns-in-I8-clause-inside : goal.returns-in-I8-clause-inside
+returns-in-I8-clause-inside c =
+    let fits : SFits w128 c.args.value = search rules in
+    stored_as c.args.word I8 c.args.field.now c.args.start c.stored-in-I8.new.blob c.args.value _ c.in-I8.is (to_z-of_z w128 c.args.value fits) c.stored-in-I8.ensures.inside
+
+pub returns-in-I16-clause-inside : goal.returns-in-I16-clause-inside
+returns-in-I16-clause-inside c =
+    let fits : SFits w128 c.args.value = search rules in
+    stored_as c.args.word I16 c.args.field.now c.args.start c.stored-in-I16.new.blob c.args.value _ c.in-I16.is (to_z-of_z w128 c.args.value fits) c.stored-in-I16.ensures.inside
+
+pub returns-in-I32-clause-inside : goal.returns-in-I32-clause-inside
+returns-in-I32-clause-inside c =
+    let fits : SFits w128 c.args.value = search rules in
+    stored_as c.args.word I32 c.args.field.now c.args.start c.stored-in-I32.new.blob c.args.value _ c.in-I32.is (to_z-of_z w128 c.args.value fits) c.stored-in-I32.ensures.inside
+
+pub returns-in-I64-clause-inside : goal.returns-in-I64-clause-inside
+returns-in-I64-clause-inside c =
+    let fits : SFits w128 c.args.value = search rules in
+    stored_as c.args.word I64 c.args.field.now c.args.start c.stored-in-I64.new.blob c.args.value _ c.in-I64.is (to_z-of_z w128 c.args.value fits) c.stored-in-I64.ensures.inside
+
+pub returns-in-TurnedU16-clause-inside : goal.returns-in-TurnedU16-clause-inside
+returns-in-TurnedU16-clause-inside c =
+    let fits : SFits w128 c.args.value = search rules in
+    stored_as c.args.word TurnedU16 c.args.field.now c.args.start c.turned_stored.new.blob c.args.value _ c.in-TurnedU16.is (to_z-of_z w128 c.args.value fits) c.turned_stored.ensures.inside
+
+pub returns-in-TurnedU32-clause-inside : goal.returns-in-TurnedU32-clause-inside
+returns-in-TurnedU32-clause-inside c =
+    let fits : SFits w128 c.args.value = search rules in
+    stored_as c.args.word TurnedU32 c.args.field.now c.args.start c.turned_stored-in-TurnedU32.new.blob c.args.value _ c.in-TurnedU32.is (to_z-of_z w128 c.args.value fits) c.turned_stored-in-TurnedU32.ensures.inside
+
+pub returns-in-TurnedU64-clause-inside : goal.returns-in-TurnedU64-clause-inside
+returns-in-TurnedU64-clause-inside c =
+    let fits : SFits w128 c.args.value = search rules in
+    stored_as c.args.word TurnedU64 c.args.field.now c.args.start c.turned_stored-in-TurnedU64.new.blob c.args.value _ c.in-TurnedU64.is (to_z-of_z w128 c.args.value fits) c.turned_stored-in-TurnedU64.ensures.inside
+
+pub returns-in-TurnedI16-clause-inside : goal.returns-in-TurnedI16-clause-inside
+returns-in-TurnedI16-clause-inside c =
+    let fits : SFits w128 c.args.value = search rules in
+    stored_as c.args.word TurnedI16 c.args.field.now c.args.start c.turned_stored-in-TurnedI16.new.blob c.args.value _ c.in-TurnedI16.is (to_z-of_z w128 c.args.value fits) c.turned_stored-in-TurnedI16.ensures.inside
+
+pub returns-in-TurnedI32-clause-inside : goal.returns-in-TurnedI32-clause-inside
+returns-in-TurnedI32-clause-inside c =
+    let fits : SFits w128 c.args.value = search rules in
+    stored_as c.args.word TurnedI32 c.args.field.now c.args.start c.turned_stored-in-TurnedI32.new.blob c.args.value _ c.in-TurnedI32.is (to_z-of_z w128 c.args.value fits) c.turned_stored-in-TurnedI32.ensures.inside
+
+pub returns-in-TurnedI64-clause-inside : goal.returns-in-TurnedI64-clause-inside
+returns-in-TurnedI64-clause-inside c =
+    let fits : SFits w128 c.args.value = search rules in
+    stored_as c.args.word TurnedI64 c.args.field.now c.args.start c.turned_stored-in-TurnedI64.new.blob c.args.value _ c.in-TurnedI64.is (to_z-of_z w128 c.args.value fits) c.turned_stored-in-TurnedI64.ensures.inside
+
+pub returns-in-Field-clause-inside : goal.returns-in-Field-clause-inside
+returns-in-Field-clause-inside c =
+    let fits : SFits w128 c.args.value = search rules in
+    stored_as c.args.word FieldWord c.args.field.now c.args.start c.put_field_at.new.blob c.args.value _ c.in-Field.is (to_z-of_z w128 c.args.value fits) c.put_field_at.ensures.inside

@@ -1,0 +1,17 @@
+//! Short forms of rules: how a row becomes a place, and what stands there, worked out once for all accesses.
+#![tactic(auto)]
+
+mod bytes;
+mod join;
+mod path;
+mod short;
+mod shorten;
+mod stand;
+mod start;
+mod unit;
+mod walk;
+mod words;
+
+pub use piece_bits::{Field, Word};
+pub use short::ShortRule;
+pub use walk::Walk;
