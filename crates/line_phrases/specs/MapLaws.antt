@@ -60,8 +60,9 @@ form_parses version p form.Change = then_parses Always type_parses (λ from. beh
 form_parses version p form.Count = inner_parses p Count
 form_parses version p form.Heat = then_parses Always count_parses (λ granule. behind_parses (exact_sign Comma) (inner_parses p (λ inner. Heat granule inner))) (anything _ _)
 
-form_or_name_parses : (version : Version) {Is : List Token → MapTerm → Type 0} {read : List Token → Result (MapTerm × List Token) ℕ} → Parses Is read (Not OpenParen) → (word : List ℕ) (form : Option MapWord) →
-    Parses (IsFormOrName version Is word form) (form_or_name_at version read word form) (Not OpenParen)
+form_or_name_parses : (version : Version) {Is : List Token → MapTerm → Type 0} {read : List Token → Result (MapTerm × List Token) ℕ}
+    → Parses Is read (Not OpenParen) → (word : List ℕ) (form : Option MapWord)
+    → Parses (IsFormOrName version Is word form) (form_or_name_at version read word form) (Not OpenParen)
 unfolding form_or_name_at
 form_or_name_parses version p word None = give_parses (Not OpenParen) (Named word)
 form_or_name_parses version p word (Some form) = either_parses (is_sign OpenParen)

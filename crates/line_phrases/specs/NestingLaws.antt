@@ -104,7 +104,8 @@ form_wider version one form.Change = joined_wider (same_wider _) (λ from. behin
 form_wider version one form.Count = joined_wider one (λ inner. same_wider _)
 form_wider version one form.Heat = joined_wider (same_wider _) (λ granule. behind_wider _ (joined_wider one (λ inner. same_wider _)))
 
-form_or_name_wider : (version : Version) {Is IsAlso : List Token → MapTerm → Type 0} → Wider Is IsAlso → (word : List ℕ) (form : Option MapWord) → Wider (IsFormOrName version Is word form) (IsFormOrName version IsAlso word form)
+form_or_name_wider : (version : Version) {Is IsAlso : List Token → MapTerm → Type 0} → Wider Is IsAlso → (word : List ℕ) (form : Option MapWord)
+    → Wider (IsFormOrName version Is word form) (IsFormOrName version IsAlso word form)
 form_or_name_wider version one word None = same_wider _
 form_or_name_wider version one word (Some form) = either_wider (behind_wider _ (joined_wider (form_wider version one form) (λ map. same_wider _))) (same_wider _)
 
@@ -118,7 +119,8 @@ map_wider version zero (suc m) le = joined_wider (same_wider _) (λ word. only_n
 map_wider version (suc n) zero le = absurd (omega arith)
 map_wider version (suc n) (suc m) le = joined_wider (same_wider _) (λ word. form_or_name_wider version (map_wider version n m (omega arith)) word (map_word word))
 
-form_alike : (version : Version) (n : ℕ) {Is : List Token → MapTerm → Type 0} {read other : List Token → Result (MapTerm × List Token) ℕ} → Parses Is read (Not OpenParen) → Alike n read other → (form : MapWord)
+form_alike : (version : Version) (n : ℕ) {Is : List Token → MapTerm → Type 0} {read other : List Token → Result (MapTerm × List Token) ℕ}
+    → Parses Is read (Not OpenParen) → Alike n read other → (form : MapWord)
     → Alike n (form_at version read form) (form_at version other form)
 unfolding form_at
 form_alike version n p one form.Aos = same_alike n _
@@ -140,7 +142,8 @@ form_or_name_alike : (version : Version) (n : ℕ) {Is : List Token → MapTerm 
     Alike (suc n) (form_or_name_at version read word form) (form_or_name_at version other word form)
 unfolding form_or_name_at
 form_or_name_alike version n p one word None = same_alike (suc n) _
-form_or_name_alike version n p one word (Some form) = either_alike (suc n) _ (behind_alike n _ (then_alike n (no_longer (form_parses version p form)) (form_alike version n p one form) (λ map. same_alike n _)))
+form_or_name_alike version n p one word (Some form) =
+    either_alike (suc n) _ (behind_alike n _ (then_alike n (no_longer (form_parses version p form)) (form_alike version n p one form) (λ map. same_alike n _)))
     (same_alike (suc n) _)
 
 pub map_alike : (version : Version) (n m : ℕ) → n ≤ m → Alike n (map_at version n) (map_at version m)
@@ -150,7 +153,8 @@ map_alike version zero (suc m) le [] small = refl
 map_alike version zero m le (token ∷ us) small = absurd (omega arith)
 map_alike version (suc n) zero le tokens small = absurd (omega arith)
 map_alike version (suc n) (suc m) le tokens small =
-    then_alike (suc n) (no_longer name_parses) (same_alike (suc n) (item_at name_of)) (λ word. form_or_name_alike version n (map_parses version n) (map_alike version n m (omega arith)) word (map_word word)) tokens small
+    then_alike (suc n) (no_longer name_parses) (same_alike (suc n) (item_at name_of))
+    (λ word. form_or_name_alike version n (map_parses version n) (map_alike version n m (omega arith)) word (map_word word)) tokens small
 
 -- expressions
 

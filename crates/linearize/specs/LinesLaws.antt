@@ -94,8 +94,10 @@ module _ (lines columns row : ℕ) (inside : row < length (indices (lines ∷ co
 
     pub line_narrow : row / columns < 2 ^ 12
     line_narrow =
-        omega (arith, room, component_fits (lines ∷ columns ∷ []) (row / columns ∷ row % columns ∷ []) 0 (digits_for (lines ∷ columns ∷ [])) 0 (line_in, (column_in, tt)) (digits_enough (lines ∷ columns ∷ [])))
+        let e : List ℕ = lines ∷ columns ∷ [] in
+        omega (arith, room, component_fits e (row / columns ∷ row % columns ∷ []) 0 (digits_for e) 0 (line_in, (column_in, tt)) (digits_enough e))
 
     pub column_narrow : row % columns < 2 ^ 12
     column_narrow =
-        omega (arith, room, component_fits (lines ∷ columns ∷ []) (row / columns ∷ row % columns ∷ []) 0 (digits_for (lines ∷ columns ∷ [])) 1 (line_in, (column_in, tt)) (digits_enough (lines ∷ columns ∷ [])))
+        let e : List ℕ = lines ∷ columns ∷ [] in
+        omega (arith, room, component_fits e (row / columns ∷ row % columns ∷ []) 0 (digits_for e) 1 (line_in, (column_in, tt)) (digits_enough e))

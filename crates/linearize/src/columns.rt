@@ -16,6 +16,7 @@ pub struct Columns {
 }
 
 impl Columns {
+    /// So many columns, from 1 to 2^24.
     pub fn of(columns: u64) -> Columns
         requires some { 0 < columns }
         requires few { columns ≤ 2 ^ 24 }

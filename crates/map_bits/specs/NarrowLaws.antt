@@ -62,8 +62,8 @@ pub narrow_are : (widths : List ℕ) (cells : List Cell) → length widths ≡ l
 narrow_are widths cells same good = record { each = length-narrow widths cells same; some = narrow_wide widths cells good; low = narrow_low widths cells }
 
 -- the same of copies
-pub kept_are : (widths : List ℕ) (cells lent kept : List Cell) (holds : List Hold) → length widths ≡ length cells → has_bad_width widths ≡ false → kept ≡ cells → holds ≡ narrow_holds widths lent → lent ≡ cells →
-    AreHolds kept holds
+pub kept_are : (widths : List ℕ) (cells lent kept : List Cell) (holds : List Hold) → length widths ≡ length cells → has_bad_width widths ≡ false
+    → kept ≡ cells → holds ≡ narrow_holds widths lent → lent ≡ cells → AreHolds kept holds
 kept_are widths cells lent kept holds same good copied made there =
     subst (λ (cs : List Cell). AreHolds cs holds) (sym copied)
     (subst (AreHolds cells) (sym (made ∙ ap (narrow_holds widths) there)) (narrow_are widths cells same good))

@@ -29,10 +29,14 @@ term_inj (Soa a0 a1) (Soa b0 b1) p = λ i. Soa (soa.the_row.coded.inj a0 b0 (ap 
 term_inj (Aosoa a0 a1) (Aosoa b0 b1) p = λ i. Aosoa (coded_ℕ.inj a0 b0 (ap (λ g. head (tail g)) p) i) (order.the_row.coded.inj a1 b1 (ap (λ g. tail (tail g)) p) i)
 term_inj (BitAos a0 a1) (BitAos b0 b1) p = λ i. BitAos (coded_ℕ.inj a0 b0 (ap (λ g. head (tail g)) p) i) (order.the_row.coded.inj a1 b1 (ap (λ g. tail (tail g)) p) i)
 term_inj (BitSoa a0 a1) (BitSoa b0 b1) p = λ i. BitSoa (coded_ℕ.inj a0 b0 (ap (λ g. head (tail g)) p) i) (order.the_row.coded.inj a1 b1 (ap (λ g. tail (tail g)) p) i)
-term_inj (Split a0 a1 a2) (Split b0 b1 b2) p = λ i. Split (coded_path.inj a0 b0 (ap (λ g. head (tail g)) p) i) (term_inj a1 b1 (ap (λ g. head (tail (tail g))) p) i) (term_inj a2 b2 (ap (λ g. tail (tail (tail g))) p) i)
+term_inj (Split a0 a1 a2) (Split b0 b1 b2) p =
+    λ i. Split (coded_path.inj a0 b0 (ap (λ g. head (tail g)) p) i) (term_inj a1 b1 (ap (λ g. head (tail (tail g))) p) i)
+    (term_inj a2 b2 (ap (λ g. tail (tail (tail g))) p) i)
 term_inj (Byteswap a0) (Byteswap b0) p = λ i. Byteswap (term_inj a0 b0 (ap tail p) i)
 term_inj (Bytesplit a0) (Bytesplit b0) p = λ i. Bytesplit (term_inj a0 b0 (ap tail p) i)
-term_inj (Change a0 a1 a2) (Change b0 b1 b2) p = λ i. Change (kind.the_row.coded.inj a0 b0 (ap (λ g. head (tail g)) p) i) (kind.the_row.coded.inj a1 b1 (ap (λ g. head (tail (tail g))) p) i) (term_inj a2 b2 (ap (λ g. tail (tail (tail g))) p) i)
+term_inj (Change a0 a1 a2) (Change b0 b1 b2) p =
+    λ i. Change (kind.the_row.coded.inj a0 b0 (ap (λ g. head (tail g)) p) i) (kind.the_row.coded.inj a1 b1 (ap (λ g. head (tail (tail g))) p) i)
+    (term_inj a2 b2 (ap (λ g. tail (tail (tail g))) p) i)
 term_inj (Count a0) (Count b0) p = λ i. Count (term_inj a0 b0 (ap tail p) i)
 term_inj (Heat a0 a1) (Heat b0 b1) p = λ i. Heat (coded_ℕ.inj a0 b0 (ap (λ g. head (tail g)) p) i) (term_inj a1 b1 (ap (λ g. tail (tail g)) p) i)
 term_inj (Named a0) (Named b0) p = λ i. Named (coded_text.inj a0 b0 (ap tail p) i)

@@ -47,7 +47,9 @@ mutual
 
   pub fields_inj : (x y : Fields) → fields_code x ≡ fields_code y → x ≡ y
   fields_inj End End p = refl
-  fields_inj (Field a0 a1 a2) (Field b0 b1 b2) p = λ i. Field (coded_text.inj a0 b0 (ap (λ g. head (tail g)) p) i) (tree_inj a1 b1 (ap (λ g. head (tail (tail g))) p) i) (fields_inj a2 b2 (ap (λ g. tail (tail (tail g))) p) i)
+  fields_inj (Field a0 a1 a2) (Field b0 b1 b2) p =
+      λ i. Field (coded_text.inj a0 b0 (ap (λ g. head (tail g)) p) i) (tree_inj a1 b1 (ap (λ g. head (tail (tail g))) p) i)
+      (fields_inj a2 b2 (ap (λ g. tail (tail (tail g))) p) i)
   fields_inj x y p = absurd (apart _ _ p (omega arith))
 
 abbrev pub coded_tree : Coded Tree
