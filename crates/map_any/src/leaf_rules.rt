@@ -11,7 +11,6 @@ use crate::leaf_rule::{LeafRule, RuleList};
 use crate::plan::hold_at;
 use crate::rule::Rule;
 use extents::Extents;
-use piece_bits::{greatest_held, least_held};
 use places::Hold;
 use record_dim::{LeafType, Schema};
 use short_rules::ShortRule;
@@ -80,7 +79,7 @@ fn taken_range(kind: LeafType, hold: Hold) -> (i128, i128)
         return (1, 0);
     }
     (
-        kind.least().max(least_held(hold)),
-        kind.greatest().min(greatest_held(hold)),
+        kind.least().max(hold.least()),
+        kind.greatest().min(hold.greatest()),
     )
 }

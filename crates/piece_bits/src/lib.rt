@@ -12,5 +12,5 @@ pub use entry::{read_entry, read_piece, write_entry, write_piece};
 pub use field::{Field, field_at, put_field_at};
 pub use load::{put_value_at, value_at};
 pub use pieces::{read_pieces, write_pieces};
-pub use value::{decode, encode, greatest_held, least_held};
+pub use value::{decode, encode};
 pub use word::{Word, read_word, write_word};

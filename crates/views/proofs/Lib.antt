@@ -4,5 +4,4 @@ pub mod Opened
 pub mod ZeroBlobs
 pub mod AccessLaws
 pub mod Counted
-pub mod HotLaws
 pub mod CountLaws
