@@ -2,3 +2,4 @@ pub mod SlotLemmas
 pub mod MortonLemmas
 pub mod SpreadLemmas
 pub mod Divided
+pub mod PairLemmas

@@ -53,7 +53,7 @@ self_lt_pow zero = omega arith
 self_lt_pow (suc n) = omega (arith, self_lt_pow n, pow-suc 2 n)
 
 -- a number with no binary digit from w on is below 2 ^ w
-below_from_digits : (n w : ℕ) → ((k : ℕ) → w ≤ k → bit_at n k ≡ 0) → n < 2 ^ w
+pub below_from_digits : (n w : ℕ) → ((k : ℕ) → w ≤ k → bit_at n k ≡ 0) → n < 2 ^ w
 below_from_digits n w none =
     let low : n % 2 ^ w < 2 ^ w = mod_below n (2 ^ w) (pow_pos w) in
     let same : n ≡ n % 2 ^ w = same_from_bits n (n % 2 ^ w) (λ k.

@@ -18,17 +18,21 @@ pub fn spread(component: u64, rank: usize) -> u64
     }
 }
 
-/// The digits of a line and a column in turn, the column's lowest first.
+/// The digits of a line and a column in turn, the column's lowest first. Both move apart in one word, the line in its upper half.
 #[inline(always)]
 pub fn in_turn(line: u64, column: u64) -> u64
     requires line { line < 2 ^ 12 }
     requires column { column < 2 ^ 12 }
     ensures { result ≡ interleaved (line ∷ column ∷ []) }
 {
-    (spread_by_two(line) << 1) | spread_by_two(column)
+    let both = (line << 32) + column;
+    let eights = (both | (both << 8)) & 0x000f_00ff_000f_00ff;
+    let fours = (eights | (eights << 4)) & 0x000f_0f0f_000f_0f0f;
+    let twos = (fours | (fours << 2)) & 0x0033_3333_0033_3333;
+    let ones = (twos | (twos << 1)) & 0x0055_5555_0055_5555;
+    (ones | (ones >> 31)) & 0x00ff_ffff
 }
 
-#[inline(always)]
 fn spread_by_two(component: u64) -> u64
     requires { component < 2 ^ 12 }
     ensures digits { IsSpread 2 component result }

@@ -14,9 +14,9 @@ use Rattle.piece_rules.specs.PieceRules.{begin_in, piece_in, pieces_in}
 use Rattle.piece_rules.specs.declared.rule.PieceRule.{PieceRule}
 use Rattle.map_expr.specs.Terms.{Term}
 use Rattle.map_any.specs.AnyLaws.{holds_cells}
-use Rattle.map_any.specs.Mappings.{leaf_cells, holds_by}
-use Rattle.map_any.specs.Ruled.{HasLengths, IsRuled, IsRuleOf, pieces_of}
-use Rattle.map_any.specs.declared.rule.Rule.{Rule}
+use Rattle.map_checks.specs.Mappings.{leaf_cells, holds_by}
+use Rattle.map_plans.specs.Ruled.{HasLengths, IsRuled, IsRuleOf, pieces_of}
+use Rattle.map_plans.specs.declared.rule.Rule.{Rule}
 
 -- the number of blobs, and the bytes of each
 pub length-sized : (layout : List (List Owner)) (lengths : List ℕ) → HasLengths layout lengths → length lengths ≡ length layout

@@ -5,7 +5,7 @@ use Rattle.map_expr.specs.declared.check.BadMapping.{BadMapping}
 use Rattle.map_expr.specs.declared.check.BadMapping.TheVariants.{TooDeep, Counter}
 use Rattle.map_expr.specs.Terms.{Term, Aos, Soa, Aosoa, BitAos, BitSoa, Split, Byteswap, Bytesplit, Change, Count, Heat, Named, depth_of}
 use Rattle.map_expr.specs.Checks.{IsNameless, checked, answered, bad_number, counts_once}
-use Rattle.map_any.specs.Mappings.{IsBuiltTerm}
+use Rattle.map_checks.specs.Mappings.{IsBuiltTerm}
 
 -- no name stands in it
 pub built_nameless : (term : Term) → IsBuiltTerm term → IsNameless term

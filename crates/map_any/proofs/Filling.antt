@@ -19,7 +19,7 @@ use Rattle.places.specs.declared.piece.Hold.{Hold}
 use Rattle.map_expr.specs.Terms.{term_of}
 use Rattle.map_any.specs.declared.any.AnyMap.{AnyMap}
 use Rattle.map_any.specs.AnyLaws.{any_laws, holds_cells}
-use Rattle.map_any.specs.Mappings.{layout_by, leaf_cells}
+use Rattle.map_checks.specs.Mappings.{layout_by, leaf_cells}
 use Rattle.map_any.specs.Filling.{shown_at, IsShown, IsFilled, ShowBelow, Show}
 use Rattle.map_any.specs.Runs.{run_owner}
 

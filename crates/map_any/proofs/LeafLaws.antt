@@ -15,19 +15,19 @@ use Rattle.record_dim.specs.Leaves.{kinds_of}
 use Rattle.places.specs.declared.piece.Cell.{Cell}
 use Rattle.map_expr.specs.Terms.{Term}
 use Rattle.map_any.specs.AnyLaws.{length-leaf_cells}
-use Rattle.map_any.specs.Mappings.{leaf_cells, layout_of, holds_of, most_slots}
-use Rattle.map_any.specs.Plans.{IsPlanOf}
-use Rattle.map_any.specs.TermLaws.{length-holds}
-use Rattle.map_any.specs.declared.plan.Plan.{Plan}
-use Rattle.map_any.specs.LeafRules.{kind_in, hold_in, IsSameRule, IsLeafRule, AreLeafRules, AreRuled}
-use Rattle.map_any.specs.Ruled.{IsRuleOf, IsRuled}
+use Rattle.map_checks.specs.Mappings.{leaf_cells, layout_of, holds_of, most_slots}
+use Rattle.map_plans.specs.Plans.{IsPlanOf}
+use Rattle.map_checks.specs.TermLaws.{length-holds}
+use Rattle.map_plans.specs.declared.plan.Plan.{Plan}
+use Rattle.map_any.specs.LeafRules.{kind_in, hold_in, IsLeafRule, AreLeafRules, AreRuled}
+use Rattle.map_plans.specs.Ruled.{IsRuleOf, IsRuled, IsSameRule}
 use Rattle.short_rules.specs.Shorts.{IsShortOf, IsShortIn}
 use Rattle.short_rules.specs.ShortsLaws.{short_in}
 use Rattle.short_rules.specs.Walks.{leads}
 use Rattle.short_rules.specs.declared.short.ShortRule.{ShortRule}
 use Rattle.map_any.specs.declared.leaf_rule.LeafRule.{LeafRule}
-use Rattle.map_any.specs.declared.rule.Rule.{Rule}
-use Rattle.map_any.proofs.PlanLaws.{plan_holds, plan_rules}
+use Rattle.map_plans.specs.declared.rule.Rule.{Rule}
+use Rattle.map_plans.specs.PlansLaws.{plan_holds, plan_rules}
 
 -- a rule that says the same is a rule of the same cell
 pub rule_same : (layout : List (List Owner)) (extents : List ℕ) (cell width : ℕ) (old new : Rule) → IsSameRule old new

@@ -1,14 +1,5 @@
-pub mod Faults
 pub mod Built
-pub mod RuleLaws
-pub mod Limits
 pub mod AnyFacts
-pub mod SplitRules
 pub mod LeafLaws
-pub mod PlanLaws
-pub mod OrderLaws
-pub mod SwapRuleLaws
-pub mod JoinRuleLaws
-pub mod BytePlanLaws
 pub mod RunLaws
 pub mod Filling

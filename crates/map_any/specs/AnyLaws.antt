@@ -10,9 +10,9 @@ use Rattle.places.specs.declared.piece.Cell.{Cell}
 use Rattle.places.specs.declared.piece.Hold.{Hold}
 use Rattle.map_expr.specs.Terms.{Term}
 use Rattle.map_expr.specs.Checks.{bad_number}
-use Rattle.map_any.specs.LeafCells.{leaf_cells_kinds}
-use Rattle.map_any.specs.Mappings.{leaf_cells, layout_by, holds_by, not_full, IsBuiltTerm}
-use Rattle.map_any.specs.TermLaws.{term_laws, good_numbers, length-holds}
+use Rattle.map_checks.specs.LeafCells.{leaf_cells_kinds}
+use Rattle.map_checks.specs.Mappings.{leaf_cells, layout_by, holds_by, not_full, IsBuiltTerm}
+use Rattle.map_checks.specs.TermLaws.{term_laws, good_numbers, length-holds}
 
 pub any_laws : (term : Term) (extents : List ℕ) (fields : Fields) (holds : List Hold) → IsBuiltTerm term → bad_number term ≡ None
     → not_full term fields (leaf_cells (kinds_of fields)) ≡ false → holds ≡ holds_by term fields

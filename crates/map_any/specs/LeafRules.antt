@@ -5,11 +5,11 @@ use Rattle.record_dim.specs.declared.leaf_type.LeafType.{LeafType}
 use Rattle.record_dim.specs.declared.leaf_type.LeafType.TheVariants.{Bool as Truth}
 use Rattle.places.specs.Layout.{Owner}
 use Rattle.places.specs.declared.piece.Hold.{Hold}
-use Rattle.map_any.specs.Ruled.{EachWith, IsRuleOf}
+use Rattle.map_plans.specs.Ruled.{EachWith, IsRuleOf, IsSameRule}
 use Rattle.short_rules.specs.Shorts.{IsShortOf}
 use Rattle.short_rules.specs.Walks.{leads}
 use Rattle.map_any.specs.declared.leaf_rule.LeafRule.{LeafRule}
-use Rattle.map_any.specs.declared.rule.Rule.{Rule}
+use Rattle.map_plans.specs.declared.rule.Rule.{Rule}
 
 -- the type of a leaf, and how it is stored; outside of the lists any
 abbrev pub kind_in : List LeafType → ℕ → LeafType
@@ -17,11 +17,6 @@ kind_in kinds leaf = slice_index_or kinds leaf Truth
 
 abbrev pub hold_in : List Hold → ℕ → Hold
 hold_in holds leaf = slice_index_or holds leaf (record { signed = false; width = 0 })
-
--- a rule says what another says
-pub record IsSameRule (old new : Rule) : Type 0 where
-  pub order : new.order ≡ old.order
-  pub pieces : new.pieces.items ≡ old.pieces.items
 
 -- its short form, if there is one, says what its rule says over the extents of an array, and is of the sign of the type; and from its least
 -- to its greatest value each is declared and held

@@ -5,15 +5,16 @@ ghost use Rattle.map_expr.specs.Terms.{term_of};
 ghost use Rattle.map_expr.specs.Checks.{bad_number};
 ghost use Rattle.map_any.specs.Counters.{is_counted};
 ghost use Rattle.map_any.specs.LeafRules.{AreRuled};
-ghost use Rattle.map_any.specs.Mappings.{layout_by, holds_by, leaf_cells, not_full, IsBuiltTerm};
-ghost use Rattle.map_any.specs.Orders.{IsBuiltTerm-prop};
-ghost use Rattle.map_any.specs.Ruled.{EachWith, HasLengths};
+ghost use Rattle.map_checks.specs.Mappings.{layout_by, holds_by, leaf_cells, not_full, IsBuiltTerm};
+ghost use Rattle.map_checks.specs.Orders.{IsBuiltTerm-prop};
+ghost use Rattle.map_plans.specs.Ruled.{EachWith, HasLengths};
 ghost use Rattle.short_rules.specs.Walks.{leads};
 
 use crate::leaf_rule::RuleList;
-use crate::plan::{HoldList, LengthList};
 use extents::Extents;
+use map_checks::HoldList;
 use map_expr::MapExpr;
+use map_plans::LengthList;
 use record_dim::Schema;
 
 /// A mapping of run time: what an expression says of an array. Its slots are row numbers, and its cells the leaves.

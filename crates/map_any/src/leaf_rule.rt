@@ -1,5 +1,5 @@
-use crate::rule::Rule;
 use lists::Sequence;
+use map_plans::Rule;
 use short_rules::ShortRule;
 
 /// Where a leaf lies in every row, with what is worked out once for all accesses to it.

@@ -2,16 +2,15 @@ ghost use Rattle.std.specs.Prelude.{ℤ, ◌≡◌, ◌≤ℤ◌, true, false, I
 ghost use Rattle.record_dim.specs.LeafTypes.{is_signed, IsIn, IsDeclared};
 ghost use Rattle.record_dim.specs.Schemas.{schema_fields};
 ghost use Rattle.record_dim.specs.Leaves.{kinds_of};
-ghost use Rattle.map_any.specs.LeafRules.{IsSameRule, IsLeafRule, AreLeafRules};
-ghost use Rattle.map_any.specs.Ruled.{EachWith};
+ghost use Rattle.map_any.specs.LeafRules.{IsLeafRule, AreLeafRules};
+ghost use Rattle.map_plans.specs.Ruled.{EachWith, IsSameRule};
 ghost use Rattle.short_rules.specs.Shorts.{IsShortOf};
 ghost use Rattle.short_rules.specs.Walks.{leads};
 
 use crate::leaf_rule::{LeafRule, RuleList};
-use crate::plan::hold_at;
-use crate::rule::Rule;
 use extents::Extents;
-use piece_bits::{greatest_held, least_held};
+use map_checks::hold_at;
+use map_plans::Rule;
 use places::Hold;
 use record_dim::{LeafType, Schema};
 use short_rules::ShortRule;
@@ -80,7 +79,7 @@ fn taken_range(kind: LeafType, hold: Hold) -> (i128, i128)
         return (1, 0);
     }
     (
-        kind.least().max(least_held(hold)),
-        kind.greatest().min(greatest_held(hold)),
+        kind.least().max(hold.least()),
+        kind.greatest().min(hold.greatest()),
     )
 }

@@ -4,8 +4,8 @@ use Rattle.record_dim.specs.Trees.{Fields}
 use Rattle.record_dim.specs.Leaves.{kinds_of}
 use Rattle.map_expr.specs.Terms.{Term}
 use Rattle.map_any.specs.Mappings.{leaf_cells, layout_by, accepted, IsTooBigFor}
-use Rattle.map_any.specs.declared.fault.MakeMap.{MakeMap}
-use Rattle.map_any.specs.declared.fault.MakeMap.TheVariants as map
+use Rattle.map_checks.specs.declared.fault.MakeMap.{MakeMap}
+use Rattle.map_checks.specs.declared.fault.MakeMap.TheVariants as map
 use Rattle.instrument.specs.declared.heat.HeatFault.{HeatFault}
 use Rattle.instrument.specs.declared.heat.HeatFault.TheVariants as heat
 use Rattle.views.specs.Tallies.{granules_for}

@@ -8,10 +8,11 @@ use Rattle.record_dim.specs.declared.leaf_type.LeafType.{LeafType}
 use Rattle.record_dim.specs.declared.leaf_type.LeafType.TheVariants.{Bool as Truth}
 use Rattle.places.specs.declared.piece.Hold.{Hold}
 use Rattle.map_any.specs.declared.leaf_rule.LeafRule.{LeafRule}
-use Rattle.map_any.specs.declared.rule.Rule.{Rule}
-use Rattle.map_any.specs.LeafRules.{kind_in, hold_in, IsSameRule, IsLeafRule}
+use Rattle.map_plans.specs.declared.rule.Rule.{Rule}
+use Rattle.map_any.specs.LeafRules.{kind_in, hold_in, IsLeafRule}
+use Rattle.map_plans.specs.Ruled.{IsSameRule}
 use Rattle.short_rules.specs.Walks.{leads}
-use Rattle.map_any.proofs.RuleLaws.{each_push}
+use Rattle.map_plans.specs.RuledLaws.{each_push}
 use Rattle.map_any.proofs.leaf_rules.leaf_rules.Goals as goal
 
 -- as many types as leaves

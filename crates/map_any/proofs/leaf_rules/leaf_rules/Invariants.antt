@@ -2,8 +2,8 @@
 use Rattle.std.proofs.Common.{◌≡◌, true, false, length, get_or}
 use Rattle.record_dim.specs.Schemas.{schema_fields}
 use Rattle.record_dim.specs.Leaves.{kinds_of}
-use Rattle.map_any.specs.LeafRules.{kind_in, hold_in, IsSameRule, IsLeafRule}
-use Rattle.map_any.specs.Ruled.{EachWith}
+use Rattle.map_any.specs.LeafRules.{kind_in, hold_in, IsLeafRule}
+use Rattle.map_plans.specs.Ruled.{EachWith, IsSameRule}
 use Rattle.short_rules.specs.Walks.{leads}
 use Rattle.map_any.proofs.leaf_rules.leaf_rules.Given as goal
 

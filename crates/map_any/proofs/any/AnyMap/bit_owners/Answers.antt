@@ -6,7 +6,7 @@ use Rattle.places.specs.declared.piece.RunOwner.TheVariants.{Pad}
 use Rattle.record_dim.specs.Leaves.{kinds_of}
 use Rattle.record_dim.specs.Schemas.{schema_fields}
 use Rattle.map_any.specs.Filling.{IsFilled, Show}
-use Rattle.map_any.specs.Mappings.{leaf_cells}
+use Rattle.map_checks.specs.Mappings.{leaf_cells}
 use Rattle.map_any.proofs.Filling.{layout_in, laid_in, leaf_in, filled_self, filled_twice, filled_all, shows_more}
 use Rattle.map_any.proofs.any.AnyMap.bit_owners.Goals as goal
 use Rattle.map_any.proofs.any.AnyMap.bit_owners.Goals.{then-lies_in, else-lies_in}

@@ -5,7 +5,7 @@ use Rattle.map_expr.specs.Terms.{term_of}
 use Rattle.map_any.specs.declared.any.AnyMap.{AnyMap}
 use Rattle.map_any.specs.declared.leaf_rule.LeafRule.{LeafRule}
 use Rattle.map_any.specs.AnyLaws.{length-leaf_cells}
-use Rattle.map_any.specs.Mappings.{leaf_cells, layout_by}
+use Rattle.map_checks.specs.Mappings.{leaf_cells, layout_by}
 use Rattle.short_rules.specs.Walks.{leads}
 use Rattle.map_any.proofs.LeafLaws.{leaf_placed, leaf_whole}
 use Rattle.map_any.proofs.any.AnyMap.leaf_rule.Goals as goal

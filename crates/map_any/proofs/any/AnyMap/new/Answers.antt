@@ -6,13 +6,13 @@ use Rattle.places.specs.declared.piece.Cell.{Cell}
 use Rattle.places.specs.declared.piece.Hold.{Hold}
 use Rattle.map_expr.specs.Terms.{Term, term_of}
 use Rattle.map_expr.specs.Checks.{checked, bad_number}
-use Rattle.map_any.specs.Mappings.{leaf_cells, layout_by, not_full, IsBuiltTerm}
+use Rattle.map_checks.specs.Mappings.{leaf_cells, layout_by, not_full, IsBuiltTerm}
 use Rattle.map_any.specs.Counters.{is_counted}
 use Rattle.map_any.specs.LeafRules.{AreLeafRules}
-use Rattle.map_any.specs.Ruled.{IsRuled}
-use Rattle.map_any.specs.declared.rule.Rule.{Rule}
-use Rattle.map_any.specs.Plans.{IsPlanOf}
-use Rattle.map_any.specs.TermLaws.{good_numbers}
+use Rattle.map_plans.specs.Ruled.{IsRuled}
+use Rattle.map_plans.specs.declared.rule.Rule.{Rule}
+use Rattle.map_plans.specs.Plans.{IsPlanOf}
+use Rattle.map_checks.specs.TermLaws.{good_numbers}
 use Rattle.map_any.proofs.LeafLaws.{leaves_ruled, whole_holds, whole_rules}
 use Rattle.map_any.proofs.Built.{accepted_numbers, built_nameless}
 use Rattle.map_any.proofs.any.AnyMap.new.Goals as goal

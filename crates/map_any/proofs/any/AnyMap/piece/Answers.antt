@@ -9,7 +9,7 @@ use Rattle.piece_rules.specs.declared.rule.PieceRule.{PieceRule}
 use Rattle.piece_rules.specs.PieceRules.{pieces_in}
 use Rattle.map_expr.specs.Terms.{term_of}
 use Rattle.map_any.specs.declared.any.AnyMap.{AnyMap}
-use Rattle.map_any.specs.Mappings.{layout_by}
+use Rattle.map_checks.specs.Mappings.{layout_by}
 use Rattle.map_any.proofs.any.AnyMap.piece.Goals as goal
 use Rattle.map_any.proofs.any.AnyMap.piece.Goals.{After-slot_of_row}
 

@@ -1,6 +1,6 @@
 use Rattle.record_dim.specs.Schemas.{schema_fields}
 use Rattle.record_dim.specs.Leaves.{kinds_of}
-use Rattle.map_any.specs.LeafCells.{leaf_cells_kinds}
+use Rattle.map_checks.specs.LeafCells.{leaf_cells_kinds}
 use Rattle.map_any.proofs.LeafLaws.{leaf_short, short_uncounted}
 use Rattle.map_any.proofs.any.AnyMap.short.Goals as goal
 

@@ -6,7 +6,7 @@ use Rattle.places.specs.declared.piece.Hold.{Hold}
 use Rattle.map_expr.specs.Terms.{term_of}
 use Rattle.map_any.proofs.AnyFacts.{hold_in}
 use Rattle.map_any.specs.declared.any.AnyMap.{AnyMap}
-use Rattle.map_any.specs.Mappings.{leaf_cells}
+use Rattle.map_checks.specs.Mappings.{leaf_cells}
 use Rattle.map_any.proofs.any_map.AnyMapMapping.hold.Goals as goal
 
 inside : (m : AnyMap) (holds : List Hold) (cell : ℕ) → holds ≡ m.holds → cell < length (leaf_cells (kinds_of (schema_fields m.schema))) → cell < length holds

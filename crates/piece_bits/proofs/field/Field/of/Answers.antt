@@ -1,7 +1,7 @@
 use Rattle.std.proofs.Common.{◌≡◌, ℕ, ◌-◌, ◌*◌, ◌%◌, ◌^◌, ◌<◌, Bool, sym, ap, ◌∙◌, arith}
 use Rattle.std.proofs.Math.Nat.{mod-eq_of_lt}
 use Rattle.std.proofs.Math.Pow.{pow-lt}
-use Rattle.blobs.specs.WordsLaws.{ones_of}
+use Rattle.places.specs.NumbersLaws.{ones_of}
 use Rattle.piece_bits.specs.Words.{half_range}
 use Rattle.piece_bits.proofs.field.Field.of.Goals as goal
 

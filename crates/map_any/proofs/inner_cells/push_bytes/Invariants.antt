@@ -1,6 +1,0 @@
--- the bytes so far
-use Rattle.std.proofs.Common.{◌≡◌, ◌++◌, replicate}
-use Rattle.map_any.proofs.inner_cells.push_bytes.Given as goal
-
-abbrev pub invariant-loop : goal.invariant-loop
-invariant-loop l = l.bytes ≡ l.initial.bytes ++ replicate l.counter l.byte

@@ -1,9 +1,0 @@
--- the holds so far, and how many of each side
-use Rattle.std.proofs.Common.{◌≡◌, take}
-use Rattle.map_split.specs.Sides.{merged, rank_first, rank_rest}
-use Rattle.map_any.proofs.split_plan.merge_holds.Given as goal
-
-abbrev pub invariant-loop-is_first : goal.invariant-loop-is_first
-invariant-loop-is_first l =
-    (l.holds ≡ merged (take l.is_first-index l.side) l.first l.rest)
-    × (l.from_first ≡ rank_first l.side l.is_first-index) × (l.from_rest ≡ rank_rest l.side l.is_first-index)

@@ -1,0 +1,11 @@
+-- the cells so far
+use Rattle.std.proofs.Common.{◌≡◌, take}
+use Rattle.record_dim.specs.Schemas.{schema_fields}
+use Rattle.map_checks.specs.Sides.{side_of, cells_under, cells_beside}
+use Rattle.map_checks.proofs.sides.split_cells.Given as goal
+
+abbrev pub invariant-loop-cell : goal.invariant-loop-cell
+invariant-loop-cell l =
+    (l.side ≡ side_of (schema_fields l.schema) l.path (take l.cell-index l.cells))
+    × (l.first ≡ cells_under (schema_fields l.schema) l.path (take l.cell-index l.cells))
+    × (l.rest ≡ cells_beside (schema_fields l.schema) l.path (take l.cell-index l.cells))

@@ -1,0 +1,181 @@
+-- The laws of the layout of an expression.
+use Rattle.std.proofs.Common.{◌≡◌, ℕ, ◌<◌, ◌≤◌, List, map, replicate, length, All, Bool, true, false, Option, None, Some, refl, sym, ◌∙◌, arith}
+use Rattle.std.specs.Prelude.{◌&&◌, ◌||◌, not, nat_le, if◌then◌else◌}
+use Rattle.std.specs.List.{count_by}
+use Rattle.std.specs.Option.{option_or}
+use Rattle.std.proofs.lemmas.Bool.{leb-true}
+use Rattle.std.proofs.lemmas.List.{length-map, length-replicate}
+use Rattle.std.proofs.lemmas.List.Sums.{length-filter}
+use Rattle.extents.specs.Indices.{indices}
+use Rattle.linearize.specs.Slots.{slot_count}
+use Rattle.record_dim.specs.declared.path.PathStep.{PathStep}
+use Rattle.record_dim.specs.Trees.{Fields}
+use Rattle.record_dim.specs.Nodes.{is_under}
+use Rattle.places.specs.Layout.{aosoa, bit_aos, bit_soa}
+use Rattle.places.specs.Laws.{IsLaidOut}
+use Rattle.places.specs.CellWidthsLaws.{length-full}
+use Rattle.places.specs.Holds.{widths_of, widths_in, full_holds}
+use Rattle.places.specs.declared.piece.Cell.{Cell}
+use Rattle.places.specs.declared.piece.Hold.{Hold}
+use Rattle.places.specs.Forms.{aos_layout}
+use Rattle.map_aos.specs.AosLaws.{aos_laws}
+use Rattle.places.specs.Forms.{soa_layout}
+use Rattle.map_soa.specs.SoaLaws.{soa_laws}
+use Rattle.map_aosoa.specs.AosoaLaws.{aosoa_laws}
+use Rattle.map_expr.specs.declared.check.BadMapping.{BadMapping}
+use Rattle.map_expr.specs.declared.check.BadMapping.TheVariants.{Lanes, Width}
+use Rattle.map_expr.specs.Terms.{Term, Aos, Soa, Aosoa, BitAos, BitSoa, Split, Byteswap, Bytesplit, Change, Count, Heat, Named}
+use Rattle.map_expr.specs.Checks.{bad_number, bad_lanes, bad_width, bad_granule}
+use Rattle.map_bits.specs.Bits.{has_bad_width}
+use Rattle.map_bits.specs.NarrowLaws.{length-narrow, narrow_wide, narrow_low, same_good}
+use Rattle.map_bits.specs.BitLaws.{bit_aos_laws, bit_soa_laws}
+use Rattle.map_bytes.specs.Cells.{bytes_of, changed, differ}
+use Rattle.map_bytes.specs.FullLaws.{differ_none}
+use Rattle.map_bytes.specs.SwapLaws.{byteswap_laws}
+use Rattle.map_bytes.specs.BytesplitLaws.{bytesplit_laws}
+use Rattle.map_bytes.specs.ChangeLaws.{length-changed}
+use Rattle.map_checks.specs.Sides.{side_of, cells_under, cells_beside}
+use Rattle.map_split.specs.SidesLaws.{length-merged, count-mapped}
+use Rattle.map_split.specs.SplitLaws.{split_laws}
+use Rattle.map_checks.specs.Mappings.{layout_of, holds_of, held_within, not_full, IsBuiltTerm, HasNumbers}
+use Rattle.map_checks.specs.RowsLaws.{rows_laid}
+
+-- as many cells on each side as its truths say
+module _ (fields : Fields) (path : List PathStep) (cells : List Cell) where
+  pub cells_first : length (cells_under fields path cells) ≡ count_by (λ (s : Bool). s) (side_of fields path cells)
+  cells_first =
+      length-filter (λ (cell : Cell). is_under fields path cell.leaf) cells
+      ∙ sym (count-mapped (λ (s : Bool). s) (λ (cell : Cell). is_under fields path cell.leaf) cells)
+
+  pub cells_rest : length (cells_beside fields path cells) ≡ count_by not (side_of fields path cells)
+  cells_rest =
+      length-filter (λ (cell : Cell). not (is_under fields path cell.leaf)) cells
+      ∙ sym (count-mapped not (λ (cell : Cell). is_under fields path cell.leaf) cells)
+
+  pub length-side : length (side_of fields path cells) ≡ length cells
+  length-side = length-map cells (λ (cell : Cell). is_under fields path cell.leaf)
+
+length-within : (width : ℕ) (cells : List Cell) → length (held_within width cells) ≡ length cells
+length-within width cells = length-narrow (replicate (length cells) width) cells (length-replicate (length cells) width)
+
+-- each cell is stored
+pub length-holds : (term : Term) (fields : Fields) (cells : List Cell) → length (holds_of term fields cells) ≡ length cells
+length-holds (Split path first rest) fields cells =
+    let one : length (holds_of first fields (cells_under fields path cells)) ≡ length (cells_under fields path cells) =
+    length-holds first fields (cells_under fields path cells) in
+    let two : length (holds_of rest fields (cells_beside fields path cells)) ≡ length (cells_beside fields path cells) =
+    length-holds rest fields (cells_beside fields path cells) in
+    length-merged (side_of fields path cells) (holds_of first fields (cells_under fields path cells)) (holds_of rest fields (cells_beside fields path cells))
+    (omega (arith, cells_first fields path cells)) (omega (arith, cells_rest fields path cells))
+    ∙ length-side fields path cells
+length-holds (Count inner) fields cells = length-holds inner fields cells
+length-holds (Aos form order) fields cells = length-full cells
+length-holds (Soa form order) fields cells = length-full cells
+length-holds (Aosoa lanes order) fields cells = length-full cells
+length-holds (BitAos width order) fields cells = length-within width cells
+length-holds (BitSoa width order) fields cells = length-within width cells
+length-holds (Byteswap inner) fields cells = length-full cells
+length-holds (Bytesplit inner) fields cells = length-full cells
+length-holds (Change from to inner) fields cells = length-holds inner fields (changed from to cells) ∙ length-changed from to cells
+length-holds (Heat granule inner) fields cells = length-holds inner fields cells
+length-holds (Named name) fields cells = length-full cells
+
+-- a number in its range is at least 1
+at_least : (bad : BadMapping) (low high : Bool) → (if low && high then None else Some bad) ≡ None → low ≡ true
+at_least bad true high e = cc
+at_least bad false high e = cc
+
+some_lanes : (lanes : ℕ) → bad_lanes lanes ≡ None → 0 < lanes
+some_lanes lanes e =
+    let low : 1 ≤ lanes = leb-true 1 lanes (at_least Lanes (nat_le 1 lanes) (nat_le lanes 64) e) in
+    omega arith
+
+good_of : (good : Bool) → (if good then None else Some Width) ≡ None → not good ≡ false
+good_of true e = refl
+good_of false e = cc
+
+-- widths that are accepted are good ones
+pub same_widths : (width n : ℕ) → bad_width width ≡ None → has_bad_width (replicate n width) ≡ false
+same_widths width n e = same_good width n (good_of (nat_le 1 width && nat_le width 64) e)
+
+within_wide : (width : ℕ) (cells : List Cell) → bad_width width ≡ None → All (λ w. 1 ≤ w) (widths_in (held_within width cells))
+within_wide width cells e = narrow_wide (replicate (length cells) width) cells (same_widths width (length cells) e)
+
+within_low : (width : ℕ) (cells : List Cell) → All (λ w. w ≤ 64) (widths_in (held_within width cells))
+within_low width cells = narrow_low (replicate (length cells) width) cells
+
+-- where neither holds
+pub neither_of : (one two : Bool) → (one || two) ≡ false → (one ≡ false) × (two ≡ false)
+neither_of true two e = cc
+neither_of false two e = (refl, e)
+
+-- holds that differ from those of the types nowhere
+held_whole : (term : Term) (fields : Fields) (cells : List Cell) → differ (holds_of term fields cells) (full_holds cells) ≡ false
+    → holds_of term fields cells ≡ full_holds cells
+held_whole term fields cells e = differ_none (holds_of term fields cells) (full_holds cells) (length-holds term fields cells ∙ sym (length-full cells)) e
+
+-- every bit of every row has exactly one place
+pub term_laws : (term : Term) (extents : List ℕ) (fields : Fields) (cells : List Cell) → IsBuiltTerm term → HasNumbers term → not_full term fields cells ≡ false
+    → IsLaidOut (layout_of term extents fields cells) (length (indices extents)) (map (λ (h : Hold). h.width) (holds_of term fields cells))
+term_laws (Aos form order) extents fields cells built numbers full =
+    rows_laid order extents (map (λ (h : Hold). h.width) (full_holds cells)) (aos_layout form (slot_count order extents) (widths_of cells))
+    (aos_laws form (slot_count order extents) cells)
+term_laws (Soa form order) extents fields cells built numbers full =
+    rows_laid order extents (map (λ (h : Hold). h.width) (full_holds cells)) (soa_layout form (slot_count order extents) (widths_of cells))
+    (soa_laws form (slot_count order extents) cells)
+term_laws (Aosoa lanes order) extents fields cells built numbers full =
+    rows_laid order extents (map (λ (h : Hold). h.width) (full_holds cells)) (aosoa lanes (slot_count order extents) (widths_of cells))
+    (aosoa_laws lanes (slot_count order extents) cells (some_lanes lanes numbers))
+term_laws (BitAos width order) extents fields cells built numbers full =
+    rows_laid order extents (widths_in (held_within width cells)) (bit_aos (slot_count order extents) (widths_in (held_within width cells)))
+    (bit_aos_laws (slot_count order extents) (widths_in (held_within width cells)) (within_low width cells) (within_wide width cells numbers))
+term_laws (BitSoa width order) extents fields cells built numbers full =
+    rows_laid order extents (widths_in (held_within width cells)) (bit_soa (slot_count order extents) (widths_in (held_within width cells)))
+    (bit_soa_laws (slot_count order extents) (widths_in (held_within width cells)) (within_low width cells) (within_wide width cells numbers))
+term_laws (Split path first rest) extents fields cells built numbers full =
+    let side : List Bool = side_of fields path cells in
+    let under : List Cell = cells_under fields path cells in
+    let beside : List Cell = cells_beside fields path cells in
+    let both = neither_of (not_full first fields under) (not_full rest fields beside) full in
+    split_laws side (layout_of first extents fields under) (layout_of rest extents fields beside) (length (indices extents)) (length (indices extents))
+    (holds_of first fields under) (holds_of rest fields beside) (term_laws first extents fields under built.0 numbers.0 both.0)
+    (term_laws rest extents fields beside built.1 numbers.1 both.1) refl (length-holds first fields under ∙ cells_first fields path cells)
+    (length-holds rest fields beside ∙ cells_rest fields path cells)
+term_laws (Byteswap inner) extents fields cells built numbers full =
+    let both = neither_of (differ (holds_of inner fields cells) (full_holds cells)) (not_full inner fields cells) full in
+    byteswap_laws (layout_of inner extents fields cells) (length (indices extents)) cells (holds_of inner fields cells) (held_whole inner fields cells both.0)
+    (term_laws inner extents fields cells built numbers both.1)
+term_laws (Bytesplit inner) extents fields cells built numbers full =
+    let bytes : List Cell = bytes_of cells in
+    let both = neither_of (differ (holds_of inner fields bytes) (full_holds bytes)) (not_full inner fields bytes) full in
+    bytesplit_laws (layout_of inner extents fields bytes) (length (indices extents)) cells (holds_of inner fields bytes) (held_whole inner fields bytes both.0)
+    (term_laws inner extents fields bytes built numbers both.1)
+term_laws (Change from to inner) extents fields cells built numbers full = term_laws inner extents fields (changed from to cells) built numbers full
+term_laws (Count inner) extents fields cells built numbers full = term_laws inner extents fields cells built numbers full
+term_laws (Heat granule inner) extents fields cells built numbers full = term_laws inner extents fields cells built numbers.1 full
+term_laws (Named name) extents fields cells built numbers full = absurd built
+
+-- where no number is out of its range, every number is in its range
+first_none : (one two : Option BadMapping) → option_or one two ≡ None → one ≡ None
+first_none None two e = refl
+first_none (Some bad) two e = cc
+
+then_none : (one two : Option BadMapping) → option_or one two ≡ None → two ≡ None
+then_none None two e = e
+then_none (Some bad) two e = cc
+
+pub good_numbers : (term : Term) → bad_number term ≡ None → HasNumbers term
+good_numbers (Aos form order) e = tt
+good_numbers (Soa form order) e = tt
+good_numbers (Aosoa lanes order) e = e
+good_numbers (BitAos width order) e = e
+good_numbers (BitSoa width order) e = e
+good_numbers (Split path first rest) e =
+    (good_numbers first (first_none (bad_number first) (bad_number rest) e), good_numbers rest (then_none (bad_number first) (bad_number rest) e))
+good_numbers (Byteswap inner) e = good_numbers inner e
+good_numbers (Bytesplit inner) e = good_numbers inner e
+good_numbers (Change from to inner) e = good_numbers inner e
+good_numbers (Count inner) e = good_numbers inner e
+good_numbers (Heat granule inner) e =
+    (first_none (bad_granule granule) (bad_number inner) e, good_numbers inner (then_none (bad_granule granule) (bad_number inner) e))
+good_numbers (Named name) e = tt

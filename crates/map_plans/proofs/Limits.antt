@@ -1,0 +1,37 @@
+-- A layout by rows over the slots of an order: which it is, and its limits.
+use Rattle.std.proofs.Common.{◌≡◌, ℕ, ◌*◌, ◌^◌, ◌<◌, inl, inr, ⊎_elim, List, map, length, sum_by, sym, ap, ◌∙◌, arith}
+use Rattle.places.specs.Layout.{Owner}
+use Rattle.places.specs.Rules.{in_rows}
+use Rattle.places.specs.Holds.{widths_of, IsTooBig}
+use Rattle.places.specs.declared.piece.Cell.{Cell}
+use Rattle.linearize.specs.Slots.{row_at, slot_count}
+use Rattle.extents.specs.declared.order.Order.{Order}
+use Rattle.map_checks.specs.Mappings.{ordered}
+use Rattle.map_checks.specs.RowsLaws.{sum-blobs}
+
+module _ (layout : ℕ → List ℕ → List (List Owner)) (order : Order) (extents : List ℕ) (cells : List Cell) (slots : ℕ) (counted : slots ≡ slot_count order extents) where
+  abbrev wanted : List (List Owner)
+  wanted = ordered order extents (λ n. layout n (widths_of cells))
+
+  pub by_rows : in_rows (row_at order extents) (layout slots (widths_of cells)) ≡ wanted
+  by_rows = ap (λ (n : ℕ). in_rows (row_at order extents) (layout n (widths_of cells))) counted
+
+  same_bits : sum_by length wanted ≡ sum_by length (layout slots (widths_of cells))
+  same_bits = ap (λ (l : List (List Owner)). sum_by length l) (sym by_rows) ∙ sum-blobs (row_at order extents) (layout slots (widths_of cells))
+
+  -- it is over a limit where the layout by slots is
+  pub over : IsTooBig slots (layout slots (widths_of cells)) → IsTooBig (slot_count order extents) wanted
+  over big =
+      let same : sum_by length wanted ≡ sum_by length (layout slots (widths_of cells)) = same_bits in
+      ⊎_elim
+      (λ (many : 2 ^ 24 < slots). inl (omega arith))
+      (λ (long : 8 * 2 ^ 28 < sum_by length (layout slots (widths_of cells))). inr (omega arith))
+      big
+
+  pub within : (IsTooBig slots (layout slots (widths_of cells)) → ⊥) → IsTooBig (slot_count order extents) wanted → ⊥
+  within fits big =
+      let same : sum_by length wanted ≡ sum_by length (layout slots (widths_of cells)) = same_bits in
+      fits (⊎_elim
+      (λ (many : 2 ^ 24 < slot_count order extents). inl (omega arith))
+      (λ (long : 8 * 2 ^ 28 < sum_by length wanted). inr (omega arith))
+      big)

@@ -1,0 +1,7 @@
+pub mod Ruled
+pub mod RuledLaws
+pub mod Splits
+pub mod Plans
+pub mod PlansLaws
+pub mod LeafOrders
+pub mod ByteRules
