@@ -7,7 +7,7 @@ use Rattle.record_dim.specs.NameBytesLaws.{both, same_text, text_self}
 use Rattle.record_dim.specs.declared.leaf_type.LeafType.{LeafType}
 use Rattle.record_dim.specs.declared.leaf_type.LeafType.TheVariants.{Bool as Truth, U8, U16, U32, U64, I8, I16, I32, I64}
 use Rattle.record_dim.specs.Trees.{Tree, Fields, Single, Record, Array, End, Field}
-use Rattle.map_bytes.specs.Cells.{kind_number}
+use Rattle.record_dim.specs.LeafTypes.{kind_number}
 use Rattle.layout_copy.specs.Copies.{AreAlike}
 use Rattle.views.specs.Seen.{Seen}
 use Rattle.worlds.specs.Copy.{same_tree, same_fields, are_alike}

@@ -5,7 +5,8 @@ use Rattle.std.proofs.lemmas.List.{length-map}
 use Rattle.record_dim.specs.declared.leaf_type.LeafType.{LeafType}
 use Rattle.places.specs.declared.piece.Cell.{Cell}
 use Rattle.places.specs.declared.piece.Hold.{Hold}
-use Rattle.map_bytes.specs.Cells.{kind_number, changed}
+use Rattle.record_dim.specs.LeafTypes.{kind_number}
+use Rattle.map_bytes.specs.Cells.{changed}
 
 pub length-changed : (from to : LeafType) (cells : List Cell) → length (changed from to cells) ≡ length cells
 length-changed from to cells = length-map cells (λ (cell : Cell). let c : Cell = record { leaf = cell.leaf; kind = if kind_number cell.kind == kind_number from then to else cell.kind } in c)

@@ -1,7 +1,19 @@
--- The nine leaf types: how many bits each takes, whether it is signed, and which values it declares.
+-- The nine leaf types: a number for each, how many bits each takes, whether it is signed, and which values it declares.
 use Rattle.std.specs.Prelude.{ℕ, ◌-◌, ◌^◌, Bool, true, false, ℤ, pos, ◌-ℤ◌, ◌≤ℤ◌}
 use Rattle.record_dim.specs.declared.leaf_type.LeafType.{LeafType}
 use Rattle.record_dim.specs.declared.leaf_type.LeafType.TheVariants.{Bool as Truth, U8, U16, U32, U64, I8, I16, I32, I64}
+
+-- a type by a number of its own
+abbrev pub kind_number : LeafType → ℕ
+kind_number Truth = 0
+kind_number U8 = 1
+kind_number U16 = 2
+kind_number U32 = 3
+kind_number U64 = 4
+kind_number I8 = 5
+kind_number I16 = 6
+kind_number I32 = 7
+kind_number I64 = 8
 
 -- the width in bits; the size in bytes is an eighth of it, and the alignment is the size
 abbrev pub width_of : LeafType → ℕ

@@ -7,15 +7,15 @@ use crate::{BadRecord, Dim, FieldList, Name};
 use std::alloc::{AllocError as NoMemory, Global};
 use std::collections::BTreeSet;
 
-const MOST_DEPTH: u32 = 8;
+const MAX_DEPTH: u32 = 8;
 
-const MOST_LEAVES: usize = 64;
+const MAX_LEAVES: usize = 64;
 
 /// The first cause for which a record is refused. The depth is tested first, and the other walks go only as deep as it allows.
 pub fn first_fault(alloc: Global, dim: &Dim) -> Result<Option<BadRecord>, NoMemory>
     ensures { IfOk result (λ fault. fault ≡ first_fault (tree_of dim.now)) }
 {
-    if !is_within(dim, MOST_DEPTH) {
+    if !is_within(dim, MAX_DEPTH) {
         return Ok(Some(BadRecord::TooDeep));
     }
     if any_empty(dim) {
@@ -27,7 +27,7 @@ pub fn first_fault(alloc: Global, dim: &Dim) -> Result<Option<BadRecord>, NoMemo
     if any_without_elements(dim) {
         return Ok(Some(BadRecord::NoElements));
     }
-    if count_leaves(dim) > MOST_LEAVES {
+    if count_leaves(dim) > MAX_LEAVES {
         return Ok(Some(BadRecord::TooManyLeaves));
     }
     Ok(None)
@@ -176,8 +176,8 @@ pub fn count_leaves(dim: &Dim) -> usize
         Dim::Leaf(_) => 1,
         Dim::Fields(fields) => count_leaves_below(fields),
         Dim::Array { len, element } => {
-            let elements = (*len as usize).min(MOST_LEAVES + 1);
-            (elements * count_leaves(element)).min(MOST_LEAVES + 1)
+            let elements = (*len as usize).min(MAX_LEAVES + 1);
+            (elements * count_leaves(element)).min(MAX_LEAVES + 1)
         }
     }
 }
@@ -191,7 +191,7 @@ pub fn count_leaves_below(fields: &FieldList) -> usize
     let mut count = 0usize;
     let mut left = fields;
     while let FieldList::More { field, rest } = left {
-        count = (count + count_leaves(&field.dim)).min(MOST_LEAVES + 1);
+        count = (count + count_leaves(&field.dim)).min(MAX_LEAVES + 1);
         left = rest;
     }
     count

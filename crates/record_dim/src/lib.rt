@@ -16,7 +16,7 @@ mod text;
 pub use dim::{Dim, Field, FieldList};
 pub use fault::{BadRecord, MakeSchema};
 pub use leaf_type::LeafType;
-pub use name::Name;
+pub use name::{MAX_NAME_BYTES, Name};
 pub use path::{Path, PathStep};
 pub use schema::Schema;
 pub use text::Text;

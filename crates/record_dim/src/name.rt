@@ -10,12 +10,13 @@ use std::cmp::Ordering;
 use std::fmt;
 use std::marker::Model;
 
-const MOST_BYTES: usize = 32;
+/// The most bytes of a name.
+pub const MAX_NAME_BYTES: usize = 32;
 
 /// The name of a field: a letter or `_`, then letters, digits and `_`, of at most 32 bytes. Contracts see its bytes.
 #[derive(Clone, Copy)]
 pub struct Name {
-    bytes: [u8; MOST_BYTES],
+    bytes: [u8; MAX_NAME_BYTES],
     len: usize,
 }
 
@@ -38,10 +39,10 @@ impl Name {
         ensures { result ≡ (if is_name text.now then Some text.now else None) }
     {
         let text = text.as_bytes();
-        if text.len() > MOST_BYTES || !is_word(text) {
+        if text.len() > MAX_NAME_BYTES || !is_word(text) {
             return None;
         }
-        let mut bytes = [0; MOST_BYTES];
+        let mut bytes = [0; MAX_NAME_BYTES];
         bytes[..text.len()].copy_from_slice(text);
         Some(Name {
             bytes,

@@ -3,7 +3,7 @@ use Rattle.std.specs.Prelude.{ℕ, ℤ, ◌&&◌, Bool, true, false, not, nat_eq
 use Rattle.std.specs.Cmp.Lexicographic.{pointwise}
 use Rattle.record_dim.specs.Trees.{Tree, Fields, Single, Record, Array, End, Field}
 use Rattle.map_expr.specs.Terms.{Term as MapTerm}
-use Rattle.map_bytes.specs.Cells.{kind_number}
+use Rattle.record_dim.specs.LeafTypes.{kind_number}
 use Rattle.layout_copy.specs.Copies.{Spot, refused_at}
 use Rattle.views.specs.Tallies.{all_reads, all_writes}
 use Rattle.views.specs.Tables.{Table, leaf_count_of, after_log, after_stores, answer_of}
