@@ -6,3 +6,5 @@ pub mod AccessLaws
 pub mod Counted
 pub mod HotLaws
 pub mod CountLaws
+pub mod TouchLaws
+pub mod RowLaws

@@ -1,5 +1,5 @@
 -- A view by its fields.
-use Rattle.std.proofs.Common.{◌≡◌, ℕ, ℤ, ◌<◌, List, [], ◌∷◌, Ok, length, map, sym, ap, ◌∙◌, subst, arith}
+use Rattle.std.proofs.Common.{◌≡◌, ℕ, ℤ, ◌<◌, List, [], ◌∷◌, Ok, false, length, map, sym, ap, ◌∙◌, subst, arith}
 use Rattle.std.specs.List.{enumerate_from}
 use Rattle.std.proofs.lemmas.List.{length-map}
 use Rattle.std.proofs.lemmas.List.FromFn.{length-enumerate_from}
@@ -17,12 +17,15 @@ use Rattle.places.specs.declared.piece.Hold.{Hold}
 use Rattle.map_expr.specs.declared.expr.MapExpr.{MapExpr}
 use Rattle.map_expr.specs.Terms.{Term, term_of}
 use Rattle.map_any.specs.Mappings.{leaf_cells, layout_by, holds_by, IsTooBigFor}
+use Rattle.map_any.specs.Counters.{is_counted}
 use Rattle.piece_bits.specs.Tables.{AreLaid, table_in, hold_at, with_entry}
 use Rattle.views.specs.Tables.{Table, leaf_count_of, answer_of, after_log, after_stores, after_write, IsTable}
 use Rattle.views.specs.Stores.{kind_at, store_answer, Fits}
 use Rattle.views.specs.Tallies.{Access, Write, Tally, touched, tallied, all_touches}
 use Rattle.views.specs.Kept.{IsKept, IsMappingOf, IsTallied, table_under}
+use Rattle.views.proofs.CountLaws.{idle_logged}
 use Rattle.views.proofs.KeptLaws.{kind_count, row_count, kept_shape, kept_fits, kept_set}
+use Rattle.views.specs.AnswerLaws.{kept_of-same}
 use Rattle.views.proofs.StoreLaws.{stored_fits}
 
 -- as many cells as leaves
@@ -128,16 +131,16 @@ module _ (schema : Schema) (extents : List ℕ) (expr : MapExpr) (blobs : List (
       omega (arith, kind_count (schema_fields schema))
 
   -- a value whose store is taken fits
-  pub fits_seen : (leaf : ℕ) (value : ℤ) → Ok tt ≡ answer_of seen leaf value →
+  pub fits_seen : (leaf : ℕ) (value : ℤ) → answer_of seen leaf value ≡ Ok value →
       Fits (kind_at (kinds_of (schema_fields schema)) leaf) (hold_at (holds_by (term_of expr) (schema_fields schema)) leaf) value
   fits_seen leaf value taken =
       let kind = kind_at (kinds_of (schema_fields schema)) leaf in
       let hold = hold_at (holds_by (term_of expr) (schema_fields schema)) leaf in
-      let here : store_answer kind hold value ≡ Ok tt = ap (λ (s : Table). answer_of s leaf value) is ∙ sym taken in
+      let here : store_answer kind hold value ≡ Ok value = ap (λ (s : Table). answer_of s leaf value) is ∙ taken in
       stored_fits kind hold value here
 
   -- a fitting value is written
-  pub kept_after : (row leaf : ℕ) (value : ℤ) (new : List (List ℕ)) → row < length seen.rows → leaf < leaf_count_of seen → Ok tt ≡ answer_of seen leaf value →
+  pub kept_after : (row leaf : ℕ) (value : ℤ) (new : List (List ℕ)) → row < length seen.rows → leaf < leaf_count_of seen → answer_of seen leaf value ≡ Ok value →
       AreLaid (layout_by (term_of expr) extents (schema_fields schema)) new →
       table_under (term_of expr) extents (schema_fields schema) new
       ≡ with_entry (table_under (term_of expr) extents (schema_fields schema) blobs) row leaf value →
@@ -153,10 +156,17 @@ pub entry_seen : (schema : Schema) (extents : List ℕ) (expr : MapExpr) (blobs 
     → entry (table_in layout slots holds lent) row leaf ≡ entry seen.rows row leaf
 entry_seen schema extents expr blobs mapping is lent same row leaf = read_here mapping lent blobs same row leaf ∙ ap (λ (s : Table). entry s.rows row leaf) is
 
--- the view after an access that left its table, or stored a value
+-- the view after an access that left its table, after a value was stored that no counter sees, and after a store
 module _ (schema : Schema) (extents : List ℕ) (expr : MapExpr) (blobs : List (List ℕ)) {tally : Tally} {seen : Table} (is : seen_from schema extents expr blobs tally ≡ seen) where
   pub seen_touched : (access : Access) (new : Tally) → new ≡ tallied (layout_by (term_of expr) extents (schema_fields schema)) tally (access ∷ []) → seen_from schema extents expr blobs new ≡ after_log seen (access ∷ [])
   seen_touched access new counts = ap (seen_from schema extents expr blobs) counts ∙ ap (λ (s : Table). after_log s (access ∷ [])) is
+
+  pub seen_stored : (row leaf : ℕ) (value : ℤ) (stored : List (List ℕ)) →
+      table_under (term_of expr) extents (schema_fields schema) stored ≡ with_entry (table_under (term_of expr) extents (schema_fields schema) blobs) row leaf value →
+      seen_from schema extents expr stored tally ≡ record seen { rows = with_entry seen.rows row leaf value }
+  seen_stored row leaf value stored table =
+      ap (λ (t : List (List ℤ)). let s : Table = record (seen_from schema extents expr blobs tally) { rows = t } in s) table
+      ∙ ap (λ (s : Table). let t : Table = record s { rows = with_entry s.rows row leaf value } in t) is
 
   pub seen_written : (row leaf : ℕ) (value : ℤ) (stored : List (List ℕ)) (new : Tally) →
       table_under (term_of expr) extents (schema_fields schema) stored ≡ with_entry (table_under (term_of expr) extents (schema_fields schema) blobs) row leaf value →
@@ -164,4 +174,11 @@ module _ (schema : Schema) (extents : List ℕ) (expr : MapExpr) (blobs : List (
   seen_written row leaf value stored new table counts =
       ap (λ (t : Tally). seen_from schema extents expr stored t) counts
       ∙ ap (λ (t : List (List ℤ)). after_stores (seen_from schema extents expr blobs tally) t (Write row leaf ∷ [])) table
-      ∙ ap (λ (s : Table). after_write s row leaf value) is
+      ∙ ap (λ (s : Table). after_stores s (with_entry s.rows row leaf value) (Write row leaf ∷ [])) is
+      ∙ ap (λ (v : ℤ). after_stores seen (with_entry seen.rows row leaf v) (Write row leaf ∷ [])) (sym (kept_of-same seen leaf value))
+
+  -- where it counts nothing, no access changes anything
+  pub idle_seen : {leaves : ℕ} → is_counted seen.mapping ≡ false → IsTallied (term_of expr) (layout_by (term_of expr) extents (schema_fields schema)) leaves tally → (log : List Access) → after_log seen log ≡ seen
+  idle_seen idle has log =
+      let none : is_counted (term_of expr) ≡ false = ap (λ (s : Table). is_counted s.mapping) is ∙ idle in
+      sym (ap (λ (s : Table). after_log s log) is) ∙ ap (seen_from schema extents expr blobs) (idle_logged log none has) ∙ is

@@ -1,8 +1,9 @@
 pub mod Tables
 pub mod Stores
+pub mod AnswerLaws
+pub mod HalfLaws
 pub mod Kept
 pub mod Refusals
 pub mod Tallies
 pub mod TallyLaws
 pub mod Entries
-pub mod Codes

@@ -10,7 +10,7 @@ use Rattle.places.specs.declared.piece.Hold.{Hold}
 use Rattle.map_expr.specs.Terms.{Term}
 use Rattle.map_any.specs.Mappings.{layout_by, holds_by}
 use Rattle.piece_bits.specs.Tables.{HasShape, hold_at, with_entry}
-use Rattle.views.specs.Stores.{kind_at, store_answer, AllFit}
+use Rattle.views.specs.Stores.{Keeping, kind_at, store_answer, kept_by, AllFit}
 use Rattle.views.specs.Tallies.{Access, Read, Write, Tally, tallied}
 use Rattle.views.specs.declared.fault.StoreFault.{StoreFault}
 
@@ -43,8 +43,12 @@ abbrev pub leaf_type_of : Table → ℕ → LeafType
 leaf_type_of table leaf = kind_at (leaf_types_of table) leaf
 
 -- the answer to a store of a value in a leaf
-abbrev pub answer_of : Table → ℕ → ℤ → Result Unit StoreFault
+abbrev pub answer_of : Table → ℕ → ℤ → Result ℤ StoreFault
 answer_of table leaf value = store_answer (leaf_type_of table leaf) (hold_at (table_holds table) leaf) value
+
+-- the number that a store of a value in a leaf keeps
+abbrev pub kept_of : Table → Keeping
+kept_of table = kept_by (answer_of table)
 
 -- the bits of a blob: those of the image of the table
 abbrev pub blob_bits_of : Table → ℕ → List ℕ
@@ -68,6 +72,7 @@ after_stores table rows log = record table { rows = rows; tally = tallied (owner
 abbrev pub after_read : Table → ℕ → ℕ → Table
 after_read table row leaf = after_log table (Read row leaf ∷ [])
 
--- the table after a store of a value in a leaf of a row: this entry is the value, one more write is counted, and nothing else changed
+-- the table after a store of a value in a leaf of a row: the entry is the number that is kept, one more write is counted, and nothing else
+-- changed
 abbrev pub after_write : Table → ℕ → ℕ → ℤ → Table
-after_write table row leaf value = after_stores table (with_entry table.rows row leaf value) (Write row leaf ∷ [])
+after_write table row leaf value = after_stores table (with_entry table.rows row leaf (kept_of table leaf value)) (Write row leaf ∷ [])

@@ -8,7 +8,7 @@ use Rattle.std.proofs.lemmas.List.Concat.{flat_map-append, flat_map-cons}
 use Rattle.std.proofs.lemmas.List.FromFn.{map-range_with_len_more}
 use Rattle.places.specs.Layout.{Owner}
 use Rattle.instrument.specs.Counters.{LeafCounts}
-use Rattle.views.specs.Tallies.{Access, Read, Tally, counted_by, touched, tallied}
+use Rattle.views.specs.Tallies.{Access, Read, Tally, counts_touched, touched, tallied}
 use Rattle.views.specs.Tables.{Table, owners_of, after_log, after_stores, after_read}
 
 -- no access counts nothing
@@ -33,15 +33,15 @@ after_stores-append table first second log more = ap (λ (tally : Tally). record
 
 -- the counts by leaf are counted alone, however the bits lie
 pub tallied-counts : (layout : List (List Owner)) (tally : Tally) (log : List Access)
-    → (tallied layout tally log).counts ≡ option_map (λ (counts : LeafCounts). fold (λ c access. counted_by access c) counts log) tally.counts
+    → (tallied layout tally log).counts ≡ option_map (λ (counts : LeafCounts). fold (λ c access. counts_touched access c) counts log) tally.counts
 unfolding tallied
 tallied-counts layout tally [] = same tally.counts where
   same : (counts : Option LeafCounts) → counts ≡ option_map (λ c. c) counts
   same None = refl
   same (Some counts) = refl
 tallied-counts layout tally (access ∷ log) = tallied-counts layout (touched layout tally access) log ∙ once tally.counts where
-  once : (counts : Option LeafCounts) → option_map (λ (counts : LeafCounts). fold (λ c a. counted_by a c) counts log) (option_map (counted_by access) counts)
-      ≡ option_map (λ (counts : LeafCounts). fold (λ c a. counted_by a c) counts (access ∷ log)) counts
+  once : (counts : Option LeafCounts) → option_map (λ (counts : LeafCounts). fold (λ c a. counts_touched a c) counts log) (option_map (counts_touched access) counts)
+      ≡ option_map (λ (counts : LeafCounts). fold (λ c a. counts_touched a c) counts (access ∷ log)) counts
   once None = refl
   once (Some counts) = refl
 

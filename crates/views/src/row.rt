@@ -1,10 +1,11 @@
 ghost use Rattle.std.specs.Prelude.{◌≡◌, ◌+◌, ◌<◌, OnOk, OnErr, length};
 ghost use Rattle.places.specs.Image.{entry};
 ghost use Rattle.piece_bits.specs.Tables.{hold_at};
-ghost use Rattle.views.specs.Stores.{Fits};
+ghost use Rattle.views.specs.Stores.{Fits, told};
 ghost use Rattle.views.specs.Tables.{leaf_count_of, leaf_type_of, table_holds, answer_of, after_read, after_write};
 
 use crate::fault::StoreFault;
+use crate::laws::laws_of_table;
 use crate::view::View;
 use expr_lang::Row;
 use std::sync::ledger::Ledger;
@@ -44,7 +45,7 @@ impl RowRef<'_> {
         self.view.get(self.row, leaf, steps)
     }
 
-    /// Makes the value of a leaf in the row this one. It takes one step, also where the value does not fit; then the table stands.
+    /// Stores a value in a leaf of the row, as [`View::set`] does.
     pub fn set<L: Ledger>(
         &mut self,
         leaf: usize,
@@ -53,7 +54,7 @@ impl RowRef<'_> {
     ) -> Result<(), StoreFault>
         requires row_in { self.old.row < length self.old.view.now.rows }
         requires leaf_in { leaf < leaf_count_of self.old.view.now }
-        ensures answer { result ≡ answer_of self.old.view.now leaf value }
+        ensures answer { result ≡ told (answer_of self.old.view.now leaf value) }
         ensures stored { OnOk result (self.new.view.now ≡ after_write self.old.view.now self.old.row leaf value) }
         ensures refused { OnErr result (self.new.view.now ≡ self.old.view.now) }
         ensures same_row { self.new.row ≡ self.old.row }
@@ -79,7 +80,7 @@ impl Row for RowRef<'_> {
     ghost after = { λ state leaf. (record state.0 { now = after_read state.0.now state.1 leaf }, state.1) };
 
     fn read<L: Ledger>(&mut self, leaf: usize, steps: &mut Steps<L>) -> i128 {
-        let _leaves = self.view.schema();
+        laws_of_table(self.view);
         self.view.get(self.row, leaf, steps)
     }
 }

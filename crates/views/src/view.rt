@@ -1,19 +1,18 @@
-ghost use Rattle.std.specs.Prelude.{ℕ, ◌≡◌, ◌+◌, ◌*◌, ◌^◌, ◌<◌, ◌≤◌, IfOk, OnOk, IfErr, OnErr, IfSome, Ok, is_some, option_map, length, sum_by};
+ghost use Rattle.std.specs.Prelude.{ℕ, ◌≡◌, ◌+◌, ◌*◌, ◌^◌, ◌<◌, ◌≤◌, IfOk, OnOk, IfErr, OnErr, IfSome, Ok, List, false, is_some, option_map, length, sum_by};
 ghost use Rattle.extents.specs.Indices.{indices};
 ghost use Rattle.map_expr.specs.Terms.{term_of};
 ghost use Rattle.map_any.specs.Mappings.{leaf_cells, accepted, IsBuiltTerm};
-ghost use Rattle.map_any.specs.Counters.{has_count, granule_of};
+ghost use Rattle.map_any.specs.Counters.{has_count, granule_of, is_counted};
 ghost use Rattle.instrument.specs.Counters.{leaf_counts, heat_counts, HasLeaves};
-ghost use Rattle.views.specs.Tallies.{no_tally, all_touches};
+ghost use Rattle.views.specs.Tallies.{Access, no_tally};
 ghost use Rattle.places.specs.Image.{entry};
 ghost use Rattle.blobs.specs.Bits.{bits_of};
-ghost use Rattle.piece_bits.specs.Tables.{zeros};
+ghost use Rattle.piece_bits.specs.Tables.{zeros, with_entry};
 
 use crate::access::{read_by_rule, short_read, short_write, write_by_rule};
 use crate::fault::{MakeView, StoreFault};
 use crate::fresh::{new_counts, new_heat, zeroed_blobs};
 use crate::store::answer;
-use crate::touch::{count_all, count_read, count_write};
 use blobs::Blob;
 use extents::Extents;
 use instrument::{Counts, Heat};
@@ -24,6 +23,8 @@ use std::alloc::Global;
 use std::marker::Model;
 use std::sync::ledger::Ledger;
 use steps::Steps;
+
+mod touch;
 
 /// The blobs of a view, in the order of its mapping.
 pub type BlobList = Vec<Blob>;
@@ -47,7 +48,8 @@ impl Model for View {
     ghost use Rattle.std.specs.Prelude.{◌≡◌, length};
     ghost use Rattle.views.specs.Tables.{Table};
     ghost use Rattle.std.specs.Coded.{codes};
-    ghost use Rattle.views.specs.Codes.{coded_fields, coded_term};
+    ghost use Rattle.record_dim.specs.Codes.{coded_fields};
+    ghost use Rattle.map_expr.specs.Codes.{coded_term};
 
     ghost Value = { Table };
 
@@ -80,7 +82,7 @@ impl View {
     ghost use Rattle.map_any.specs.Maps.{extents_of, term_of_map};
     ghost use Rattle.record_dim.specs.Leaves.{leaves, kinds_of};
     ghost use Rattle.piece_bits.specs.Tables.{hold_at};
-    ghost use Rattle.views.specs.Stores.{Fits};
+    ghost use Rattle.views.specs.Stores.{Fits, told};
     ghost use Rattle.views.specs.Refusals.{IsOver, IsNoView};
     ghost use Rattle.views.specs.Tables.{leaf_count_of, leaf_type_of, leaf_types_of, owners_of, table_holds, answer_of, blob_bits_of, after_log, after_read, after_write, IsTable};
 
@@ -194,7 +196,7 @@ impl View {
         }
     }
 
-    // The same by the whole rule. It counts the read.
+    // The same by the whole rule. The test for counters ends in a call, so that a view without any pays that test alone.
     #[inline(never)]
     fn get_by_rule(&mut self, row: u64, leaf: usize) -> i128
         requires row_in { row < length self.old.rows }
@@ -203,7 +205,33 @@ impl View {
         ensures fits { Fits (leaf_type_of self.old leaf) (hold_at (table_holds self.old) leaf) result }
         ensures same { self.new ≡ after_read self.old row leaf }
     {
-        count_read(&self.map, &mut self.counts, &mut self.heat, row, leaf);
+        if self.is_counted() {
+            return self.get_counted(row, leaf);
+        }
+        self.read(row, leaf)
+    }
+
+    // The same of a view that counts.
+    #[inline(never)]
+    fn get_counted(&mut self, row: u64, leaf: usize) -> i128
+        requires row_in { row < length self.old.rows }
+        requires leaf_in { leaf < leaf_count_of self.old }
+        ensures value { result ≡ entry self.old.rows row leaf }
+        ensures fits { Fits (leaf_type_of self.old leaf) (hold_at (table_holds self.old) leaf) result }
+        ensures same { self.new ≡ after_read self.old row leaf }
+    {
+        self.touch(false, row, leaf);
+        self.read(row, leaf)
+    }
+
+    // The value of a leaf in a row by the whole rule, and nothing is counted.
+    #[inline(always)]
+    fn read(&self, row: u64, leaf: usize) -> i128
+        requires row_in { row < length self.now.rows }
+        requires leaf_in { leaf < leaf_count_of self.now }
+        ensures value { result ≡ entry self.now.rows row leaf }
+        ensures fits { Fits (leaf_type_of self.now leaf) (hold_at (table_holds self.now) leaf) result }
+    {
         read_by_rule(&self.map, self.blobs.as_slice(), row, leaf)
     }
 
@@ -212,7 +240,7 @@ impl View {
     #[inline(always)]
     pub fn fits(&self, leaf: usize, value: i128) -> Result<(), StoreFault>
         requires { leaf < leaf_count_of self.now }
-        ensures { result ≡ answer_of self.now leaf value }
+        ensures { result ≡ told (answer_of self.now leaf value) }
     {
         if self.map.takes(leaf, value) {
             return Ok(());
@@ -224,12 +252,12 @@ impl View {
     #[inline(never)]
     fn tested(&self, leaf: usize, value: i128) -> Result<(), StoreFault>
         requires { leaf < leaf_count_of self.now }
-        ensures { result ≡ answer_of self.now leaf value }
+        ensures { result ≡ told (answer_of self.now leaf value) }
     {
         answer(self.schema.leaf_type(leaf), self.map.hold(leaf), value)
     }
 
-    /// Makes the value of a leaf in a row this one. It takes one step, also where the value does not fit; then the table stands.
+    /// Stores a value in a leaf of a row. It takes one step, also where the value does not fit; then the table stands.
     pub fn set<L: Ledger>(
         &mut self,
         row: u64,
@@ -239,7 +267,7 @@ impl View {
     ) -> Result<(), StoreFault>
         requires row_in { row < length self.old.rows }
         requires leaf_in { leaf < leaf_count_of self.old }
-        ensures answer { result ≡ answer_of self.old leaf value }
+        ensures answer { result ≡ told (answer_of self.old leaf value) }
         ensures stored { OnOk result (self.new ≡ after_write self.old row leaf value) }
         ensures refused { OnErr result (self.new ≡ self.old) }
         ensures step { steps.new ≡ steps.old + 1 }
@@ -253,15 +281,40 @@ impl View {
         Ok(())
     }
 
-    // Makes the value of a leaf in a row this one, which fits, by the whole rule. It counts the write.
+    // Makes the value of a leaf in a row this one, which is kept as it is, by the whole rule. The test for counters is as in `get_by_rule`.
     #[inline(never)]
     fn set_by_rule(&mut self, row: u64, leaf: usize, value: i128)
         requires row_in { row < length self.old.rows }
         requires leaf_in { leaf < leaf_count_of self.old }
-        requires taken { answer_of self.old leaf value ≡ Ok tt }
+        requires kept { answer_of self.old leaf value ≡ Ok value }
         ensures { self.new ≡ after_write self.old row leaf value }
     {
-        count_write(&self.map, &mut self.counts, &mut self.heat, row, leaf);
+        if self.is_counted() {
+            return self.set_counted(row, leaf, value);
+        }
+        self.write(row, leaf, value);
+    }
+
+    // The same of a view that counts.
+    #[inline(never)]
+    fn set_counted(&mut self, row: u64, leaf: usize, value: i128)
+        requires row_in { row < length self.old.rows }
+        requires leaf_in { leaf < leaf_count_of self.old }
+        requires kept { answer_of self.old leaf value ≡ Ok value }
+        ensures { self.new ≡ after_write self.old row leaf value }
+    {
+        self.touch(true, row, leaf);
+        self.write(row, leaf, value);
+    }
+
+    // Makes the value of a leaf in a row this one, which is kept as it is, by the whole rule, and nothing is counted.
+    #[inline(always)]
+    fn write(&mut self, row: u64, leaf: usize, value: i128)
+        requires row_in { row < length self.old.rows }
+        requires leaf_in { leaf < leaf_count_of self.old }
+        requires kept { answer_of self.old leaf value ≡ Ok value }
+        ensures { self.new ≡ record self.old { rows = with_entry self.old.rows row leaf value } }
+    {
         write_by_rule(&self.map, &mut self.blobs, row, leaf, value);
     }
 
@@ -282,13 +335,25 @@ impl View {
         self.heat.as_ref()
     }
 
-    /// Counts so many reads of each leaf of each row, and then so many writes.
-    pub fn touch_all(&mut self, reads: u64, writes: u64)
-        ensures { self.new ≡ after_log self.old (all_touches reads writes (leaf_count_of self.old) (length self.old.rows)) }
+    // Whether the expression counts accesses. Where it does not, no access changes anything.
+    #[inline(always)]
+    fn is_counted(&self) -> bool
+        ensures value { result ≡ is_counted self.now.mapping }
+        ensures idle { result ≡ false → (log : List Access) → after_log self.now log ≡ self.now }
     {
-        count_all(&self.map, &mut self.counts, &mut self.heat, reads, writes);
+        matches!(&self.expr, MapExpr::Count(_) | MapExpr::Heat { .. })
+    }
+
+    // Every field of a view stands here: its values lie in the blobs and nowhere else. Beside them it holds what it counts of accesses.
+    fn every_field(&self) {
+        let View {
+            schema: _,
+            extents: _,
+            expr: _,
+            map: _,
+            blobs: _,
+            counts: _,
+            heat: _,
+        } = self;
     }
 }
-
-#[cfg(test)]
-mod tests;

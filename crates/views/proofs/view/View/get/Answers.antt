@@ -9,7 +9,6 @@ use Rattle.views.specs.Kept.{tally_of}
 use Rattle.views.specs.Tables.{leaf_types_of, leaf_type_of, table_holds}
 use Rattle.views.specs.Stores.{Fits}
 use Rattle.views.specs.Tallies.{Read}
-use Rattle.record_dim.specs.Schemas.{schema_fields}
 use Rattle.views.proofs.CountLaws.{idle_tallied}
 use Rattle.views.proofs.KeptLaws.{kind_count}
 use Rattle.views.proofs.Opened.{rows_seen, table_seen, leaf_seen, cell_count, laid_here, entry_seen, seen_touched}

@@ -6,10 +6,10 @@ use Rattle.record_dim.specs.Schemas.{schema_fields}
 use Rattle.instrument.specs.Counters.{HeatCounts, heat_counts, warmed}
 use Rattle.instrument.specs.declared.heat.Heat.{Heat}
 use Rattle.views.specs.Kept.{HasGranules}
-use Rattle.views.specs.Tallies.{heated_at}
+use Rattle.views.specs.Tallies.{granules_touched}
 use Rattle.views.proofs.HotLaws.{touched_same}
 use Rattle.views.proofs.CountLaws.{piece_inside}
-use Rattle.views.proofs.touch.warm.Goals as goal
+use Rattle.views.proofs.view.touch.touch_heat.Goals as goal
 
 pub touch-requires : goal.touch-requires
 touch-requires c k d small =
@@ -25,7 +25,7 @@ returns-in-Some c =
     let layout = layout_by (term_of m.expr) m.extents (schema_fields m.schema) in
     let heat = heat_counts c.in-Some.heat in
     let same = touched_same c.laws_of.ensures.lawful c.locate.ensures heat.granule in
-    let new : heat_counts c.touch.new.self ≡ heated_at layout c.args.row c.args.leaf heat =
+    let new : heat_counts c.touch.new.self ≡ granules_touched layout c.args.row c.args.leaf heat =
     c.touch.ensures ∙ ap (λ (test : ℕ → ℕ → Bool). let h : HeatCounts = record heat { blobs = warmed test heat.blobs } in h) same in
     ap (λ (h : HeatCounts). let o : Option HeatCounts = Some h in o) new
-    ∙ ap (λ (o : Option Heat). option_map (heated_at layout c.args.row c.args.leaf) (option_map heat_counts o)) (sym c.in-Some.is)
+    ∙ ap (λ (o : Option Heat). option_map (granules_touched layout c.args.row c.args.leaf) (option_map heat_counts o)) (sym c.in-Some.is)
