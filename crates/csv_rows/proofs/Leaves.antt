@@ -8,7 +8,7 @@ use Rattle.record_dim.specs.declared.leaf_type.LeafType.TheVariants.{Bool as Tru
 use Rattle.places.specs.declared.piece.Hold.{Hold}
 use Rattle.piece_bits.specs.Tables.{hold_at, with_entry}
 use Rattle.views.specs.Stores.{kind_at}
-use Rattle.views.specs.Tallies.{row_writes}
+use Rattle.views.specs.Tallies.{Write, row_accesses}
 use Rattle.views.specs.Tables.{Table, leaf_count_of, leaf_types_of, table_holds, answer_of, after_stores, after_write}
 use Rattle.views.specs.declared.fault.StoreFault.{StoreFault}
 use Rattle.csv_rows.specs.Datasets.{◌>>=◌, Leaf, with_columns, value_at, row_values}
@@ -74,48 +74,3 @@ leaves_read seen columns paired row fields leaf values count whole over before =
     let gone : length (leaves_in seen columns) ≤ leaf = omega (arith, leaves_count seen columns paired count) in
     before ∙ ap (λ (rest : List Leaf). behind (take leaf values) (row_values row fields leaf rest)) (drop_all leaf (leaves_in seen columns) gone)
     ∙ ap Ok (append-nil (take leaf values) ∙ take_all leaf values (omega arith))
-
--- a row of which the front is new
-abbrev pub half_row : List ℤ → List ℤ → ℕ → List ℤ
-half_row values old leaf = take leaf values ++ drop leaf old
-
-half_more : (values old : List ℤ) (leaf : ℕ) (value : ℤ) → leaf < length values → length values ≡ length old → get_or values leaf (pos 0) ≡ value → set (half_row values old leaf) leaf value ≡ half_row values old (leaf + 1)
-half_more values old leaf value small same here =
-    let front : length (take leaf values) ≡ leaf = length-take leaf values ∙ omega arith in
-    let rest : drop leaf old ≡ get_or old leaf (pos 0) ∷ drop (leaf + 1) old = drop_more old leaf (pos 0) (omega arith) in
-    let none : leaf - leaf ≡ 0 = omega arith in
-    let next : take (leaf + 1) values ≡ take leaf values ++ value ∷ [] = take_more values leaf (pos 0) small ∙ ap (λ (v : ℤ). take leaf values ++ v ∷ []) here in
-    set-append_right (take leaf values) (drop leaf old) leaf leaf value front (omega arith)
-    ∙ ap (λ (n : ℕ). take leaf values ++ set (drop leaf old) n value) none
-    ∙ ap (λ (r : List ℤ). take leaf values ++ set r 0 value) rest
-    ∙ sym (append_assoc (take leaf values) (value ∷ []) (drop (leaf + 1) old))
-    ∙ ap (λ (f : List ℤ). f ++ drop (leaf + 1) old) (sym next)
-
--- no value is stored yet
-pub half_none : (seen : Table) (row : ℕ) (values : List ℤ) → seen ≡ after_stores seen (set seen.rows row (half_row values (get_or seen.rows row []) 0)) (row_writes 0 row)
-half_none seen row values = rw set-get_or (after_stores-none seen)
-
--- one value more is stored
-pub leaf_stored : (seen now new : Table) (row leaf : ℕ) (values : List ℤ) (value : ℤ) (answer : Result Unit StoreFault) → row < length seen.rows → leaf < length values → length values ≡ length (get_or seen.rows row []) → get_or values leaf (pos 0) ≡ value
-    → now ≡ after_stores seen (set seen.rows row (half_row values (get_or seen.rows row []) leaf)) (row_writes leaf row) → answer_of seen leaf value ≡ Ok tt → answer ≡ answer_of now leaf value
-    → OnOk answer (new ≡ after_write now row leaf value)
-    → new ≡ after_stores seen (set seen.rows row (half_row values (get_or seen.rows row []) (leaf + 1))) (row_writes (leaf + 1) row)
-leaf_stored seen now new row leaf values value answer inside small same here is fits gives stored =
-    let old = get_or seen.rows row [] in
-    let half = half_row values old leaf in
-    let ok : answer ≡ Ok tt = gives ∙ ap (λ (s : Table). answer_of s leaf value) is ∙ fits in
-    let done = rw ok at stored in
-    let written : with_entry (set seen.rows row half) row leaf value ≡ set seen.rows row (half_row values old (leaf + 1)) =
-    ap (λ (r : List ℤ). set (set seen.rows row half) row (set r leaf value)) (get_or-set_same seen.rows row half [] inside)
-    ∙ set-set seen.rows row half (set half leaf value)
-    ∙ ap (set seen.rows row) (half_more values old leaf value small same here) in
-    done ∙ ap (λ (s : Table). after_write s row leaf value) is
-    ∙ leaf_written seen (set seen.rows row half) (with_entry (set seen.rows row half) row leaf value) row leaf
-    ∙ ap (λ (t : List (List ℤ)). after_stores seen t (row_writes (leaf + 1) row)) written
-
--- all values are stored
-pub half_whole : (seen now : Table) (row leaf : ℕ) (values : List ℤ) → length values ≡ length (get_or seen.rows row []) → length values ≡ leaf
-    → now ≡ after_stores seen (set seen.rows row (half_row values (get_or seen.rows row []) leaf)) (row_writes leaf row) → now ≡ after_stores seen (set seen.rows row values) (row_writes (length values) row)
-half_whole seen now row leaf values same all is =
-    let whole : half_row values (get_or seen.rows row []) leaf ≡ values = ap (λ (rest : List ℤ). take leaf values ++ rest) (drop_all leaf (get_or seen.rows row []) (omega arith)) ∙ append-nil (take leaf values) ∙ take_all leaf values (omega arith) in
-    is ∙ ap (λ (r : List ℤ). after_stores seen (set seen.rows row r) (row_writes leaf row)) whole ∙ ap (λ (n : ℕ). after_stores seen (set seen.rows row values) (row_writes n row)) (sym all)

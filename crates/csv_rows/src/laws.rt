@@ -8,7 +8,7 @@ ghost use Rattle.csv_rows.specs.Datasets.{records_of};
 ghost use Rattle.csv_rows.specs.Loads.{dataset_of};
 ghost use Rattle.csv_rows.specs.Texts.{print_text};
 
-use views::View;
+use views::{View, laws_of_table};
 
 /// What `print_rows` writes of a view is a dataset, and its table is that of the view, for each view of the same schema whose holds have
 /// all its values. It changes nothing.
@@ -17,6 +17,6 @@ pub fn printed_loads(_printed: &View, _loaded: &View)
     requires fit { AllFit (length _printed.now.rows) (leaf_types_of _loaded.now) (table_holds _loaded.now) _printed.now.rows }
     ensures { dataset_of _loaded.now (records_of (print_text (texts_of _printed.now.fields) _printed.now.rows)) ≡ Ok _printed.now.rows }
 {
+    laws_of_table(_loaded);
     let _some = _printed.schema().leaf_count();
-    let _paired = _loaded.schema();
 }

@@ -1,7 +1,7 @@
 // The table of a dataset, loaded into a view.
 ghost use Rattle.std.specs.Prelude.{◌≡◌, ◌⊎◌, ◌∷◌, ℕ, List, [], IfOk, IfErr, OnOk, MatchBool, Ok, Err, length};
 ghost use Rattle.csv.specs.Records.{fields_of};
-ghost use Rattle.views.specs.Tallies.{all_writes};
+ghost use Rattle.views.specs.Tallies.{Write, all_accesses};
 ghost use Rattle.views.specs.Tables.{leaf_count_of, after_stores};
 ghost use Rattle.csv_rows.specs.Datasets.{records_of, header_of, rows_of, table_from};
 ghost use Rattle.csv_rows.specs.Loads.{leaves_in, dataset_of, Keeps, KeepsRows};
@@ -31,7 +31,7 @@ pub fn load_rows<L: Ledger>(
     ensures loaded { OnOk result (dataset_of view.old (records_of bytes.now) ≡ Ok view.new.rows) }
     ensures refused { IfErr result (λ f. (f ≡ NoMemory) ⊎ (dataset_of view.old (records_of bytes.now) ≡ Err f)) }
     ensures kept { IfErr result (λ f. Keeps view.old (records_of bytes.now) view.new f) }
-    ensures same { OnOk result (view.new ≡ after_stores view.old view.new.rows (all_writes (leaf_count_of view.old) (length view.old.rows))) }
+    ensures same { OnOk result (view.new ≡ after_stores view.old view.new.rows (all_accesses Write (leaf_count_of view.old) (length view.old.rows))) }
 {
     let text = without_marks(bytes);
     let mut fields = ByteRecord::new(alloc);
@@ -56,7 +56,7 @@ fn load_from<R: Records, L: Ledger>(
     ensures loaded { OnOk result (dataset_of view.old (R.left records.old) ≡ Ok view.new.rows) }
     ensures refused { IfErr result (λ f. (f ≡ NoMemory) ⊎ (dataset_of view.old (R.left records.old) ≡ Err f)) }
     ensures kept { IfErr result (λ f. Keeps view.old (R.left records.old) view.new f) }
-    ensures same { OnOk result (view.new ≡ after_stores view.old view.new.rows (all_writes (leaf_count_of view.old) (length view.old.rows))) }
+    ensures same { OnOk result (view.new ≡ after_stores view.old view.new.rows (all_accesses Write (leaf_count_of view.old) (length view.old.rows))) }
 {
     let found = read_header(records, fields)?;
     let columns = leaf_columns(alloc, fields, view.schema())?;
@@ -106,7 +106,7 @@ fn load_records<R: Records, L: Ledger>(
     ensures loaded { OnOk result (table_from 0 (R.left records.old) (leaves_in view.old columns.now) ≡ Ok view.new.rows) }
     ensures refused { IfErr result (λ f. (f ≡ NoMemory) ⊎ (table_from 0 (R.left records.old) (leaves_in view.old columns.now) ≡ Err f)) }
     ensures kept { IfErr result (λ f. KeepsRows view.old columns.now (R.left records.old) view.new f) }
-    ensures same { OnOk result (view.new ≡ after_stores view.old view.new.rows (all_writes (leaf_count_of view.old) (length view.old.rows))) }
+    ensures same { OnOk result (view.new ≡ after_stores view.old view.new.rows (all_accesses Write (leaf_count_of view.old) (length view.old.rows))) }
 {
     let _extents = view.extents();
     let mut row = 0u64;

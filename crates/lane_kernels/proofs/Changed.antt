@@ -2,7 +2,7 @@
 use Rattle.std.proofs.Common.{◌≡◌, ℕ, zero, suc, ◌+◌, ◌<◌, List, [], ◌∷◌, ◌++◌, length, get_or, set, take, ℤ, Option, Some, None, Result, Ok, Err, refl, sym, ap, subst, ◌∙◌, arith}
 use Rattle.std.specs.Option.{option_or}
 use Rattle.std.proofs.lemmas.List.{take_all}
-use Rattle.views.specs.Tables.{Table, answer_of, after_log, after_stores, after_write}
+use Rattle.views.specs.Tables.{Table, answer_of, kept_of, after_log, after_stores, after_write}
 use Rattle.views.specs.Stores.{Answer}
 use Rattle.views.specs.TallyLaws.{after_log-none, after_log-append, logs_more}
 use Rattle.views.specs.Tallies.{Access, Write}
@@ -55,7 +55,7 @@ fault_stays answer kernel start (suc count) (values ∷ rows) fault e =
 
 -- the rows before this one are changed, and had no fault
 pub record AreChanged (old : Table) (kernel : Kernel) (view : Table) (row : ℕ) : Type 0 where
-  pub same : view ≡ after_stores old (run_rows kernel row old.rows) (rows_log kernel row)
+  pub same : view ≡ after_stores old (run_rows (kept_of old) kernel row old.rows) (rows_log kernel row)
   pub clean : first_fault (answer_of old) kernel 0 (take row old.rows) ≡ None
 
 pub none_changed : (old : Table) (kernel : Kernel) → AreChanged old kernel old 0
@@ -68,23 +68,23 @@ own_fault old view kernel row fault inside so_far told =
     let one : row + 1 ≡ suc row = omega arith in
     let zero_row : 0 + row ≡ row = omega arith in
     let here : store_fault (answer_of old) row (stored kernel (get_or old.rows row [])) ≡ store_fault (answer_of view) row (stored kernel (get_or view.rows row [])) =
-    ap (λ (values : List ℤ). store_fault (answer_of old) row (stored kernel values)) (sym (row_stands kernel row old.rows))
+    ap (λ (values : List ℤ). store_fault (answer_of old) row (stored kernel values)) (sym (row_stands (kept_of old) kernel row old.rows))
     ∙ ap (λ (v : Table). store_fault (answer_of v) row (stored kernel (get_or v.rows row []))) (sym so_far.same) in
     rw (one, fault_more (answer_of old) kernel 0 row old.rows inside so_far.clean, zero_row) (here ∙ told)
 
 -- one row more
 pub change_more : (old view new : Table) (kernel : Kernel) (row : ℕ) → row < length old.rows → AreChanged old kernel view row
     → store_fault (answer_of view) row (stored kernel (get_or view.rows row [])) ≡ None
-    → new ≡ after_stores view (set view.rows row (after kernel (get_or view.rows row []))) (reads_on kernel row ++ writes_on kernel row) → AreChanged old kernel new (row + 1)
+    → new ≡ after_stores view (set view.rows row (after (kept_of view) kernel (get_or view.rows row []))) (reads_on kernel row ++ writes_on kernel row) → AreChanged old kernel new (row + 1)
 change_more old view new kernel row inside so_far told changed =
-    let table = run_rows kernel row old.rows in
+    let table = run_rows (kept_of old) kernel row old.rows in
     let own = reads_on kernel row ++ writes_on kernel row in
     let same = changed
-    ∙ ap (λ (v : Table). after_stores v (set v.rows row (after kernel (get_or v.rows row []))) own) so_far.same
-    ∙ after_log-append (record old { rows = set table row (after kernel (get_or table row [])) }) (rows_log kernel row) own
-    ∙ ap (λ (log : List Access). after_stores old (set table row (after kernel (get_or table row []))) log) (sym (logs_more (λ n. reads_on kernel n ++ writes_on kernel n) row))
-    ∙ ap (λ (values : List ℤ). after_stores old (set table row (after kernel values)) (rows_log kernel (row + 1))) (row_stands kernel row old.rows)
-    ∙ ap (λ (rows : List (List ℤ)). after_stores old rows (rows_log kernel (row + 1))) (sym (row_changed kernel row old.rows inside)) in
+    ∙ ap (λ (v : Table). after_stores v (set v.rows row (after (kept_of v) kernel (get_or v.rows row []))) own) so_far.same
+    ∙ after_log-append (record old { rows = set table row (after (kept_of old) kernel (get_or table row [])) }) (rows_log kernel row) own
+    ∙ ap (λ (log : List Access). after_stores old (set table row (after (kept_of old) kernel (get_or table row []))) log) (sym (logs_more (λ n. reads_on kernel n ++ writes_on kernel n) row))
+    ∙ ap (λ (values : List ℤ). after_stores old (set table row (after (kept_of old) kernel values)) (rows_log kernel (row + 1))) (row_stands (kept_of old) kernel row old.rows)
+    ∙ ap (λ (rows : List (List ℤ)). after_stores old rows (rows_log kernel (row + 1))) (sym (row_changed (kept_of old) kernel row old.rows inside)) in
     record { same = same; clean = own_fault old view kernel row None inside so_far told }
 
 -- the leaves of a view are those of the view after accesses
@@ -98,9 +98,9 @@ kernel_stays old table log (Clamp x lo hi) is = (narrow_stays old table log x is
 pub row_takes : (old view : Table) (change : Change) (row : ℕ) → AreChanged old (changing change) view row → row < length old.rows → IsKernelOf old (changing change)
     → (row < length view.rows) × IsKernelOf view (changing change)
 row_takes old view change row so_far inside is =
-    let count = ap (λ (v : Table). length v.rows) so_far.same ∙ rows_count (changing change) row old.rows in (
+    let count = ap (λ (v : Table). length v.rows) so_far.same ∙ rows_count (kept_of old) (changing change) row old.rows in (
       omega (arith, inside, count),
-      subst (λ (v : Table). IsKernelOf v (changing change)) (sym so_far.same) (kernel_stays old (run_rows (changing change) row old.rows) (rows_log (changing change) row) change is),
+      subst (λ (v : Table). IsKernelOf v (changing change)) (sym so_far.same) (kernel_stays old (run_rows (kept_of old) (changing change) row old.rows) (rows_log (changing change) row) change is),
     )
 
 -- a kernel that stores takes no row for granted, and gives no number
@@ -119,7 +119,7 @@ write_of (Clamp x lo hi) row values store is = let same : x ≡ store.leaf = cc 
 
 pub change_done : (old read new : Table) (change : Change) (row leaf : ℕ) (value : ℤ) → stored (changing change) (get_or old.rows row []) ≡ Some (record { leaf = leaf; value = value })
     → read ≡ after_log old (reads_on (changing change) row) → new ≡ after_write read row leaf value
-    → new ≡ after_stores old (set old.rows row (after (changing change) (get_or old.rows row []))) (reads_on (changing change) row ++ writes_on (changing change) row)
+    → new ≡ after_stores old (set old.rows row (after (kept_of old) (changing change) (get_or old.rows row []))) (reads_on (changing change) row ++ writes_on (changing change) row)
 change_done old read new change row leaf value is reads writes =
     let values = get_or old.rows row [] in
     rw (write_of change row values (record { leaf = leaf; value = value }) is, is)
@@ -127,7 +127,7 @@ change_done old read new change row leaf value is reads writes =
     ∙ after_log-append (record old { rows = set old.rows row (set values leaf value) }) (reads_on (changing change) row) (Write row leaf ∷ []))
 
 -- a row is refused after its reads
-answer_log : (kernel : Kernel) (row leaf : ℕ) (answer : Result Unit StoreFault) (fault : KernelFault) → answer_fault row leaf answer ≡ Some fault → fault_log kernel fault ≡ rows_log kernel row ++ reads_on kernel row
+answer_log : (kernel : Kernel) (row leaf : ℕ) (answer : Result ℤ StoreFault) (fault : KernelFault) → answer_fault row leaf answer ≡ Some fault → fault_log kernel fault ≡ rows_log kernel row ++ reads_on kernel row
 answer_log kernel row leaf (Ok done) fault is = absurd (cc)
 answer_log kernel row leaf (Err store.Range) fault is = let same : fault ≡ Range row leaf = cc is in ap (fault_log kernel) same
 answer_log kernel row leaf (Err store.Narrow) fault is = let same : fault ≡ Narrow row leaf = cc is in ap (fault_log kernel) same
@@ -145,7 +145,7 @@ change_stops old view new change row fault inside so_far told named read =
       rw (no_empty change old.rows) first,
       rw (named, refused_log (answer_of view) (changing change) row (stored (changing change) (get_or view.rows row [])) fault told)
           (read ∙ ap (λ (v : Table). after_log v (reads_on (changing change) row)) so_far.same
-          ∙ after_log-append (record old { rows = run_rows (changing change) row old.rows }) (rows_log (changing change) row) (reads_on (changing change) row)),
+          ∙ after_log-append (record old { rows = run_rows (kept_of old) (changing change) row old.rows }) (rows_log (changing change) row) (reads_on (changing change) row)),
     )
 
 -- all rows are changed

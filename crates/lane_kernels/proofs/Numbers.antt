@@ -12,7 +12,7 @@ use Rattle.record_dim.specs.LeafTypes.{width_of, IsDeclared}
 use Rattle.record_dim.specs.Leaves.{leaves}
 use Rattle.piece_bits.specs.Tables.{hold_at}
 use Rattle.views.specs.Stores.{Answer, Fits}
-use Rattle.views.specs.Tables.{Table, IsTable, leaf_types_of, leaf_type_of, table_holds, answer_of, after_log, after_stores, after_read}
+use Rattle.views.specs.Tables.{Table, IsTable, leaf_types_of, leaf_type_of, table_holds, answer_of, kept_of, after_log, after_stores, after_read}
 use Rattle.views.specs.TallyLaws.{after_log-none, after_log-append, logs_more}
 use Rattle.views.specs.Tallies.{Read}
 use Rattle.lane_kernels.specs.Kernels.{compares, column, in_leaf, number_of, stored, first_fault, empty_fault, IsConstant, IsNarrowLeaf, IsRun}
@@ -137,7 +137,7 @@ pub reduction_ends : (seen : Table) (reduction : Reduction) (leaf : ℕ) (number
 reduction_ends seen reduction leaf number first is =
     let kernel = reducing leaf reduction in
     let none = stores_nothing reduction leaf in
-    let stands = rows_stand kernel (length seen.rows) seen.rows none in (
+    let stands = rows_stand (kept_of seen) kernel (length seen.rows) seen.rows none in (
       rw (no_empty reduction leaf seen.rows first) (no_fault (answer_of seen) kernel 0 seen.rows none),
       ap (λ (n : ℤ). Some n) is ∙ number_is reduction leaf seen.rows first,
       ap (λ (rows : List (List ℤ)). after_stores seen rows (rows_log kernel (length seen.rows))) (sym stands),

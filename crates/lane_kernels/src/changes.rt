@@ -1,6 +1,6 @@
 // Kernels that store in each row.
 ghost use Rattle.std.specs.Prelude.{◌≡◌, ◌+◌, ◌*◌, ◌++◌, ◌<◌, ◌≤◌, OnOk, OnErr, IfErr, Some, None, [], length, slice_index_or, slice_set};
-ghost use Rattle.views.specs.Tables.{leaf_count_of, answer_of, after_log, after_stores};
+ghost use Rattle.views.specs.Tables.{leaf_count_of, answer_of, kept_of, after_log, after_stores};
 ghost use Rattle.lane_kernels.specs.Kernels.{IsKernelOf, IsRun, stored, with_store, store_fault, rows_before, row_cost};
 ghost use Rattle.lane_kernels.specs.Changes.{changing};
 ghost use Rattle.lane_kernels.specs.Logs.{reads_on, writes_on};
@@ -45,7 +45,7 @@ fn change_row<L: Ledger>(
     requires kernel { IsKernelOf view.old (changing change.now) }
     ensures taken { OnOk result (store_fault (answer_of view.old) row (stored (changing change.now) (slice_index_or view.old.rows row [])) ≡ None) }
     ensures stored { let values = slice_index_or view.old.rows row [] in
-        OnOk result (view.new ≡ after_stores view.old (slice_set view.old.rows row (with_store values (stored (changing change.now) values)))
+        OnOk result (view.new ≡ after_stores view.old (slice_set view.old.rows row (with_store (kept_of view.old) values (stored (changing change.now) values)))
         (reads_on (changing change.now) row ++ writes_on (changing change.now) row)) }
     ensures refused { IfErr result (λ fault. store_fault (answer_of view.old) row (stored (changing change.now) (slice_index_or view.old.rows row []))
         ≡ Some fault) }

@@ -1,7 +1,7 @@
 // New values of leaves, row by row.
-ghost use Rattle.std.specs.Prelude.{◌≡◌, ◌<◌, ◌≤◌, ◌+◌, ℕ, ℤ, pos, Ok, OnOk, OnErr, IfErr, IfSome, All, [], List, length, map, take, drop, slice_index_or, slice_set};
+ghost use Rattle.std.specs.Prelude.{◌≡◌, ◌<◌, ◌≤◌, ◌+◌, ℕ, ℤ, pos, true, is_ok, Ok, OnOk, OnErr, IfErr, IfSome, All, [], List, length, map, take, drop, slice_index_or, slice_set};
 ghost use Rattle.expr_lang.specs.Bounds.{bound_term};
-ghost use Rattle.views.specs.Tables.{answer_of, after_log, after_stores};
+ghost use Rattle.views.specs.Tables.{answer_of, kept_of, after_log, after_stores};
 ghost use Rattle.linearize.specs.Slots.{index_at};
 ghost use Rattle.row_updates.specs.Rows.{IsOver, IsSetOf, Setting, setting_of, filter_term, each, store_kind, new_value, with_values, updated_row, updated_of};
 ghost use Rattle.row_updates.specs.Logs.{value_log, sides_log, stores_log, row_log, update_log};
@@ -62,11 +62,11 @@ fn update_row<L: Ledger>(
     requires sets { All (IsSetOf view.old) sets.now }
     requires few { length sets.now ≤ 64 }
     ensures stored { OnOk result ((new : List ℤ)
-        × (updated_row (answer_of view.old) (filter_term filter.entry) (map setting_of sets.now)
+        × (updated_row (answer_of view.old) (kept_of view.old) (filter_term filter.entry) (map setting_of sets.now)
         row (slice_index_or view.old.rows row []) (index_at view.old.extents row) ≡ Ok new)
         × (view.new ≡ after_stores view.old (slice_set view.old.rows row new) (row_log (answer_of view.old) (filter_term filter.entry)
         (map setting_of sets.now) row (slice_index_or view.old.rows row []) (index_at view.old.extents row)))) }
-    ensures refused { IfErr result (λ fault. updated_row (answer_of view.old) (filter_term filter.entry) (map setting_of sets.now)
+    ensures refused { IfErr result (λ fault. updated_row (answer_of view.old) (kept_of view.old) (filter_term filter.entry) (map setting_of sets.now)
         row (slice_index_or view.old.rows row []) (index_at view.old.extents row) ≡ Err fault) }
     ensures named { IfErr result (λ fault. fault.row ≡ row) }
     ensures kept { OnErr result (view.new ≡ after_log view.old (row_log (answer_of view.old) (filter_term filter.entry)
@@ -132,7 +132,7 @@ fn new_value<L: Ledger>(
     }
 }
 
-// Stores values that fit in the leaves of a row.
+// Stores values in the leaves of a row that take them.
 fn store_values<L: Ledger>(
     view: &mut View,
     row: u64,
@@ -143,14 +143,14 @@ fn store_values<L: Ledger>(
     requires row_in { row < length view.old.rows }
     requires sets { All (IsSetOf view.old) sets.now }
     requires few { length sets.now ≤ 64 }
-    requires fit { (place : ℕ) (other : Setting) → place < length sets.now
-        → answer_of view.old (slice_index_or (map setting_of sets.now) place other).leaf (slice_index_or values.now place (pos 0)) ≡ Ok tt }
+    requires taken { (place : ℕ) (other : Setting) → place < length sets.now
+        → is_ok (answer_of view.old (slice_index_or (map setting_of sets.now) place other).leaf (slice_index_or values.now place (pos 0))) ≡ true }
     ensures { view.new ≡ after_stores view.old
-        (slice_set view.old.rows row (with_values (map setting_of sets.now) (take (length sets.now) values.now) (slice_index_or view.old.rows row [])))
+        (slice_set view.old.rows row (with_values (kept_of view.old) (map setting_of sets.now) (take (length sets.now) values.now) (slice_index_or view.old.rows row [])))
         (stores_log row (map setting_of sets.now)) }
 {
     for (place, set) in sets.iter().enumerate() {
-        let _stored = view.set(row, set.leaf, values[place], steps);
+        let _taken = view.set(row, set.leaf, values[place], steps);
     }
 }
 

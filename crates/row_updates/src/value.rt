@@ -10,7 +10,7 @@ use crate::fault::{UpdateFault, UpdateKind};
 use expr_lang::{Bound, EvalFault, eval};
 use std::sync::ledger::Ledger;
 use steps::Steps;
-use views::View;
+use views::{View, laws_of_table};
 
 /// The value of an expression on the row of this number, whose index this is. The table stands, the reads
 /// are counted, and no memory is taken.
@@ -27,7 +27,7 @@ pub fn value_on<L: Ledger>(
     ensures value { result ≡ (outcome_of (slice_index_or view.old.rows row []) index.now (bound_term expr.now)).answer }
     ensures same { view.new ≡ after_log view.old (value_log row (slice_index_or view.old.rows row []) index.now (bound_term expr.now)) }
 {
-    let _leaves = view.schema();
+    laws_of_table(view);
     let mut entry = view.row_mut(row);
     eval(expr, &mut entry, index, steps)
 }

@@ -32,6 +32,10 @@ pub told_ok : (answer : Result ℤ StoreFault) → is_ok answer ≡ true → tol
 told_ok (Ok kept) taken = refl
 told_ok (Err fault) taken = absurd (cc taken)
 
+pub told_same : (answer : Result ℤ StoreFault) → is_ok (told answer) ≡ is_ok answer
+told_same (Ok kept) = refl
+told_same (Err fault) = refl
+
 pub told_err : (answer : Result ℤ StoreFault) (fault : StoreFault) → told answer ≡ Err fault → answer ≡ Err fault
 told_err (Ok kept) fault refused = absurd (cc refused)
 told_err (Err other) fault refused =

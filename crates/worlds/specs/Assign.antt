@@ -32,8 +32,8 @@ assigned table index path value = do
   is_inside ← inside table.extents index
   let row = place_in (indices table.extents) index
   number ← value_on row (slice_index_or table.rows row []) index term
-  fits ← storable table row leaf number
-  Goes (after_stores table (with_entry table.rows row leaf number) (value_log row (slice_index_or table.rows row []) index term ++ Write row leaf ∷ []))
+  kept ← storable table row leaf number
+  Goes (after_stores table (with_entry table.rows row leaf kept) (value_log row (slice_index_or table.rows row []) index term ++ Write row leaf ∷ []))
 
 unfoldable pub assign : World → List ℕ → List ℕ → List PathStep → Value → Outcome Left
 assign world name index path value = do

@@ -18,7 +18,7 @@ use Rattle.lane_kernels.specs.declared.kernel.Kernel.{Kernel}
 use Rattle.lane_kernels.specs.declared.kernel.Kernel.TheVariants.{Axpy, Clamp, Sum, Least, Greatest, CountWhere}
 use Rattle.lane_kernels.specs.Kernels as kernels
 use Rattle.lane_kernels.specs.Logs.{rows_log}
-use Rattle.views.specs.Tables.{Table, after_stores, answer_of}
+use Rattle.views.specs.Tables.{Table, after_stores, answer_of, kept_of}
 use Rattle.worlds.specs.Worlds.{World}
 use Rattle.worlds.specs.Outcomes.{Outcome, Goes, ◌>>=◌, Left, shows, known, refused_if, refused_by}
 use Rattle.worlds.specs.Names.{leaf_of, text_of_leaf}
@@ -107,7 +107,7 @@ abbrev pub run : Table → Kernel → Outcome Ran
 run table kernel = do
   done ← refused_by (run_fault table.fields) (kernels.kernel_fault (answer_of table) kernel table.rows)
   Goes (record {
-    table = after_stores table (kernels.run_rows kernel (length table.rows) table.rows) (rows_log kernel (length table.rows));
+    table = after_stores table (kernels.run_rows (kept_of table) kernel (length table.rows) table.rows) (rows_log kernel (length table.rows));
     number = kernels.number_of kernel table.rows;
   })
 

@@ -8,7 +8,7 @@ use Rattle.csv_rows.specs.Datasets.{records_of, rows_of}
 use Rattle.csv_rows.specs.Loads.{dataset_of}
 use Rattle.csv_rows.specs.declared.fault.RowFault.{RowFault}
 use Rattle.csv_rows.specs.declared.fault.RowFault.TheVariants as rows
-use Rattle.views.specs.Tallies.{all_writes}
+use Rattle.views.specs.Tallies.{Write, all_accesses}
 use Rattle.views.specs.Tables.{Table, leaf_count_of, after_stores}
 use Rattle.worlds.specs.Worlds.{World, Entry}
 use Rattle.worlds.specs.Outcomes.{Outcome, Goes, CannotRead, ◌>>=◌, Left, quiet, refused_if, ok_or}
@@ -41,7 +41,7 @@ row_fault fields rows.NoMemory = fault.TooBig
 abbrev pub filled : Table → List (List (List ℕ)) → Outcome Table
 filled table records = do
   rows ← ok_or (row_fault table.fields) (dataset_of table records)
-  Goes (after_stores table rows (all_writes (leaf_count_of table) (length table.rows)))
+  Goes (after_stores table rows (all_accesses Write (leaf_count_of table) (length table.rows)))
 
 -- the table of a dataset of these bytes, beside these views
 unfoldable pub loaded : List (Entry Table) → Named → List ExtentWord → List ℕ → Outcome Table

@@ -26,6 +26,6 @@ store_fault row leaf store.Narrow = Narrow row leaf
 abbrev pub value_on : ℕ → List ℤ → List ℕ → Term ℕ → Outcome ℤ
 value_on number row index value = ok_or (eval_fault number) (outcome_of row index value).answer
 
--- a value goes into a leaf of the row of this number
-abbrev pub storable : Table → ℕ → ℕ → ℤ → Outcome (Unit {0})
+-- the number that is kept of a value in a leaf of the row of this number
+abbrev pub storable : Table → ℕ → ℕ → ℤ → Outcome ℤ
 storable table number leaf value = ok_or (store_fault number (text_of_leaf table.fields leaf)) (answer_of table leaf value)

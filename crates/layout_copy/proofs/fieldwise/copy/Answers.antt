@@ -2,7 +2,7 @@ use Rattle.std.proofs.Common.{rules, arith, ◌≡◌, ◌<◌, ◌∙◌, ◌+�
 use Rattle.extents.specs.Indices.{indices}
 use Rattle.views.specs.Tables.{leaf_count_of}
 use Rattle.views.specs.TallyLaws.{after_log-none}
-use Rattle.views.specs.Tallies.{row_reads}
+use Rattle.views.specs.Tallies.{Read, row_accesses}
 use Rattle.layout_copy.specs.Copies.{AreAlike}
 use Rattle.layout_copy.proofs.Rows.{reads_after, row_read, none_copied, row_copied, row_refused, steps_more}
 use Rattle.layout_copy.proofs.fieldwise.copy.Goals as goal
@@ -26,7 +26,7 @@ pub returns-in-Some-clause-source : goal.returns-in-Some-clause-source
 returns-in-Some-clause-source g c =
     let source = c.args.source.now in
     let row = c.loop-row.row in
-    reads_after source c.loop-row.source c.copy_row.new.source (leaf_count_of source) row (row_reads (c.in-Some.leaf + 1) row) c.loop-row.invariant.source c.in-Some.ensures.some_read
+    reads_after source c.loop-row.source c.copy_row.new.source (leaf_count_of source) row (row_accesses Read (c.in-Some.leaf + 1) row) c.loop-row.invariant.source c.in-Some.ensures.some_read
 
 pub loop-row-init : goal.loop-row-init
 loop-row-init g c = record {
