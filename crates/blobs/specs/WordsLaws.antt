@@ -2,17 +2,11 @@
 use Rattle.std.proofs.Common.{◌≡◌, ℕ, ◌+◌, ◌*◌, ◌-◌, ◌/◌, ◌%◌, ◌^◌, ◌<◌, ◌≤◌, min, max, bit_and, bit_or, w64, sym, ap, ◌∙◌, subst, ⊎_elim, arith}
 use Rattle.std.specs.Int.{bit_at, bit_not}
 use Rattle.std.proofs.lemmas.Nat.{pow_pos, pow-add, and_mask, and_le_l, or_lt, shl_below, shl_whole}
-use Rattle.std.proofs.lemmas.Nat.Bits.{ones_shr, bit_at_and, bit_at_or, bit_at_not, bit_at-lt, bit_at_above, bit_at-zero, bit_at_cat_low, bit_at_cat_high, bit_at_mask_inside, bit_at_mask_below, bit_at_mask_above}
+use Rattle.std.proofs.lemmas.Nat.Bits.{bit_at_and, bit_at_or, bit_at_not, bit_at-lt, bit_at_above, bit_at-zero, bit_at_cat_low, bit_at_cat_high, bit_at_mask_inside, bit_at_mask_below, bit_at_mask_above}
 use Rattle.std.proofs.lemmas.Bool.{cases_lt}
 use Rattle.std.proofs.Math.Nat.{mul_comm, mul-sub}
 use Rattle.std.proofs.Math.Pow.{pow_mono}
-
--- n ones
-pub ones_of : (n : ℕ) → n ≤ 64 → 18446744073709551615 / 2 ^ (64 - n) ≡ 2 ^ n - 1
-ones_of n few =
-    let e : 64 - (64 - n) ≡ n = omega arith in
-    let all : (2 ^ 64 - 1) / 2 ^ (64 - n) ≡ 2 ^ (64 - (64 - n)) - 1 = ones_shr 64 (64 - n) (omega arith) in
-    all ∙ ap (λ (w : ℕ). 2 ^ w - 1) e
+use Rattle.places.specs.NumbersLaws.{ones_of}
 
 pub read_field : (word low n : ℕ) → n ≤ 64 → bit_and (word / 2 ^ low) (18446744073709551615 / 2 ^ (64 - n)) ≡ word / 2 ^ low % 2 ^ n
 read_field word low n few =

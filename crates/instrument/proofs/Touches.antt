@@ -6,7 +6,8 @@ use Rattle.std.proofs.lemmas.List.{length-map, get_or-map, get_or_read, map-set}
 use Rattle.std.proofs.lemmas.List.Folds.{list_any_more}
 use Rattle.std.proofs.Math.Nat.{mul-le-mul_left}
 use Rattle.places.specs.declared.piece.Piece.{Piece}
-use Rattle.instrument.specs.Counters.{HeatCounts, next, counted, warmed, is_in_granule, is_touched, heated_by}
+use Rattle.places.specs.Touched.{is_in_granule, is_touched}
+use Rattle.instrument.specs.Counters.{HeatCounts, next, counted, warmed, heated_by}
 use Rattle.instrument.specs.Touching.{warmed_at, heated_besides}
 use Rattle.instrument.proofs.Rounding.{reaches, row_begin}
 use Rattle.instrument.proofs.Warming.{warmed-same, warmed-none, warmed-besides, warmed-more}

@@ -7,7 +7,8 @@ use Rattle.std.proofs.lemmas.List.{length-set, length-map, length-replicate, get
 use Rattle.std.proofs.lemmas.List.Sums.{sum_by-cons}
 use Rattle.std.proofs.lemmas.List.Folds.{fold-map}
 use Rattle.places.specs.declared.piece.Piece.{Piece}
-use Rattle.instrument.specs.Counters.{HeatCounts, next, counted, granules_of, no_heat, warmed, is_touched, heated_by}
+use Rattle.places.specs.Touched.{is_touched}
+use Rattle.instrument.specs.Counters.{HeatCounts, next, counted, granules_of, no_heat, warmed, heated_by}
 use Rattle.instrument.specs.WarmingLaws.{length-warmed, length-heated, get-warmed, get-warmed_blob}
 
 -- one entry before others

@@ -45,8 +45,3 @@ run_line names run = line_of (digits_text run.blob ∷ digits_text run.bit ∷ d
 -- the runs of leaves that have these path texts
 unfoldable pub runs_text : List (List ℕ) → List Run → List ℕ
 runs_text names runs = line_of (codes "blob" ∷ codes "bit" ∷ codes "bits" ∷ codes "record" ∷ codes "leaf" ∷ codes "low" ∷ []) ++ flat_map (run_line names) runs
-
--- an owner whose leaf is one of so many
-abbrev pub IsOwnerBelow : ℕ → RunOwner → Type 0
-IsOwnerBelow leaves Pad = Unit {0}
-IsOwnerBelow leaves (Leaf row leaf low) = leaf < leaves

@@ -3,6 +3,7 @@ use Rattle.std.specs.Prelude.{◌≡◌, ℕ, ◌+◌, ◌-◌, ◌*◌, ◌/◌
 use Rattle.std.specs.Prelude.{List, [], length, map, replicate, slice_index, slice_index_or, slice_set, sum_by}
 use Rattle.std.specs.List.{enumerate_from, list_any}
 use Rattle.places.specs.declared.piece.Piece.{Piece}
+use Rattle.places.specs.Touched.{is_touched}
 use Rattle.instrument.specs.declared.counts.Counts.{Counts}
 use Rattle.instrument.specs.declared.heat.Heat.{Heat}
 
@@ -60,15 +61,6 @@ warmed_blob hot counts = map (λ at. if hot at.0 then next at.1 else at.1) (enum
 -- the same in each blob
 abbrev pub warmed : (ℕ → ℕ → Bool) → List (List ℕ) → List (List ℕ)
 warmed hot blobs = map (λ blob. warmed_blob (hot blob.0) blob.1) (enumerate_from 0 blobs)
-
--- whether a granule holds a bit of a piece
-abbrev pub is_in_granule : ℕ → ℕ → ℕ → Piece → Bool
-is_in_granule granule blob at piece =
-    piece.blob == blob && nat_lt (max piece.bit (8 * granule * at)) (min (piece.bit + piece.bits) (8 * granule * (at + 1)))
-
--- whether it holds one of any of these pieces
-abbrev pub is_touched : ℕ → List Piece → ℕ → ℕ → Bool
-is_touched granule pieces blob at = list_any (is_in_granule granule blob at) pieces
 
 -- the counts after one access to all of these pieces
 abbrev pub heated_by : List Piece → HeatCounts → HeatCounts

@@ -1,7 +1,8 @@
 -- What the steps of one access leave.
 use Rattle.std.specs.Prelude.{ℕ, ◌&&◌, not, List, [], slice_index_or, slice_set}
 use Rattle.places.specs.declared.piece.Piece.{Piece}
-use Rattle.instrument.specs.Counters.{HeatCounts, counted, warmed, is_in_granule, is_touched}
+use Rattle.places.specs.Touched.{is_in_granule, is_touched}
+use Rattle.instrument.specs.Counters.{HeatCounts, counted, warmed}
 
 -- one more in one granule of a blob
 abbrev pub warmed_at : ℕ → ℕ → HeatCounts → HeatCounts

@@ -7,7 +7,8 @@ use Rattle.std.proofs.lemmas.List.FromFn.{get_or-enumerate_from, length-enumerat
 use Rattle.std.proofs.lemmas.Nat.{div-add-mod', mod_below}
 use Rattle.std.proofs.Math.Nat.{mul_comm, mul_assoc}
 use Rattle.places.specs.declared.piece.Piece.{Piece}
-use Rattle.instrument.specs.Counters.{HeatCounts, IsInside, next, granules_of, no_heat, warmed_blob, warmed, is_touched, heated_by}
+use Rattle.places.specs.Touched.{is_touched}
+use Rattle.instrument.specs.Counters.{HeatCounts, IsInside, next, granules_of, no_heat, warmed_blob, warmed, heated_by}
 
 -- a function of each entry and its number
 length_numbered : {X Y : Type 0} (f : ℕ × X → Y) (xs : List X) → length (map f (enumerate_from 0 xs)) ≡ length xs

@@ -1,6 +1,7 @@
 // Which granules of a blob's bytes pieces have bits in.
 ghost use Rattle.std.specs.Prelude.{◌≡◌, ◌+◌, ◌-◌, ◌*◌, ◌/◌, ◌<◌, ◌≤◌, ◌^◌, nat_le, All};
-ghost use Rattle.instrument.specs.Counters.{granules_in, is_in_granule, is_touched};
+ghost use Rattle.places.specs.Touched.{is_in_granule, is_touched};
+ghost use Rattle.instrument.specs.Counters.{granules_in};
 
 use places::Piece;
 

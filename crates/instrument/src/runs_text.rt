@@ -3,7 +3,8 @@ ghost use Rattle.record_dim.specs.Schemas.{schema_fields};
 ghost use Rattle.record_dim.specs.Leaves.{leaves, texts_of};
 ghost use Rattle.layout_io.specs.Gathering.{Puts};
 ghost use Rattle.layout_io.specs.Writing.{Writes};
-ghost use Rattle.instrument.specs.CounterTexts.{line_of, owner_fields, run_line, runs_text, IsOwnerBelow};
+ghost use Rattle.instrument.specs.CounterTexts.{line_of, owner_fields, run_line, runs_text};
+ghost use Rattle.places.specs.Runs.{IsOwnerBelow};
 
 use layout_io::{Failed, Part, Sink, TextBuffer};
 use places::{Run, RunList, RunOwner};

@@ -62,15 +62,15 @@ fn sample_named(name: &str) -> Option<Sample>
             entries: &[1, 10, 2, 20, 3, 30],
         }),
         "structs of bits" => Some(Sample {
-            form: LayoutForm::BitAos { width: 12 },
+            form: LayoutForm::BitAos,
             slots: 3,
-            widths: &[16, 16],
+            widths: &[12, 12],
             entries: &[2748, 291, 0, 4095, 0, 0],
         }),
         "arrays of bits" => Some(Sample {
-            form: LayoutForm::BitSoa { width: 4 },
+            form: LayoutForm::BitSoa,
             slots: 4,
-            widths: &[8],
+            widths: &[4],
             entries: &[-1, -8, 7, 0],
         }),
         _ => None,
@@ -150,15 +150,14 @@ fn is_drawn(alloc: Global, row: &str) -> Result<bool, NoMemory> {
     Ok(false)
 }
 
-// The bytes of one blob that has cells in at most `width` bits, for entries given row by row.
+// The bytes of one blob that has cells of these widths, for entries given row by row.
 fn packed_bytes(
     alloc: Global,
-    width: u32,
     slots: u32,
     widths: &[u32],
     entries: &[i128],
 ) -> Result<Vec<u8>, NoMemory> {
-    let layout = plain_layout(alloc, LayoutForm::BitAos { width }, slots, widths)?;
+    let layout = plain_layout(alloc, LayoutForm::BitAos, slots, widths)?;
     let table = table_of(alloc, entries, widths.len())?;
     match layout.as_slice() {
         [blob] => plain_bytes(alloc, blob, &table),
@@ -200,32 +199,29 @@ fn cells_in_fewer_bits_leave_these_bytes(rt: HostRuntime) -> Result<(), Fail> {
     let flags = [5, 0, 0, 0, 0, 0, 0, 0];
     let odd = [0, 0, 0, 0, 0xfe, 0xff, 0xff, 0xff, 3, 0, 0, 0, 0, 0, 0, 0];
     let twenty = [0, 0, 16, 0, 0, 0, 0, 16, 0, 0, 0, 0, 0, 0, 0, 0];
-    for (width, slots, widths, entries, bytes) in [
+    for (slots, widths, entries, bytes) in [
         (
-            64,
             1,
             [64, 64].as_slice(),
             ends.as_slice(),
             whole.as_slice(),
         ),
-        (1, 3, [8].as_slice(), [1, 0, 1].as_slice(), flags.as_slice()),
+        (3, [1].as_slice(), [1, 0, 1].as_slice(), flags.as_slice()),
         (
-            33,
             2,
-            [64].as_slice(),
+            [33].as_slice(),
             [0, 8_589_934_591].as_slice(),
             odd.as_slice(),
         ),
         (
-            20,
             4,
-            [32].as_slice(),
+            [20].as_slice(),
             [0, 1, 0, 1].as_slice(),
             twenty.as_slice(),
         ),
     ] {
-        let packed = packed_bytes(rt.alloc(), width, slots, widths, entries)?;
-        assert!(rt; packed.as_slice() == bytes, "{width}");
+        let packed = packed_bytes(rt.alloc(), slots, widths, entries)?;
+        assert!(rt; packed.as_slice() == bytes, "{slots}");
     }
     Ok(())
 }
@@ -255,7 +251,7 @@ fn aligned_records_are_padded_inside_and_at_their_end(rt: HostRuntime) -> Result
 
 #[test]
 fn an_image_has_the_digits_of_its_entries(rt: HostRuntime) -> Result<(), Fail> {
-    let layout = plain_layout(rt.alloc(), LayoutForm::BitSoa { width: 3 }, 1, &[8])?;
+    let layout = plain_layout(rt.alloc(), LayoutForm::BitSoa, 1, &[3])?;
     let image = plain_image(rt.alloc(), &layout, &table_of(rt.alloc(), &[-3], 1)?)?;
     for bits in image.as_slice() {
         assert!(rt; bits.len() == 64 && bits.as_slice().get(..3) == Some([1, 0, 1].as_slice()));

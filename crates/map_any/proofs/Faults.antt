@@ -1,5 +1,5 @@
 -- What the answers of the constructors say of an expression.
-use Rattle.std.proofs.Common.{◌≡◌, ◌⊎◌, ⊎_elim, ℕ, List, Result, Ok, Err, refl, sym, ap, subst}
+use Rattle.std.proofs.Common.{◌≡◌, ◌⊎◌, inl, inr, ⊎_elim, ℕ, List, Result, Ok, Err, refl, sym, ap, ◌∙◌, subst}
 use Rattle.std.specs.Result.{IsErrAnd, IsErrOf, IfErr}
 use Rattle.map_expr.specs.Terms.{Term}
 use Rattle.record_dim.specs.Trees.{Fields}
@@ -24,6 +24,16 @@ pub too_big_of : {T : Type 0} (answer : Result T MakeMap) (why : NewMapping) →
 too_big_of {T} answer why h is =
     let e : TooBig ≡ fault_of why = subst (λ (r : Result T MakeMap). IsErrAnd r (λ (e : MakeMap). e ≡ fault_of why)) is h in
     too_big_is why (sym e)
+
+-- where no width is refused
+pub no_width : {T : Type 0} (answer : Result T MakeMap) (why : NewMapping) → IsErrAnd answer (λ e. e ≡ fault_of why)
+    → (why ≡ new.Width) ⊎ ((why ≡ new.TooBig) ⊎ (why ≡ new.NoMemory)) → (why ≡ new.Width → ⊥) → IfErr answer (λ e. (e ≡ TooBig) ⊎ (e ≡ NoMemory))
+no_width (Ok x) why h only never = absurd h
+no_width (Err e) why h only never =
+    ⊎_elim (λ (is : why ≡ new.Width). absurd (never is))
+    (λ (rest : (why ≡ new.TooBig) ⊎ (why ≡ new.NoMemory)).
+    ⊎_elim (λ (is : why ≡ new.TooBig). inl (h ∙ ap fault_of is)) (λ (is : why ≡ new.NoMemory). inr (h ∙ ap fault_of is)) rest)
+    only
 
 -- a fault that is handed on
 pub handed_on : {T S : Type 0} (answer : Result T MakeMap) (why : MakeMap) → IsErrAnd answer (λ e. e ≡ why) → answer ≡ Err TooBig → IsErrOf {T = S} (Err why) TooBig

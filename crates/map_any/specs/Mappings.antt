@@ -1,7 +1,6 @@
 -- What an expression means over the leaves of a schema and the extents of an array: the layout by rows, and how each leaf is stored.
-use Rattle.std.specs.Prelude.{ℕ, ◌≡◌, ⊤, max, Bool, true, false, ◌||◌, List, [], map, Option, None, Result, Ok, Err}
+use Rattle.std.specs.Prelude.{ℕ, ◌≡◌, ⊤, max, Bool, true, false, ◌||◌, List, [], length, map, replicate, None, Result, Ok, Err}
 use Rattle.std.specs.List.{enumerate_from}
-use Rattle.record_dim.specs.LeafTypes.{width_of}
 use Rattle.record_dim.specs.declared.leaf_type.LeafType.{LeafType}
 use Rattle.record_dim.specs.Trees.{Fields}
 use Rattle.record_dim.specs.Leaves.{kinds_of}
@@ -9,7 +8,7 @@ use Rattle.linearize.specs.Slots.{row_at, slot_count}
 use Rattle.extents.specs.declared.order.Order.{Order}
 use Rattle.places.specs.Layout.{Owner, aosoa, bit_aos, bit_soa}
 use Rattle.places.specs.Rules.{in_rows, split, byteswap, bytesplit}
-use Rattle.places.specs.Holds.{widths_of, full_holds, narrow_holds, IsTooBig}
+use Rattle.places.specs.Holds.{widths_of, widths_in, full_holds, narrow_holds, IsTooBig}
 use Rattle.places.specs.declared.piece.Cell.{Cell}
 use Rattle.places.specs.declared.piece.Hold.{Hold}
 use Rattle.places.specs.Forms.{aos_layout, soa_layout}
@@ -59,13 +58,17 @@ HasNumbers _ = ⊤
 abbrev pub ordered : Order → List ℕ → (ℕ → List (List Owner)) → List (List Owner)
 ordered order extents layout = in_rows (row_at order extents) (layout (slot_count order extents))
 
+-- each cell in at most this number of bits
+abbrev pub held_within : ℕ → List Cell → List Hold
+held_within width cells = narrow_holds (replicate (length cells) width) cells
+
 -- the layout of an expression over cells, whose slots are rows; paths are those of the record's leaves
 abbrev pub layout_of : Term → List ℕ → Fields → List Cell → List (List Owner)
 layout_of (Aos form order) extents fields cells = ordered order extents (λ slots. aos_layout form slots (widths_of cells))
 layout_of (Soa form order) extents fields cells = ordered order extents (λ slots. soa_layout form slots (widths_of cells))
 layout_of (Aosoa lanes order) extents fields cells = ordered order extents (λ slots. aosoa lanes slots (widths_of cells))
-layout_of (BitAos width order) extents fields cells = ordered order extents (λ slots. bit_aos width slots (widths_of cells))
-layout_of (BitSoa width order) extents fields cells = ordered order extents (λ slots. bit_soa width slots (widths_of cells))
+layout_of (BitAos width order) extents fields cells = ordered order extents (λ slots. bit_aos slots (widths_in (held_within width cells)))
+layout_of (BitSoa width order) extents fields cells = ordered order extents (λ slots. bit_soa slots (widths_in (held_within width cells)))
 layout_of (Split path first rest) extents fields cells =
     split (side_of fields path cells) (layout_of first extents fields (cells_under fields path cells)) (layout_of rest extents fields (cells_beside fields path cells))
 layout_of (Byteswap inner) extents fields cells = byteswap (widths_of cells) (layout_of inner extents fields cells)
@@ -77,8 +80,8 @@ layout_of (Named name) extents fields cells = []
 
 -- how each cell is stored
 abbrev pub holds_of : Term → Fields → List Cell → List Hold
-holds_of (BitAos width order) fields cells = narrow_holds width cells
-holds_of (BitSoa width order) fields cells = narrow_holds width cells
+holds_of (BitAos width order) fields cells = held_within width cells
+holds_of (BitSoa width order) fields cells = held_within width cells
 holds_of (Split path first rest) fields cells =
     merged (side_of fields path cells) (holds_of first fields (cells_under fields path cells)) (holds_of rest fields (cells_beside fields path cells))
 holds_of (Change from to inner) fields cells = holds_of inner fields (changed from to cells)

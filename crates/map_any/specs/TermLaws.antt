@@ -1,21 +1,20 @@
 -- The laws of the layout of an expression.
-use Rattle.std.proofs.Common.{◌≡◌, ℕ, ◌<◌, ◌≤◌, List, map, length, Bool, true, false, Option, None, Some, refl, sym, ap, ◌∙◌, subst, arith}
+use Rattle.std.proofs.Common.{◌≡◌, ℕ, ◌<◌, ◌≤◌, List, map, replicate, length, All, Bool, true, false, Option, None, Some, refl, sym, ◌∙◌, arith}
 use Rattle.std.specs.Prelude.{◌&&◌, ◌||◌, not, nat_le, if◌then◌else◌}
 use Rattle.std.specs.List.{count_by}
 use Rattle.std.specs.Option.{option_or}
 use Rattle.std.proofs.lemmas.Bool.{leb-true}
-use Rattle.std.proofs.lemmas.List.{length-map}
+use Rattle.std.proofs.lemmas.List.{length-map, length-replicate}
 use Rattle.std.proofs.lemmas.List.Sums.{length-filter}
 use Rattle.extents.specs.Indices.{indices}
-use Rattle.extents.specs.declared.order.Order.{Order}
 use Rattle.linearize.specs.Slots.{slot_count}
 use Rattle.record_dim.specs.declared.path.PathStep.{PathStep}
 use Rattle.record_dim.specs.Trees.{Fields}
 use Rattle.record_dim.specs.Nodes.{is_under}
-use Rattle.places.specs.Layout.{Owner, aosoa, bit_aos, bit_soa}
+use Rattle.places.specs.Layout.{aosoa, bit_aos, bit_soa}
 use Rattle.places.specs.Laws.{IsLaidOut}
 use Rattle.places.specs.CellWidthsLaws.{length-full}
-use Rattle.places.specs.Holds.{widths_of, full_holds, narrow_holds}
+use Rattle.places.specs.Holds.{widths_of, widths_in, full_holds}
 use Rattle.places.specs.declared.piece.Cell.{Cell}
 use Rattle.places.specs.declared.piece.Hold.{Hold}
 use Rattle.places.specs.Forms.{aos_layout}
@@ -27,7 +26,8 @@ use Rattle.map_expr.specs.declared.check.BadMapping.{BadMapping}
 use Rattle.map_expr.specs.declared.check.BadMapping.TheVariants.{Lanes, Width}
 use Rattle.map_expr.specs.Terms.{Term, Aos, Soa, Aosoa, BitAos, BitSoa, Split, Byteswap, Bytesplit, Change, Count, Heat, Named}
 use Rattle.map_expr.specs.Checks.{bad_number, bad_lanes, bad_width, bad_granule}
-use Rattle.map_bits.specs.NarrowLaws.{length-narrow}
+use Rattle.map_bits.specs.Bits.{has_bad_width}
+use Rattle.map_bits.specs.NarrowLaws.{length-narrow, narrow_wide, narrow_low, same_good}
 use Rattle.map_bits.specs.BitLaws.{bit_aos_laws, bit_soa_laws}
 use Rattle.map_bytes.specs.Cells.{bytes_of, changed, differ}
 use Rattle.map_bytes.specs.FullLaws.{differ_none}
@@ -37,7 +37,7 @@ use Rattle.map_bytes.specs.ChangeLaws.{length-changed}
 use Rattle.map_any.specs.Sides.{side_of, cells_under, cells_beside}
 use Rattle.map_split.specs.SidesLaws.{length-merged, count-mapped}
 use Rattle.map_split.specs.SplitLaws.{split_laws}
-use Rattle.map_any.specs.Mappings.{layout_of, holds_of, not_full, ordered, IsBuiltTerm, HasNumbers}
+use Rattle.map_any.specs.Mappings.{layout_of, holds_of, held_within, not_full, IsBuiltTerm, HasNumbers}
 use Rattle.map_any.specs.RowsLaws.{rows_laid}
 
 -- as many cells on each side as its truths say
@@ -55,6 +55,9 @@ module _ (fields : Fields) (path : List PathStep) (cells : List Cell) where
   pub length-side : length (side_of fields path cells) ≡ length cells
   length-side = length-map cells (λ (cell : Cell). is_under fields path cell.leaf)
 
+length-within : (width : ℕ) (cells : List Cell) → length (held_within width cells) ≡ length cells
+length-within width cells = length-narrow (replicate (length cells) width) cells (length-replicate (length cells) width)
+
 -- each cell is stored
 pub length-holds : (term : Term) (fields : Fields) (cells : List Cell) → length (holds_of term fields cells) ≡ length cells
 length-holds (Split path first rest) fields cells =
@@ -69,8 +72,8 @@ length-holds (Count inner) fields cells = length-holds inner fields cells
 length-holds (Aos form order) fields cells = length-full cells
 length-holds (Soa form order) fields cells = length-full cells
 length-holds (Aosoa lanes order) fields cells = length-full cells
-length-holds (BitAos width order) fields cells = length-narrow width cells
-length-holds (BitSoa width order) fields cells = length-narrow width cells
+length-holds (BitAos width order) fields cells = length-within width cells
+length-holds (BitSoa width order) fields cells = length-within width cells
 length-holds (Byteswap inner) fields cells = length-full cells
 length-holds (Bytesplit inner) fields cells = length-full cells
 length-holds (Change from to inner) fields cells = length-holds inner fields (changed from to cells) ∙ length-changed from to cells
@@ -87,10 +90,19 @@ some_lanes lanes e =
     let low : 1 ≤ lanes = leb-true 1 lanes (at_least Lanes (nat_le 1 lanes) (nat_le lanes 64) e) in
     omega arith
 
-some_width : (width : ℕ) → bad_width width ≡ None → 0 < width
-some_width width e =
-    let low : 1 ≤ width = leb-true 1 width (at_least Width (nat_le 1 width) (nat_le width 64) e) in
-    omega arith
+good_of : (good : Bool) → (if good then None else Some Width) ≡ None → not good ≡ false
+good_of true e = refl
+good_of false e = cc
+
+-- widths that are accepted are good ones
+pub same_widths : (width n : ℕ) → bad_width width ≡ None → has_bad_width (replicate n width) ≡ false
+same_widths width n e = same_good width n (good_of (nat_le 1 width && nat_le width 64) e)
+
+within_wide : (width : ℕ) (cells : List Cell) → bad_width width ≡ None → All (λ w. 1 ≤ w) (widths_in (held_within width cells))
+within_wide width cells e = narrow_wide (replicate (length cells) width) cells (same_widths width (length cells) e)
+
+within_low : (width : ℕ) (cells : List Cell) → All (λ w. w ≤ 64) (widths_in (held_within width cells))
+within_low width cells = narrow_low (replicate (length cells) width) cells
 
 -- where neither holds
 pub neither_of : (one two : Bool) → (one || two) ≡ false → (one ≡ false) × (two ≡ false)
@@ -115,11 +127,11 @@ term_laws (Aosoa lanes order) extents fields cells built numbers full =
     rows_laid order extents (map (λ (h : Hold). h.width) (full_holds cells)) (aosoa lanes (slot_count order extents) (widths_of cells))
     (aosoa_laws lanes (slot_count order extents) cells (some_lanes lanes numbers))
 term_laws (BitAos width order) extents fields cells built numbers full =
-    rows_laid order extents (map (λ (h : Hold). h.width) (narrow_holds width cells)) (bit_aos width (slot_count order extents) (widths_of cells))
-    (bit_aos_laws width (slot_count order extents) cells (some_width width numbers))
+    rows_laid order extents (widths_in (held_within width cells)) (bit_aos (slot_count order extents) (widths_in (held_within width cells)))
+    (bit_aos_laws (slot_count order extents) (widths_in (held_within width cells)) (within_low width cells) (within_wide width cells numbers))
 term_laws (BitSoa width order) extents fields cells built numbers full =
-    rows_laid order extents (map (λ (h : Hold). h.width) (narrow_holds width cells)) (bit_soa width (slot_count order extents) (widths_of cells))
-    (bit_soa_laws width (slot_count order extents) cells (some_width width numbers))
+    rows_laid order extents (widths_in (held_within width cells)) (bit_soa (slot_count order extents) (widths_in (held_within width cells)))
+    (bit_soa_laws (slot_count order extents) (widths_in (held_within width cells)) (within_low width cells) (within_wide width cells numbers))
 term_laws (Split path first rest) extents fields cells built numbers full =
     let side : List Bool = side_of fields path cells in
     let under : List Cell = cells_under fields path cells in

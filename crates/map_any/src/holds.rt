@@ -1,8 +1,8 @@
 ghost use Rattle.std.specs.Prelude.{◌≡◌, IfOk};
 ghost use Rattle.record_dim.specs.Schemas.{schema_fields};
-ghost use Rattle.places.specs.Holds.{full_holds, narrow_holds};
+ghost use Rattle.places.specs.Holds.{full_holds};
 ghost use Rattle.map_expr.specs.Terms.{term_of};
-ghost use Rattle.map_any.specs.Mappings.{holds_of};
+ghost use Rattle.map_any.specs.Mappings.{holds_of, held_within};
 
 use crate::inner_cells::changed_cells;
 use crate::plan::HoldList;
@@ -25,15 +25,12 @@ pub fn full_holds(alloc: Global, cells: &CellList) -> Result<HoldList, NoMemory>
 }
 
 /// Each cell in its type's sign and at most `width` bits.
-fn narrow_holds(alloc: Global, width: u32, cells: &CellList) -> Result<HoldList, NoMemory>
-    ensures { IfOk result (λ holds. holds ≡ narrow_holds width cells.now) }
+fn held_within(alloc: Global, width: u32, cells: &CellList) -> Result<HoldList, NoMemory>
+    ensures { IfOk result (λ holds. holds ≡ held_within width cells.now) }
 {
     let mut holds = HoldList::new(alloc);
     for cell in cells.as_slice() {
-        holds.push(Hold {
-            signed: cell.kind.signed(),
-            width: width.min(cell.kind.width()),
-        })?;
+        holds.push(Hold::within(width, cell.kind))?;
     }
     Ok(holds)
 }
@@ -49,7 +46,7 @@ pub fn holds_of(
 {
     match expr {
         MapExpr::BitAos { width, .. } | MapExpr::BitSoa { width, .. } => {
-            narrow_holds(alloc, *width, cells)
+            held_within(alloc, *width, cells)
         }
         MapExpr::Split { path, first, rest } => {
             let sides = split_cells(alloc, schema, path, cells)?;

@@ -6,11 +6,8 @@ ghost use Rattle.map_any.specs.Splits.{AreSplitRules, LieWithin};
 use crate::fault::MakeMap;
 use crate::plan::{HoldList, LengthList, Plan, hold_at};
 use crate::split_rules::split_rules;
-use places::Hold;
+use places::{Hold, MAX_BLOB_BYTES};
 use std::alloc::{AllocError as NoMemory, Global};
-
-/// The most bytes in all blobs of a mapping.
-const MAX_BLOB_BYTES: u64 = 1 << 28;
 
 /// Whether there are more than 2^28 bytes in all blobs.
 fn is_over(lengths: &[u64]) -> bool

@@ -88,6 +88,8 @@ impl Aos {
 }
 
 impl Ruled for Aos {
+    ghost lane_count = { λ m. 0 };
+
     fn rule(&self, cell: usize) -> PieceRule {
         PieceRule {
             blob: 0,

@@ -1,15 +1,17 @@
 -- How many blocks there are, and how one block is filled, cell after cell.
-use Rattle.std.proofs.Common.{◌≡◌, ℕ, ◌+◌, ◌-◌, ◌*◌, ◌/◌, ◌%◌, ◌<◌, ◌≤◌, min, ⊎_elim, List, [], ◌∷◌, ◌++◌, length, get_or, take, sym, ap, ◌∙◌, arith, below_more}
+use Rattle.std.proofs.Common.{◌≡◌, ℕ, zero, suc, All, refl, ◌+◌, ◌-◌, ◌*◌, ◌/◌, ◌%◌, ◌<◌, ◌≤◌, min, ⊎_elim, List, [], ◌∷◌, ◌++◌, length, get_or, take, sym, ap, ◌∙◌, arith, below_more}
 use Rattle.std.specs.List.{sum}
 use Rattle.std.specs.Int.{div_ceil}
 use Rattle.std.proofs.lemmas.Bool.{cases_lt}
 use Rattle.std.proofs.lemmas.Nat.{div-mul-add, div-add-mod', mul-le}
 use Rattle.std.proofs.lemmas.List.{get_or-map, get_or_push, get_or_append_left}
-use Rattle.std.proofs.lemmas.List.Sums.{sum_by_more, sum_by-take-le}
+use Rattle.std.proofs.lemmas.List.Sums.{sum_by_more, sum_by-take-le, sum_by-cons}
 use Rattle.record_dim.specs.LeafTypes.{width_of}
 use Rattle.places.specs.Holds.{widths_of}
 use Rattle.places.specs.declared.piece.Cell.{Cell}
 use Rattle.places.specs.CellWidthsLaws.{length-widths}
+use Rattle.places.specs.WidthsLaws.{widths_whole}
+use Rattle.places.specs.SlotsLaws.{times_bytes}
 use Rattle.map_aosoa.specs.Aosoa.{block_count}
 
 -- a quotient that is rounded up
@@ -61,3 +63,16 @@ offsets_more f old new i end count last pushed each =
     below_more (λ (k : ℕ). get_or new k 0 ≡ f k) i
     (λ k inside. ap (λ (xs : List ℕ). get_or xs k 0) pushed ∙ get_or_append_left old (end ∷ []) 0 k (omega arith) ∙ each k inside)
     (ap (λ (xs : List ℕ). get_or xs i 0) pushed ∙ get_or_push old end 0 i count ∙ last)
+
+-- the lanes of whole bytes are whole bytes
+sum_bytes : (widths : List ℕ) → All (λ w. w % 8 ≡ 0) widths → (n : ℕ) → sum (take n widths) % 8 ≡ 0
+sum_bytes [] each zero = refl
+sum_bytes [] each (suc n) = refl
+sum_bytes (w ∷ widths) each zero = refl
+sum_bytes (w ∷ widths) each (suc n) =
+    let first : w % 8 ≡ 0 = each 0 0 (omega arith) in
+    let rest : sum (take n widths) % 8 ≡ 0 = sum_bytes widths (λ k d l. each (suc k) d (omega arith)) n in
+    omega (arith, sum_by-cons (λ (x : ℕ). x) w (take n widths))
+
+pub lanes_bytes : (lanes : ℕ) (cells : List Cell) (n : ℕ) → (lanes * sum (take n (widths_of cells))) % 8 ≡ 0
+lanes_bytes lanes cells n = times_bytes lanes (sum (take n (widths_of cells))) (sum_bytes (widths_of cells) (widths_whole cells) n)

@@ -1,4 +1,4 @@
-ghost use Rattle.std.specs.Prelude.{ℕ, ◌≡◌, ◌*◌, ◌^◌, ◌<◌, ◌≤◌, ◌⊎◌, ◌↔◌, IfOk, IfErr, OnOk, IsErrOf, List, length, slice_index};
+ghost use Rattle.std.specs.Prelude.{ℕ, ◌≡◌, ◌*◌, ◌%◌, ◌^◌, ◌<◌, ◌≤◌, ◌⊎◌, ◌↔◌, IfOk, IfErr, OnOk, IsErrOf, List, length, slice_index};
 ghost use Rattle.places.specs.Holds.{widths_of, full_holds, IsTooBig};
 ghost use Rattle.places.specs.declared.piece.Cell.{Cell};
 ghost use Rattle.places.specs.declared.piece.Hold.{Hold};
@@ -9,12 +9,11 @@ ghost use Rattle.places.specs.CellWidthsLaws.{length-full};
 
 use crate::block::{count_blocks, lay_out};
 use piece_rules::{PieceRule, Ruled};
-use places::{Cell, CellList, Hold, MAX_BLOB_BITS, MAX_SLOTS, Mapping, NewMapping, Pieces};
+use places::{
+    Cell, CellList, Hold, MAX_BLOB_BITS, MAX_LANES, MAX_SLOTS, Mapping, NewMapping, Pieces,
+};
 use record_dim::LeafType;
 use std::alloc::Global;
-
-/// The most lanes of a block.
-const MAX_LANES: u32 = 64;
 
 /// An array of structs of arrays: one blob of whole blocks. A block has `lanes` slots, cell after cell, and in a cell lane after lane.
 #[derive(Drop)]
@@ -28,6 +27,7 @@ pub struct Aosoa {
     stride: u64,
     ghost some: { 0 < lanes },
     ghost stored: { 0 < slots → IsStored lanes (widths_of cells.items) offsets.items stride },
+    ghost whole: { stride % 8 ≡ 0 },
     ghost bound: { block_count lanes slots * stride ≤ 2 ^ 31 },
 }
 
@@ -36,6 +36,7 @@ impl Aosoa {
     /// and else `TooBig` where there are more than 2^24 slots, or more than 2^28 bytes with the lanes that no slot has.
     pub fn new(alloc: Global, cells: &CellList, slots: u64, lanes: u32) -> Result<Aosoa, NewMapping>
         ensures slots { IfOk result (λ m. ⟦<Aosoa as Mapping>⟧.slot_count m ≡ slots) }
+        ensures dense { IfOk result (λ m. ⟦<Aosoa as Ruled>⟧.lane_count m ≡ lanes) }
         ensures cells { IfOk result (λ m. ⟦<Aosoa as Mapping>⟧.cell_list m ≡ cells.now) }
         ensures holds { IfOk result (λ m. ⟦<Aosoa as Mapping>⟧.hold_list m ≡ full_holds cells.now) }
         ensures layout { IfOk result (λ m. ⟦<Aosoa as Mapping>⟧.layout m ≡ aosoa lanes slots (widths_of cells.now)) }
@@ -80,6 +81,7 @@ impl Aosoa {
     fn offset(&self, cell: usize) -> u64
         requires { cell < length self.now.cells.items }
         ensures place { 0 < self.now.slots → result ≡ slice_index self.now.offsets.items cell }
+        ensures bytes { result % 8 ≡ 0 }
         ensures low { result ≤ 2 ^ 31 }
     {
         if self.slots == 0 {
@@ -90,6 +92,8 @@ impl Aosoa {
 }
 
 impl Ruled for Aosoa {
+    ghost lane_count = { λ m. m.lanes };
+
     fn rule(&self, cell: usize) -> PieceRule {
         let width = self.cells[cell].kind.width();
         PieceRule {

@@ -1,23 +1,19 @@
 -- A struct of arrays packed to the bit: the lengths of its blobs, and the places of a cell.
-use Rattle.std.proofs.Common.{◌≡◌, ℕ, ◌+◌, ◌-◌, ◌*◌, ◌/◌, ◌%◌, ◌^◌, ◌<◌, ◌≤◌, List, [], ◌∷◌, map, min, length, sum_by, replicate, get_or, slice_index, take, refl, sym, ap, ◌∙◌, subst, arith}
+use Rattle.std.proofs.Common.{◌≡◌, ℕ, ◌+◌, ◌-◌, ◌*◌, ◌/◌, ◌%◌, ◌^◌, ◌<◌, ◌≤◌, List, [], ◌∷◌, length, sum_by, replicate, get_or, slice_index, take, refl, sym, ap, ◌∙◌, subst, arith}
 use Rattle.std.proofs.lemmas.Nat.{mul-le}
 use Rattle.std.proofs.lemmas.List.{get_or-map, get_or_append_left, length-map, take_all}
 use Rattle.std.proofs.lemmas.List.FromFn.{length-enumerate_from, get_or-enumerate_from}
 use Rattle.std.proofs.lemmas.List.Sums.{sum_by_more, sum_by-take-le}
-use Rattle.record_dim.specs.LeafTypes.{width_of}
 use Rattle.places.specs.Layout.{Owner, Pad, Bit, owner_at, cells_of, field, array, bit_soa}
-use Rattle.places.specs.Laws.{IsLocated}
-use Rattle.places.specs.Holds.{widths_of, narrow_holds}
-use Rattle.places.specs.declared.piece.Cell.{Cell}
+use Rattle.places.specs.Laws.{IsLocated, IsLaidOut}
 use Rattle.places.specs.declared.piece.Hold.{Hold}
 use Rattle.places.specs.declared.piece.Piece.{Piece}
 use Rattle.places.specs.ExactLaws.{within, field_at, length-field}
 use Rattle.places.specs.SlotsLaws.{length-parts, slot_at}
 use Rattle.places.specs.StackedLaws.{up, length-padded}
 use Rattle.places.specs.PlacesLaws.{one_piece}
-use Rattle.map_bits.specs.Bits.{narrow_widths, padded_array, bits_soa}
-use Rattle.map_bits.specs.NarrowLaws.{length-narrow_widths}
-use Rattle.map_bits.specs.BitLaws.{bit_soa_laws}
+use Rattle.places.specs.Holds.{widths_in}
+use Rattle.map_bits.specs.Bits.{padded_array}
 use Rattle.map_bits.proofs.Widths.{IsTaken, taken_at}
 
 -- one blob: its length in bits, and its places
@@ -34,11 +30,11 @@ array_at slots c w slot bit slot_in bit_in =
     get_or_append_left owners (replicate ((64 - length owners % 64) % 64) Pad) Pad place (within owners place slot c bit at) ∙ at
 
 -- there is a blob for each cell
-pub blob_each : (slots : ℕ) (widths : List ℕ) → length (bits_soa slots widths) ≡ length widths
+pub blob_each : (slots : ℕ) (widths : List ℕ) → length (bit_soa slots widths) ≡ length widths
 blob_each slots widths = length-map (cells_of widths) (padded_array slots) ∙ length-enumerate_from 0 widths
 
 blob_is : (slots : ℕ) (widths : List ℕ) (cell : ℕ) → cell < length widths
-    → get_or (bits_soa slots widths) cell [] ≡ padded_array slots (cell, slice_index widths cell)
+    → get_or (bit_soa slots widths) cell [] ≡ padded_array slots (cell, slice_index widths cell)
 blob_is slots widths cell inside =
     let size : length (cells_of widths) ≡ length widths = length-enumerate_from 0 widths in
     let number : 0 + cell ≡ cell = omega arith in
@@ -47,24 +43,22 @@ blob_is slots widths cell inside =
     get_or-map (padded_array slots) (cells_of widths) cell (0, 0) [] (omega arith) ∙ ap (padded_array slots) pair
 
 pub blob_size : (slots : ℕ) (widths : List ℕ) (cell : ℕ) → cell < length widths
-    → length (get_or (bits_soa slots widths) cell []) ≡ up 64 (slots * slice_index widths cell)
+    → length (get_or (bit_soa slots widths) cell []) ≡ up 64 (slots * slice_index widths cell)
 blob_size slots widths cell inside =
     ap (λ (owners : List Owner). length owners) (blob_is slots widths cell inside) ∙ array_size slots cell (slice_index widths cell)
 
 -- the places of a cell's bits
 pub cell_at : (slots : ℕ) (widths : List ℕ) (slot cell bit : ℕ) → slot < slots → cell < length widths → bit < slice_index widths cell
-    → owner_at (bits_soa slots widths) cell (slot * slice_index widths cell + bit) ≡ Bit slot cell bit
+    → owner_at (bit_soa slots widths) cell (slot * slice_index widths cell + bit) ≡ Bit slot cell bit
 cell_at slots widths slot cell bit slot_in cell_in bit_in =
     ap (λ (owners : List Owner). get_or owners (slot * slice_index widths cell + bit) Pad) (blob_is slots widths cell cell_in)
     ∙ array_at slots cell (slice_index widths cell) slot bit slot_in bit_in
 
 -- the places of a cell are one piece
-pub located_is : (width slots : ℕ) (cells : List Cell) (slot cell : ℕ) (piece : Piece) → IsTaken width cells cell piece.bits → slots ≤ 2 ^ 24 → slot < slots
-    → piece.blob ≡ cell → piece.bit ≡ slot * piece.bits
-    → IsLocated (bit_soa width slots (widths_of cells)) slot cell (slice_index (map (λ (h : Hold). h.width) (narrow_holds width cells)) cell) (piece ∷ [])
-located_is width slots cells slot cell piece taken few slot_in blob bit =
-    let widths : List ℕ = narrow_widths width cells in
-    let layout : List (List Owner) = bits_soa slots widths in
+pub located_is : (slots : ℕ) (widths : List ℕ) (slot cell : ℕ) (piece : Piece) → IsTaken widths cell piece.bits → slots ≤ 2 ^ 24 → slot < slots
+    → piece.blob ≡ cell → piece.bit ≡ slot * piece.bits → IsLocated (bit_soa slots widths) slot cell (slice_index widths cell) (piece ∷ [])
+located_is slots widths slot cell piece taken few slot_in blob bit =
+    let layout : List (List Owner) = bit_soa slots widths in
     let some : 1 ≤ piece.bits = taken.some in
     let narrow : piece.bits ≤ 64 = taken.low in
     let low : slot * piece.bits ≤ 2 ^ 24 * 64 = mul-le slot piece.bits (2 ^ 24) 64 (omega arith) narrow in
@@ -75,47 +69,43 @@ located_is width slots cells slot cell piece taken few slot_in blob bit =
     ap (λ (b : ℕ). owner_at layout b (piece.bit + k)) blob
     ∙ ap (λ (p : ℕ). owner_at layout cell (p + k)) begin
     ∙ cell_at slots widths slot cell k slot_in taken.inside (subst (λ (n : ℕ). k < n) taken.same l)) in
-    subst (λ (n : ℕ). IsLocated layout slot cell n (piece ∷ [])) (sym taken.hold) one
+    subst (λ (n : ℕ). IsLocated layout slot cell n (piece ∷ [])) taken.same one
 
 -- the length of a blob in bytes
-pub blob_bytes_is : (width slots : ℕ) (cells : List Cell) (blob taken bits : ℕ) → 0 < width → blob < length (bit_soa width slots (widths_of cells))
-    → taken ≡ slice_index (narrow_widths width cells) blob → bits ≡ up 64 (slots * taken)
-    → 8 * (bits / 8) ≡ length (get_or (bit_soa width slots (widths_of cells)) blob [])
-blob_bytes_is width slots cells blob taken bits some inside t padded =
-    let widths : List ℕ = narrow_widths width cells in
-    let layout : List (List Owner) = bit_soa width slots (widths_of cells) in
+pub blob_bytes_is : (slots : ℕ) (widths : List ℕ) (blob taken bits : ℕ) → IsLaidOut (bit_soa slots widths) slots widths → blob < length (bit_soa slots widths)
+    → taken ≡ slice_index widths blob → bits ≡ up 64 (slots * taken) → 8 * (bits / 8) ≡ length (get_or (bit_soa slots widths) blob [])
+blob_bytes_is slots widths blob taken bits laid inside t padded =
+    let layout : List (List Owner) = bit_soa slots widths in
     let count : length layout ≡ length widths = blob_each slots widths in
     let same : bits ≡ length (get_or layout blob []) =
     padded ∙ ap (λ (n : ℕ). up 64 (slots * n)) t ∙ sym (blob_size slots widths blob (omega arith)) in
-    let whole : length (get_or layout blob []) % 8 ≡ 0 = (bit_soa_laws width slots cells some).whole_bytes blob [] inside in
+    let whole : length (get_or layout blob []) % 8 ≡ 0 = laid.whole_bytes blob [] inside in
     omega arith
 
--- there is a blob for each cell, as the code counts them
-pub blob_count_is : (width slots : ℕ) (cells : List Cell) → length (bit_soa width slots (widths_of cells)) ≡ length cells
-blob_count_is width slots cells = blob_each slots (narrow_widths width cells) ∙ length-narrow_widths width cells
+-- there is a blob for each hold
+pub blob_count_is : (slots : ℕ) (holds : List Hold) → length (bit_soa slots (widths_in holds)) ≡ length holds
+blob_count_is slots holds = blob_each slots (widths_in holds) ∙ length-map holds (λ (h : Hold). h.width)
 
 -- the bits of one blob more
-pub bits_next : (width slots : ℕ) (cells : List Cell) (i : ℕ) (d : Cell) (bits taken taken' more : ℕ) → i < length cells
-    → taken ≡ min width (width_of (get_or cells i d).kind) → taken' ≡ taken → more ≡ up 64 (slots * taken')
-    → bits ≡ sum_by length (take i (bit_soa width slots (widths_of cells))) → bits + more ≡ sum_by length (take (i + 1) (bit_soa width slots (widths_of cells)))
-bits_next width slots cells i d bits taken taken' more inside t same m was =
-    let widths : List ℕ = narrow_widths width cells in
-    let layout : List (List Owner) = bit_soa width slots (widths_of cells) in
-    let size : length widths ≡ length cells = length-narrow_widths width cells in
-    let count : length layout ≡ length cells = blob_count_is width slots cells in
+pub bits_next : (slots : ℕ) (holds : List Hold) (i : ℕ) (d : Hold) (bits taken more : ℕ) → i < length holds
+    → taken ≡ (get_or holds i d).width → more ≡ up 64 (slots * taken)
+    → bits ≡ sum_by length (take i (bit_soa slots (widths_in holds))) → bits + more ≡ sum_by length (take (i + 1) (bit_soa slots (widths_in holds)))
+bits_next slots holds i d bits taken more inside t m was =
+    let widths : List ℕ = widths_in holds in
+    let layout : List (List Owner) = bit_soa slots widths in
+    let size : length widths ≡ length holds = length-map holds (λ (h : Hold). h.width) in
+    let count : length layout ≡ length holds = blob_count_is slots holds in
     let here : more ≡ length (get_or layout i []) =
-    m ∙ ap (λ (n : ℕ). up 64 (slots * n)) (same ∙ taken_at width cells i d taken inside t) ∙ sym (blob_size slots widths i (omega arith)) in
+    m ∙ ap (λ (n : ℕ). up 64 (slots * n)) (t ∙ taken_at holds i d inside) ∙ sym (blob_size slots widths i (omega arith)) in
     let next : sum_by length (take (i + 1) layout) ≡ sum_by length (take i layout) + length (get_or layout i []) = sum_by_more length layout i [] (omega arith) in
     omega arith
 
 -- the blobs so far have no more bits than all
-pub bits_below : (width slots : ℕ) (cells : List Cell) (i : ℕ)
-    → sum_by length (take i (bit_soa width slots (widths_of cells))) ≤ sum_by length (bit_soa width slots (widths_of cells))
-bits_below width slots cells i = sum_by-take-le length (bit_soa width slots (widths_of cells)) i
+pub bits_below : (slots : ℕ) (widths : List ℕ) (i : ℕ) → sum_by length (take i (bit_soa slots widths)) ≤ sum_by length (bit_soa slots widths)
+bits_below slots widths i = sum_by-take-le length (bit_soa slots widths) i
 
 -- and at the end those are all
-pub bits_all : (width slots : ℕ) (cells : List Cell) (i : ℕ) → length cells ≤ i
-    → take i (bit_soa width slots (widths_of cells)) ≡ bit_soa width slots (widths_of cells)
-bits_all width slots cells i past =
-    let count : length (bit_soa width slots (widths_of cells)) ≡ length cells = blob_count_is width slots cells in
-    take_all i (bit_soa width slots (widths_of cells)) (omega arith)
+pub bits_all : (slots : ℕ) (holds : List Hold) (i : ℕ) → length holds ≤ i → take i (bit_soa slots (widths_in holds)) ≡ bit_soa slots (widths_in holds)
+bits_all slots holds i past =
+    let count : length (bit_soa slots (widths_in holds)) ≡ length holds = blob_count_is slots holds in
+    take_all i (bit_soa slots (widths_in holds)) (omega arith)

@@ -1,25 +1,21 @@
 -- An array of structs packed to the bit: its length, and the places of a cell.
-use Rattle.std.proofs.Common.{◌≡◌, ℕ, zero, suc, ◌+◌, ◌-◌, ◌*◌, ◌/◌, ◌%◌, ◌^◌, ◌<◌, ◌≤◌, inr, ⊎_elim, List, [], ◌∷◌, ◌++◌, map, min, length, sum_by, replicate, get_or, slice_index, take, refl, sym, ap, ◌∙◌, subst, arith, length-append}
+use Rattle.std.proofs.Common.{◌≡◌, ℕ, zero, suc, ◌+◌, ◌-◌, ◌*◌, ◌/◌, ◌%◌, ◌^◌, ◌<◌, ◌≤◌, inr, ⊎_elim, List, [], ◌∷◌, ◌++◌, map, length, sum_by, replicate, get_or, slice_index, take, refl, sym, ap, ◌∙◌, subst, arith, length-append}
 use Rattle.std.specs.List.{flat_map, range_with_len, enumerate_from, sum}
 use Rattle.std.proofs.lemmas.Bool.{cases_lt}
 use Rattle.std.proofs.lemmas.Nat.{mul-le}
-use Rattle.std.proofs.lemmas.List.{take_all, get_or_append_left, get_or-append-add}
+use Rattle.std.proofs.lemmas.List.{take_all, length-map, get_or_append_left, get_or-append-add}
 use Rattle.std.proofs.lemmas.List.FromFn.{length-map-range_with_len, get_or-map-range_with_len, map-range_with_len_more}
 use Rattle.std.proofs.lemmas.List.Sums.{sum_by-cons, sum_by_more, sum_by-take-le}
-use Rattle.record_dim.specs.LeafTypes.{width_of}
 use Rattle.places.specs.Layout.{Owner, Pad, Bit, owner_at, cells_of, field, fields, padded_to, bit_aos}
-use Rattle.places.specs.Laws.{IsLocated}
-use Rattle.places.specs.Holds.{widths_of, narrow_holds, IsTooBig}
-use Rattle.places.specs.declared.piece.Cell.{Cell}
+use Rattle.places.specs.Laws.{IsLocated, IsLaidOut}
+use Rattle.places.specs.Holds.{IsTooBig, widths_in}
 use Rattle.places.specs.declared.piece.Hold.{Hold}
 use Rattle.places.specs.declared.piece.Piece.{Piece}
 use Rattle.places.specs.ExactLaws.{within, field_at, length-field}
 use Rattle.places.specs.SlotsLaws.{length-parts, slot_at}
 use Rattle.places.specs.StackedLaws.{up, length-padded}
 use Rattle.places.specs.PlacesLaws.{one_piece}
-use Rattle.map_bits.specs.Bits.{IsStored, narrow_widths, packed_slots, bits_aos}
-use Rattle.map_bits.specs.NarrowLaws.{length-narrow_widths}
-use Rattle.map_bits.specs.BitLaws.{bit_aos_laws}
+use Rattle.map_bits.specs.Bits.{IsStored, packed_slots}
 use Rattle.map_bits.proofs.Widths.{IsTaken, taken_at}
 
 -- the length of the cells that are numbered from n on
@@ -71,7 +67,7 @@ blob_size slots widths =
 
 -- the places of a cell's bits
 pub cell_at : (slots : ℕ) (widths : List ℕ) (slot cell bit : ℕ) → slot < slots → cell < length widths → bit < slice_index widths cell
-    → owner_at (bits_aos slots widths) 0 (slot * sum widths + (sum (take cell widths) + bit)) ≡ Bit slot cell bit
+    → owner_at (bit_aos slots widths) 0 (slot * sum widths + (sum (take cell widths) + bit)) ≡ Bit slot cell bit
 cell_at slots widths slot cell bit slot_in cell_in bit_in =
     let owners : List Owner = packed_slots slots widths in
     let part : List Owner = fields slot (cells_of widths) in
@@ -86,13 +82,12 @@ cell_at slots widths slot cell bit slot_in cell_in bit_in =
     get_or_append_left owners (replicate ((64 - length owners % 64) % 64) Pad) Pad place (within owners place slot cell bit at) ∙ at
 
 -- the places of a cell are one piece
-pub located_is : (width slots : ℕ) (cells : List Cell) (stride slot cell : ℕ) (piece : Piece) → IsTaken width cells cell piece.bits
-    → stride ≡ sum (narrow_widths width cells) → slots * stride ≤ 2 ^ 31 → slot < slots
-    → piece.blob ≡ 0 → piece.bit ≡ sum (take cell (narrow_widths width cells)) + slot * stride
-    → IsLocated (bit_aos width slots (widths_of cells)) slot cell (slice_index (map (λ (h : Hold). h.width) (narrow_holds width cells)) cell) (piece ∷ [])
-located_is width slots cells stride slot cell piece taken ends bound slot_in blob bit =
-    let widths : List ℕ = narrow_widths width cells in
-    let layout : List (List Owner) = bits_aos slots widths in
+pub located_is : (slots : ℕ) (widths : List ℕ) (stride slot cell : ℕ) (piece : Piece) → IsTaken widths cell piece.bits
+    → stride ≡ sum widths → slots * stride ≤ 2 ^ 31 → slot < slots
+    → piece.blob ≡ 0 → piece.bit ≡ sum (take cell widths) + slot * stride
+    → IsLocated (bit_aos slots widths) slot cell (slice_index widths cell) (piece ∷ [])
+located_is slots widths stride slot cell piece taken ends bound slot_in blob bit =
+    let layout : List (List Owner) = bit_aos slots widths in
     let owners : List Owner = padded_to 64 (packed_slots slots widths) in
     let last : ℕ = piece.bits - 1 in
     let some : 1 ≤ piece.bits = taken.some in
@@ -107,7 +102,7 @@ located_is width slots cells stride slot cell piece taken ends bound slot_in blo
     let one : IsLocated layout slot cell piece.bits (piece ∷ []) =
     one_piece layout slot cell piece.bits piece refl (omega arith) (omega arith)
     (λ k l. ap (λ (b : ℕ). owner_at layout b (piece.bit + k)) blob ∙ each k l) in
-    subst (λ (n : ℕ). IsLocated layout slot cell n (piece ∷ [])) (sym taken.hold) one
+    subst (λ (n : ℕ). IsLocated layout slot cell n (piece ∷ [])) taken.same one
 
 -- the bits of all slots, as the mapping keeps them
 total_is : (slots : ℕ) (widths offsets : List ℕ) (stride : ℕ) → (0 < slots → IsStored widths offsets stride) → slots * stride ≡ slots * sum widths
@@ -120,17 +115,16 @@ total_is slots widths offsets stride h =
     (cases_lt 0 slots)
 
 -- the length of the one blob in bytes
-pub blob_bytes_is : (width slots : ℕ) (cells : List Cell) (offsets : List ℕ) (stride blob bits : ℕ) → 0 < width
-    → (0 < slots → IsStored (narrow_widths width cells) offsets stride) → bits ≡ up 64 (slots * stride)
-    → blob < length (bit_aos width slots (widths_of cells)) → 8 * (bits / 8) ≡ length (get_or (bit_aos width slots (widths_of cells)) blob [])
-blob_bytes_is width slots cells offsets stride blob bits some h padded inside =
-    let layout : List (List Owner) = bit_aos width slots (widths_of cells) in
+pub blob_bytes_is : (slots : ℕ) (widths offsets : List ℕ) (stride blob bits : ℕ) → IsLaidOut (bit_aos slots widths) slots widths
+    → (0 < slots → IsStored widths offsets stride) → bits ≡ up 64 (slots * stride)
+    → blob < length (bit_aos slots widths) → 8 * (bits / 8) ≡ length (get_or (bit_aos slots widths) blob [])
+blob_bytes_is slots widths offsets stride blob bits laid h padded inside =
+    let layout : List (List Owner) = bit_aos slots widths in
     let first : blob ≡ 0 = omega arith in
-    let here : length (get_or layout blob []) ≡ up 64 (slots * sum (narrow_widths width cells)) =
-    ap (λ (b : ℕ). length (get_or layout b [])) first ∙ blob_size slots (narrow_widths width cells) in
-    let total : slots * stride ≡ slots * sum (narrow_widths width cells) = total_is slots (narrow_widths width cells) offsets stride h in
+    let here : length (get_or layout blob []) ≡ up 64 (slots * sum widths) = ap (λ (b : ℕ). length (get_or layout b [])) first ∙ blob_size slots widths in
+    let total : slots * stride ≡ slots * sum widths = total_is slots widths offsets stride h in
     let same : bits ≡ length (get_or layout blob []) = padded ∙ ap (up 64) total ∙ sym here in
-    let whole : length (get_or layout blob []) % 8 ≡ 0 = (bit_aos_laws width slots cells some).whole_bytes blob [] inside in
+    let whole : length (get_or layout blob []) % 8 ≡ 0 = laid.whole_bytes blob [] inside in
     omega arith
 
 -- where a cell begins, as it is kept
@@ -153,49 +147,49 @@ begin_fits slots widths stride cell ends bound filled =
     omega arith
 
 -- the limits
-layout_size : (slots : ℕ) (widths : List ℕ) → sum_by length (bits_aos slots widths) ≡ up 64 (slots * sum widths)
+layout_size : (slots : ℕ) (widths : List ℕ) → sum_by length (bit_aos slots widths) ≡ up 64 (slots * sum widths)
 layout_size slots widths =
     let blob : List Owner = padded_to 64 (packed_slots slots widths) in
     let one : sum_by length (blob ∷ []) ≡ length blob = omega arith in
     one ∙ blob_size slots widths
 
 -- a slot that is too long makes the blob too long
-pub big_slot : (slots : ℕ) (widths : List ℕ) → 0 < slots → 2 ^ 31 < sum widths → IsTooBig slots (bits_aos slots widths)
+pub big_slot : (slots : ℕ) (widths : List ℕ) → 0 < slots → 2 ^ 31 < sum widths → IsTooBig slots (bit_aos slots widths)
 big_slot slots widths filled long =
-    let size : sum_by length (bits_aos slots widths) ≡ up 64 (slots * sum widths) = layout_size slots widths in
+    let size : sum_by length (bit_aos slots widths) ≡ up 64 (slots * sum widths) = layout_size slots widths in
     let grows : 1 * sum widths ≤ slots * sum widths = mul-le 1 (sum widths) slots (sum widths) (omega arith) (omega arith) in
     inr (omega arith)
 
 pub big_blob : (slots : ℕ) (widths offsets : List ℕ) (stride : ℕ) → IsStored widths offsets stride → 2 ^ 31 < up 64 (slots * stride)
-    → IsTooBig slots (bits_aos slots widths)
+    → IsTooBig slots (bit_aos slots widths)
 big_blob slots widths offsets stride h long =
-    let size : sum_by length (bits_aos slots widths) ≡ up 64 (slots * sum widths) = layout_size slots widths in
+    let size : sum_by length (bit_aos slots widths) ≡ up 64 (slots * sum widths) = layout_size slots widths in
     let same : up 64 (slots * stride) ≡ up 64 (slots * sum widths) = ap (λ (n : ℕ). up 64 (slots * n)) h.ends in
     inr (omega arith)
 
 pub not_too_big : (slots : ℕ) (widths offsets : List ℕ) (stride : ℕ) → (0 < slots → IsStored widths offsets stride) → slots ≤ 2 ^ 24
-    → up 64 (slots * stride) ≤ 2 ^ 31 → IsTooBig slots (bits_aos slots widths) → ⊥
+    → up 64 (slots * stride) ≤ 2 ^ 31 → IsTooBig slots (bit_aos slots widths) → ⊥
 not_too_big slots widths offsets stride h few small big =
-    let size : sum_by length (bits_aos slots widths) ≡ up 64 (slots * sum widths) = layout_size slots widths in
+    let size : sum_by length (bit_aos slots widths) ≡ up 64 (slots * sum widths) = layout_size slots widths in
     let same : up 64 (slots * stride) ≡ up 64 (slots * sum widths) = ap (up 64) (total_is slots widths offsets stride h) in
     ⊎_elim
     (λ (many : 2 ^ 24 < slots). let none : ⊥ = omega arith in none)
-    (λ (long : 8 * 2 ^ 28 < sum_by length (bits_aos slots widths)). let none : ⊥ = omega arith in none)
+    (λ (long : 8 * 2 ^ 28 < sum_by length (bit_aos slots widths)). let none : ⊥ = omega arith in none)
     big
 
 -- no slot is not too many
-pub none_fits : (slots : ℕ) (widths : List ℕ) → slots ≡ 0 → IsTooBig slots (bits_aos slots widths) → ⊥
+pub none_fits : (slots : ℕ) (widths : List ℕ) → slots ≡ 0 → IsTooBig slots (bit_aos slots widths) → ⊥
 none_fits slots widths none =
     let product : slots * 0 ≡ 0 = omega arith in
     not_too_big slots widths [] 0 (λ filled. let never : ⊥ = omega arith in absurd never) (omega arith) (omega arith)
 
 -- one cell more, as the code reads it
-pub end_next : (width : ℕ) (cells : List Cell) (i : ℕ) (d : Cell) (end taken bits : ℕ) → i < length cells → taken ≡ min width (width_of (get_or cells i d).kind) → bits ≡ taken
-    → end ≡ sum (take i (narrow_widths width cells)) → end + bits ≡ sum (take (i + 1) (narrow_widths width cells))
-end_next width cells i d end taken bits inside t b was =
-    let widths : List ℕ = narrow_widths width cells in
-    let size : length widths ≡ length cells = length-narrow_widths width cells in
-    let here : taken ≡ get_or widths i 0 = taken_at width cells i d taken inside t in
+pub end_next : (holds : List Hold) (i : ℕ) (d : Hold) (end bits : ℕ) → i < length holds → bits ≡ (get_or holds i d).width
+    → end ≡ sum (take i (widths_in holds)) → end + bits ≡ sum (take (i + 1) (widths_in holds))
+end_next holds i d end bits inside b was =
+    let widths : List ℕ = widths_in holds in
+    let size : length widths ≡ length holds = length-map holds (λ (h : Hold). h.width) in
+    let here : (get_or holds i d).width ≡ get_or widths i 0 = taken_at holds i d inside in
     let more : sum (take (i + 1) widths) ≡ sum (take i widths) + get_or widths i 0 = sum_by_more (λ (x : ℕ). x) widths i 0 (omega arith) in
     omega arith
 
@@ -209,12 +203,12 @@ begins_more widths old new i end each last pushed =
     ∙ sym (map-range_with_len_more (λ (c : ℕ). sum (take c widths)) 0 i i (let e : 0 + i ≡ i = omega arith in e))
 
 -- all cells are laid out
-pub stored_all : (width : ℕ) (cells : List Cell) (i : ℕ) (offsets : List ℕ) (end : ℕ) → i ≤ length cells → length cells ≤ i
-    → offsets ≡ map (λ c. sum (take c (narrow_widths width cells))) (range_with_len 0 i) → end ≡ sum (take i (narrow_widths width cells))
-    → IsStored (narrow_widths width cells) offsets end
-stored_all width cells i offsets end low high begins ends =
-    let widths : List ℕ = narrow_widths width cells in
-    let size : length widths ≡ length cells = length-narrow_widths width cells in
+pub stored_all : (holds : List Hold) (i : ℕ) (offsets : List ℕ) (end : ℕ) → i ≤ length holds → length holds ≤ i
+    → offsets ≡ map (λ c. sum (take c (widths_in holds))) (range_with_len 0 i) → end ≡ sum (take i (widths_in holds))
+    → IsStored (widths_in holds) offsets end
+stored_all holds i offsets end low high begins ends =
+    let widths : List ℕ = widths_in holds in
+    let size : length widths ≡ length holds = length-map holds (λ (h : Hold). h.width) in
     let all : i ≡ length widths = omega arith in
     record {
       begins = begins ∙ ap (λ (n : ℕ). map (λ (c : ℕ). sum (take c widths)) (range_with_len 0 n)) all;
@@ -222,5 +216,9 @@ stored_all width cells i offsets end low high begins ends =
     }
 
 -- the cells so far take no more than all
-pub end_below : (width : ℕ) (cells : List Cell) (i : ℕ) → sum (take i (narrow_widths width cells)) ≤ sum (narrow_widths width cells)
-end_below width cells i = sum_by-take-le (λ (x : ℕ). x) (narrow_widths width cells) i
+pub end_below : (widths : List ℕ) (i : ℕ) → sum (take i widths) ≤ sum widths
+end_below widths i = sum_by-take-le (λ (x : ℕ). x) widths i
+
+-- what is padded to 64 bits is not fewer bits
+pub bound_is : (bits : ℕ) → up 64 bits ≤ 2 ^ 31 → bits ≤ 2 ^ 31
+bound_is bits small = omega arith

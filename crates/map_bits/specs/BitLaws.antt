@@ -1,17 +1,13 @@
 -- The laws of layouts packed to the bit: each bit of each cell has one place, and each blob is whole bytes.
-use Rattle.std.proofs.Common.{◌≡◌, ℕ, ◌+◌, ◌-◌, ◌%◌, ◌<◌, ◌≤◌, List, [], map, length, get_or, All, refl, sym, ◌∙◌, subst, arith}
+use Rattle.std.proofs.Common.{◌≡◌, ℕ, ◌+◌, ◌-◌, ◌%◌, ◌<◌, ◌≤◌, List, [], length, get_or, All, refl, sym, ◌∙◌, arith}
 use Rattle.std.proofs.lemmas.List.Elements.{All-cons, All-nil, All-map}
 use Rattle.places.specs.Layout.{Owner, cells_of, field, fields, array, padded_to, bit_aos, bit_soa}
 use Rattle.places.specs.Laws.{IsBitOf, IsLaidOut}
-use Rattle.places.specs.Holds.{widths_of, narrow_holds}
-use Rattle.places.specs.declared.piece.Cell.{Cell}
-use Rattle.places.specs.declared.piece.Hold.{Hold}
 use Rattle.places.specs.ExactLaws.{Has, has_same, has_padded, has_field, has_range, has_cells, Member}
 use Rattle.places.specs.ComposeLaws.{LaysOut, lays_out_same, has_blob, blobs_of_cells, laid_out}
 use Rattle.places.specs.CellsLaws.{apart_enumerate, bit_of_cells, cells_of_bit}
 use Rattle.places.specs.StackedLaws.{up, length-padded}
-use Rattle.map_bits.specs.Bits.{narrow_widths, packed_slots, padded_array, bits_aos, bits_soa}
-use Rattle.map_bits.specs.NarrowLaws.{widths_narrowed, narrowed_wide, narrowed_narrow}
+use Rattle.map_bits.specs.Bits.{packed_slots, padded_array}
 
 -- what is padded to 64 bits is whole bytes
 pub padded_bytes : (owners : List Owner) → length (padded_to 64 owners) % 8 ≡ 0
@@ -51,8 +47,8 @@ has_slots slots widths =
     (s, (let l : 0 ≤ s = omega arith in l), (let l : s < 0 + slots = omega arith in l), (refl, cells_of_bit slots widths s c k h)))
 
 -- the laws of an array of structs, whatever each cell takes
-pub bits_aos_laws : (slots : ℕ) (widths : List ℕ) → All (λ w. w ≤ 64) widths → All (λ w. 1 ≤ w) widths → IsLaidOut (bits_aos slots widths) slots widths
-bits_aos_laws slots widths narrow wide =
+pub bit_aos_laws : (slots : ℕ) (widths : List ℕ) → All (λ w. w ≤ 64) widths → All (λ w. 1 ≤ w) widths → IsLaidOut (bit_aos slots widths) slots widths
+bit_aos_laws slots widths narrow wide =
     let owners : List Owner = packed_slots slots widths in
     laid_out
     (has_blob (has_padded ((64 - length owners % 64) % 64) (has_slots slots widths)))
@@ -80,7 +76,7 @@ has_array slots c w =
 has_padded_array : (slots c w : ℕ) → Has (BitOfArray slots (c, w)) (padded_array slots (c, w))
 has_padded_array slots c w = has_padded ((64 - length (array slots (c, w)) % 64) % 64) (has_array slots c w)
 
-soa_lays_out : (slots : ℕ) (widths : List ℕ) → LaysOut (IsBitOf slots widths) (bits_soa slots widths)
+soa_lays_out : (slots : ℕ) (widths : List ℕ) → LaysOut (IsBitOf slots widths) (bit_soa slots widths)
 soa_lays_out slots widths =
     lays_out_same
     (blobs_of_cells (padded_array slots) (BitOfArray slots) (cells_of widths) (apart_enumerate 0 widths)
@@ -92,22 +88,9 @@ soa_lays_out slots widths =
     (cell.0, cell.1, (h.slot_in, refl, cell.2)))
 
 -- the laws of a struct of arrays, whatever each cell takes
-pub bits_soa_laws : (slots : ℕ) (widths : List ℕ) → All (λ w. w ≤ 64) widths → All (λ w. 1 ≤ w) widths → IsLaidOut (bits_soa slots widths) slots widths
-bits_soa_laws slots widths narrow wide =
+pub bit_soa_laws : (slots : ℕ) (widths : List ℕ) → All (λ w. w ≤ 64) widths → All (λ w. 1 ≤ w) widths → IsLaidOut (bit_soa slots widths) slots widths
+bit_soa_laws slots widths narrow wide =
     laid_out (soa_lays_out slots widths)
     (All-map (λ (blob : List Owner). length blob % 8 ≡ 0) (padded_array slots) (cells_of widths)
     (λ k d l. padded_bytes (array slots (get_or (cells_of widths) k d))))
     narrow wide
-
--- the same where each cell takes at most `width` bits
-pub bit_aos_laws : (width slots : ℕ) (cells : List Cell) → 0 < width
-    → IsLaidOut (bit_aos width slots (widths_of cells)) slots (map (λ (h : Hold). h.width) (narrow_holds width cells))
-bit_aos_laws width slots cells some =
-    subst (IsLaidOut (bit_aos width slots (widths_of cells)) slots) (sym (widths_narrowed width cells))
-    (bits_aos_laws slots (narrow_widths width cells) (narrowed_narrow width cells) (narrowed_wide width cells some))
-
-pub bit_soa_laws : (width slots : ℕ) (cells : List Cell) → 0 < width
-    → IsLaidOut (bit_soa width slots (widths_of cells)) slots (map (λ (h : Hold). h.width) (narrow_holds width cells))
-bit_soa_laws width slots cells some =
-    subst (IsLaidOut (bit_soa width slots (widths_of cells)) slots) (sym (widths_narrowed width cells))
-    (bits_soa_laws slots (narrow_widths width cells) (narrowed_narrow width cells) (narrowed_wide width cells some))

@@ -1,42 +1,69 @@
--- What cells take that are stored in at most so many bits: 1 to 64 bits, those of their holds.
-use Rattle.std.proofs.Common.{◌≡◌, ℕ, ◌<◌, ◌≤◌, List, map, min, length, get_or, All, sym, ◌∙◌, arith}
-use Rattle.std.proofs.lemmas.Simd.{map-map}
-use Rattle.std.proofs.lemmas.List.{length-map}
-use Rattle.std.proofs.lemmas.List.Elements.{All-map}
+-- Cells that are stored each in at most its own number of bits.
+use Rattle.std.proofs.Common.{◌≡◌, ℕ, zero, suc, ◌+◌, ◌<◌, ◌≤◌, Bool, true, false, not, ◌&&◌, ◌||◌, nat_le, List, [], ◌∷◌, ◌++◌, map, replicate, min, length, get_or, take, All, refl, sym, ap, ◌∙◌, subst, arith}
+use Rattle.std.proofs.lemmas.List.Elements.{All-cons, All-nil}
+use Rattle.std.proofs.lemmas.Bool.{or_parts, leb-true}
 use Rattle.record_dim.specs.LeafTypes.{width_of}
-use Rattle.places.specs.Holds.{widths_of, hold_within, narrow_holds}
+use Rattle.places.specs.Holds.{hold_within, narrow_holds, widths_in}
+use Rattle.places.specs.WidthsLaws.{width_narrow, width_wide}
 use Rattle.places.specs.declared.piece.Cell.{Cell}
 use Rattle.places.specs.declared.piece.Hold.{Hold}
-use Rattle.places.specs.WidthsLaws.{widths_narrow, widths_wide}
-use Rattle.places.specs.CellWidthsLaws.{length-widths}
-use Rattle.map_bits.specs.Bits.{narrow_widths}
+use Rattle.map_bits.specs.Bits.{is_bad_width, has_bad_width, AreHolds}
 
--- each cell has a hold
-pub length-narrow : (width : ℕ) (cells : List Cell) → length (narrow_holds width cells) ≡ length cells
-length-narrow width cells = length-map cells (λ (cell : Cell). hold_within width cell.kind)
+pub length-narrow : (widths : List ℕ) (cells : List Cell) → length widths ≡ length cells → length (narrow_holds widths cells) ≡ length cells
+length-narrow [] [] e = refl
+length-narrow [] (cell ∷ cells) e = absurd (omega (arith, e))
+length-narrow (width ∷ widths) [] e = absurd (omega (arith, e))
+length-narrow (width ∷ widths) (cell ∷ cells) e = omega (arith, length-narrow widths cells (omega (arith, e)))
 
--- and takes so many bits
-pub length-narrow_widths : (width : ℕ) (cells : List Cell) → length (narrow_widths width cells) ≡ length cells
-length-narrow_widths width cells = length-map (widths_of cells) (min width) ∙ length-widths cells
+-- one cell more
+pub narrow_more : (widths : List ℕ) (cells : List Cell) (i : ℕ) (d : Cell) → i < length widths → i < length cells →
+    narrow_holds (take (i + 1) widths) (take (i + 1) cells) ≡ narrow_holds (take i widths) (take i cells) ++ hold_within (get_or widths i 0) (get_or cells i d).kind ∷ []
+narrow_more [] cells i d l m = absurd (omega (arith, l))
+narrow_more (width ∷ widths) [] i d l m = absurd (omega (arith, m))
+narrow_more (width ∷ widths) (cell ∷ cells) zero d l m = refl
+narrow_more (width ∷ widths) (cell ∷ cells) (suc i) d l m =
+    let e : suc i + 1 ≡ suc (i + 1) = omega arith in
+    ap (λ (k : ℕ). narrow_holds (take k (width ∷ widths)) (take k (cell ∷ cells))) e
+    ∙ ap (λ (hs : List Hold). hold_within width cell.kind ∷ hs) (narrow_more widths cells i d (omega (arith, l)) (omega (arith, m)))
 
--- the widths of the holds are what the cells take
-pub widths_narrowed : (width : ℕ) (cells : List Cell) → map (λ (h : Hold). h.width) (narrow_holds width cells) ≡ narrow_widths width cells
-widths_narrowed width cells =
-    map-map (λ (h : Hold). h.width) (λ (cell : Cell). hold_within width cell.kind) cells
-    ∙ sym (map-map (min width) (λ (cell : Cell). width_of cell.kind) cells)
+low_of : (low high : Bool) → not (low && high) ≡ false → low ≡ true
+low_of true high e = refl
+low_of false high e = cc
 
-pub narrowed_wide : (width : ℕ) (cells : List Cell) → 0 < width → All (λ w. 1 ≤ w) (narrow_widths width cells)
-narrowed_wide width cells some =
-    All-map (λ w. 1 ≤ w) (min width) (widths_of cells)
-    (λ k d l.
-    let wide : 1 ≤ get_or (widths_of cells) k d = widths_wide cells k d l in
-    let goal : 1 ≤ min width (get_or (widths_of cells) k d) = omega arith in
-    goal)
+good_width : (width : ℕ) → is_bad_width width ≡ false → 1 ≤ width
+good_width width good = leb-true 1 width (low_of (nat_le 1 width) (nat_le width 64) good)
 
-pub narrowed_narrow : (width : ℕ) (cells : List Cell) → All (λ w. w ≤ 64) (narrow_widths width cells)
-narrowed_narrow width cells =
-    All-map (λ w. w ≤ 64) (min width) (widths_of cells)
-    (λ k d l.
-    let narrow : get_or (widths_of cells) k d ≤ 64 = widths_narrow cells k d l in
-    let goal : min width (get_or (widths_of cells) k d) ≤ 64 = omega arith in
-    goal)
+-- one width for all cells
+pub same_good : (width n : ℕ) → is_bad_width width ≡ false → has_bad_width (replicate n width) ≡ false
+same_good width zero good = refl
+same_good width (suc n) good = ap (λ b. b || has_bad_width (replicate n width)) good ∙ same_good width n good
+
+pub narrow_same : (width : ℕ) (cells : List Cell) → narrow_holds (replicate (length cells) width) cells ≡ map (λ (cell : Cell). hold_within width cell.kind) cells
+narrow_same width [] = refl
+narrow_same width (cell ∷ cells) = ap (λ (hs : List Hold). hold_within width cell.kind ∷ hs) (narrow_same width cells)
+
+-- widths of 1 to 64 give holds of 1 to 64 bits
+pub narrow_wide : (widths : List ℕ) (cells : List Cell) → has_bad_width widths ≡ false → All (λ w. 1 ≤ w) (widths_in (narrow_holds widths cells))
+narrow_wide [] cells good = All-nil (λ w. 1 ≤ w)
+narrow_wide (width ∷ widths) [] good = All-nil (λ w. 1 ≤ w)
+narrow_wide (width ∷ widths) (cell ∷ cells) good =
+    let parts = or_parts (is_bad_width width) (has_bad_width widths) good in
+    All-cons (λ w. 1 ≤ w) (min width (width_of cell.kind)) (widths_in (narrow_holds widths cells))
+    (omega (arith, good_width width parts.0, width_wide cell.kind)) (narrow_wide widths cells parts.1)
+
+pub narrow_low : (widths : List ℕ) (cells : List Cell) → All (λ w. w ≤ 64) (widths_in (narrow_holds widths cells))
+narrow_low [] cells = All-nil (λ w. w ≤ 64)
+narrow_low (width ∷ widths) [] = All-nil (λ w. w ≤ 64)
+narrow_low (width ∷ widths) (cell ∷ cells) =
+    All-cons (λ w. w ≤ 64) (min width (width_of cell.kind)) (widths_in (narrow_holds widths cells))
+    (omega (arith, width_narrow cell.kind)) (narrow_low widths cells)
+
+pub narrow_are : (widths : List ℕ) (cells : List Cell) → length widths ≡ length cells → has_bad_width widths ≡ false → AreHolds cells (narrow_holds widths cells)
+narrow_are widths cells same good = record { each = length-narrow widths cells same; some = narrow_wide widths cells good; low = narrow_low widths cells }
+
+-- the same of copies
+pub kept_are : (widths : List ℕ) (cells lent kept : List Cell) (holds : List Hold) → length widths ≡ length cells → has_bad_width widths ≡ false → kept ≡ cells → holds ≡ narrow_holds widths lent → lent ≡ cells →
+    AreHolds kept holds
+kept_are widths cells lent kept holds same good copied made there =
+    subst (λ (cs : List Cell). AreHolds cs holds) (sym copied)
+    (subst (AreHolds cells) (sym (made ∙ ap (narrow_holds widths) there)) (narrow_are widths cells same good))

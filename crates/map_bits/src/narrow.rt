@@ -1,27 +1,31 @@
-ghost use Rattle.std.specs.Prelude.{◌≡◌, ◌≤◌, min};
-ghost use Rattle.record_dim.specs.LeafTypes.{width_of};
-ghost use Rattle.places.specs.Holds.{hold_within};
+ghost use Rattle.std.specs.Prelude.{◌≡◌, IfOk, length};
+ghost use Rattle.places.specs.Holds.{narrow_holds};
+ghost use Rattle.map_bits.specs.Bits.{is_bad_width, has_bad_width};
 
-use places::Hold;
-use record_dim::LeafType;
+use places::{Cell, Hold, MAX_WIDTH};
+use std::alloc::{AllocError as NoMemory, Global};
 
-/// The most bits of a cell.
-pub const MAX_WIDTH: u32 = 64;
-
-/// The bits that a cell of this type takes: at most `width`.
-pub fn narrow_width(width: u32, kind: LeafType) -> u32
-    ensures value { result ≡ min width (width_of kind) }
-    ensures low { result ≤ 64 }
+/// Whether some width is not 1 to 64.
+pub fn has_bad_width(widths: &[u32]) -> bool
+    ensures { result ≡ has_bad_width widths.now }
 {
-    width.min(kind.width())
+    widths.iter().any(|width| is_bad_width(*width))
 }
 
-/// How a cell of this type is stored: in the type's sign and at most `width` bits.
-pub fn narrow_hold(width: u32, kind: LeafType) -> Hold
-    ensures { result ≡ hold_within width kind }
+fn is_bad_width(width: u32) -> bool
+    ensures { result ≡ is_bad_width width }
 {
-    Hold {
-        signed: kind.signed(),
-        width: narrow_width(width, kind),
+    !(1..=MAX_WIDTH).contains(&width)
+}
+
+/// How cells are stored, each in at most its own number of bits.
+pub fn narrow_holds(alloc: Global, cells: &[Cell], widths: &[u32]) -> Result<Vec<Hold>, NoMemory>
+    requires { length widths.now ≡ length cells.now }
+    ensures { IfOk result (λ holds. holds.items ≡ narrow_holds widths.now cells.now) }
+{
+    let mut holds = Vec::with_capacity(alloc, cells.len())?;
+    for i in 0..cells.len() {
+        holds.push(Hold::within(widths[i], cells[i].kind))?;
     }
+    Ok(holds)
 }

@@ -3,6 +3,7 @@ ghost use Rattle.map_expr.specs.Terms.{term_of, depth_of};
 ghost use Rattle.map_expr.specs.Checks.{IsNameless, has_counter, counts_once, bad_number, bad_lanes, bad_width, bad_granule, checked};
 
 use crate::MapExpr;
+use places::{MAX_LANES, MAX_WIDTH};
 use thiserror::Error;
 
 /// Why an expression is no mapping, in the order in which the causes are looked for.
@@ -32,7 +33,7 @@ pub enum BadMapping {
 }
 
 /// How deep an expression may nest, counters left out.
-const MOST_DEPTH: u32 = 8;
+const MAX_DEPTH: u32 = 8;
 
 impl MapExpr {
     /// Whether the expression can be a mapping, whatever its cells are: `TooDeep`, then `Counter`, then the first number in the
@@ -42,7 +43,7 @@ impl MapExpr {
         requires nameless { IsNameless (term_of self.now) }
         ensures { result ≡ checked (term_of self.now) }
     {
-        if !is_within(self, MOST_DEPTH) {
+        if !is_within(self, MAX_DEPTH) {
             return Err(BadMapping::TooDeep);
         }
         if !counts_once(self, true, true) {
@@ -145,7 +146,7 @@ fn bad_number(expr: &MapExpr) -> Option<BadMapping>
 fn bad_lanes(lanes: u32) -> Option<BadMapping>
     ensures { result ≡ bad_lanes lanes }
 {
-    if (1..=64).contains(&lanes) {
+    if (1..=MAX_LANES).contains(&lanes) {
         None
     } else {
         Some(BadMapping::Lanes)
@@ -155,7 +156,7 @@ fn bad_lanes(lanes: u32) -> Option<BadMapping>
 fn bad_width(width: u32) -> Option<BadMapping>
     ensures { result ≡ bad_width width }
 {
-    if (1..=64).contains(&width) {
+    if (1..=MAX_WIDTH).contains(&width) {
         None
     } else {
         Some(BadMapping::Width)

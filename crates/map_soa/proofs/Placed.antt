@@ -1,5 +1,5 @@
 -- How the arrays are laid out, cell after cell.
-use Rattle.std.proofs.Common.{◌≡◌, ℕ, ◌+◌, ◌-◌, ◌*◌, ◌%◌, ◌<◌, ◌≤◌, ⊎_elim, List, [], ◌∷◌, ◌++◌, map, length, sum_by, replicate, get_or, take, drop, slice_index, refl, sym, ap, ◌∙◌, subst, arith, length-append}
+use Rattle.std.proofs.Common.{◌≡◌, ℕ, zero, suc, inl, inr, All, ◌+◌, ◌-◌, ◌*◌, ◌%◌, ◌<◌, ◌≤◌, ⊎_elim, List, [], ◌∷◌, ◌++◌, map, length, sum_by, replicate, get_or, take, drop, slice_index, refl, sym, ap, ◌∙◌, subst, arith, length-append}
 use Rattle.std.specs.List.{flat_map}
 use Rattle.std.proofs.lemmas.Bool.{cases_lt}
 use Rattle.std.proofs.lemmas.List.{take_more, take_all, take-append-drop, get_or_append_left, get_or-append-add, get_or_push, get_or_default, get_or-map, length-map}
@@ -9,12 +9,14 @@ use Rattle.record_dim.specs.LeafTypes.{width_of}
 use Rattle.places.specs.Layout.{Owner, Pad, Bit, owner_at, cells_of, field, array, padded_to}
 use Rattle.places.specs.Holds.{widths_of}
 use Rattle.places.specs.declared.piece.Cell.{Cell}
-use Rattle.places.specs.ExactLaws.{length-field, field_at, within}
+use Rattle.places.specs.ExactLaws.{length-field, field_at, within, Member}
+use Rattle.places.specs.WidthsLaws.{IsWidth, widths_are}
+use Rattle.places.specs.CellWidthsLaws.{member_width}
 use Rattle.places.specs.SlotsLaws.{length-parts, slot_at}
-use Rattle.places.specs.StackedLaws.{stacked, up, stacked_push, stacked_append, stacked_take, length-padded, flat_stacked}
+use Rattle.places.specs.StackedLaws.{stacked, up, stacked_push, stacked_append, stacked_take, stacked_bytes, length-padded, flat_stacked}
 use Rattle.places.specs.Forms.{soa_layout}
 use Rattle.map_soa.specs.Soa.{IsStored, blob_of, alignment, in_blob}
-use Rattle.map_soa.specs.SoaLaws.{laid_arrays, single_blob, aligned_blob}
+use Rattle.map_soa.specs.SoaLaws.{laid_arrays, single_blob, aligned_blob, array_bytes, keeps_alignment}
 use Rattle.places.specs.declared.forms.SoaForm.{SoaForm}
 use Rattle.places.specs.declared.forms.SoaForm.TheVariants.{Single, Aligned, Multi}
 
@@ -171,14 +173,39 @@ layout_at Multi slots widths cell j inside l =
     get_or-map (array slots) (cells_of widths) cell (0, 0) [] (omega arith) ∙ ap (array slots) (cell_at widths cell (0, 0) inside) in
     ap (λ (owners : List Owner). get_or owners (0 + j) Pad) blob ∙ ap (λ (p : ℕ). get_or (array slots (cell, slice_index widths cell)) p Pad) place
 
+-- a cell of the first of some cells is one of them
+member_take : (cells : List (ℕ × ℕ)) (n c w : ℕ) → Member (take n cells) c w → Member cells c w
+member_take [] zero c w m = m
+member_take [] (suc n) c w m = m
+member_take (cell ∷ cells) zero c w m = absurd m
+member_take (cell ∷ cells) (suc n) c w (inl here) = inl here
+member_take (cell ∷ cells) (suc n) c w (inr there) = inr (member_take cells n c w there)
+
+-- each array begins at a byte
+begin_bytes : (form : SoaForm) (slots : ℕ) (widths : List ℕ) (cell : ℕ) → All IsWidth widths → cell < length widths → begin_of form slots widths cell % 8 ≡ 0
+begin_bytes form slots widths cell each inside =
+    let width : IsWidth (slice_index widths cell) = each cell 0 inside in
+    keeps_alignment form (slice_index widths cell) width (length (laid_arrays form slots (take cell (cells_of widths))))
+    (stacked_bytes (alignment form) (array slots) [] (take cell (cells_of widths)) refl
+    (λ c w m.
+    let is : IsWidth w = member_width widths c w each (member_take (cells_of widths) cell c w m) in
+    (keeps_alignment form w is, array_bytes slots c w is)))
+
+blob_bytes : (form : SoaForm) (begin : ℕ) → begin % 8 ≡ 0 → in_blob form begin % 8 ≡ 0
+blob_bytes Single begin whole = whole
+blob_bytes Aligned begin whole = whole
+blob_bytes Multi begin whole = refl
+
 -- all cells are laid out
-pub stored_all : (form : SoaForm) (slots : ℕ) (widths : List ℕ) (count : ℕ) (offsets : List ℕ) (end : ℕ) → count ≡ length widths
+pub stored_all : (form : SoaForm) (slots : ℕ) (widths : List ℕ) (count : ℕ) (offsets : List ℕ) (end : ℕ) → All IsWidth widths → count ≡ length widths
     → IsPlaced form slots widths count offsets end → IsStored form slots widths offsets end
-stored_all form slots widths count offsets end all h =
+stored_all form slots widths count offsets end widths_are all h =
     let size : length (cells_of widths) ≡ length widths = length-cells widths in
     let whole : take count (cells_of widths) ≡ cells_of widths = take_all count (cells_of widths) (omega arith) in
     record {
       each = h.each ∙ all;
+      bytes = λ cell inside.
+          ap (λ (n : ℕ). n % 8) (h.here cell (omega arith)) ∙ blob_bytes form (begin_of form slots widths cell) (begin_bytes form slots widths cell widths_are inside);
       total = layout_size form slots widths ∙ ap (λ (cells : List (ℕ × ℕ)). length (laid_arrays form slots cells)) (sym whole) ∙ h.size;
       here = λ slot cell bit slot_in cell_in bit_in.
           let w : ℕ = slice_index widths cell in
@@ -203,4 +230,4 @@ pub stored_cells : (form : SoaForm) (slots : ℕ) (cells : List Cell) (count : �
     → IsPlaced form slots (widths_of cells) count offsets end → IsStored form slots (widths_of cells) offsets end
 stored_cells form slots cells count offsets end low high h =
     let size : length (widths_of cells) ≡ length cells = length-map cells (λ (cell : Cell). width_of cell.kind) in
-    stored_all form slots (widths_of cells) count offsets end (omega arith) h
+    stored_all form slots (widths_of cells) count offsets end (widths_are cells) (omega arith) h

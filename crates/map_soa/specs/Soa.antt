@@ -1,5 +1,5 @@
 -- The layout of each form, and what a mapping keeps of it.
-use Rattle.std.specs.Prelude.{ℕ, ◌≡◌, ◌+◌, ◌*◌, ◌<◌, List, length, sum_by, slice_index}
+use Rattle.std.specs.Prelude.{ℕ, ◌≡◌, ◌+◌, ◌*◌, ◌%◌, ◌<◌, List, length, sum_by, slice_index}
 use Rattle.places.specs.Forms.{soa_layout}
 use Rattle.places.specs.Layout.{Bit, owner_at}
 use Rattle.places.specs.declared.forms.SoaForm.{SoaForm}
@@ -23,9 +23,10 @@ in_blob Single begin = begin
 in_blob Aligned begin = begin
 in_blob Multi begin = 0
 
--- all blobs have `size` bits, and in its blob each cell's array lies from the cell's offset on, slot after slot
+-- all blobs have `size` bits, and in its blob each cell's array lies from the cell's offset on, which is a byte, slot after slot
 pub record IsStored (form : SoaForm) (slots : ℕ) (widths offsets : List ℕ) (size : ℕ) : Type 0 where
   pub each : length offsets ≡ length widths
+  pub bytes : (cell : ℕ) → cell < length widths → slice_index offsets cell % 8 ≡ 0
   pub total : sum_by length (soa_layout form slots widths) ≡ size
   pub here : (slot cell bit : ℕ) → slot < slots → cell < length widths → bit < slice_index widths cell
       → owner_at (soa_layout form slots widths) (blob_of form cell) (slice_index offsets cell + slot * slice_index widths cell + bit) ≡ Bit slot cell bit

@@ -47,12 +47,12 @@ has_array slots c w =
     let inside : s < slots = h.0 in
     (s, (let l : 0 ≤ s = omega arith in l), (let l : s < 0 + slots = omega arith in l), (refl, h.1, h.2)))
 
-array_bytes : (slots c w : ℕ) → IsWidth w → length (array slots (c, w)) % 8 ≡ 0
+pub array_bytes : (slots c w : ℕ) → IsWidth w → length (array slots (c, w)) % 8 ≡ 0
 array_bytes slots c w width =
     parts_bytes (λ slot. field slot (c, w))
     (λ s. ap (λ (n : ℕ). n % 8) (length-field s c w) ∙ by_width (λ w. w % 8 ≡ 0) w refl refl refl refl width) 0 slots
 
-keeps_alignment : (form : SoaForm) (w : ℕ) → IsWidth w → KeepsBytes (alignment form w)
+pub keeps_alignment : (form : SoaForm) (w : ℕ) → IsWidth w → KeepsBytes (alignment form w)
 keeps_alignment Single w h = keeps_one
 keeps_alignment Aligned w h = keeps_width w h
 keeps_alignment Multi w h = keeps_one

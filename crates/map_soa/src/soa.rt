@@ -1,4 +1,4 @@
-ghost use Rattle.std.specs.Prelude.{ℕ, ◌≡◌, ◌^◌, ◌<◌, ◌≤◌, ◌⊎◌, IfOk, IfErr, OnOk, IsErrOf, List, length, slice_index};
+ghost use Rattle.std.specs.Prelude.{ℕ, ◌≡◌, ◌%◌, ◌^◌, ◌<◌, ◌≤◌, ◌⊎◌, IfOk, IfErr, OnOk, IsErrOf, List, length, slice_index};
 ghost use Rattle.places.specs.Holds.{widths_of, full_holds, IsTooBig};
 ghost use Rattle.places.specs.declared.piece.Cell.{Cell};
 ghost use Rattle.places.specs.declared.piece.Hold.{Hold};
@@ -37,6 +37,7 @@ impl Soa {
         form: SoaForm,
     ) -> Result<Soa, NewMapping>
         ensures slots { IfOk result (λ m. ⟦<Soa as Mapping>⟧.slot_count m ≡ slots) }
+        ensures dense { IfOk result (λ m. ⟦<Soa as Ruled>⟧.lane_count m ≡ slots) }
         ensures cells { IfOk result (λ m. ⟦<Soa as Mapping>⟧.cell_list m ≡ cells.now) }
         ensures holds { IfOk result (λ m. ⟦<Soa as Mapping>⟧.hold_list m ≡ full_holds cells.now) }
         ensures layout { IfOk result (λ m. ⟦<Soa as Mapping>⟧.layout m ≡ soa_layout form slots (widths_of cells.now)) }
@@ -64,6 +65,7 @@ impl Soa {
     fn offset(&self, cell: usize) -> u64
         requires { cell < length self.now.cells.items }
         ensures place { 0 < self.now.slots → result ≡ slice_index self.now.offsets.items cell }
+        ensures bytes { result % 8 ≡ 0 }
         ensures low { result ≤ 2 ^ 31 }
     {
         if self.slots == 0 {
@@ -84,6 +86,8 @@ impl Soa {
 }
 
 impl Ruled for Soa {
+    ghost lane_count = { λ m. m.slots };
+
     fn rule(&self, cell: usize) -> PieceRule {
         let bits = self.cells[cell].kind.width();
         PieceRule {

@@ -1,5 +1,5 @@
 -- Every bit of the cells of both sides has exactly one place in the layout of a split.
-use Rattle.std.proofs.Common.{◌≡◌, ℕ, ◌+◌, ◌%◌, ◌<◌, ◌≤◌, ◌⊎◌, inl, inr, ⊎_elim, Bool, true, false, List, ◌++◌, map, length, get_or, All, refl, sym, ap, ◌∙◌, subst, arith}
+use Rattle.std.proofs.Common.{◌≡◌, ℕ, ◌+◌, ◌%◌, ◌<◌, ◌≤◌, ◌⊎◌, inl, inr, ⊎_elim, Bool, true, false, List, map, length, get_or, All, sym, ap, ◌∙◌, subst, arith}
 use Rattle.std.specs.Prelude.{not}
 use Rattle.std.specs.List.{count_by}
 use Rattle.std.proofs.lemmas.Bool.{cases_Bool}
@@ -10,7 +10,7 @@ use Rattle.places.specs.Rules.{renamed, recelled, numbers_of, split}
 use Rattle.places.specs.Laws.{IsBitOf, IsLaidOut}
 use Rattle.places.specs.declared.piece.Cell.{Cell}
 use Rattle.places.specs.declared.piece.Hold.{Hold}
-use Rattle.places.specs.ComposeLaws.{LaysOut, Back, relabel_lays_out, join_lays_out, lays_out_same, laid_out, lays_out}
+use Rattle.places.specs.ComposeLaws.{Back, relabel_lays_out, join_lays_out, lays_out_same, laid_out, lays_out}
 use Rattle.map_split.specs.Sides.{merged, rank_first, rank_rest}
 use Rattle.map_split.specs.SidesLaws.{number_first, number_rest, rank_first_in, rank_rest_in, merged_first, merged_rest, length-merged, map-merged, numbers_first, numbers_rest, all_merged}
 

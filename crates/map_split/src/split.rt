@@ -7,12 +7,9 @@ ghost use Rattle.map_split.specs.SplitLaws.{split_laws, length-cells};
 use crate::bytes::bytes_left;
 use crate::shift::shift_blobs;
 use crate::sides::{Seat, is_one_sided, seat_of};
-use places::{Cell, CellList, Hold, MAX_BLOB_BITS, Mapping, NewMapping, Pieces};
+use places::{Cell, CellList, Hold, MAX_BLOB_BYTES, Mapping, NewMapping, Pieces};
 use record_dim::LeafType;
 use std::alloc::Global;
-
-/// The most bytes in all blobs of a mapping.
-const MAX_BLOB_BYTES: u64 = MAX_BLOB_BITS / 8;
 
 /// Cells that go to two mappings: the blobs of the first side, then those of the rest.
 #[derive(Drop)]

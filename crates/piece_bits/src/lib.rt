@@ -9,4 +9,4 @@ mod value;
 pub use entry::{read_entry, read_piece, write_entry, write_piece};
 pub use load::{put_value_at, value_at};
 pub use pieces::{read_pieces, write_pieces};
-pub use value::{decode, encode, greatest_held, least_held};
+pub use value::{decode, encode};

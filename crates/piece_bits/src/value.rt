@@ -4,32 +4,6 @@ ghost use Rattle.places.specs.Image.{number, digit, decoded};
 
 use places::Hold;
 
-/// The least value of a hold of 1 to 64 bits.
-pub fn least_held(hold: Hold) -> i128
-    requires some { 1 ≤ hold.width }
-    requires narrow { hold.width ≤ 64 }
-    ensures { result ≡ least_in hold.signed hold.width }
-{
-    if hold.signed {
-        -i128::from(u64::MAX >> (64 - hold.width) >> 1) - 1
-    } else {
-        0
-    }
-}
-
-/// The greatest value of a hold of 1 to 64 bits.
-pub fn greatest_held(hold: Hold) -> i128
-    requires some { 1 ≤ hold.width }
-    requires narrow { hold.width ≤ 64 }
-    ensures { result ≡ greatest_in hold.signed hold.width }
-{
-    if hold.signed {
-        i128::from(u64::MAX >> (64 - hold.width) >> 1)
-    } else {
-        i128::from(u64::MAX >> (64 - hold.width))
-    }
-}
-
 /// The bits of a value that its hold holds, as a number (two's complement).
 #[inline(always)]
 pub fn encode(hold: Hold, value: i128) -> u64

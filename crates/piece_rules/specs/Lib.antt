@@ -1,2 +1,3 @@
 pub mod PieceRules
 pub mod BeginsLaws
+pub mod DenseLaws

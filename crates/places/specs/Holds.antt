@@ -1,5 +1,5 @@
 -- How cells are stored, and the limits of a mapping.
-use Rattle.std.specs.Prelude.{ℕ, ◌*◌, ◌^◌, ◌<◌, ◌⊎◌, List, length, map, min, sum_by}
+use Rattle.std.specs.Prelude.{ℕ, ◌*◌, ◌^◌, ◌<◌, ◌⊎◌, List, [], ◌∷◌, length, map, min, sum_by}
 use Rattle.record_dim.specs.LeafTypes.{width_of, is_signed}
 use Rattle.record_dim.specs.declared.leaf_type.LeafType.{LeafType}
 use Rattle.places.specs.Layout.{Owner}
@@ -18,9 +18,14 @@ hold_within width kind = record { signed = is_signed kind; width = min width (wi
 abbrev pub full_holds : List Cell → List Hold
 full_holds cells = map (λ cell. hold_of cell.kind) cells
 
--- each cell in its type's sign and at most `width` bits
-abbrev pub narrow_holds : ℕ → List Cell → List Hold
-narrow_holds width cells = map (λ cell. hold_within width cell.kind) cells
+-- each cell in its type's sign and at most its own number of bits
+abbrev pub narrow_holds : List ℕ → List Cell → List Hold
+narrow_holds (width ∷ widths) (cell ∷ cells) = hold_within width cell.kind ∷ narrow_holds widths cells
+narrow_holds _ _ = []
+
+-- the widths in which cells are stored
+abbrev pub widths_in : List Hold → List ℕ
+widths_in holds = map (λ hold. hold.width) holds
 
 -- the widths of the cells' types
 abbrev pub widths_of : List Cell → List ℕ

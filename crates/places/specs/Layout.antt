@@ -1,6 +1,6 @@
 -- What a layout is, and the layouts of the base mappings, each made by concatenation alone.
 -- (LLAMA, Gruber et al. 2023, on mappings; the choices that it leaves open are this project's.)
-use Rattle.std.specs.Prelude.{ℕ, ◌+◌, ◌-◌, ◌*◌, ◌/◌, ◌%◌, List, [], ◌∷◌, ◌++◌, length, map, filter, min, max, fold, replicate, slice_index_or, if◌then◌else◌, nat_lt, ◌==◌}
+use Rattle.std.specs.Prelude.{ℕ, ◌+◌, ◌-◌, ◌*◌, ◌/◌, ◌%◌, List, [], ◌∷◌, ◌++◌, length, map, filter, max, fold, replicate, slice_index_or, if◌then◌else◌, nat_lt, ◌==◌}
 use Rattle.std.specs.List.{flat_map, range_with_len, enumerate_from}
 
 -- who owns one bit of a blob: nobody, or bit `bit` of cell `cell` in slot `slot`
@@ -93,15 +93,10 @@ abbrev pub aosoa : ℕ → ℕ → List ℕ → List (List Owner)
 aosoa lanes slots widths =
     flat_map (block_of lanes slots (cells_of widths)) (range_with_len 0 ((slots + (lanes - 1)) / lanes)) ∷ []
 
--- the cells in at most `width` bits each
-abbrev pub narrowed : ℕ → List ℕ → List (ℕ × ℕ)
-narrowed width widths = cells_of (map (min width) widths)
-
 -- bit-packed array of structs, its end padded to 64 bits
-abbrev pub bit_aos : ℕ → ℕ → List ℕ → List (List Owner)
-bit_aos width slots widths =
-    padded_to 64 (flat_map (λ slot. fields slot (narrowed width widths)) (range_with_len 0 slots)) ∷ []
+abbrev pub bit_aos : ℕ → List ℕ → List (List Owner)
+bit_aos slots widths = padded_to 64 (flat_map (λ slot. fields slot (cells_of widths)) (range_with_len 0 slots)) ∷ []
 
 -- bit-packed struct of arrays, each blob's end padded to 64 bits
-abbrev pub bit_soa : ℕ → ℕ → List ℕ → List (List Owner)
-bit_soa width slots widths = map (λ cell. padded_to 64 (array slots cell)) (narrowed width widths)
+abbrev pub bit_soa : ℕ → List ℕ → List (List Owner)
+bit_soa slots widths = map (λ cell. padded_to 64 (array slots cell)) (cells_of widths)

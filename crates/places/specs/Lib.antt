@@ -4,6 +4,8 @@ pub mod Rules
 pub mod Image
 pub mod Laws
 pub mod Holds
+pub mod Runs
+pub mod Touched
 pub mod Writes
 pub mod CellWidthsLaws
 pub mod CellsLaws
@@ -15,4 +17,5 @@ pub mod OwnedLaws
 pub mod PlacesLaws
 pub mod SlotsLaws
 pub mod StackedLaws
+pub mod TouchedLaws
 pub mod WidthsLaws

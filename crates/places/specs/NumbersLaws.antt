@@ -1,6 +1,7 @@
 -- Numbers below 2^n and their n binary digits, and values of a sign and a width and theirs.
 use Rattle.std.proofs.Common.{◌≡◌, ℕ, zero, suc, ◌+◌, ◌*◌, ◌-◌, ◌/◌, ◌%◌, ◌^◌, ◌<◌, ◌≤◌, Bool, true, false, ℤ, pos, negsuc, ◌-ℤ◌, ◌≤ℤ◌, ⊎_elim, ◌==◌, refl, sym, ap, ◌∙◌, subst, arith}
 use Rattle.std.proofs.lemmas.Nat.{pow_pos, pow-add, shr-shr, le-div, mod-pow-add}
+use Rattle.std.proofs.lemmas.Nat.Bits.{ones_shr}
 use Rattle.std.proofs.Math.Nat.{mod-eq_of_lt, div-eq_of_lt}
 use Rattle.std.proofs.lemmas.Int.{ints}
 use Rattle.std.proofs.lemmas.Bool.{cases_lt, cond-true, cond-false, eq-eqb, ne_eqb}
@@ -113,6 +114,13 @@ number_negsuc n width small =
     let both : number (λ k. (n / 2 ^ k) % 2) width + number (λ k. 1 - (n / 2 ^ k) % 2) width + 1 ≡ 2 ^ width =
     number_complement (λ k. (n / 2 ^ k) % 2) width (λ k l. omega arith) in
     omega arith
+
+-- n ones
+pub ones_of : (n : ℕ) → n ≤ 64 → 18446744073709551615 / 2 ^ (64 - n) ≡ 2 ^ n - 1
+ones_of n few =
+    let e : 64 - (64 - n) ≡ n = omega arith in
+    let all : (2 ^ 64 - 1) / 2 ^ (64 - n) ≡ 2 ^ (64 - (64 - n)) - 1 = ones_shr 64 (64 - n) (omega arith) in
+    all ∙ ap (λ (w : ℕ). 2 ^ w - 1) e
 
 pub half_of : (width : ℕ) → 1 ≤ width → 2 ^ width ≡ 2 * 2 ^ (width - 1)
 half_of width some = ap (λ (w : ℕ). 2 ^ w) (let e : width ≡ width - 1 + 1 = omega arith in e) ∙ pow_next (width - 1)

@@ -34,6 +34,15 @@ by_width P w p8 p16 p32 p64 h =
     h')
     h
 
+pub width_whole : (kind : LeafType) → width_of kind % 8 ≡ 0
+width_whole kind = by_width (λ w. w % 8 ≡ 0) (width_of kind) refl refl refl refl (width_is kind)
+
+pub width_narrow : (kind : LeafType) → width_of kind ≤ 64
+width_narrow kind = by_width (λ w. w ≤ 64) (width_of kind) (omega arith) (omega arith) (omega arith) (omega arith) (width_is kind)
+
+pub width_wide : (kind : LeafType) → 1 ≤ width_of kind
+width_wide kind = by_width (λ w. 1 ≤ w) (width_of kind) (omega arith) (omega arith) (omega arith) (omega arith) (width_is kind)
+
 pub widths_are : (cells : List Cell) → All IsWidth (widths_of cells)
 widths_are cells = All-map IsWidth (λ (cell : Cell). width_of cell.kind) cells (λ k d l. width_is (get_or cells k d).kind)
 

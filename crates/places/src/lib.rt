@@ -3,12 +3,14 @@
 
 mod forms;
 mod laws;
+mod limits;
 mod mapping;
 mod multiple;
 mod piece;
 
 pub use forms::{AosForm, SoaForm};
 pub use laws::{laws_of, pieces_of, writes_keep_others, writes_read_back};
-pub use mapping::{MAX_BLOB_BITS, MAX_SLOTS, Mapping, NewMapping};
+pub use limits::{MAX_BLOB_BITS, MAX_BLOB_BYTES, MAX_LANES, MAX_SLOTS, MAX_WIDTH};
+pub use mapping::{Mapping, NewMapping};
 pub use multiple::up;
 pub use piece::{Cell, CellList, Hold, Piece, Pieces, Run, RunList, RunOwner};

@@ -32,12 +32,6 @@ pub enum NewMapping {
     NoMemory,
 }
 
-/// The most slots of a mapping.
-pub const MAX_SLOTS: u64 = 1 << 24;
-
-/// The most bits in all blobs of a mapping: those of 2^28 bytes.
-pub const MAX_BLOB_BITS: u64 = 1 << 31;
-
 impl From<AllocError> for NewMapping {
     ghost from_gives = { λ _ e. e ≡ NoMemory };
 

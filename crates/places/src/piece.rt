@@ -20,8 +20,9 @@ pub struct Hold {
 }
 
 impl Hold {
-    ghost use Rattle.std.specs.Prelude.{◌≡◌};
-    ghost use Rattle.places.specs.Holds.{hold_of};
+    ghost use Rattle.std.specs.Prelude.{◌≡◌, ◌≤◌};
+    ghost use Rattle.record_dim.specs.LeafTypes.{least_in, greatest_in};
+    ghost use Rattle.places.specs.Holds.{hold_of, hold_within};
 
     /// How a cell of a type is stored whole: in the type's own sign and width.
     pub fn of(kind: LeafType) -> Hold
@@ -30,6 +31,42 @@ impl Hold {
         Hold {
             signed: kind.signed(),
             width: kind.width(),
+        }
+    }
+
+    /// How a cell of a type is stored in at most `width` bits: in the type's own sign.
+    pub fn within(width: u32, kind: LeafType) -> Hold
+        ensures { result ≡ hold_within width kind }
+    {
+        Hold {
+            width: width.min(kind.width()),
+            ..Hold::of(kind)
+        }
+    }
+
+    /// The least value of a hold of 1 to 64 bits.
+    pub fn least(self) -> i128
+        requires some { 1 ≤ self.width }
+        requires narrow { self.width ≤ 64 }
+        ensures { result ≡ least_in self.signed self.width }
+    {
+        if self.signed {
+            -i128::from(u64::MAX >> (64 - self.width) >> 1) - 1
+        } else {
+            0
+        }
+    }
+
+    /// The greatest value of a hold of 1 to 64 bits.
+    pub fn greatest(self) -> i128
+        requires some { 1 ≤ self.width }
+        requires narrow { self.width ≤ 64 }
+        ensures { result ≡ greatest_in self.signed self.width }
+    {
+        if self.signed {
+            i128::from(u64::MAX >> (64 - self.width) >> 1)
+        } else {
+            i128::from(u64::MAX >> (64 - self.width))
         }
     }
 }

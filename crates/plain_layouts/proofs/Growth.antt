@@ -1,17 +1,16 @@
 -- Lists that grow behind one another.
-use Rattle.std.proofs.Common.{◌≡◌, ℕ, ◌+◌, ◌-◌, ◌*◌, ◌/◌, ◌^◌, ◌<◌, ◌≤◌, List, [], ◌∷◌, ◌++◌, map, length, get_or, take, replicate, fold, max, min, Result, Ok, Err, IfOk, ℤ, All, lit<, refl, sym, ap, ◌∙◌, arith}
+use Rattle.std.proofs.Common.{◌≡◌, ℕ, ◌+◌, ◌-◌, ◌*◌, ◌/◌, ◌^◌, ◌<◌, ◌≤◌, List, [], ◌∷◌, ◌++◌, map, length, get_or, take, replicate, fold, max, Result, Ok, Err, IfOk, ℤ, All, lit<, refl, sym, ap, ◌∙◌, arith}
 use Rattle.std.specs.List.{flat_map, range_with_len}
 use Rattle.std.proofs.Math.Nat.{div-eq_of_lt}
 use Rattle.std.proofs.lemmas.Nat.{pow_pos, pow-add, mul-le}
-use Rattle.std.proofs.lemmas.List.{append-nil, append_assoc, get_or_default, map-id, map_push, get_or-map, length-map, take_more, replicate_more}
-use Rattle.std.proofs.lemmas.List.Folds.{map_fixed}
+use Rattle.std.proofs.lemmas.List.{append-nil, append_assoc, map-id, map_push, take_more, replicate_more}
 use Rattle.std.proofs.lemmas.List.Concat.{flat_map-append}
 use Rattle.std.proofs.lemmas.List.FromFn.{map-range_with_len_more}
 use Rattle.std.proofs.lemmas.List.FromFn.{length-enumerate_from, get_or-enumerate_from}
 use Rattle.std.proofs.lemmas.List.Elements.{All-map, All-same}
-use Rattle.places.specs.Image.{bit_held, digit, entry}
+use Rattle.places.specs.Image.{bit_held, entry}
 use Rattle.places.specs.NumbersLaws.{digit_lt}
-use Rattle.places.specs.Layout.{Pad as Nobody, Bit as Owned, Owner, field, array, padded_to, greatest, aligned_fields, aligned_arrays, narrowed, cells_of}
+use Rattle.places.specs.Layout.{Pad as Nobody, Bit as Owned, Owner, field, array, padded_to, greatest, aligned_fields, aligned_arrays, cells_of}
 use Rattle.plain_layouts.specs.Plain.{owner_of, owners_of}
 use Rattle.plain_layouts.specs.declared.owner.PlainOwner.{PlainOwner}
 
@@ -104,37 +103,22 @@ pub greatest_more : (cells : List (ℕ × ℕ)) (i : ℕ) (d : ℕ × ℕ) → i
 greatest_more cells i d inside = ap greatest (take_more cells i d inside) ∙ greatest_from 0 (take i cells) (get_or cells i d)
 
 -- one numbered cell more
-pub length-narrowed : (most : ℕ) (widths : List ℕ) → length (narrowed most widths) ≡ length widths
-length-narrowed most widths = length-enumerate_from 0 (map (min most) widths) ∙ length-map widths (min most)
-
-pub narrowed_more : (most : ℕ) (widths : List ℕ) (i d w : ℕ) (now new : List (ℕ × ℕ)) → i < length widths
-    → now ≡ take i (narrowed most widths) → w ≡ min most (get_or widths i d) → new ≡ now ++ (i, w) ∷ []
-    → new ≡ take (i + 1) (narrowed most widths)
-narrowed_more most widths i d w now new inside was width pushed =
-    let all : List (ℕ × ℕ) = narrowed most widths in
-    let size : length all ≡ length widths = length-narrowed most widths in
-    let size' : length (map (min most) widths) ≡ length widths = length-map widths (min most) in
-    let step : take (i + 1) all ≡ take i all ++ get_or all i (0, 0) ∷ [] = take_more all i (0, 0) (omega arith) in
-    let at : get_or all i (0, 0) ≡ (0 + i, get_or (map (min most) widths) i 0) = get_or-enumerate_from 0 (map (min most) widths) i (0, 0) (omega arith) in
+pub cells_more : (widths : List ℕ) (i d : ℕ) (now new : List (ℕ × ℕ)) → i < length widths → now ≡ take i (cells_of widths) → new ≡ now ++ (i, get_or widths i d) ∷ []
+    → new ≡ take (i + 1) (cells_of widths)
+cells_more widths i d now new inside was pushed =
+    let all : List (ℕ × ℕ) = cells_of widths in
+    let size : length all ≡ length widths = length-enumerate_from 0 widths in
+    let step : take (i + 1) all ≡ take i all ++ get_or all i (0, d) ∷ [] = take_more all i (0, d) (omega arith) in
+    let at : get_or all i (0, d) ≡ (0 + i, get_or widths i d) = get_or-enumerate_from 0 widths i (0, d) inside in
     let number : 0 + i ≡ i = omega arith in
-    let value : get_or (map (min most) widths) i 0 ≡ w = get_or-map (min most) widths i d 0 inside ∙ sym width in
-    let cell : get_or all i (0, 0) ≡ (i, w) = at ∙ ap (λ (n : ℕ). (n, get_or (map (min most) widths) i 0)) number ∙ ap (λ (v : ℕ). (i, v)) value in
-    let one : new ≡ take i all ++ (i, w) ∷ [] = pushed ∙ ap (λ (xs : List (ℕ × ℕ)). xs ++ (i, w) ∷ []) was in
+    let cell : get_or all i (0, d) ≡ (i, get_or widths i d) = at ∙ ap (λ (n : ℕ). (n, get_or widths i d)) number in
+    let one : new ≡ take i all ++ (i, get_or widths i d) ∷ [] = pushed ∙ ap (λ (xs : List (ℕ × ℕ)). xs ++ (i, get_or widths i d) ∷ []) was in
     one ∙ sym (step ∙ ap (λ (e : ℕ × ℕ). take i all ++ e ∷ []) cell)
 
 -- from one fact of what an Ok holds to another
 pub if_ok_weaker : {T E : Type 0} (r : Result T E) (P Q : T → Type 0) → ((x : T) → P x → Q x) → IfOk r P → IfOk r Q
 if_ok_weaker (Ok x) P Q from h = from x h
 if_ok_weaker (Err e) P Q from h = h
-
--- a least number of bits that no width passes changes none
-pub all_bits : (most : ℕ) (widths : List ℕ) → ((k : ℕ) → get_or widths k 0 ≤ most) → narrowed most widths ≡ cells_of widths
-all_bits most widths small =
-    ap cells_of (map_fixed (min most) widths (λ k d l.
-    let low : get_or widths k 0 ≤ most = small k in
-    let same : get_or widths k d ≡ get_or widths k 0 = get_or_default widths k d 0 l in
-    let goal : min most (get_or widths k d) ≡ get_or widths k d = omega arith in
-    goal))
 
 -- a layout of one blob
 pub alone_is : {E : Type 0} (r : Result (List (List PlainOwner)) E) (blob : List PlainOwner) (owners : List Owner) → owners_of blob ≡ owners

@@ -17,8 +17,8 @@ layout_of SingleSoa slots widths = single_soa slots widths
 layout_of AlignedSoa slots widths = aligned_soa slots widths
 layout_of MultiSoa slots widths = multi_soa slots widths
 layout_of (Aosoa lanes) slots widths = aosoa lanes slots widths
-layout_of (BitAos width) slots widths = bit_aos width slots widths
-layout_of (BitSoa width) slots widths = bit_soa width slots widths
+layout_of BitAos slots widths = bit_aos slots widths
+layout_of BitSoa slots widths = bit_soa slots widths
 
 -- a block has at least one lane
 abbrev pub HasLanes : LayoutForm → Type 0

@@ -9,8 +9,6 @@ pub enum LayoutForm {
     MultiSoa,
     /// Blocks of so many slots.
     Aosoa { lanes: u32 },
-    /// At most so many bits a cell.
-    BitAos { width: u32 },
-    /// At most so many bits a cell.
-    BitSoa { width: u32 },
+    BitAos,
+    BitSoa,
 }

@@ -1,6 +1,6 @@
 ghost use Rattle.std.specs.Prelude.{ℕ, ◌≡◌, ◌+◌, ◌*◌, ◌<◌, ◌^◌, ◌++◌, ◌==◌, IfOk, OnOk, filter, replicate, map};
 ghost use Rattle.std.specs.List.{flat_map, range_with_len};
-ghost use Rattle.places.specs.Layout.{Pad as Nobody, field, fields, array, padded_to, greatest, falling, aligned_fields, aligned_part, aligned_arrays, lane, block_of, cells_of, narrowed};
+ghost use Rattle.places.specs.Layout.{Pad as Nobody, field, fields, array, padded_to, greatest, falling, aligned_fields, aligned_part, aligned_arrays, lane, block_of, cells_of};
 ghost use Rattle.plain_layouts.specs.Plain.{owners_of};
 
 use crate::owner::{PlainBlob, PlainOwner};
@@ -167,13 +167,13 @@ pub fn push_block(
     Ok(())
 }
 
-/// The cells with their numbers, each in at most `most` bits.
-pub fn numbered(alloc: Global, widths: &[u32], most: u32) -> Result<Vec<PlainCell>, NoMemory>
-    ensures { IfOk result (λ cells. cells.items ≡ narrowed most widths.now) }
+/// The cells with their numbers.
+pub fn numbered(alloc: Global, widths: &[u32]) -> Result<Vec<PlainCell>, NoMemory>
+    ensures { IfOk result (λ cells. cells.items ≡ cells_of widths.now) }
 {
     let mut cells = Vec::with_capacity(alloc, widths.len())?;
     for (number, width) in widths.iter().enumerate() {
-        cells.push((number, most.min(*width)))?;
+        cells.push((number, *width))?;
     }
     Ok(cells)
 }

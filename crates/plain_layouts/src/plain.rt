@@ -1,6 +1,6 @@
 ghost use Rattle.std.specs.Prelude.{ℕ, ◌≡◌, ◌+◌, ◌-◌, ◌*◌, ◌/◌, ◌<◌, ◌^◌, ◌++◌, [], ◌∷◌, IfOk, OnOk, map, List, if◌then◌else◌};
 ghost use Rattle.std.specs.List.{flat_map, range_with_len};
-ghost use Rattle.places.specs.Layout.{fields, array, padded_to, aligned_part, aligned_arrays, block_of, cells_of, falling, narrowed, bit_soa};
+ghost use Rattle.places.specs.Layout.{fields, array, padded_to, aligned_part, aligned_arrays, block_of, falling};
 ghost use Rattle.plain_layouts.specs.Plain.{HasLanes, layout_of, owners_of};
 
 use crate::form::LayoutForm;
@@ -11,13 +11,6 @@ use crate::parts::{
 };
 use lists::Sequence;
 use std::alloc::{AllocError as NoMemory, Global};
-
-/// The cells in all bits of their widths.
-fn whole(alloc: Global, widths: &[u32]) -> Result<Vec<PlainCell>, NoMemory>
-    ensures { IfOk result (λ cells. cells.items ≡ cells_of widths.now) }
-{
-    numbered(alloc, widths, u32::MAX)
-}
 
 /// Slot after slot, cell after cell.
 fn packed(alloc: Global, slots: u32, cells: &[PlainCell]) -> Result<PlainBlob, NoMemory>
@@ -124,27 +117,13 @@ fn least(alloc: Global, slots: u32, cells: &[PlainCell]) -> Result<PlainBlob, No
     aligned(alloc, slots, &order)
 }
 
-/// Slot after slot in at most `width` bits a cell, the end padded to 64 bits.
-fn bits(alloc: Global, width: u32, slots: u32, widths: &[u32]) -> Result<PlainBlob, NoMemory>
-    ensures { IfOk result (λ blob. owners_of blob ≡ padded_to 64 (flat_map (λ slot. fields slot (narrowed width widths.now)) (range_with_len 0 slots))) }
+/// Slot after slot, the end padded to 64 bits.
+fn bits(alloc: Global, slots: u32, cells: &[PlainCell]) -> Result<PlainBlob, NoMemory>
+    ensures { IfOk result (λ blob. owners_of blob ≡ padded_to 64 (flat_map (λ slot. fields slot cells.now) (range_with_len 0 slots))) }
 {
-    let cells = numbered(alloc, widths, width)?;
-    let mut blob = packed(alloc, slots, &cells)?;
+    let mut blob = packed(alloc, slots, cells)?;
     pad_to(&mut blob, 64)?;
     Ok(blob)
-}
-
-/// A blob for each cell in at most `width` bits, each padded to 64 bits.
-fn bit_arrays(
-    alloc: Global,
-    width: u32,
-    slots: u32,
-    widths: &[u32],
-) -> Result<Sequence<PlainBlob>, NoMemory>
-    ensures { IfOk result (λ blobs. map owners_of blobs ≡ bit_soa width slots widths.now) }
-{
-    let cells = numbered(alloc, widths, width)?;
-    arrays(alloc, slots, &cells, true)
 }
 
 /// The layout of `slots` slots of cells of these widths, by its definition.
@@ -157,7 +136,7 @@ pub fn plain_layout(
     requires { HasLanes form }
     ensures { IfOk result (λ blobs. map owners_of blobs ≡ layout_of form slots widths.now) }
 {
-    let cells = whole(alloc, widths)?;
+    let cells = numbered(alloc, widths)?;
     match form {
         LayoutForm::PackedAos => alone(alloc, packed(alloc, slots, &cells)?),
         LayoutForm::AlignedAos => alone(alloc, aligned(alloc, slots, &cells)?),
@@ -166,7 +145,7 @@ pub fn plain_layout(
         LayoutForm::AlignedSoa => alone(alloc, single_aligned(alloc, slots, &cells)?),
         LayoutForm::MultiSoa => arrays(alloc, slots, &cells, false),
         LayoutForm::Aosoa { lanes } => alone(alloc, blocks(alloc, lanes, slots, &cells)?),
-        LayoutForm::BitAos { width } => alone(alloc, bits(alloc, width, slots, widths)?),
-        LayoutForm::BitSoa { width } => bit_arrays(alloc, width, slots, widths),
+        LayoutForm::BitAos => alone(alloc, bits(alloc, slots, &cells)?),
+        LayoutForm::BitSoa => arrays(alloc, slots, &cells, true),
     }
 }

@@ -13,7 +13,7 @@ use Rattle.record_dim.specs.declared.leaf_type.LeafType.{LeafType}
 use Rattle.map_any.specs.AnyLaws.{length-leaf_cells}
 use Rattle.map_any.specs.Mappings.{leaf_cells}
 use Rattle.map_any.specs.Runs.{goes_on, joined, run_owner, runs_from, runs_of}
-use Rattle.instrument.specs.CounterTexts.{IsOwnerBelow}
+use Rattle.places.specs.Runs.{IsOwnerBelow}
 
 -- a run of one of so many leaves, or of none
 abbrev pub IsRunBelow : ℕ → Run → Type 0

@@ -2,7 +2,7 @@
 ghost use Rattle.std.specs.Prelude.{◌≡◌, ◌++◌, All, IfOk, OnOk};
 ghost use Rattle.blobs.specs.Bits.{bits_of};
 ghost use Rattle.instrument.specs.BlobTexts.{bytes_of, bytes_text};
-ghost use Rattle.instrument.specs.CounterTexts.{IsOwnerBelow};
+ghost use Rattle.places.specs.Runs.{IsOwnerBelow};
 ghost use Rattle.views.specs.Seen.{leaf_count_of, seen_layout};
 ghost use Rattle.worlds.specs.Outcomes.{Goes};
 ghost use Rattle.worlds.specs.Show.{print, counts, heat, layout, small, all_runs, bytes, shown, drop_view};

@@ -14,7 +14,8 @@ use Rattle.instrument.specs.declared.counts.Counts.{Counts}
 use Rattle.instrument.specs.declared.heat.Heat.{Heat as Heats}
 use Rattle.instrument.specs.Counters.{leaf_counts, heat_counts, no_counts, no_heat, LeafCounts, HeatCounts, next, granules_of, warmed_blob, HasLeaves, IsInside}
 use Rattle.instrument.specs.WarmingLaws.{length-warmed_blob, bytes-in_granules}
-use Rattle.views.specs.Tallies.{Access, Read, Write, Tally, counts_touched, heat_touched, is_hot, touched, tallied, no_tally, blob_lengths}
+use Rattle.places.specs.Touched.{is_hot}
+use Rattle.views.specs.Tallies.{Access, Read, Write, Tally, counts_touched, heat_touched, touched, tallied, no_tally, blob_lengths}
 use Rattle.views.specs.TallyLaws.{tallied-append}
 use Rattle.views.specs.Kept.{HasGranules, IsTallied, tally_of}
 

@@ -4,7 +4,6 @@ pub mod Opened
 pub mod ZeroBlobs
 pub mod AccessLaws
 pub mod Counted
-pub mod HotLaws
 pub mod CountLaws
 pub mod TouchLaws
 pub mod RowLaws

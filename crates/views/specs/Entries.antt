@@ -2,7 +2,8 @@
 use Rattle.std.specs.Prelude.{◌≡◌, ℕ, ◌-◌, ◌/◌, ◌^◌, ◌<◌, ◌==◌, min, Bool, false, IfSome, List, [], length, slice_index, slice_index_or, count_by}
 use Rattle.places.specs.Layout.{Owner}
 use Rattle.instrument.specs.Counters.{LeafCounts, HeatCounts, granules_of}
-use Rattle.views.specs.Tallies.{Access, Read, Write, Tally, is_hot}
+use Rattle.views.specs.Tallies.{Access, Read, Write, Tally}
+use Rattle.places.specs.Touched.{is_hot}
 
 -- whether an access reads, or writes, a leaf
 abbrev pub reads_leaf : ℕ → Access → Bool

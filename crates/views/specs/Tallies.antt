@@ -1,9 +1,10 @@
 -- What is counted of the accesses to a view.
-use Rattle.std.specs.Prelude.{ℕ, ◌*◌, ◌/◌, ◌==◌, ◌&&◌, Bool, true, false, List, [], length, map, take, drop, fold, ◌++◌, slice_index_or, Option, Some, None, option_map, if◌then◌else◌}
-use Rattle.std.specs.List.{flat_map, list_any, range_with_len}
+use Rattle.std.specs.Prelude.{ℕ, ◌/◌, Bool, true, false, List, length, map, fold, ◌++◌, Option, Some, None, option_map, if◌then◌else◌}
+use Rattle.std.specs.List.{flat_map, range_with_len}
 use Rattle.map_expr.specs.Terms.{Term}
 use Rattle.map_any.specs.Counters.{has_count, granule_of}
-use Rattle.places.specs.Layout.{Owner, Pad, Bit}
+use Rattle.places.specs.Layout.{Owner}
+use Rattle.places.specs.Touched.{is_hot}
 use Rattle.instrument.specs.Counters.{LeafCounts, HeatCounts, counted, warmed, no_counts, no_heat, granules_in}
 
 -- a leaf of a row is read or is written
@@ -25,15 +26,6 @@ leaf_touched true leaf counts = record counts { writes = counted counts.writes l
 abbrev pub counts_touched : Access → LeafCounts → LeafCounts
 counts_touched (Read row leaf) counts = leaf_touched false leaf counts
 counts_touched (Write row leaf) counts = leaf_touched true leaf counts
-
--- whether a bit is one of this leaf in this row
-abbrev pub is_bit_of : ℕ → ℕ → Owner → Bool
-is_bit_of row leaf Pad = false
-is_bit_of row leaf (Bit slot cell bit) = slot == row && cell == leaf
-
--- whether a granule of a blob holds a byte that holds such a bit
-abbrev pub is_hot : List (List Owner) → ℕ → ℕ → ℕ → ℕ → ℕ → Bool
-is_hot layout granule row leaf blob at = list_any (is_bit_of row leaf) (take (8 * granule) (drop (8 * granule * at) (slice_index_or layout blob [])))
 
 -- one more in each granule that holds a bit of the leaf in the row
 abbrev pub granules_touched : List (List Owner) → ℕ → ℕ → HeatCounts → HeatCounts

@@ -2,7 +2,6 @@ ghost use Rattle.std.specs.Prelude.{ℕ, ◌≡◌, ◌≤◌};
 ghost use Rattle.views.specs.Stores.{is_between, store_answer, told};
 
 use crate::fault::StoreFault;
-use piece_bits::{greatest_held, least_held};
 use places::Hold;
 use record_dim::LeafType;
 
@@ -15,7 +14,7 @@ pub fn answer(kind: LeafType, hold: Hold, value: i128) -> Result<(), StoreFault>
     if !is_between(kind.least(), kind.greatest(), value) {
         return Err(StoreFault::Range);
     }
-    if !is_between(least_held(hold), greatest_held(hold), value) {
+    if !is_between(hold.least(), hold.greatest(), value) {
         return Err(StoreFault::Narrow);
     }
     Ok(())

@@ -1,19 +1,40 @@
-use Rattle.std.proofs.Common.{ap, Err}
-use Rattle.places.specs.Layout.{bit_soa}
-use Rattle.map_any.proofs.Faults.{too_big_of}
+use Rattle.std.proofs.Common.{◌≡◌, ℕ, List, length, replicate, sym, ap, ◌∙◌, subst, Err}
+use Rattle.places.specs.Layout.{Owner, bit_soa}
+use Rattle.places.specs.Holds.{widths_in, narrow_holds, IsTooBig}
+use Rattle.places.specs.declared.piece.Cell.{Cell}
+use Rattle.std.proofs.lemmas.Bool.{true≢false}
+use Rattle.map_bits.specs.Bits.{has_bad_width}
+use Rattle.map_any.specs.TermLaws.{same_widths}
+use Rattle.map_any.proofs.Faults.{too_big_of, no_width}
 use Rattle.map_any.proofs.Limits.{over}
 use Rattle.map_any.proofs.PlanLaws.{base_planned}
 use Rattle.map_any.proofs.bit_plans.bit_soa_plan.Goals as goal
 
+abbrev bits : List Cell → ℕ → List ℕ → List (List Owner)
+bits cells slots widths = bit_soa slots (widths_in (narrow_holds widths cells))
+
 pub returns-in_err-mapping-clause-too_big : goal.returns-in_err-mapping-clause-too_big
 returns-in_err-mapping-clause-too_big c = λ is.
+    let cells = c.args.cells.now in
+    let slots = c.in_ok-slots.slots in
+    let same : c.deref.result.now ≡ replicate (length cells) c.args.width = c.deref.ensures.value ∙ c.in_ok-widths.ensures.made in
     let why = too_big_of c.from_residual-in_err-mapping.result c.in_err-mapping.field-0.0 c.from_residual-in_err-mapping.ensures.1 is in
-    over (bit_soa c.args.width) c.args.order c.args.extents.now c.args.cells.now c.in_ok-slots.slots c.in_ok-slots.ensures.count
-    (c.in_err-mapping.ensures.too_big (ap Err why))
+    over (λ n _. bits cells n (replicate (length cells) c.args.width)) c.args.order c.args.extents.now cells slots c.in_ok-slots.ensures.count
+    (subst (λ (ws : List ℕ). IsTooBig slots (bits cells slots ws)) same (c.in_err-mapping.ensures.too_big (ap Err why)))
+
+pub returns-in_err-mapping-clause-only : goal.returns-in_err-mapping-clause-only
+returns-in_err-mapping-clause-only c =
+    let same : c.deref.result.now ≡ replicate (length c.args.cells.now) c.args.width = c.deref.ensures.value ∙ c.in_ok-widths.ensures.made in
+    no_width c.from_residual-in_err-mapping.result c.in_err-mapping.field-0.0 c.from_residual-in_err-mapping.ensures.1 c.in_err-mapping.ensures.only
+    (λ is. absurd (true≢false (sym (c.in_err-mapping.ensures.width.0 (ap Err is)) ∙ ap has_bad_width same ∙ same_widths c.args.width (length c.args.cells.now) c.requires.width)))
 
 pub returns-clause-plan : goal.returns-clause-plan
 returns-clause-plan c =
+    let cells = c.args.cells.now in
+    let slots = c.in_ok-slots.slots in
+    let same : c.deref.result.now ≡ replicate (length cells) c.args.width = c.deref.ensures.value ∙ c.in_ok-widths.ensures.made in
     let made = c.in_ok-mapping in
     let plan = c.in_ok-plan in
-    base_planned (bit_soa c.args.width) c.args.order c.args.extents.now c.args.cells.now c.in_ok-slots.slots _ _ _ plan.plan c.in_ok-slots.ensures.count
-    made.ensures.layout made.ensures.holds made.ensures.fits plan.ensures.holds plan.ensures.lengths plan.ensures.rules
+    base_planned (λ n _. bits cells n (replicate (length cells) c.args.width)) c.args.order c.args.extents.now cells slots _ _ _ plan.plan c.in_ok-slots.ensures.count
+    (made.ensures.layout ∙ ap (bits cells slots) same) (made.ensures.holds ∙ ap (λ (ws : List ℕ). narrow_holds ws cells) same)
+    (λ big. made.ensures.fits (subst (λ (ws : List ℕ). IsTooBig slots (bits cells slots ws)) (sym same) big)) plan.ensures.holds plan.ensures.lengths plan.ensures.rules

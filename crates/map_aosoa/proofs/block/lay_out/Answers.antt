@@ -1,8 +1,8 @@
-use Rattle.std.proofs.Common.{ℕ, ◌+◌, ◌*◌, List, length, take, arith, ap, ◌∙◌}
+use Rattle.std.proofs.Common.{ℕ, ◌+◌, ◌*◌, ◌%◌, List, length, take, arith, ap, ◌∙◌}
 use Rattle.std.specs.List.{sum}
 use Rattle.std.proofs.lemmas.List.{length_push}
 use Rattle.places.specs.Holds.{widths_of}
-use Rattle.map_aosoa.proofs.Blocks.{end_next, end_below, offsets_more}
+use Rattle.map_aosoa.proofs.Blocks.{end_next, end_below, offsets_more, lanes_bytes}
 use Rattle.map_aosoa.proofs.block.lay_out.Goals as goal
 
 pub returns-then-end-gt-MAX_BLOB_BITS-clause-too_big :
@@ -24,3 +24,6 @@ loop-cell-preserved c =
       ends = next;
       small = omega (arith, c.if-end-gt-MAX_BLOB_BITS.false);
     }
+
+pub returns-clause-whole : goal.returns-clause-whole
+returns-clause-whole c = ap (λ (n : ℕ). n % 8) c.loop-cell.invariant.ends ∙ lanes_bytes c.args.lanes c.args.cells.now c.loop-cell.cell-index

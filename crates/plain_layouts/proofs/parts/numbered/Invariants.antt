@@ -1,6 +1,6 @@
 use Rattle.std.proofs.Common.{◌≡◌, take}
-use Rattle.places.specs.Layout.{narrowed}
+use Rattle.places.specs.Layout.{cells_of}
 use Rattle.plain_layouts.proofs.parts.numbered.Given as goal
 
 abbrev pub invariant-loop-number : goal.invariant-loop-number
-invariant-loop-number l = l.cells.items ≡ take l.number (narrowed l.most l.widths)
+invariant-loop-number l = l.cells.items ≡ take l.number (cells_of l.widths)

@@ -1,6 +1,6 @@
 use Rattle.std.proofs.Common.{◌≡◌, ℕ, List, ◌∙◌, ap}
 use Rattle.std.specs.List.{flat_map, range_with_len}
-use Rattle.places.specs.Layout.{fields, cells_of}
+use Rattle.places.specs.Layout.{fields, cells_of, padded_to}
 use Rattle.plain_layouts.specs.Plain.{layout_of}
 use Rattle.plain_layouts.proofs.Growth.{layout_is, alone_is}
 use Rattle.plain_layouts.proofs.plain.plain_layout.Goals as goal
@@ -13,3 +13,12 @@ returns-in-PackedAos c =
     layout_is c.alone.result _ (layout_of c.args.form c.args.slots c.args.widths.now)
     (ap (λ form. layout_of form c.args.slots c.args.widths.now) c.in-PackedAos.is)
     (alone_is c.alone.result c.in_ok-packed-in-PackedAos.field-0 _ blob c.alone.ensures)
+
+pub returns-in-BitAos : goal.returns-in-BitAos
+returns-in-BitAos c =
+    let cells : c.deref-in-BitAos.result.now ≡ cells_of c.args.widths.now = c.deref-in-BitAos.ensures.value ∙ c.in_ok-cells.ensures in
+    let blob = c.in_ok-bits-in-BitAos.ensures
+    ∙ ap (λ (xs : List (ℕ × ℕ)). padded_to 64 (flat_map (λ slot. fields slot xs) (range_with_len 0 c.args.slots))) cells in
+    layout_is c.alone-in-BitAos.result _ (layout_of c.args.form c.args.slots c.args.widths.now)
+    (ap (λ form. layout_of form c.args.slots c.args.widths.now) c.in-BitAos.is)
+    (alone_is c.alone-in-BitAos.result c.in_ok-bits-in-BitAos.field-0 _ blob c.alone-in-BitAos.ensures)

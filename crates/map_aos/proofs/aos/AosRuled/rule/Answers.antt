@@ -2,6 +2,7 @@ use Rattle.std.proofs.Common.{◌≡◌, ℕ, ◌+◌, ◌*◌, ◌<◌, refl, s
 use Rattle.places.specs.CellWidthsLaws.{cell_width, width_read}
 use Rattle.piece_rules.specs.BeginsLaws.{one_lane}
 use Rattle.map_aos.proofs.Blob.{located_is}
+use Rattle.piece_rules.specs.DenseLaws.{not_dense}
 use Rattle.map_aos.proofs.aos.AosRuled.rule.Goals as goal
 
 pub returns-clause-places : goal.returns-clause-places
@@ -27,3 +28,6 @@ returns-clause-bound c =
     let read = width_read m.cells.items c.args.cell c.index.result.now c.width.result c.requires c.index.ensures c.width.ensures in
     let width = cell_width m.cells.items c.args.cell c.width.result c.requires read in
     omega (arith, width.low, c.offset.ensures.low)
+
+pub returns-clause-dense : goal.returns-clause-dense
+returns-clause-dense c = not_dense _

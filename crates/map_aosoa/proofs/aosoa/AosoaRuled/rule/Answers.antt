@@ -2,6 +2,8 @@ use Rattle.std.proofs.Common.{◌≡◌, ℕ, ◌+◌, ◌*◌, ◌/◌, ◌%◌
 use Rattle.std.proofs.lemmas.List.{get_or_default}
 use Rattle.places.specs.Holds.{widths_of}
 use Rattle.places.specs.CellWidthsLaws.{length-widths, cell_width, width_read}
+use Rattle.places.specs.WidthsLaws.{width_whole}
+use Rattle.piece_rules.specs.DenseLaws.{dense_lanes}
 use Rattle.map_aosoa.proofs.Blob.{located_is}
 use Rattle.map_aosoa.proofs.aosoa.AosoaRuled.rule.Goals as goal
 
@@ -36,3 +38,9 @@ returns-clause-bound c =
     let read = width_read m.cells.items c.args.cell c.index.result.now c.width-width.result c.requires c.index.ensures c.width-width.ensures in
     let width = cell_width m.cells.items c.args.cell c.width-width.result c.requires read in
     omega (arith, width.low, c.offset.ensures.low)
+
+pub returns-clause-dense : goal.returns-clause-dense
+returns-clause-dense c =
+    let m = c.args.self.now in
+    dense_lanes _ m.lanes c.from.ensures c.from-2.ensures c.offset.ensures.bytes m.whole
+    (ap (λ (n : ℕ). n % 8) c.width-width.ensures ∙ width_whole _)

@@ -1,7 +1,9 @@
+use Rattle.places.specs.Holds.{widths_in}
+use Rattle.map_bits.specs.BitLaws.{bit_aos_laws}
 use Rattle.map_bits.proofs.Slots.{blob_bytes_is}
 use Rattle.map_bits.proofs.bit_aos.BitAosMapping.blob_bytes.Goals as goal
 
 pub returns : goal.returns
 returns c =
     let m = c.args.self.now in
-    blob_bytes_is m.width m.slots m.cells.items m.offsets.items m.stride c.args._blob c.padded.result m.some m.stored c.padded.ensures c.requires
+    blob_bytes_is m.slots (widths_in m.holds.items) m.offsets.items m.stride c.args._blob c.padded.result (bit_aos_laws m.slots (widths_in m.holds.items) m.held.low m.held.some) m.stored c.padded.ensures c.requires

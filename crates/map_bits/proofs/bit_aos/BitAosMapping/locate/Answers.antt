@@ -1,10 +1,9 @@
-use Rattle.std.proofs.Common.{ℕ, ◌<◌, List, [], ◌∷◌, map, slice_index, sym, subst, arith}
-use Rattle.places.specs.Holds.{widths_of, narrow_holds}
+use Rattle.std.proofs.Common.{ℕ, ◌<◌, List, [], ◌∷◌, slice_index, sym, subst, arith}
 use Rattle.places.specs.Laws.{IsLocated}
-use Rattle.places.specs.declared.piece.Hold.{Hold}
 use Rattle.places.specs.declared.piece.Piece.{Piece}
-use Rattle.places.specs.Layout.{bit_aos}
 use Rattle.piece_rules.specs.BeginsLaws.{begins_fit}
+use Rattle.places.specs.Holds.{widths_in}
+use Rattle.places.specs.Layout.{bit_aos}
 use Rattle.map_bits.proofs.bit_aos.BitAosMapping.locate.Goals as goal
 
 pub pieces-requires : goal.pieces-requires
@@ -12,13 +11,13 @@ pieces-requires c =
     let m = c.args.self.now in
     let rule = c.rule.result in
     record {
-      fits = begins_fit (bit_aos m.width m.slots (widths_of m.cells.items)) c.args.slot c.args.cell _ c.args.slot (rule ∷ [])
+      fits = begins_fit (bit_aos m.slots (widths_in m.holds.items)) c.args.slot c.args.cell _ c.args.slot (rule ∷ [])
           (c.rule.ensures.places c.args.slot c.requires.slot_in) 0 rule (let l : 0 < 1 = omega arith in l);
     }
 
 pub returns : goal.returns
 returns c =
     let m = c.args.self.now in
-    let width : ℕ = slice_index (map (λ (h : Hold). h.width) (narrow_holds m.width m.cells.items)) c.args.cell in
-    subst (λ (pieces : List Piece). IsLocated (bit_aos m.width m.slots (widths_of m.cells.items)) c.args.slot c.args.cell width pieces)
+    let width : ℕ = slice_index (widths_in m.holds.items) c.args.cell in
+    subst (λ (pieces : List Piece). IsLocated (bit_aos m.slots (widths_in m.holds.items)) c.args.slot c.args.cell width pieces)
     (sym c.pieces.ensures) (c.rule.ensures.places c.args.slot c.requires.slot_in)

@@ -1,20 +1,31 @@
-use Rattle.std.proofs.Common.{ℕ, ◌+◌, ◌*◌, ◌<◌, refl, sym, ap, ◌∙◌, arith}
+use Rattle.std.proofs.Common.{ℕ, ◌+◌, ◌*◌, ◌<◌, refl, ap, ◌∙◌, arith}
 use Rattle.piece_rules.specs.BeginsLaws.{one_lane}
+use Rattle.places.specs.Holds.{widths_in}
 use Rattle.map_bits.proofs.Widths.{taken_is}
 use Rattle.map_bits.proofs.Slots.{located_is}
+use Rattle.piece_rules.specs.DenseLaws.{not_dense}
 use Rattle.map_bits.proofs.bit_aos.BitAosRuled.rule.Goals as goal
 
 pub returns-clause-places : goal.returns-clause-places
 returns-clause-places c = λ slot inside.
     let m = c.args.self.now in
     let some : 0 < m.slots = omega arith in
-    let taken = taken_is m.width m.cells.items c.args.cell c.index.result.now c.narrow_width.result m.some c.requires c.index.ensures c.narrow_width.ensures.value in
+    let taken = taken_is m.cells.items m.holds.items c.args.cell c.index.result.now m.held c.requires c.index.ensures in
     let stored = m.stored some in
-    located_is m.width m.slots m.cells.items m.stride slot c.args.cell _ taken stored.ends m.bound inside refl
+    located_is m.slots (widths_in m.holds.items) m.stride slot c.args.cell _ taken stored.ends m.bound inside refl
     (one_lane c.offset.result slot m.stride 0 ∙ ap (λ (n : ℕ). n + slot * m.stride) (c.offset.ensures.place some))
 
 pub returns-clause-bits : goal.returns-clause-bits
 returns-clause-bits c =
     let m = c.args.self.now in
-    let taken = taken_is m.width m.cells.items c.args.cell c.index.result.now c.narrow_width.result m.some c.requires c.index.ensures c.narrow_width.ensures.value in
-    sym taken.hold
+    let taken = taken_is m.cells.items m.holds.items c.args.cell c.index.result.now m.held c.requires c.index.ensures in
+    taken.same
+
+pub returns-clause-bound : goal.returns-clause-bound
+returns-clause-bound c =
+    let m = c.args.self.now in
+    let taken = taken_is m.cells.items m.holds.items c.args.cell c.index.result.now m.held c.requires c.index.ensures in
+    omega (arith, c.offset.ensures.low, taken.low)
+
+pub returns-clause-dense : goal.returns-clause-dense
+returns-clause-dense c = not_dense _

@@ -1,4 +1,4 @@
-use Rattle.std.proofs.Common.{ℕ, ◌≡◌, ◌+◌, ◌*◌, ◌<◌, List, length, slice_index, sym, ◌∙◌, ap, subst, arith}
+use Rattle.std.proofs.Common.{ℕ, ◌≡◌, ◌+◌, ◌*◌, ◌%◌, ◌<◌, List, length, slice_index, refl, sym, ◌∙◌, ap, subst, arith}
 use Rattle.std.proofs.lemmas.List.{length-map}
 use Rattle.std.proofs.lemmas.List.FromFn.{length-enumerate_from}
 use Rattle.places.specs.Layout.{array, cells_of}
@@ -9,6 +9,8 @@ use Rattle.map_soa.specs.Soa.{blob_of}
 use Rattle.places.specs.declared.forms.SoaForm.{SoaForm}
 use Rattle.places.specs.declared.forms.SoaForm.TheVariants.{Single, Aligned, Multi}
 use Rattle.piece_rules.specs.BeginsLaws.{one_lane}
+use Rattle.piece_rules.specs.DenseLaws.{dense_array}
+use Rattle.places.specs.WidthsLaws.{width_whole}
 use Rattle.map_soa.proofs.Blobs.{located_is}
 use Rattle.map_soa.proofs.soa.SoaRuled.rule.Goals as goal
 
@@ -54,3 +56,8 @@ returns-clause-bound c =
     let read = width_read m.cells.items c.args.cell c.index.result.now c.width-bits.result c.requires c.index.ensures c.width-bits.ensures in
     let width = cell_width m.cells.items c.args.cell c.width-bits.result c.requires read in
     omega (arith, width.low, c.offset.ensures.low)
+
+pub returns-clause-dense : goal.returns-clause-dense
+returns-clause-dense c =
+    dense_array _ c.args.self.now.slots refl c.from.ensures c.offset.ensures.bytes
+    (ap (λ (n : ℕ). n % 8) c.width-bits.ensures ∙ width_whole _)

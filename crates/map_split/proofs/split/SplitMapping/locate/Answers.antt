@@ -1,4 +1,4 @@
-use Rattle.std.proofs.Common.{◌≡◌, ℕ, ◌<◌, ◌∙◌, Bool, List, length, map, slice_index, sym, ap, subst, arith}
+use Rattle.std.proofs.Common.{ℕ, ◌<◌, ◌∙◌, Bool, List, length, map, slice_index, sym, ap, subst, arith}
 use Rattle.places.specs.Layout.{Owner}
 use Rattle.places.specs.Laws.{IsLocated, shifted}
 use Rattle.places.specs.Rules.{split}

@@ -7,7 +7,7 @@ use Rattle.instrument.specs.Counters.{HeatCounts, heat_counts, warmed}
 use Rattle.instrument.specs.declared.heat.Heat.{Heat}
 use Rattle.views.specs.Kept.{HasGranules}
 use Rattle.views.specs.Tallies.{granules_touched}
-use Rattle.views.proofs.HotLaws.{touched_same}
+use Rattle.places.specs.TouchedLaws.{touched_same}
 use Rattle.views.proofs.CountLaws.{piece_inside}
 use Rattle.views.proofs.view.touch.touch_heat.Goals as goal
 

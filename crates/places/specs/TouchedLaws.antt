@@ -12,8 +12,7 @@ use Rattle.places.specs.Layout.{Owner, Pad, Bit, owner_at}
 use Rattle.places.specs.Laws.{IsLaidOut, IsLocated, owners_in}
 use Rattle.places.specs.ExactLaws.{within}
 use Rattle.places.specs.PlacesLaws.{spells_split}
-use Rattle.instrument.specs.Counters.{is_in_granule, is_touched}
-use Rattle.views.specs.Tallies.{is_bit_of, is_hot}
+use Rattle.places.specs.Touched.{is_in_granule, is_touched, is_bit_of, is_hot}
 
 -- tests of which each gives the other
 same_tests : (one two : Bool) → (one ≡ true → two ≡ true) → (two ≡ true → one ≡ true) → one ≡ two
