@@ -1,4 +1,4 @@
--- Accesses to the leaves of a row, and to the rows, one after another.
+-- Accesses to the rows, one after another.
 use Rattle.std.proofs.Common.{◌≡◌, ℕ, ◌+◌, ℤ, List, [], ◌∷◌, ◌++◌, sym, ap, ◌∙◌}
 use Rattle.views.specs.Tallies.{Access, Read, Write, Tally, row_accesses, all_accesses}
 use Rattle.views.specs.TallyLaws.{tallied-none, after_log-append, after_stores-append, logs_more, accesses_more}
@@ -11,15 +11,9 @@ after_stores-none seen = ap (λ (tally : Tally). record seen { tally = tally }) 
 pub no_row_stored : (seen : Table) (rows : ℕ) → rows ≡ 0 → seen ≡ after_stores seen seen.rows (all_accesses Write (leaf_count_of seen) rows)
 no_row_stored seen rows none = rw none (after_stores-none seen)
 
--- a leaf more, and a row more
-pub leaf_written : (seen : Table) (table last : List (List ℤ)) (row leaf : ℕ) → after_stores (after_stores seen table (row_accesses Write leaf row)) last (Write row leaf ∷ []) ≡ after_stores seen last (row_accesses Write (leaf + 1) row)
-leaf_written seen table last row leaf = after_stores-append seen table last (row_accesses Write leaf row) (Write row leaf ∷ []) ∙ ap (after_stores seen last) (sym (accesses_more (Write row) leaf))
-
+-- a row more
 pub row_written : (seen : Table) (table last : List (List ℤ)) (leaves row : ℕ) → after_stores (after_stores seen table (all_accesses Write leaves row)) last (row_accesses Write leaves row) ≡ after_stores seen last (all_accesses Write leaves (row + 1))
 row_written seen table last leaves row = after_stores-append seen table last (all_accesses Write leaves row) (row_accesses Write leaves row) ∙ ap (after_stores seen last) (sym (logs_more (row_accesses Write leaves) row))
-
-pub leaf_was_read : (seen : Table) (row leaf : ℕ) → after_read (after_log seen (row_accesses Read leaf row)) row leaf ≡ after_log seen (row_accesses Read (leaf + 1) row)
-leaf_was_read seen row leaf = after_log-append seen (row_accesses Read leaf row) (Read row leaf ∷ []) ∙ ap (after_log seen) (sym (accesses_more (Read row) leaf))
 
 pub row_was_read : (seen : Table) (leaves row : ℕ) → after_log (after_log seen (all_accesses Read leaves row)) (row_accesses Read leaves row) ≡ after_log seen (all_accesses Read leaves (row + 1))
 row_was_read seen leaves row = after_log-append seen (all_accesses Read leaves row) (row_accesses Read leaves row) ∙ ap (after_log seen) (sym (logs_more (row_accesses Read leaves) row))

@@ -1,4 +1,4 @@
--- The leaves of a view, read from a row's fields one after another and stored.
+-- The leaves of a view, read from a row's fields one after another.
 use Rattle.std.proofs.Common.{◌≡◌, ℕ, zero, suc, ◌+◌, ◌-◌, ◌<◌, ◌≤◌, false, ℤ, pos, append_assoc, List, [], ◌∷◌, ◌++◌, length, take, drop, get_or, set, Result, Ok, Err, OnOk, refl, sym, ap, ◌∙◌, arith, append-nil}
 use Rattle.std.proofs.lemmas.List.{at_drop_more, drop_all, take_all, take_more, take_more_set, length-map, length-take, set-set, set-get_or, get_or-set_same, drop_more, set-append_right}
 use Rattle.record_dim.specs.Schemas.{schema_fields}
@@ -14,7 +14,6 @@ use Rattle.views.specs.declared.fault.StoreFault.{StoreFault}
 use Rattle.csv_rows.specs.Datasets.{◌>>=◌, Leaf, with_columns, value_at, row_values}
 use Rattle.csv_rows.specs.Loads.{place_of, leaves_in}
 use Rattle.csv_rows.specs.declared.fault.RowFault.{RowFault}
-use Rattle.csv_rows.proofs.Accesses.{after_stores-none, leaf_written}
 use Rattle.csv_rows.proofs.Sequences.{behind, behind-behind, one_behind}
 
 abbrev no_leaf : Leaf

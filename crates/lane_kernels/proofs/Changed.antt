@@ -3,7 +3,7 @@ use Rattle.std.proofs.Common.{◌≡◌, ℕ, zero, suc, ◌+◌, ◌<◌, List,
 use Rattle.std.specs.Option.{option_or}
 use Rattle.std.proofs.lemmas.List.{take_all}
 use Rattle.views.specs.Tables.{Table, answer_of, kept_of, after_log, after_stores, after_write}
-use Rattle.views.specs.Stores.{Answer}
+use Rattle.views.specs.Stores.{Answer, told}
 use Rattle.views.specs.TallyLaws.{after_log-none, after_log-append, logs_more}
 use Rattle.views.specs.Tallies.{Access, Write}
 use Rattle.views.specs.declared.fault.StoreFault.{StoreFault}
@@ -124,7 +124,25 @@ change_done old read new change row leaf value is reads writes =
     let values = get_or old.rows row [] in
     rw (write_of change row values (record { leaf = leaf; value = value }) is, is)
     (writes ∙ ap (λ (v : Table). after_write v row leaf value) reads
-    ∙ after_log-append (record old { rows = set old.rows row (set values leaf value) }) (reads_on (changing change) row) (Write row leaf ∷ []))
+    ∙ after_log-append (record old { rows = set old.rows row (set values leaf (kept_of old leaf value)) }) (reads_on (changing change) row) (Write row leaf ∷ []))
+
+-- the fault of a store that is answered so
+abbrev pub told_fault : ℕ → ℕ → Result Unit StoreFault → Option KernelFault
+told_fault row leaf (Ok done) = None
+told_fault row leaf (Err store.Range) = Some (Range row leaf)
+told_fault row leaf (Err store.Narrow) = Some (Narrow row leaf)
+
+told_as : (row leaf : ℕ) (answer : Result ℤ StoreFault) → answer_fault row leaf answer ≡ told_fault row leaf (told answer)
+told_as row leaf (Ok kept) = refl
+told_as row leaf (Err store.Range) = refl
+told_as row leaf (Err store.Narrow) = refl
+
+pub row_answered : (old read : Table) (change : Change) (row leaf : ℕ) (value : ℤ) (answer : Result Unit StoreFault) → stored (changing change) (get_or old.rows row []) ≡ Some (record { leaf = leaf; value = value })
+    → read ≡ after_log old (reads_on (changing change) row) → answer ≡ told (answer_of read leaf value)
+    → store_fault (answer_of old) row (stored (changing change) (get_or old.rows row [])) ≡ told_fault row leaf answer
+row_answered old read change row leaf value answer is reads gives =
+    ap (store_fault (answer_of old) row) is ∙ told_as row leaf (answer_of old leaf value)
+    ∙ ap (λ (t : Table). told_fault row leaf (told (answer_of t leaf value))) (sym reads) ∙ ap (told_fault row leaf) (sym gives)
 
 -- a row is refused after its reads
 answer_log : (kernel : Kernel) (row leaf : ℕ) (answer : Result ℤ StoreFault) (fault : KernelFault) → answer_fault row leaf answer ≡ Some fault → fault_log kernel fault ≡ rows_log kernel row ++ reads_on kernel row

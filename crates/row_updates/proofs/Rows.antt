@@ -9,13 +9,13 @@ use Rattle.extents.specs.Indices.{indices}
 use Rattle.expr_lang.specs.Terms.{Term}
 use Rattle.linearize.specs.Slots.{index_at}
 use Rattle.piece_bits.specs.Tables.{with_entry}
-use Rattle.views.specs.Tallies.{Write}
+use Rattle.views.specs.Tallies.{Access, Write}
 use Rattle.views.specs.TallyLaws.{after_log-none, logs_more}
-use Rattle.views.specs.Tables.{Table, answer_of, kept_of, after_stores, after_write}
+use Rattle.views.specs.Tables.{Table, answer_of, kept_of, after_log, after_stores, after_write}
 use Rattle.views.specs.declared.fault.StoreFault.{StoreFault}
 use Rattle.row_updates.specs.declared.fault.UpdateFault.{UpdateFault}
 use Rattle.row_updates.specs.declared.update.Assign.{Assign}
-use Rattle.views.specs.Stores.{Answer, Keeping}
+use Rattle.views.specs.Stores.{Answer, Keeping, told}
 use Rattle.row_updates.specs.Rows.{Setting, setting_of, each, in_row, store_kind, value_of, passes, new_value, with_values, updated_row, updated_rows, counted, ◌>>=◌}
 use Rattle.row_updates.specs.Logs.{value_log, sides_log, stores_log, row_log, update_log}
 use Rattle.views.specs.TallyLaws.{after_stores-append}
@@ -84,6 +84,19 @@ stored_more old view new row place sets set values inside small short is so_far 
     ∙ after_stores-append old before (with_entry before row set.leaf number) log (Write row set.leaf ∷ [])
     ∙ ap (λ (t : List (List ℤ)). after_stores old t (log ++ Write row set.leaf ∷ [])) table
     ∙ ap (after_stores old (slice_set old.rows row (with_values (kept_of old) (take (place + 1) (map setting_of sets)) (take (place + 1) values) (get_or old.rows row [])))) (sym logs)
+
+-- a right side that has a value, by what its store is told
+tested_as : (number leaf : ℕ) (value : ℤ) (answer : Result ℤ StoreFault) → (in_row number (store_kind leaf) answer >>= (λ kept. Ok value)) ≡ (in_row number (store_kind leaf) (told answer) >>= (λ done. Ok value))
+tested_as number leaf value (Ok kept) = refl
+tested_as number leaf value (Err fault) = refl
+
+pub value_tested : (old read : Table) (number : ℕ) (row : List ℤ) (index : List ℕ) (set : Setting) (log : List Access) (value : ℤ) (answer : Result Unit StoreFault) → value_of number row index set.value ≡ Ok value
+    → read ≡ after_log old log → answer ≡ told (answer_of read set.leaf value) → new_value (answer_of old) number row index set ≡ (in_row number (store_kind set.leaf) answer >>= (λ done. Ok value))
+value_tested old read number row index set log value answer gives reads is =
+    ap (λ (first : Result ℤ UpdateFault). first >>= (λ v. in_row number (store_kind set.leaf) (answer_of old set.leaf v) >>= (λ kept. Ok v))) gives
+    ∙ tested_as number set.leaf value (answer_of old set.leaf value)
+    ∙ ap (λ (t : Table). in_row number (store_kind set.leaf) (told (answer_of t set.leaf value)) >>= (λ done. Ok value)) (sym reads)
+    ∙ ap (λ (r : Result Unit StoreFault). in_row number (store_kind set.leaf) r >>= (λ done. Ok value)) (sym is)
 
 fits_from : (number : ℕ) (set : Setting) (got : ℤ) (answer : Result ℤ StoreFault) (value : ℤ) → (in_row number (store_kind set.leaf) answer >>= (λ kept. Ok got)) ≡ Ok value → (is_ok answer ≡ true) × (got ≡ value)
 fits_from number set got (Ok kept) value e = (refl, cc)

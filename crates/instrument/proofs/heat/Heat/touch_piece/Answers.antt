@@ -1,5 +1,6 @@
 use Rattle.std.proofs.Common.{arith, ◌≡◌, ◌+◌, ◌-◌, ◌*◌, ◌/◌, ℕ, true, false, [], length, get_or, sym, ap, ◌∙◌}
-use Rattle.instrument.specs.Counters.{HeatCounts, heat_counts, is_touched}
+use Rattle.places.specs.Touched.{is_touched}
+use Rattle.instrument.specs.Counters.{HeatCounts, heat_counts}
 use Rattle.instrument.specs.Touching.{warmed_at}
 use Rattle.instrument.proofs.Rounding.{place_rises}
 use Rattle.instrument.specs.WarmingLaws.{length-warmed, length-heated}
