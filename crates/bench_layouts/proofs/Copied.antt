@@ -6,7 +6,7 @@ use Rattle.record_dim.specs.Leaves.{kinds_of}
 use Rattle.piece_bits.specs.Tables.{hold_at}
 use Rattle.map_expr.specs.Terms.{Term, term_of}
 use Rattle.map_any.specs.Mappings.{holds_by}
-use Rattle.views.specs.Seen.{Seen, answer_of}
+use Rattle.views.specs.Tables.{Table, answer_of}
 use Rattle.views.specs.Stores.{Answer, kind_at, store_answer}
 use Rattle.layout_copy.specs.Copies.{AreAlike, IsCopied, refused_at}
 use Rattle.layout_copy.specs.declared.fault.CopyFault.{CopyFault}
@@ -19,30 +19,30 @@ use Rattle.bench_layouts.specs.Rounds.{IsMeasured, HasEntries}
 use Rattle.bench_layouts.specs.Tables.{measured_fields, entry_after}
 
 -- a view of a form answers stores as the form does
-pub same_answers : (view : Seen) (form : Form) → schema_fields view.schema ≡ measured_fields → term_of view.expr ≡ form_term form → answer_of view ≡ answer_in form
+pub same_answers : (view : Table) (form : Form) → view.fields ≡ measured_fields → view.mapping ≡ form_term form → answer_of view ≡ answer_in form
 same_answers view form fields expr =
     let by : Fields → Term → Answer = λ (f : Fields) (t : Term) (leaf : ℕ) (number : ℤ). store_answer (kind_at (kinds_of f) leaf) (hold_at (holds_by t f) leaf) number in
-    ap (λ (f : Fields). by f (term_of view.expr)) fields ∙ ap (λ (t : Term). by measured_fields t) expr
+    ap (λ (f : Fields). by f view.mapping) fields ∙ ap (λ (t : Term). by measured_fields t) expr
 
-pub written_once : (view : Seen) (rows : ℕ) → IsMeasured view → length view.table ≡ rows → HasEntries rows (entry_after 1) view → IsWritten rows view.table
+pub written_once : (view : Table) (rows : ℕ) → IsMeasured view → length view.rows ≡ rows → HasEntries rows (entry_after 1) view → IsWritten rows view.rows
 written_once view rows measured count entries = record {
   shape = record { row_count = count; leaf_count = λ row below. measured.shape.leaf_count row (omega (arith, count, below)) };
   values = entries;
 }
 
 -- why a copy of it ended
-pub no_copy : (source target : Seen) (form : Form) (rows : ℕ) (fault : CopyFault) → schema_fields target.schema ≡ measured_fields → term_of target.expr ≡ form_term form
-    → IsWritten rows source.table → IsNoCopyOf (answer_of target) source.table fault → IsNoCopy (answer_in form) rows fault
+pub no_copy : (source target : Table) (form : Form) (rows : ℕ) (fault : CopyFault) → target.fields ≡ measured_fields → target.mapping ≡ form_term form
+    → IsWritten rows source.rows → IsNoCopyOf (answer_of target) source.rows fault → IsNoCopy (answer_in form) rows fault
 no_copy source target form rows fault fields expr written ends =
-    (source.table, written, subst (λ (answer : Answer). IsNoCopyOf answer source.table fault) (same_answers target form fields expr) ends)
+    (source.rows, written, subst (λ (answer : Answer). IsNoCopyOf answer source.rows fault) (same_answers target form fields expr) ends)
 
 -- a copy that ends later ends as the first would
-pub still_no_copy : (source target now held new : Seen) (fault : CopyFault) → AreAlike source target → now ≡ record source { tally = now.tally }
-    → held ≡ record target { table = source.table; tally = held.tally }
-    → IsCopied now held new (Err fault) → IsNoCopyOf (answer_of target) source.table fault
+pub still_no_copy : (source target now held new : Table) (fault : CopyFault) → AreAlike source target → now ≡ record source { tally = now.tally }
+    → held ≡ record target { rows = source.rows; tally = held.tally }
+    → IsCopied now held new (Err fault) → IsNoCopyOf (answer_of target) source.rows fault
 still_no_copy source target now held new Mismatch alike same copied ended =
-    ended.0 (subst (λ (s : Seen). AreAlike s held) (sym same) (subst (λ (t : Seen). AreAlike source t) (sym copied) alike))
+    ended.0 (subst (λ (s : Table). AreAlike s held) (sym same) (subst (λ (t : Table). AreAlike source t) (sym copied) alike))
 still_no_copy source target now held new (Narrow row leaf) alike same copied ended =
-    let there : refused_at (answer_of held) 0 source.table ≡ Some (record { row = row; leaf = leaf }) =
-    subst (λ (s : Seen). refused_at (answer_of held) 0 s.table ≡ Some (record { row = row; leaf = leaf })) same ended.1 in
-    subst (λ (t : Seen). refused_at (answer_of t) 0 source.table ≡ Some (record { row = row; leaf = leaf })) copied there
+    let there : refused_at (answer_of held) 0 source.rows ≡ Some (record { row = row; leaf = leaf }) =
+    subst (λ (s : Table). refused_at (answer_of held) 0 s.rows ≡ Some (record { row = row; leaf = leaf })) same ended.1 in
+    subst (λ (t : Table). refused_at (answer_of t) 0 source.rows ≡ Some (record { row = row; leaf = leaf })) copied there

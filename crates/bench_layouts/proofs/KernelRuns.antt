@@ -6,8 +6,10 @@ use Rattle.std.specs.Prelude.{unwrap_or}
 use Rattle.std.proofs.lemmas.Int.{ints}
 use Rattle.std.proofs.lemmas.List.{same_lists, get_or-map, length-map, get_or_default}
 use Rattle.std.proofs.lemmas.List.FromFn.{get_or-range_with_len, length-range_with_len}
-use Rattle.views.specs.Seen.{Seen, answer_of}
-use Rattle.views.specs.Stores.{Answer}
+use Rattle.views.specs.Tables.{Table, answer_of, after_stores}
+use Rattle.views.specs.Stores.{Answer, Keeping}
+use Rattle.views.specs.AnswerLaws.{kept_plain}
+use Rattle.lane_kernels.specs.Logs.{rows_log}
 use Rattle.lane_kernels.specs.Kernels.{kernel_fault, number_of, run_rows, IsRun}
 use Rattle.lane_kernels.specs.declared.fault.KernelFault.{KernelFault}
 use Rattle.lane_kernels.specs.declared.kernel.Kernel.{Kernel}
@@ -43,25 +45,26 @@ written_is rows table is =
     get_or_default table row d [] inside ∙ row_is rows table is row small ∙ sym (at_place row_of rows row d small))
 
 -- one run more
-pub run_more : (old view new : Seen) (kernel : Kernel) (round : ℕ) (number : Option ℤ)
-    → view ≡ record old { table = table_after kernel round old.table; tally = view.tally } → IsRun view new kernel (Ok number)
-    → new ≡ record old { table = table_after kernel (round + 1) old.table; tally = new.tally }
+pub run_more : (old view new : Table) (kernel : Kernel) (round : ℕ) (number : Option ℤ)
+    → view ≡ record old { rows = table_after kernel round old.rows; tally = view.tally } → IsRun view new kernel (Ok number)
+    → new ≡ record old { rows = table_after kernel (round + 1) old.rows; tally = new.tally }
 run_more old view new kernel round number same run =
     let one : round + 1 ≡ suc round = omega arith in
-    rw one (still_stored view new _ _ run.2 ∙ ap (λ (v : Seen). record v { table = run_rows kernel (length v.table) v.table; tally = new.tally }) same)
+    rw one (still_stored view new _ _ (run.2 ∙ ap (λ (keep : Keeping). after_stores view (run_rows keep kernel (length view.rows) view.rows) (rows_log kernel (length view.rows))) (kept_plain view))
+    ∙ ap (λ (v : Table). record v { rows = run_rows (λ leaf value. value) kernel (length v.rows) v.rows; tally = new.tally }) same)
 
-pub given_more : (old view new : Seen) (kernel : Kernel) (round : ℕ) (number : Option ℤ) (total more : ℤ)
-    → view ≡ record old { table = table_after kernel round old.table; tally = view.tally } → IsRun view new kernel (Ok number)
-    → total ≡ all_given kernel round old.table → more ≡ unwrap_or number (pos 0) → total +ℤ more ≡ all_given kernel (round + 1) old.table
+pub given_more : (old view new : Table) (kernel : Kernel) (round : ℕ) (number : Option ℤ) (total more : ℤ)
+    → view ≡ record old { rows = table_after kernel round old.rows; tally = view.tally } → IsRun view new kernel (Ok number)
+    → total ≡ all_given kernel round old.rows → more ≡ unwrap_or number (pos 0) → total +ℤ more ≡ all_given kernel (round + 1) old.rows
 given_more old view new kernel round number total more same run so_far is =
     let one : round + 1 ≡ suc round = omega arith in
-    let number_is = run.1 ∙ ap (λ (v : Seen). number_of kernel v.table) same in
+    let number_is = run.1 ∙ ap (λ (v : Table). number_of kernel v.rows) same in
     rw (one, so_far, is, number_is) refl
 
-pub refused_run : (old view new : Seen) (kernel : Kernel) (round rounds : ℕ) (fault : KernelFault) → round < rounds
-    → view ≡ record old { table = table_after kernel round old.table; tally = view.tally } → IsRun view new kernel (Err fault) → IsRefusedRun (answer_of old) kernel rounds old.table fault
+pub refused_run : (old view new : Table) (kernel : Kernel) (round rounds : ℕ) (fault : KernelFault) → round < rounds
+    → view ≡ record old { rows = table_after kernel round old.rows; tally = view.tally } → IsRun view new kernel (Err fault) → IsRefusedRun (answer_of old) kernel rounds old.rows fault
 refused_run old view new kernel round rounds fault small same run =
-    (round, small, sym (ap (λ (v : Seen). kernel_fault (answer_of v) kernel v.table) same) ∙ run.0)
+    (round, small, sym (ap (λ (v : Table). kernel_fault (answer_of v) kernel v.rows) same) ∙ run.0)
 
 -- what so many runs give fits, with one more and with a last one
 pub bound_more : (runs : ℕ) (sum more n : ℤ) → IsSumOfRuns runs sum → more ≡ n → FitsSigned w64 n → IsSumOfRuns (runs + 1) (sum +ℤ more)

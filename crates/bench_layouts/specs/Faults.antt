@@ -21,7 +21,7 @@ use Rattle.bench_layouts.specs.Rounds.{IsRefused}
 use Rattle.bench_layouts.specs.Tables.{measured_fields}
 
 -- the answer to a store in a leaf of the table
-abbrev pub answer_in : Form → ℕ → ℤ → Result Unit StoreFault
+abbrev pub answer_in : Form → ℕ → ℤ → Result ℤ StoreFault
 answer_in form leaf number =
     store_answer (kind_at (kinds_of measured_fields) leaf) (hold_at (holds_by (form_term form) measured_fields) leaf) number
 

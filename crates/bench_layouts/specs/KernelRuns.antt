@@ -36,7 +36,7 @@ written rows = map (λ row. map (value 0 row) (range_with_len 0 4)) (range_with_
 
 abbrev pub table_after : Kernel → ℕ → List (List ℤ) → List (List ℤ)
 table_after kernel zero table = table
-table_after kernel (suc runs) table = let before = table_after kernel runs table in run_rows kernel (length before) before
+table_after kernel (suc runs) table = let before = table_after kernel runs table in run_rows (λ leaf value. value) kernel (length before) before
 
 -- what a run gives, 0 where it is no number
 abbrev pub given : Kernel → List (List ℤ) → ℤ

@@ -3,7 +3,7 @@ ghost use Rattle.std.specs.Prelude.{◌≡◌, [], ◌∷◌, ◌<◌, IfSome, I
 ghost use Rattle.record_dim.specs.Schemas.{schema_fields};
 ghost use Rattle.map_expr.specs.Terms.{term_of};
 ghost use Rattle.piece_bits.specs.Tables.{zeros};
-ghost use Rattle.views.specs.Seen.{answer_of};
+ghost use Rattle.views.specs.Tables.{answer_of};
 ghost use Rattle.layout_copy.specs.Copies.{AreAlike};
 ghost use Rattle.bench_layouts.specs.declared.mode.Mode.TheVariants.{Copy};
 ghost use Rattle.bench_layouts.specs.Copies.{IsNoCopyOf};
@@ -62,10 +62,10 @@ pub fn sum(alloc: Global, work: Copying) -> Result<i128, BenchFault>
 
 // The same of a source of zeros.
 fn copied_from(alloc: Global, source: &mut View, work: Copying) -> Result<i128, BenchFault>
-    requires schema { schema_fields source.old.schema ≡ measured_fields }
+    requires schema { source.old.fields ≡ measured_fields }
     requires extents { source.old.extents ≡ work.rows ∷ [] }
-    requires expr { term_of source.old.expr ≡ form_term work.from }
-    requires table { source.old.table ≡ zeros work.rows 4 }
+    requires expr { source.old.mapping ≡ form_term work.from }
+    requires table { source.old.rows ≡ zeros work.rows 4 }
     ensures sum { IfOk result (λ sum. Ok sum ≡ checksum_of (Copy work)) }
     ensures fault { IfErr result (IsFaultOf (Copy work)) }
 {
@@ -83,10 +83,10 @@ fn copied_and_read<L: Ledger>(
     requires name { blank.name ≡ L.name }
     requires parts { blank.parts ≡ L.parts }
     requires some { 0 < blank.parts }
-    requires schemas { (schema_fields source.old.schema ≡ measured_fields) × (schema_fields target.old.schema ≡ measured_fields) }
+    requires schemas { (source.old.fields ≡ measured_fields) × (target.old.fields ≡ measured_fields) }
     requires extents { (source.old.extents ≡ work.rows ∷ []) × (target.old.extents ≡ work.rows ∷ []) }
-    requires exprs { (term_of source.old.expr ≡ form_term work.from) × (term_of target.old.expr ≡ form_term work.to) }
-    requires table { source.old.table ≡ zeros work.rows 4 }
+    requires exprs { (source.old.mapping ≡ form_term work.from) × (target.old.mapping ≡ form_term work.to) }
+    requires table { source.old.rows ≡ zeros work.rows 4 }
     ensures sum { IfOk result (λ sum. Ok sum ≡ checksum_of (Copy work)) }
     ensures fault { IfErr result (IsFaultOf (Copy work)) }
 {
@@ -105,8 +105,8 @@ fn copy_rounds<L: Ledger>(
     steps: &mut Steps<L>,
 ) -> Result<(), CopyFault>
     requires { AreAlike source.old target.old }
-    ensures copied { OnOk result (target.new ≡ record target.old { table = source.old.table; tally = target.new.tally }) }
-    ensures refused { IfErr result (IsNoCopyOf (answer_of target.old) source.old.table) }
+    ensures copied { OnOk result (target.new ≡ record target.old { rows = source.old.rows; tally = target.new.tally }) }
+    ensures refused { IfErr result (IsNoCopyOf (answer_of target.old) source.old.rows) }
 {
     copy(source, target, steps)?;
     for _round in 0..again {

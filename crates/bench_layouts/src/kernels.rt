@@ -3,7 +3,7 @@ ghost use Rattle.std.specs.Prelude.{◌≡◌, [], ◌∷◌, ◌<◌, IfSome, I
 ghost use Rattle.record_dim.specs.Schemas.{schema_fields};
 ghost use Rattle.map_expr.specs.Terms.{term_of};
 ghost use Rattle.piece_bits.specs.Tables.{zeros};
-ghost use Rattle.views.specs.Seen.{answer_of};
+ghost use Rattle.views.specs.Tables.{answer_of};
 ghost use Rattle.lane_kernels.specs.Kernels.{IsKernelOf};
 ghost use Rattle.bench_layouts.specs.declared.mode.Mode.TheVariants.{Kernel as Runs};
 ghost use Rattle.bench_layouts.specs.Faults.{IsFaultOf};
@@ -119,9 +119,9 @@ fn written_and_run<L: Ledger>(
     requires name { blank.name ≡ L.name }
     requires parts { blank.parts ≡ L.parts }
     requires some { 0 < blank.parts }
-    requires schema { schema_fields view.old.schema ≡ measured_fields }
-    requires expr { term_of view.old.expr ≡ form_term work.form }
-    requires table { view.old.table ≡ zeros work.rows 4 }
+    requires schema { view.old.fields ≡ measured_fields }
+    requires expr { view.old.mapping ≡ form_term work.form }
+    requires table { view.old.rows ≡ zeros work.rows 4 }
     ensures sum { IfOk result (λ sum. Ok sum ≡ checksum_of (Runs work)) }
     ensures fault { IfErr result (IsFaultOf (Runs work)) }
 {
@@ -141,10 +141,10 @@ fn run_rounds<L: Ledger>(
     steps: &mut Steps<L>,
 ) -> Result<i128, KernelFault>
     requires { IsKernelOf view.old kernel.now }
-    ensures given { IfOk result (λ given. given ≡ all_given kernel.now rounds view.old.table) }
+    ensures given { IfOk result (λ given. given ≡ all_given kernel.now rounds view.old.rows) }
     ensures bound { IfOk result (IsSumOfRuns rounds) }
-    ensures table { OnOk result (view.new ≡ record view.old { table = table_after kernel.now rounds view.old.table; tally = view.new.tally }) }
-    ensures refused { IfErr result (IsRefusedRun (answer_of view.old) kernel.now rounds view.old.table) }
+    ensures table { OnOk result (view.new ≡ record view.old { rows = table_after kernel.now rounds view.old.rows; tally = view.new.tally }) }
+    ensures refused { IfErr result (IsRefusedRun (answer_of view.old) kernel.now rounds view.old.rows) }
 {
     let mut total = 0i128;
     for _round in 0..rounds {

@@ -4,7 +4,7 @@ ghost use Rattle.record_dim.specs.Schemas.{schema_fields};
 ghost use Rattle.map_expr.specs.Terms.{term_of};
 ghost use Rattle.places.specs.Image.{entry};
 ghost use Rattle.piece_bits.specs.Tables.{zeros};
-ghost use Rattle.views.specs.Seen.{answer_of, leaf_count_of};
+ghost use Rattle.views.specs.Tables.{answer_of, leaf_count_of};
 ghost use Rattle.bench_layouts.specs.declared.mode.Mode.TheVariants.{Table};
 ghost use Rattle.bench_layouts.specs.Faults.{IsFaultOf};
 ghost use Rattle.bench_layouts.specs.Forms.{form_term, table_extents};
@@ -43,10 +43,10 @@ fn written_and_read<L: Ledger>(
     requires name { blank.name ≡ L.name }
     requires parts { blank.parts ≡ L.parts }
     requires some { 0 < blank.parts }
-    requires schema { schema_fields view.old.schema ≡ measured_fields }
-    requires expr { term_of view.old.expr ≡ form_term work.form }
+    requires schema { view.old.fields ≡ measured_fields }
+    requires expr { view.old.mapping ≡ form_term work.form }
     requires rows { rows ≡ product (table_extents work.form work.rows) }
-    requires table { view.old.table ≡ zeros rows 4 }
+    requires table { view.old.rows ≡ zeros rows 4 }
     ensures sum { IfOk result (λ sum. Ok sum ≡ checksum_of (Table work)) }
     ensures fault { IfErr result (IsFaultOf (Table work)) }
 {
@@ -64,7 +64,7 @@ pub fn write_rounds<L: Ledger>(
     steps: &mut Steps<L>,
 ) -> Result<(), StoreFault>
     requires measured { IsMeasured view.old }
-    requires rows { length view.old.table ≡ rows }
+    requires rows { length view.old.rows ≡ rows }
     requires zero { HasEntries rows (entry_after 0) view.old }
     ensures rewritten { OnOk result (IsRewritten view.old view.new) }
     ensures entries { OnOk result (HasEntries rows (entry_after rounds) view.new) }
@@ -84,7 +84,7 @@ fn write_round<L: Ledger>(
     steps: &mut Steps<L>,
 ) -> Result<(), StoreFault>
     requires measured { IsMeasured view.old }
-    requires rows { length view.old.table ≡ rows }
+    requires rows { length view.old.rows ≡ rows }
     ensures rewritten { OnOk result (IsRewritten view.old view.new) }
     ensures entries { OnOk result (HasEntries rows (value round) view.new) }
     ensures refused { IfErr result (IsRefusedInRound (answer_of view.old) round rows) }
@@ -104,7 +104,7 @@ fn write_row<L: Ledger>(
     steps: &mut Steps<L>,
 ) -> Result<(), StoreFault>
     requires measured { IsMeasured view.old }
-    requires row_in { row < length view.old.table }
+    requires row_in { row < length view.old.rows }
     ensures rewritten { OnOk result (IsRewritten view.old view.new) }
     ensures values { OnOk result (HasValues 4 round row view.new) }
     ensures others { OnOk result (OthersStand row view.old view.new) }
@@ -130,9 +130,9 @@ fn value(round: u32, row: u32, leaf: usize) -> i128
 #[inline(never)]
 pub fn read_rounds<L: Ledger>(view: &mut View, rows: u32, rounds: u32, steps: &mut Steps<L>) -> i128
     requires leaves { leaf_count_of view.old ≡ 4 }
-    requires rows { rows ≤ length view.old.table }
+    requires rows { rows ≤ length view.old.rows }
     requires small { AreSmall view.old }
-    ensures sum { result ≡ sum_read (entry view.old.table) rows rounds }
+    ensures sum { result ≡ sum_read (entry view.old.rows) rows rounds }
     ensures same { view.new ≡ record view.old { tally = view.new.tally } }
 {
     let mut total = 0i128;
@@ -145,9 +145,9 @@ pub fn read_rounds<L: Ledger>(view: &mut View, rows: u32, rounds: u32, steps: &m
 // The sum of all entries.
 fn read_round<L: Ledger>(view: &mut View, rows: u32, steps: &mut Steps<L>) -> i128
     requires leaves { leaf_count_of view.old ≡ 4 }
-    requires rows { rows ≤ length view.old.table }
+    requires rows { rows ≤ length view.old.rows }
     requires small { AreSmall view.old }
-    ensures sum { result ≡ round_sum (entry view.old.table) rows }
+    ensures sum { result ≡ round_sum (entry view.old.rows) rows }
     ensures same { view.new ≡ record view.old { tally = view.new.tally } }
 {
     let mut total = 0i128;
@@ -161,9 +161,9 @@ fn read_round<L: Ledger>(view: &mut View, rows: u32, steps: &mut Steps<L>) -> i1
 #[inline]
 fn read_row<L: Ledger>(view: &mut View, row: u32, steps: &mut Steps<L>) -> i128
     requires leaves { leaf_count_of view.old ≡ 4 }
-    requires row_in { row < length view.old.table }
+    requires row_in { row < length view.old.rows }
     requires small { AreSmall view.old }
-    ensures sum { result ≡ row_sum (entry view.old.table) row }
+    ensures sum { result ≡ row_sum (entry view.old.rows) row }
     ensures same { view.new ≡ record view.old { tally = view.new.tally } }
 {
     let mut total = 0i128;

@@ -22,10 +22,10 @@ const COLUMNS: u32 = 1000;
 /// The view of zeros over a flat array, whatever the order.
 #[tactic(auto, using(crate::proofs::Views::views))]
 pub fn flat_view(alloc: Global, form: Form, rows: u32) -> Result<View, MakeView>
-    ensures schema { IfOk result (λ view. schema_fields view.schema ≡ measured_fields) }
+    ensures schema { IfOk result (λ view. view.fields ≡ measured_fields) }
     ensures extents { IfOk result (λ view. view.extents ≡ rows ∷ []) }
-    ensures expr { IfOk result (λ view. term_of view.expr ≡ form_term form) }
-    ensures table { IfOk result (λ view. view.table ≡ zeros rows 4) }
+    ensures expr { IfOk result (λ view. view.mapping ≡ form_term form) }
+    ensures table { IfOk result (λ view. view.rows ≡ zeros rows 4) }
     ensures refused { IfErr result (IsNoView (form_term form) (rows ∷ []) measured_fields) }
 {
     let extents = extents_of(&[ExtentWord::Fixed(rows)])?;
@@ -35,10 +35,10 @@ pub fn flat_view(alloc: Global, form: Form, rows: u32) -> Result<View, MakeView>
 /// The view of zeros of the form's own extents.
 #[tactic(auto, using(crate::proofs::Views::views))]
 pub fn table_view(alloc: Global, form: Form, rows: u32) -> Result<View, MakeView>
-    ensures schema { IfOk result (λ view. schema_fields view.schema ≡ measured_fields) }
+    ensures schema { IfOk result (λ view. view.fields ≡ measured_fields) }
     ensures extents { IfOk result (λ view. view.extents ≡ table_extents form rows) }
-    ensures expr { IfOk result (λ view. term_of view.expr ≡ form_term form) }
-    ensures table { IfOk result (λ view. view.table ≡ zeros (product (table_extents form rows)) 4) }
+    ensures expr { IfOk result (λ view. view.mapping ≡ form_term form) }
+    ensures table { IfOk result (λ view. view.rows ≡ zeros (product (table_extents form rows)) 4) }
     ensures refused { IfErr result (IsNoView (form_term form) (table_extents form rows) measured_fields) }
 {
     let extents = table_extents(form, rows)?;
@@ -47,10 +47,10 @@ pub fn table_view(alloc: Global, form: Form, rows: u32) -> Result<View, MakeView
 
 // The view of zeros over an array.
 fn view_over(alloc: Global, form: Form, extents: Extents) -> Result<View, MakeView>
-    ensures schema { IfOk result (λ view. schema_fields view.schema ≡ measured_fields) }
+    ensures schema { IfOk result (λ view. view.fields ≡ measured_fields) }
     ensures extents { IfOk result (λ view. view.extents ≡ extents) }
-    ensures expr { IfOk result (λ view. term_of view.expr ≡ form_term form) }
-    ensures table { IfOk result (λ view. view.table ≡ zeros (product extents) 4) }
+    ensures expr { IfOk result (λ view. view.mapping ≡ form_term form) }
+    ensures table { IfOk result (λ view. view.rows ≡ zeros (product extents) 4) }
     ensures refused { IfErr result (IsNoView (form_term form) extents measured_fields) }
 {
     let schema = measured_schema(alloc)?;

@@ -80,7 +80,7 @@ none_from None e = refl
 none_from (Some z) e = absurd (cc e)
 
 abbrev value_of : Place → Option ℤ → Result ℤ RowFault
-value_of place number = the_number place number >>= (λ value. taken place value (store_answer place.kind place.hold value))
+value_of place number = the_number place number >>= (λ value. taken place (store_answer place.kind place.hold value))
 
 -- no field, a field that is no number, and one that is
 pub value_short : (place : Place) (fields : List (List ℕ)) → field_at fields place.column ≡ None → value_at place fields ≡ Err (ShortRow place.row place.leaf)
@@ -92,13 +92,13 @@ value_in place fields field some = ap (λ (found : Option (List ℕ)). the_field
 pub value_none : (place : Place) (fields : List (List ℕ)) (field : List ℕ) → field_at fields place.column ≡ Some field → option_map clipped (number_of (unspaced field)) ≡ None → value_at place fields ≡ Err (Number place.row place.leaf)
 value_none place fields field some none = value_in place fields field some ∙ ap (value_of place) (none_from (number_of (unspaced field)) none)
 
-clip_of : (place : Place) (number : Option ℤ) (value : ℤ) → option_map clipped number ≡ Some value → value_of place number ≡ taken place value (store_answer place.kind place.hold value)
+clip_of : (place : Place) (number : Option ℤ) (value : ℤ) → option_map clipped number ≡ Some value → value_of place number ≡ taken place (store_answer place.kind place.hold value)
 clip_of place None value is = absurd (cc is)
 clip_of place (Some z) value is = ⊎_elim
-    (λ (same : clipped z ≡ z). ap (λ v. taken place v (store_answer place.kind place.hold v)) (sym same ∙ some_is is))
+    (λ (same : clipped z ≡ z). ap (λ v. taken place (store_answer place.kind place.hold v)) (sym same ∙ some_is is))
     (λ (far : (store_answer place.kind place.hold z ≡ Err Range) × (store_answer place.kind place.hold (clipped z) ≡ Err Range)).
-    ap (taken place z) far.0 ∙ sym (ap (λ v. taken place value (store_answer place.kind place.hold v)) (sym (some_is is)) ∙ ap (taken place value) far.1))
+    ap (taken place) far.0 ∙ sym (ap (λ v. taken place (store_answer place.kind place.hold v)) (sym (some_is is)) ∙ ap (taken place) far.1))
     (kept place.kind place.hold z)
 
-pub value_some : (place : Place) (fields : List (List ℕ)) (field : List ℕ) (value : ℤ) → field_at fields place.column ≡ Some field → option_map clipped (number_of (unspaced field)) ≡ Some value → value_at place fields ≡ taken place value (store_answer place.kind place.hold value)
+pub value_some : (place : Place) (fields : List (List ℕ)) (field : List ℕ) (value : ℤ) → field_at fields place.column ≡ Some field → option_map clipped (number_of (unspaced field)) ≡ Some value → value_at place fields ≡ taken place (store_answer place.kind place.hold value)
 value_some place fields field value some is = value_in place fields field some ∙ clip_of place (number_of (unspaced field)) value is

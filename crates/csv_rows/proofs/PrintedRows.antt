@@ -46,7 +46,7 @@ declared_text kind z is = number_text z (λ n e. few_above kind n (subst (IsDecl
 le_true : (a b : ℤ) → a ≤ℤ b → int_le a b ≡ true
 le_true a b e = grind (arith, ints)
 
-pub fits_stored : (kind : LeafType) (hold : Hold) (z : ℤ) → Fits kind hold z → store_answer kind hold z ≡ Ok tt
+pub fits_stored : (kind : LeafType) (hold : Hold) (z : ℤ) → Fits kind hold z → store_answer kind hold z ≡ Ok z
 fits_stored kind hold z fits =
     rw (le_true (least_of kind) z fits.declared.0, le_true z (greatest_of kind) fits.declared.1, le_true (least_in hold.signed hold.width) z fits.held.0, le_true z (greatest_in hold.signed hold.width) fits.held.1) refl
 
@@ -74,10 +74,10 @@ field_at (x ∷ before) value behind (suc n) is = field_at before value behind n
 value_read : (place : Place) (fields : List (List ℕ)) (value : ℤ) → slice_get fields place.column ≡ Some (decimal_text value) → Fits place.kind place.hold value → value_at place fields ≡ Ok value
 value_read place fields value here fits =
     let text = declared_text place.kind value fits.declared in
-    ap (λ found. the_field place found >>= (λ field. the_number place (number_of (unspaced field)) >>= (λ v. taken place v (store_answer place.kind place.hold v)))) here
-    ∙ ap (λ (field : List ℕ). the_number place (number_of field) >>= (λ v. taken place v (store_answer place.kind place.hold v))) (unspaced_same (decimal_text value) text.plain)
-    ∙ ap (λ number. the_number place number >>= (λ v. taken place v (store_answer place.kind place.hold v))) text.number
-    ∙ ap (taken place value) (fits_stored place.kind place.hold value fits)
+    ap (λ found. the_field place found >>= (λ field. the_number place (number_of (unspaced field)) >>= (λ v. taken place (store_answer place.kind place.hold v)))) here
+    ∙ ap (λ (field : List ℕ). the_number place (number_of field) >>= (λ v. taken place (store_answer place.kind place.hold v))) (unspaced_same (decimal_text value) text.plain)
+    ∙ ap (λ number. the_number place number >>= (λ v. taken place (store_answer place.kind place.hold v))) text.number
+    ∙ ap (taken place) (fits_stored place.kind place.hold value fits)
 
 -- a row, from a leaf on
 row_read : (row : ℕ) (before values : List ℤ) (leaf : ℕ) (kinds : List LeafType) (holds : List Hold) → leaf ≡ length before → FitRow kinds holds values → row_values row (map decimal_text (before ++ values)) leaf (with_columns (range_with_len leaf (length values)) kinds holds) ≡ Ok values

@@ -101,16 +101,17 @@ abbrev pub refusal : ℕ → ℕ → StoreFault → RowFault
 refusal row leaf store.Range = Range row leaf
 refusal row leaf store.Narrow = Narrow row leaf
 
-abbrev pub taken : Place → ℤ → Result Unit StoreFault → Result ℤ RowFault
-taken place value (Ok done) = Ok value
-taken place value (Err fault) = Err (refusal place.row place.leaf fault)
+-- the number that an answer keeps
+abbrev pub taken : Place → Result ℤ StoreFault → Result ℤ RowFault
+taken place (Ok kept) = Ok kept
+taken place (Err fault) = Err (refusal place.row place.leaf fault)
 
--- the value at a place of a row's fields
+-- the number at a place of a row's fields, as it is kept
 abbrev pub value_at : Place → List (List ℕ) → Result ℤ RowFault
 value_at place fields = do
   field ← the_field place (slice_get fields place.column)
   value ← the_number place (number_of (unspaced field))
-  taken place value (store_answer place.kind place.hold value)
+  taken place (store_answer place.kind place.hold value)
 
 -- the leaves from the one of this number on: the column, the type and the hold of each
 pub record Leaf : Type 0 where

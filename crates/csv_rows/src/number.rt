@@ -33,14 +33,14 @@ fn digits_number(digits: &[u8]) -> Option<i128>
     if digits.is_empty() {
         return None;
     }
-    if digits.len() > MOST_DIGITS {
+    if digits.len() > MAX_DIGITS {
         return Some(many_digits(digits)? as i128);
     }
     Some(i128::from(few_digits(digits)?))
 }
 
 // The most digits whose number lies below 2^64 whatever they are.
-const MOST_DIGITS: usize = 19;
+const MAX_DIGITS: usize = 19;
 
 fn few_digits(digits: &[u8]) -> Option<u64>
     requires { length digits.now ≤ 19 }

@@ -5,8 +5,8 @@ use Rattle.std.specs.List.{count_by}
 use Rattle.std.specs.Option.{option_or}
 use Rattle.std.specs.Ordering.{int_eq}
 use Rattle.record_dim.specs.LeafTypes.{width_of}
-use Rattle.views.specs.Seen.{Seen, leaf_count_of, leaf_type_of, answer_of, after_stores}
-use Rattle.views.specs.Stores.{Answer}
+use Rattle.views.specs.Tables.{Table, leaf_count_of, leaf_type_of, answer_of, kept_of, after_stores}
+use Rattle.views.specs.Stores.{Answer, Keeping}
 use Rattle.views.specs.declared.fault.StoreFault.TheVariants as store
 use Rattle.views.specs.declared.fault.StoreFault.{StoreFault}
 use Rattle.lane_kernels.specs.Logs.{rows_log, fault_log}
@@ -44,18 +44,18 @@ stored (Axpy a x y) row = Some (record { leaf = y; value = a *ℤ in_leaf x row 
 stored (Clamp x lo hi) row = Some (record { leaf = x; value = int_max lo (int_min (in_leaf x row) hi) })
 stored _ row = None
 
--- a row after a store
-abbrev pub with_store : List ℤ → Option Store → List ℤ
-with_store row None = row
-with_store row (Some store) = slice_set row store.leaf store.value
+-- a row after a store, with the number that is kept
+abbrev pub with_store : Keeping → List ℤ → Option Store → List ℤ
+with_store keep row None = row
+with_store keep row (Some store) = slice_set row store.leaf (keep store.leaf store.value)
 
 -- the first so many rows after the kernel, the others as they were
-abbrev pub run_rows : Kernel → ℕ → List (List ℤ) → List (List ℤ)
-run_rows kernel count rows = map (λ row. with_store row (stored kernel row)) (take count rows) ++ drop count rows
+abbrev pub run_rows : Keeping → Kernel → ℕ → List (List ℤ) → List (List ℤ)
+run_rows keep kernel count rows = map (λ row. with_store keep row (stored kernel row)) (take count rows) ++ drop count rows
 
 -- the fault of a store that the row of this number does not take
-abbrev pub answer_fault : ℕ → ℕ → Result Unit StoreFault → Option KernelFault
-answer_fault row leaf (Ok done) = None
+abbrev pub answer_fault : ℕ → ℕ → Result ℤ StoreFault → Option KernelFault
+answer_fault row leaf (Ok kept) = None
 answer_fault row leaf (Err store.Range) = Some (Range row leaf)
 answer_fault row leaf (Err store.Narrow) = Some (Narrow row leaf)
 
@@ -99,18 +99,18 @@ rows_before (Range row leaf) = row
 rows_before (Narrow row leaf) = row
 
 -- what a kernel answers on a view, which becomes `new`; after a fault exactly the rows before it are changed
-abbrev pub IsRun : Seen → Seen → Kernel → Result (Option ℤ) KernelFault → Type 0
+abbrev pub IsRun : Table → Table → Kernel → Result (Option ℤ) KernelFault → Type 0
 IsRun old new kernel (Ok number) =
-    (kernel_fault (answer_of old) kernel old.table ≡ None) × (number ≡ number_of kernel old.table)
-    × (new ≡ after_stores old (run_rows kernel (length old.table) old.table) (rows_log kernel (length old.table)))
+    (kernel_fault (answer_of old) kernel old.rows ≡ None) × (number ≡ number_of kernel old.rows)
+    × (new ≡ after_stores old (run_rows (kept_of old) kernel (length old.rows) old.rows) (rows_log kernel (length old.rows)))
 IsRun old new kernel (Err fault) =
-    (kernel_fault (answer_of old) kernel old.table ≡ Some fault)
-    × (new ≡ after_stores old (run_rows kernel (rows_before fault) old.table) (fault_log kernel fault))
+    (kernel_fault (answer_of old) kernel old.rows ≡ Some fault)
+    × (new ≡ after_stores old (run_rows (kept_of old) kernel (rows_before fault) old.rows) (fault_log kernel fault))
 
 -- a leaf of a view, of at most 32 bits
-pub record IsNarrowLeaf (seen : Seen) (leaf : ℕ) : Type 0 where
-  pub inside : leaf < leaf_count_of seen
-  pub narrow : width_of (leaf_type_of seen leaf) ≤ 32
+pub record IsNarrowLeaf (table : Table) (leaf : ℕ) : Type 0 where
+  pub inside : leaf < leaf_count_of table
+  pub narrow : width_of (leaf_type_of table leaf) ≤ 32
 
 -- a factor from -2^31 to 2^31 - 1, and any other constant from -2^31 to 2^32 - 1
 abbrev pub IsFactor : ℤ → Type 0
@@ -120,13 +120,13 @@ abbrev pub IsConstant : ℤ → Type 0
 IsConstant c = (neg_ℤ (pos (2 ^ 31)) ≤ℤ c) × (c <ℤ pos (2 ^ 32))
 
 -- a kernel that can run on a view
-abbrev pub IsKernelOf : Seen → Kernel → Type 0
-IsKernelOf seen (Axpy a x y) = IsFactor a × IsNarrowLeaf seen x × IsNarrowLeaf seen y
-IsKernelOf seen (Clamp x lo hi) = IsNarrowLeaf seen x × IsConstant lo × IsConstant hi × (lo ≤ℤ hi)
-IsKernelOf seen (Sum x) = IsNarrowLeaf seen x
-IsKernelOf seen (Least x) = IsNarrowLeaf seen x
-IsKernelOf seen (Greatest x) = IsNarrowLeaf seen x
-IsKernelOf seen (CountWhere x op c) = IsNarrowLeaf seen x × IsConstant c
+abbrev pub IsKernelOf : Table → Kernel → Type 0
+IsKernelOf table (Axpy a x y) = IsFactor a × IsNarrowLeaf table x × IsNarrowLeaf table y
+IsKernelOf table (Clamp x lo hi) = IsNarrowLeaf table x × IsConstant lo × IsConstant hi × (lo ≤ℤ hi)
+IsKernelOf table (Sum x) = IsNarrowLeaf table x
+IsKernelOf table (Least x) = IsNarrowLeaf table x
+IsKernelOf table (Greatest x) = IsNarrowLeaf table x
+IsKernelOf table (CountWhere x op c) = IsNarrowLeaf table x × IsConstant c
 
 -- the most steps of a kernel for each row, and over so many rows; one more is left for a kernel that ends
 abbrev pub row_cost : Kernel → ℕ

@@ -4,6 +4,7 @@ use Rattle.std.specs.List.{range_with_len}
 use Rattle.std.specs.Prelude.{slice_set}
 use Rattle.std.proofs.lemmas.List.FromFn.{get_or-range_with_len, length-range_with_len}
 use Rattle.row_updates.specs.declared.fault.UpdateFault.{UpdateFault}
+use Rattle.views.specs.Stores.{Keeping}
 use Rattle.row_updates.specs.Rows.{each, ◌>>=◌, Setting, with_values}
 
 -- the first thing gave something, and so did the others
@@ -77,11 +78,11 @@ rows_stop step all n ys f small so_far stop =
     each_stop step (range_with_len 0 all) n 0 ys f inside (rw (take_range 0 n all few) so_far) (rw at stop)
 
 -- one value more that is stored
-pub with_values_push : (sets : List Setting) (values : List ℤ) (row : List ℤ) (n : ℕ) (d : Setting) (e : ℤ) → n < length sets → n < length values → with_values (take (suc n) sets) (take (suc n) values) row ≡ slice_set (with_values (take n sets) (take n values) row) (get_or sets n d).leaf (get_or values n e)
-with_values_push [] values row n d e small short = absurd (omega (arith, small))
-with_values_push (s ∷ sets) [] row n d e small short = absurd (omega (arith, short))
-with_values_push (s ∷ sets) (v ∷ values) row zero d e small short = refl
-with_values_push (s ∷ sets) (v ∷ values) row (suc n) d e small short =
+pub with_values_push : (keep : Keeping) (sets : List Setting) (values : List ℤ) (row : List ℤ) (n : ℕ) (d : Setting) (e : ℤ) → n < length sets → n < length values → with_values keep (take (suc n) sets) (take (suc n) values) row ≡ slice_set (with_values keep (take n sets) (take n values) row) (get_or sets n d).leaf (keep (get_or sets n d).leaf (get_or values n e))
+with_values_push keep [] values row n d e small short = absurd (omega (arith, small))
+with_values_push keep (s ∷ sets) [] row n d e small short = absurd (omega (arith, short))
+with_values_push keep (s ∷ sets) (v ∷ values) row zero d e small short = refl
+with_values_push keep (s ∷ sets) (v ∷ values) row (suc n) d e small short =
     let less : n < length sets = omega (arith, small) in
     let shorter : n < length values = omega (arith, short) in
-    with_values_push sets values (slice_set row s.leaf v) n d e less shorter
+    with_values_push keep sets values (slice_set row s.leaf (keep s.leaf v)) n d e less shorter

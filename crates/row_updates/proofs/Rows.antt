@@ -1,5 +1,5 @@
 -- Updates of rows, step by step.
-use Rattle.std.proofs.Common.{◌≡◌, ℕ, suc, ◌+◌, ◌<◌, ◌≤◌, List, [], ◌∷◌, ◌++◌, length, map, get_or, take, drop, set, ℤ, pos, Bool, true, false, Option, Some, Result, Ok, Err, refl, sym, ap, ◌∙◌, arith, count_by, cond}
+use Rattle.std.proofs.Common.{◌≡◌, ℕ, suc, ◌+◌, ◌<◌, ◌≤◌, List, [], ◌∷◌, ◌++◌, length, map, get_or, take, drop, set, ℤ, pos, Bool, true, false, Option, Some, Result, Ok, Err, is_ok, refl, sym, ap, ◌∙◌, arith, count_by, cond}
 use Rattle.std.specs.List.{range_with_len, slice_get}
 use Rattle.std.specs.Prelude.{slice_set}
 use Rattle.std.proofs.lemmas.List.{take_more, take_more_set, drop-set-lt, drop_more, get_or-drop, get_or-set_same, set-set, get_or-map, length-set, length-map, get_or-take}
@@ -9,13 +9,13 @@ use Rattle.extents.specs.Indices.{indices}
 use Rattle.expr_lang.specs.Terms.{Term}
 use Rattle.linearize.specs.Slots.{index_at}
 use Rattle.piece_bits.specs.Tables.{with_entry}
-use Rattle.views.specs.Tallies.{Write}
+use Rattle.views.specs.Tallies.{Access, Write}
 use Rattle.views.specs.TallyLaws.{after_log-none, logs_more}
-use Rattle.views.specs.Seen.{Seen, answer_of, after_stores, after_write}
+use Rattle.views.specs.Tables.{Table, answer_of, kept_of, after_log, after_stores, after_write}
 use Rattle.views.specs.declared.fault.StoreFault.{StoreFault}
 use Rattle.row_updates.specs.declared.fault.UpdateFault.{UpdateFault}
 use Rattle.row_updates.specs.declared.update.Assign.{Assign}
-use Rattle.views.specs.Stores.{Answer}
+use Rattle.views.specs.Stores.{Answer, Keeping, told}
 use Rattle.row_updates.specs.Rows.{Setting, setting_of, each, in_row, store_kind, value_of, passes, new_value, with_values, updated_row, updated_rows, counted, ◌>>=◌}
 use Rattle.row_updates.specs.Logs.{value_log, sides_log, stores_log, row_log, update_log}
 use Rattle.views.specs.TallyLaws.{after_stores-append}
@@ -60,43 +60,57 @@ sides_stopped answer number row index sets place set values fault small is so_fa
     ∙ ap (λ (s : Setting). sides_log answer number row index (take place (map setting_of sets)) ++ value_log number row index s.value) at
 
 -- one store more
-pub stored_more : (old view new : Seen) (row place : ℕ) (sets : List Assign) (set : Assign) (values : List ℤ) → row < length old.table → place < length sets → place < length values → set ≡ get_or sets place set
-    → view ≡ after_stores old (slice_set old.table row (with_values (take place (map setting_of sets)) (take place values) (get_or old.table row []))) (stores_log row (take place (map setting_of sets)))
+pub stored_more : (old view new : Table) (row place : ℕ) (sets : List Assign) (set : Assign) (values : List ℤ) → row < length old.rows → place < length sets → place < length values → set ≡ get_or sets place set
+    → view ≡ after_stores old (slice_set old.rows row (with_values (kept_of old) (take place (map setting_of sets)) (take place values) (get_or old.rows row []))) (stores_log row (take place (map setting_of sets)))
     → new ≡ after_write view row set.leaf (get_or values place (pos 0))
-    → new ≡ after_stores old (slice_set old.table row (with_values (take (place + 1) (map setting_of sets)) (take (place + 1) values) (get_or old.table row []))) (stores_log row (take (place + 1) (map setting_of sets)))
+    → new ≡ after_stores old (slice_set old.rows row (with_values (kept_of old) (take (place + 1) (map setting_of sets)) (take (place + 1) values) (get_or old.rows row []))) (stores_log row (take (place + 1) (map setting_of sets)))
 stored_more old view new row place sets set values inside small short is so_far more =
-    let row_so_far = with_values (take place (map setting_of sets)) (take place values) (get_or old.table row []) in
+    let number = kept_of old set.leaf (get_or values place (pos 0)) in
+    let row_so_far = with_values (kept_of old) (take place (map setting_of sets)) (take place values) (get_or old.rows row []) in
     let at = setting_at sets place set (setting_of set) small is in
     let one : place + 1 ≡ suc place = omega arith in
-    let row_now : with_values (take (place + 1) (map setting_of sets)) (take (place + 1) values) (get_or old.table row []) ≡ slice_set row_so_far set.leaf (get_or values place (pos 0)) =
-    ap (λ (n : ℕ). with_values (take n (map setting_of sets)) (take n values) (get_or old.table row [])) one
-    ∙ with_values_push (map setting_of sets) values (get_or old.table row []) place (setting_of set) (pos 0) (settings_long sets place small) short
-    ∙ ap (λ (s : Setting). slice_set row_so_far s.leaf (get_or values place (pos 0))) at in
-    let here : get_or (slice_set old.table row row_so_far) row [] ≡ row_so_far = get_or-set_same old.table row row_so_far [] inside in
-    let twice = set-set old.table row row_so_far (slice_set row_so_far set.leaf (get_or values place (pos 0))) in
-    let table = ap (λ (r : List ℤ). slice_set (slice_set old.table row row_so_far) row (slice_set r set.leaf (get_or values place (pos 0)))) here ∙ twice ∙ ap (slice_set old.table row) (sym row_now) in
+    let row_now : with_values (kept_of old) (take (place + 1) (map setting_of sets)) (take (place + 1) values) (get_or old.rows row []) ≡ slice_set row_so_far set.leaf number =
+    ap (λ (n : ℕ). with_values (kept_of old) (take n (map setting_of sets)) (take n values) (get_or old.rows row [])) one
+    ∙ with_values_push (kept_of old) (map setting_of sets) values (get_or old.rows row []) place (setting_of set) (pos 0) (settings_long sets place small) short
+    ∙ ap (λ (s : Setting). slice_set row_so_far s.leaf (kept_of old s.leaf (get_or values place (pos 0)))) at in
+    let here : get_or (slice_set old.rows row row_so_far) row [] ≡ row_so_far = get_or-set_same old.rows row row_so_far [] inside in
+    let twice = set-set old.rows row row_so_far (slice_set row_so_far set.leaf number) in
+    let table = ap (λ (r : List ℤ). slice_set (slice_set old.rows row row_so_far) row (slice_set r set.leaf number)) here ∙ twice ∙ ap (slice_set old.rows row) (sym row_now) in
     let log = stores_log row (take place (map setting_of sets)) in
     let logs : stores_log row (take (place + 1) (map setting_of sets)) ≡ log ++ Write row set.leaf ∷ [] =
     stores_push row (map setting_of sets) place (setting_of set) (settings_long sets place small) ∙ ap (λ (s : Setting). log ++ Write row s.leaf ∷ []) at in
-    let before = slice_set old.table row row_so_far in
-    more ∙ ap (λ (v : Seen). after_write v row set.leaf (get_or values place (pos 0))) so_far
-    ∙ after_stores-append old before (with_entry before row set.leaf (get_or values place (pos 0))) log (Write row set.leaf ∷ [])
+    let before = slice_set old.rows row row_so_far in
+    more ∙ ap (λ (v : Table). after_write v row set.leaf (get_or values place (pos 0))) so_far
+    ∙ after_stores-append old before (with_entry before row set.leaf number) log (Write row set.leaf ∷ [])
     ∙ ap (λ (t : List (List ℤ)). after_stores old t (log ++ Write row set.leaf ∷ [])) table
-    ∙ ap (after_stores old (slice_set old.table row (with_values (take (place + 1) (map setting_of sets)) (take (place + 1) values) (get_or old.table row [])))) (sym logs)
+    ∙ ap (after_stores old (slice_set old.rows row (with_values (kept_of old) (take (place + 1) (map setting_of sets)) (take (place + 1) values) (get_or old.rows row [])))) (sym logs)
 
-fits_from : (number : ℕ) (set : Setting) (got : ℤ) (told : Result Unit StoreFault) (value : ℤ) → (in_row number (store_kind set.leaf) told >>= (λ fits. Ok got)) ≡ Ok value → (told ≡ Ok tt) × (got ≡ value)
-fits_from number set got (Ok done) value e = (refl, cc)
+-- a right side that has a value, by what its store is told
+tested_as : (number leaf : ℕ) (value : ℤ) (answer : Result ℤ StoreFault) → (in_row number (store_kind leaf) answer >>= (λ kept. Ok value)) ≡ (in_row number (store_kind leaf) (told answer) >>= (λ done. Ok value))
+tested_as number leaf value (Ok kept) = refl
+tested_as number leaf value (Err fault) = refl
+
+pub value_tested : (old read : Table) (number : ℕ) (row : List ℤ) (index : List ℕ) (set : Setting) (log : List Access) (value : ℤ) (answer : Result Unit StoreFault) → value_of number row index set.value ≡ Ok value
+    → read ≡ after_log old log → answer ≡ told (answer_of read set.leaf value) → new_value (answer_of old) number row index set ≡ (in_row number (store_kind set.leaf) answer >>= (λ done. Ok value))
+value_tested old read number row index set log value answer gives reads is =
+    ap (λ (first : Result ℤ UpdateFault). first >>= (λ v. in_row number (store_kind set.leaf) (answer_of old set.leaf v) >>= (λ kept. Ok v))) gives
+    ∙ tested_as number set.leaf value (answer_of old set.leaf value)
+    ∙ ap (λ (t : Table). in_row number (store_kind set.leaf) (told (answer_of t set.leaf value)) >>= (λ done. Ok value)) (sym reads)
+    ∙ ap (λ (r : Result Unit StoreFault). in_row number (store_kind set.leaf) r >>= (λ done. Ok value)) (sym is)
+
+fits_from : (number : ℕ) (set : Setting) (got : ℤ) (answer : Result ℤ StoreFault) (value : ℤ) → (in_row number (store_kind set.leaf) answer >>= (λ kept. Ok got)) ≡ Ok value → (is_ok answer ≡ true) × (got ≡ value)
+fits_from number set got (Ok kept) value e = (refl, cc)
 fits_from number set got (Err fault) value e = absurd (cc)
 
-took_from : (answer : Answer) (number : ℕ) (set : Setting) (first : Result ℤ UpdateFault) (value : ℤ) → (first >>= (λ v. in_row number (store_kind set.leaf) (answer set.leaf v) >>= (λ fits. Ok v))) ≡ Ok value → answer set.leaf value ≡ Ok tt
-took_from answer number set (Ok v) value e = let f = fits_from number set v (answer set.leaf v) value e in ap (answer set.leaf) (sym f.1) ∙ f.0
+took_from : (answer : Answer) (number : ℕ) (set : Setting) (first : Result ℤ UpdateFault) (value : ℤ) → (first >>= (λ v. in_row number (store_kind set.leaf) (answer set.leaf v) >>= (λ kept. Ok v))) ≡ Ok value → is_ok (answer set.leaf value) ≡ true
+took_from answer number set (Ok v) value e = let f = fits_from number set v (answer set.leaf v) value e in ap (λ (v : ℤ). is_ok (answer set.leaf v)) (sym f.1) ∙ f.0
 took_from answer number set (Err fault) value e = absurd (cc)
 
 -- a right side that has a value was taken
-took : (answer : Answer) (number : ℕ) (row : List ℤ) (index : List ℕ) (set : Setting) (value : ℤ) → new_value answer number row index set ≡ Ok value → answer set.leaf value ≡ Ok tt
+took : (answer : Answer) (number : ℕ) (row : List ℤ) (index : List ℕ) (set : Setting) (value : ℤ) → new_value answer number row index set ≡ Ok value → is_ok (answer set.leaf value) ≡ true
 took answer number row index set value gives = took_from answer number set (value_of number row index set.value) value gives
 
-pub taken_at : (answer : Answer) (number : ℕ) (row : List ℤ) (index : List ℕ) (sets : List Assign) (values : List ℤ) (place : ℕ) (other : Setting) → length sets ≤ length values → place < length sets → each (new_value answer number row index) (map setting_of sets) ≡ Ok (take (length sets) values) → answer (get_or (map setting_of sets) place other).leaf (get_or values place (pos 0)) ≡ Ok tt
+pub taken_at : (answer : Answer) (number : ℕ) (row : List ℤ) (index : List ℕ) (sets : List Assign) (values : List ℤ) (place : ℕ) (other : Setting) → length sets ≤ length values → place < length sets → each (new_value answer number row index) (map setting_of sets) ≡ Ok (take (length sets) values) → is_ok (answer (get_or (map setting_of sets) place other).leaf (get_or values place (pos 0))) ≡ true
 taken_at answer number row index sets values place other long small all =
     let at = each_at (new_value answer number row index) (map setting_of sets) (take (length sets) values) place other (pos 0) (settings_long sets place small) all in
     took answer number row index (get_or (map setting_of sets) place other) (get_or values place (pos 0)) (at ∙ ap (λ (v : ℤ). Ok v) (get_or-take (length sets) values place (pos 0) small))
@@ -106,14 +120,14 @@ pub index_is : (extents e : List ℕ) (row : ℕ) (items slice : List ℕ) → e
 index_is extents e row items slice same entry is = is ∙ sym (get_or_from_slice_get (indices e) row items [] entry) ∙ ap (λ (x : List ℕ). index_at x row) same
 
 -- a row that does not pass the filter, one with a fault, and one that is updated
-pub row_left : (answer : Answer) (filter : Option (Term ℕ)) (sets : List Setting) (number : ℕ) (row : List ℤ) (index : List ℕ) → Ok false ≡ passes number row index filter → updated_row answer filter sets number row index ≡ Ok row
-row_left answer filter sets number row index test = rw (← test) refl
+pub row_left : (answer : Answer) (keep : Keeping) (filter : Option (Term ℕ)) (sets : List Setting) (number : ℕ) (row : List ℤ) (index : List ℕ) → Ok false ≡ passes number row index filter → updated_row answer keep filter sets number row index ≡ Ok row
+row_left answer keep filter sets number row index test = rw (← test) refl
 
-pub row_stop : (answer : Answer) (filter : Option (Term ℕ)) (sets : List Setting) (number : ℕ) (row : List ℤ) (index : List ℕ) (fault : UpdateFault) → Ok true ≡ passes number row index filter → each (new_value answer number row index) sets ≡ Err fault → updated_row answer filter sets number row index ≡ Err fault
-row_stop answer filter sets number row index fault test stop = rw (← test, stop) refl
+pub row_stop : (answer : Answer) (keep : Keeping) (filter : Option (Term ℕ)) (sets : List Setting) (number : ℕ) (row : List ℤ) (index : List ℕ) (fault : UpdateFault) → Ok true ≡ passes number row index filter → each (new_value answer number row index) sets ≡ Err fault → updated_row answer keep filter sets number row index ≡ Err fault
+row_stop answer keep filter sets number row index fault test stop = rw (← test, stop) refl
 
-pub row_done : (answer : Answer) (filter : Option (Term ℕ)) (sets : List Setting) (number : ℕ) (row : List ℤ) (index : List ℕ) (values : List ℤ) → Ok true ≡ passes number row index filter → each (new_value answer number row index) sets ≡ Ok values → updated_row answer filter sets number row index ≡ Ok (with_values sets values row)
-row_done answer filter sets number row index values test done = rw (← test, done) refl
+pub row_done : (answer : Answer) (keep : Keeping) (filter : Option (Term ℕ)) (sets : List Setting) (number : ℕ) (row : List ℤ) (index : List ℕ) (values : List ℤ) → Ok true ≡ passes number row index filter → each (new_value answer number row index) sets ≡ Ok values → updated_row answer keep filter sets number row index ≡ Ok (with_values keep sets values row)
+row_done answer keep filter sets number row index values test done = rw (← test, done) refl
 
 -- rows from a place on that are the same
 same_at : {A : Type 0} (xs ys : List A) (n : ℕ) (d : A) → drop n xs ≡ drop n ys → get_or xs n d ≡ get_or ys n d
@@ -126,52 +140,52 @@ same_behind xs ys n d small less same =
     let e = sym (drop_more xs n d small) ∙ same ∙ drop_more ys n d less in cc
 
 -- rows so far
-pub record AreUpdated (old : Seen) (filter : Option (Term ℕ)) (sets : List Setting) (view : Seen) (row : ℕ) : Type 0 where
-  pub same : view ≡ after_stores old view.table (update_log old filter sets row)
-  pub count : length view.table ≡ length old.table
-  pub front : updated_rows (answer_of old) filter sets old.extents old.table row ≡ Ok (take row view.table)
-  pub back : drop row view.table ≡ drop row old.table
+pub record AreUpdated (old : Table) (filter : Option (Term ℕ)) (sets : List Setting) (view : Table) (row : ℕ) : Type 0 where
+  pub same : view ≡ after_stores old view.rows (update_log old filter sets row)
+  pub count : length view.rows ≡ length old.rows
+  pub front : updated_rows (answer_of old) (kept_of old) filter sets old.extents old.rows row ≡ Ok (take row view.rows)
+  pub back : drop row view.rows ≡ drop row old.rows
 
-pub none_updated : (view : Seen) (filter : Option (Term ℕ)) (sets : List Setting) → AreUpdated view filter sets view 0
+pub none_updated : (view : Table) (filter : Option (Term ℕ)) (sets : List Setting) → AreUpdated view filter sets view 0
 none_updated view filter sets = record { same = sym (after_log-none view); count = refl; front = refl; back = refl }
 
 -- what the next row of the table so far gives is what the row gives as it stood
-row_here : {A : Type 0} (gives : Answer → List ℤ → List ℕ → A) (old view : Seen) (filter : Option (Term ℕ)) (sets : List Setting) (row : ℕ) → AreUpdated old filter sets view row → gives (answer_of view) (get_or view.table row []) (index_at view.extents row) ≡ gives (answer_of old) (get_or old.table row []) (index_at old.extents row)
+row_here : {A : Type 0} (gives : Answer → Keeping → List ℤ → List ℕ → A) (old view : Table) (filter : Option (Term ℕ)) (sets : List Setting) (row : ℕ) → AreUpdated old filter sets view row → gives (answer_of view) (kept_of view) (get_or view.rows row []) (index_at view.extents row) ≡ gives (answer_of old) (kept_of old) (get_or old.rows row []) (index_at old.extents row)
 row_here gives old view filter sets row so_far =
-    ap (λ (v : Seen). gives (answer_of v) (get_or view.table row []) (index_at v.extents row)) so_far.same
-    ∙ ap (λ (r : List ℤ). gives (answer_of old) r (index_at old.extents row)) (same_at view.table old.table row [] so_far.back)
+    ap (λ (v : Table). gives (answer_of v) (kept_of v) (get_or view.rows row []) (index_at v.extents row)) so_far.same
+    ∙ ap (λ (r : List ℤ). gives (answer_of old) (kept_of old) r (index_at old.extents row)) (same_at view.rows old.rows row [] so_far.back)
 
-pub rows_stopped : (old view : Seen) (filter : Option (Term ℕ)) (sets : List Setting) (row : ℕ) (fault : UpdateFault) → row < length old.table → AreUpdated old filter sets view row → updated_row (answer_of view) filter sets row (get_or view.table row []) (index_at view.extents row) ≡ Err fault → updated_rows (answer_of old) filter sets old.extents old.table (length old.table) ≡ Err fault
+pub rows_stopped : (old view : Table) (filter : Option (Term ℕ)) (sets : List Setting) (row : ℕ) (fault : UpdateFault) → row < length old.rows → AreUpdated old filter sets view row → updated_row (answer_of view) (kept_of view) filter sets row (get_or view.rows row []) (index_at view.extents row) ≡ Err fault → updated_rows (answer_of old) (kept_of old) filter sets old.extents old.rows (length old.rows) ≡ Err fault
 rows_stopped old view filter sets row fault small so_far stop =
-    let here = row_here (λ answer numbers index. updated_row answer filter sets row numbers index) old view filter sets row so_far in
-    rows_stop (λ number. updated_row (answer_of old) filter sets number (get_or old.table number []) (index_at old.extents number)) (length old.table) row (take row view.table) fault small so_far.front (sym here ∙ stop)
+    let here = row_here (λ answer keep numbers index. updated_row answer keep filter sets row numbers index) old view filter sets row so_far in
+    rows_stop (λ number. updated_row (answer_of old) (kept_of old) filter sets number (get_or old.rows number []) (index_at old.extents number)) (length old.rows) row (take row view.rows) fault small so_far.front (sym here ∙ stop)
 
 -- the accesses of one row more, which was changed or left
-pub rows_touched : (old view after : Seen) (filter : Option (Term ℕ)) (sets : List Setting) (row : ℕ) (table : List (List ℤ)) → AreUpdated old filter sets view row → after ≡ after_stores view table (row_log (answer_of view) filter sets row (get_or view.table row []) (index_at view.extents row)) → after ≡ after_stores old after.table (update_log old filter sets (row + 1))
+pub rows_touched : (old view after : Table) (filter : Option (Term ℕ)) (sets : List Setting) (row : ℕ) (table : List (List ℤ)) → AreUpdated old filter sets view row → after ≡ after_stores view table (row_log (answer_of view) filter sets row (get_or view.rows row []) (index_at view.extents row)) → after ≡ after_stores old after.rows (update_log old filter sets (row + 1))
 rows_touched old view after filter sets row table so_far more =
     let log = update_log old filter sets row in
-    let one = row_log (answer_of old) filter sets row (get_or old.table row []) (index_at old.extents row) in
-    let here = row_here (λ answer numbers index. row_log answer filter sets row numbers index) old view filter sets row so_far in
-    let logs = logs_more (λ number. row_log (answer_of old) filter sets number (get_or old.table number []) (index_at old.extents number)) row in
+    let one = row_log (answer_of old) filter sets row (get_or old.rows row []) (index_at old.extents row) in
+    let here = row_here (λ answer keep numbers index. row_log answer filter sets row numbers index) old view filter sets row so_far in
+    let logs = logs_more (λ number. row_log (answer_of old) filter sets number (get_or old.rows number []) (index_at old.extents number)) row in
     more ∙ ap (after_stores view table) here
-    ∙ ap (λ (s : Seen). after_stores s table one) so_far.same
-    ∙ after_stores-append old view.table table log one
+    ∙ ap (λ (s : Table). after_stores s table one) so_far.same
+    ∙ after_stores-append old view.rows table log one
     ∙ ap (after_stores old table) (sym logs)
-    ∙ ap (λ (t : List (List ℤ)). after_stores old t (update_log old filter sets (row + 1))) (sym (ap (λ (s : Seen). s.table) more))
+    ∙ ap (λ (t : List (List ℤ)). after_stores old t (update_log old filter sets (row + 1))) (sym (ap (λ (s : Table). s.rows) more))
 
 -- one row more
-pub rows_more : (old view after : Seen) (filter : Option (Term ℕ)) (sets : List Setting) (row : ℕ) (new : List ℤ) → row < length old.table → AreUpdated old filter sets view row → updated_row (answer_of view) filter sets row (get_or view.table row []) (index_at view.extents row) ≡ Ok new → after ≡ after_stores view (slice_set view.table row new) (row_log (answer_of view) filter sets row (get_or view.table row []) (index_at view.extents row)) → AreUpdated old filter sets after (row + 1)
+pub rows_more : (old view after : Table) (filter : Option (Term ℕ)) (sets : List Setting) (row : ℕ) (new : List ℤ) → row < length old.rows → AreUpdated old filter sets view row → updated_row (answer_of view) (kept_of view) filter sets row (get_or view.rows row []) (index_at view.extents row) ≡ Ok new → after ≡ after_stores view (slice_set view.rows row new) (row_log (answer_of view) filter sets row (get_or view.rows row []) (index_at view.extents row)) → AreUpdated old filter sets after (row + 1)
 rows_more old view after filter sets row new small so_far gives changed =
-    let inside : row < length view.table = omega (arith, small, so_far.count) in
-    let table : after.table ≡ slice_set view.table row new = ap (λ (s : Seen). s.table) changed in
+    let inside : row < length view.rows = omega (arith, small, so_far.count) in
+    let table : after.rows ≡ slice_set view.rows row new = ap (λ (s : Table). s.rows) changed in
     let past : row < row + 1 = omega arith in
-    let here = row_here (λ answer numbers index. updated_row answer filter sets row numbers index) old view filter sets row so_far in
+    let here = row_here (λ answer keep numbers index. updated_row answer keep filter sets row numbers index) old view filter sets row so_far in
     record {
-      same = rows_touched old view after filter sets row (slice_set view.table row new) so_far changed;
-      count = ap length table ∙ length-set view.table row new ∙ so_far.count;
-      front = rows_push (λ number. updated_row (answer_of old) filter sets number (get_or old.table number []) (index_at old.extents number)) row (take row view.table) new so_far.front (sym here ∙ gives)
-          ∙ ap (λ (t : List (List ℤ)). Ok t) (sym (take_more_set view.table row new inside) ∙ ap (take (row + 1)) (sym table));
-      back = ap (drop (row + 1)) table ∙ drop-set-lt (row + 1) view.table row new past ∙ same_behind view.table old.table row [] inside small so_far.back;
+      same = rows_touched old view after filter sets row (slice_set view.rows row new) so_far changed;
+      count = ap length table ∙ length-set view.rows row new ∙ so_far.count;
+      front = rows_push (λ number. updated_row (answer_of old) (kept_of old) filter sets number (get_or old.rows number []) (index_at old.extents number)) row (take row view.rows) new so_far.front (sym here ∙ gives)
+          ∙ ap (λ (t : List (List ℤ)). Ok t) (sym (take_more_set view.rows row new inside) ∙ ap (take (row + 1)) (sym table));
+      back = ap (drop (row + 1)) table ∙ drop-set-lt (row + 1) view.rows row new past ∙ same_behind view.rows old.rows row [] inside small so_far.back;
     }
 
 -- rows that pass, counted

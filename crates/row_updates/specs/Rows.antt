@@ -9,8 +9,8 @@ use Rattle.expr_lang.specs.Bounds.{bound_term, bound_leaves, bound_rank}
 use Rattle.expr_lang.specs.Terms.{Term}
 use Rattle.expr_lang.specs.Values.{outcome_of, is_true}
 use Rattle.linearize.specs.Slots.{index_at}
-use Rattle.views.specs.Seen.{Seen, leaf_count_of, answer_of}
-use Rattle.views.specs.Stores.{Answer}
+use Rattle.views.specs.Tables.{Table, leaf_count_of, answer_of, kept_of}
+use Rattle.views.specs.Stores.{Answer, Keeping}
 use Rattle.views.specs.declared.fault.StoreFault.{StoreFault}
 use Rattle.views.specs.declared.fault.StoreFault.TheVariants as store
 use Rattle.row_updates.specs.declared.fault.UpdateFault.{UpdateFault}
@@ -72,30 +72,30 @@ passes number row index (Some filter) = do
 abbrev pub new_value : Answer → ℕ → List ℤ → List ℕ → Setting → Result ℤ UpdateFault
 new_value answer number row index set = do
   value ← value_of number row index set.value
-  fits ← in_row number (store_kind set.leaf) (answer set.leaf value)
+  kept ← in_row number (store_kind set.leaf) (answer set.leaf value)
   Ok value
 
--- a row with these values in the leaves that are set
-abbrev pub with_values : List Setting → List ℤ → List ℤ → List ℤ
-with_values (set ∷ sets) (value ∷ values) row = with_values sets values (slice_set row set.leaf value)
-with_values _ _ row = row
+-- a row with the numbers in the leaves that are set that are kept of these values
+abbrev pub with_values : Keeping → List Setting → List ℤ → List ℤ → List ℤ
+with_values keep (set ∷ sets) (value ∷ values) row = with_values keep sets values (slice_set row set.leaf (keep set.leaf value))
+with_values keep _ _ row = row
 
 -- a row after the update: its right sides are evaluated and tested on the row as it stands, and only then stored
-abbrev pub updated_row : Answer → Option (Term ℕ) → List Setting → ℕ → List ℤ → List ℕ → Result (List ℤ) UpdateFault
-updated_row answer filter sets number row index = do
+abbrev pub updated_row : Answer → Keeping → Option (Term ℕ) → List Setting → ℕ → List ℤ → List ℕ → Result (List ℤ) UpdateFault
+updated_row answer keep filter sets number row index = do
   test ← passes number row index filter
   if test then (do
     values ← each (new_value answer number row index) sets
-    Ok (with_values sets values row)) else Ok row
+    Ok (with_values keep sets values row)) else Ok row
 
 -- the first so many rows after the update
-abbrev pub updated_rows : Answer → Option (Term ℕ) → List Setting → List ℕ → List (List ℤ) → ℕ → Result (List (List ℤ)) UpdateFault
-updated_rows answer filter sets extents rows count =
-    each (λ number. updated_row answer filter sets number (slice_index_or rows number []) (index_at extents number)) (range_with_len 0 count)
+abbrev pub updated_rows : Answer → Keeping → Option (Term ℕ) → List Setting → List ℕ → List (List ℤ) → ℕ → Result (List (List ℤ)) UpdateFault
+updated_rows answer keep filter sets extents rows count =
+    each (λ number. updated_row answer keep filter sets number (slice_index_or rows number []) (index_at extents number)) (range_with_len 0 count)
 
 -- the same of a view's rows
-abbrev pub updated_of : Seen → Option (Term ℕ) → List Setting → ℕ → Result (List (List ℤ)) UpdateFault
-updated_of seen filter sets count = updated_rows (answer_of seen) filter sets seen.extents seen.table count
+abbrev pub updated_of : Table → Option (Term ℕ) → List Setting → ℕ → Result (List (List ℤ)) UpdateFault
+updated_of table filter sets count = updated_rows (answer_of table) (kept_of table) filter sets table.extents table.rows count
 
 -- in how many rows the filter is not 0
 abbrev pub counted : Term ℕ → List ℕ → List (List ℤ) → Result ℕ UpdateFault
@@ -104,11 +104,11 @@ counted filter extents rows = do
   Ok (count_by (λ test. test) tests)
 
 -- an expression is bound to the leaves and the rank of a view
-pub record IsOver (seen : Seen) (bound : Bound) : Type 0 where
-  pub leaves : bound_leaves bound ≡ leaf_count_of seen
-  pub rank : bound_rank bound ≡ length seen.extents
+pub record IsOver (table : Table) (bound : Bound) : Type 0 where
+  pub leaves : bound_leaves bound ≡ leaf_count_of table
+  pub rank : bound_rank bound ≡ length table.extents
 
 -- a leaf of a view, and an expression that is bound to it
-pub record IsSetOf (seen : Seen) (set : Assign) : Type 0 where
-  pub inside : set.leaf < leaf_count_of seen
-  pub over : IsOver seen set.value
+pub record IsSetOf (table : Table) (set : Assign) : Type 0 where
+  pub inside : set.leaf < leaf_count_of table
+  pub over : IsOver table set.value

@@ -15,16 +15,16 @@ use Rattle.instrument.specs.declared.heat.Heat.{Heat as Heats}
 use Rattle.instrument.specs.Counters.{leaf_counts, heat_counts, no_counts, no_heat, LeafCounts, HeatCounts, next, granules_of, warmed_blob, HasLeaves, IsInside}
 use Rattle.instrument.specs.WarmingLaws.{length-warmed_blob, bytes-in_granules}
 use Rattle.places.specs.Touched.{is_hot}
-use Rattle.views.specs.Tallies.{Access, Read, Write, Tally, counted_by, heated, touched, tallied, no_tally, blob_lengths}
+use Rattle.views.specs.Tallies.{Access, Read, Write, Tally, counts_touched, heat_touched, touched, tallied, no_tally, blob_lengths}
 use Rattle.views.specs.TallyLaws.{tallied-append}
 use Rattle.views.specs.Kept.{HasGranules, IsTallied, tally_of}
 
 -- counts of leaves
-counted_leaves : (access : Access) (counts : LeafCounts) (leaves : ℕ) → HasLeaves counts leaves → HasLeaves (counted_by access counts) leaves
+counted_leaves : (access : Access) (counts : LeafCounts) (leaves : ℕ) → HasLeaves counts leaves → HasLeaves (counts_touched access counts) leaves
 counted_leaves (Read row leaf) counts leaves has = record { reads = length-set counts.reads leaf (next (get_or counts.reads leaf 0)) ∙ has.reads; writes = has.writes }
 counted_leaves (Write row leaf) counts leaves has = record { reads = has.reads; writes = length-set counts.writes leaf (next (get_or counts.writes leaf 0)) ∙ has.writes }
 
-leaves_kept : (access : Access) (counts : Option LeafCounts) (leaves : ℕ) → IfSome counts (λ c. HasLeaves c leaves) → IfSome (option_map (counted_by access) counts) (λ c. HasLeaves c leaves)
+leaves_kept : (access : Access) (counts : Option LeafCounts) (leaves : ℕ) → IfSome counts (λ c. HasLeaves c leaves) → IfSome (option_map (counts_touched access) counts) (λ c. HasLeaves c leaves)
 leaves_kept access None leaves has = tt
 leaves_kept access (Some counts) leaves has = counted_leaves access counts leaves has
 
@@ -39,16 +39,16 @@ lengths_from hot n (counts ∷ blobs) =
     ap (λ (first : ℕ). first ∷ map (length {A = ℕ}) (map (λ (blob : ℕ × List ℕ). warmed_blob (hot blob.0) blob.1) (enumerate_from (n + 1) blobs))) (length-warmed_blob (hot n) counts)
     ∙ ap (λ (rest : List ℕ). length counts ∷ rest) (lengths_from hot (n + 1) blobs)
 
-heated_granules : (layout : List (List Owner)) (access : Access) (heat : HeatCounts) → HasGranules layout heat → HasGranules layout (heated layout access heat)
+heated_granules : (layout : List (List Owner)) (access : Access) (heat : HeatCounts) → HasGranules layout heat → HasGranules layout (heat_touched layout access heat)
 heated_granules layout (Read row leaf) heat has = lengths_from (is_hot layout heat.granule row leaf) 0 heat.blobs ∙ has
 heated_granules layout (Write row leaf) heat has = lengths_from (is_hot layout heat.granule row leaf) 0 heat.blobs ∙ has
 
-granules_kept : (layout : List (List Owner)) (access : Access) (heat : Option HeatCounts) → IfSome heat (HasGranules layout) → IfSome (option_map (heated layout access) heat) (HasGranules layout)
+granules_kept : (layout : List (List Owner)) (access : Access) (heat : Option HeatCounts) → IfSome heat (HasGranules layout) → IfSome (option_map (heat_touched layout access) heat) (HasGranules layout)
 granules_kept layout access None has = tt
 granules_kept layout access (Some heat) has = heated_granules layout access heat has
 
 granule_kept : (layout : List (List Owner)) (access : Access) (heat : Option HeatCounts) →
-    option_map (λ (h : HeatCounts). h.granule) (option_map (heated layout access) heat) ≡ option_map (λ (h : HeatCounts). h.granule) heat
+    option_map (λ (h : HeatCounts). h.granule) (option_map (heat_touched layout access) heat) ≡ option_map (λ (h : HeatCounts). h.granule) heat
 granule_kept layout access None = refl
 granule_kept layout (Read row leaf) (Some heat) = refl
 granule_kept layout (Write row leaf) (Some heat) = refl
@@ -56,7 +56,7 @@ granule_kept layout (Write row leaf) (Some heat) = refl
 -- an access leaves as many counts
 pub tallied_kept : {term : Term} {layout : List (List Owner)} {leaves : ℕ} {tally : Tally} (access : Access) → IsTallied term layout leaves tally → IsTallied term layout leaves (touched layout tally access)
 tallied_kept {term} {layout} {leaves} {tally} access has = record {
-  counted = some_kept (counted_by access) tally.counts ∙ has.counted;
+  counted = some_kept (counts_touched access) tally.counts ∙ has.counted;
   each_leaf = leaves_kept access tally.counts leaves has.each_leaf;
   granule = granule_kept layout access tally.heat ∙ has.granule;
   each_blob = granules_kept layout access tally.heat has.each_blob;
@@ -93,9 +93,9 @@ none_mapped f (Some x) e = cc
 -- so accesses leave it all
 pub idle_touched : (layout : List (List Owner)) (tally : Tally) (access : Access) → tally.counts ≡ None → tally.heat ≡ None → touched layout tally access ≡ tally
 idle_touched layout tally access counts heat =
-    let same_counts : option_map (counted_by access) tally.counts ≡ tally.counts = ap (option_map (counted_by access)) counts ∙ sym counts in
-    let same_heat : option_map (heated layout access) tally.heat ≡ tally.heat = ap (option_map (heated layout access)) heat ∙ sym heat in
-    ap (λ (c : Option LeafCounts). let t : Tally = record { counts = c; heat = option_map (heated layout access) tally.heat } in t) same_counts
+    let same_counts : option_map (counts_touched access) tally.counts ≡ tally.counts = ap (option_map (counts_touched access)) counts ∙ sym counts in
+    let same_heat : option_map (heat_touched layout access) tally.heat ≡ tally.heat = ap (option_map (heat_touched layout access)) heat ∙ sym heat in
+    ap (λ (c : Option LeafCounts). let t : Tally = record { counts = c; heat = option_map (heat_touched layout access) tally.heat } in t) same_counts
     ∙ ap (λ (h : Option HeatCounts). let t : Tally = record { counts = tally.counts; heat = h } in t) same_heat
 
 pub idle_tallied : {term : Term} {layout : List (List Owner)} {leaves : ℕ} {tally : Tally} (access : Access) → is_counted term ≡ false → IsTallied term layout leaves tally → tallied layout tally (access ∷ []) ≡ tally
@@ -109,6 +109,11 @@ unfolding tallied
 idle_log layout tally [] counts heat = refl
 idle_log layout tally (access ∷ log) counts heat =
     ap (λ (t : Tally). fold (touched layout) t log) (idle_touched layout tally access counts heat) ∙ idle_log layout tally log counts heat
+
+pub idle_logged : {term : Term} {layout : List (List Owner)} {leaves : ℕ} {tally : Tally} (log : List Access) → is_counted term ≡ false → IsTallied term layout leaves tally → tallied layout tally log ≡ tally
+idle_logged {term} {layout} {leaves} {tally} log idle has =
+    let none = uncounted term idle in
+    idle_log layout tally log (none_of tally.counts (has.counted ∙ none.0)) (none_mapped (λ (h : HeatCounts). h.granule) tally.heat (has.granule ∙ none.1))
 
 -- accesses leave as many counts
 pub log_kept : {term : Term} {layout : List (List Owner)} {leaves : ℕ} (tally : Tally) (log : List Access) → IsTallied term layout leaves tally → IsTallied term layout leaves (tallied layout tally log)

@@ -9,18 +9,18 @@ use Rattle.map_any.specs.Counters.{has_count, granule_of}
 use Rattle.places.specs.Layout.{Owner}
 use Rattle.instrument.specs.Counters.{LeafCounts, HeatCounts, counted, warmed, no_counts, no_heat, granules_of}
 use Rattle.instrument.specs.CounterLaws.{count-from_zero, heat-from_zero}
-use Rattle.views.specs.Tallies.{Access, Read, Write, Tally, touched, counted_by, heated, tallied, no_tally, blob_lengths}
+use Rattle.views.specs.Tallies.{Access, Read, Write, Tally, touched, counts_touched, heat_touched, tallied, no_tally, blob_lengths}
 use Rattle.views.specs.TallyLaws.{tallied-counts}
 use Rattle.views.specs.Entries.{reads_leaf, writes_leaf, touches, AreCounts, AreHeat, AreEntries}
 
 -- the heat of a tally is counted alone
-heat_alone : (layout : List (List Owner)) (tally : Tally) (log : List Access) → (fold (touched layout) tally log).heat ≡ option_map (λ heat. fold (λ h a. heated layout a h) heat log) tally.heat
+heat_alone : (layout : List (List Owner)) (tally : Tally) (log : List Access) → (fold (touched layout) tally log).heat ≡ option_map (λ heat. fold (λ h a. heat_touched layout a h) heat log) tally.heat
 heat_alone layout tally [] = same tally.heat where
   same : (heat : Option HeatCounts) → heat ≡ option_map (λ h. h) heat
   same None = refl
   same (Some h) = refl
 heat_alone layout tally (access ∷ log) = heat_alone layout (touched layout tally access) log ∙ once tally.heat where
-  once : (heat : Option HeatCounts) → option_map (λ heat. fold (λ h a. heated layout a h) heat log) (option_map (heated layout access) heat) ≡ option_map (λ heat. fold (λ h a. heated layout a h) heat (access ∷ log)) heat
+  once : (heat : Option HeatCounts) → option_map (λ heat. fold (λ h a. heat_touched layout a h) heat log) (option_map (heat_touched layout access) heat) ≡ option_map (λ heat. fold (λ h a. heat_touched layout a h) heat (access ∷ log)) heat
   once None = refl
   once (Some h) = refl
 
@@ -35,15 +35,15 @@ leaves_written [] = []
 leaves_written (Read row leaf ∷ log) = leaves_written log
 leaves_written (Write row leaf ∷ log) = leaf ∷ leaves_written log
 
-reads_are : (counts : LeafCounts) (log : List Access) → (fold (λ c a. counted_by a c) counts log).reads ≡ fold counted counts.reads (leaves_read log)
+reads_are : (counts : LeafCounts) (log : List Access) → (fold (λ c a. counts_touched a c) counts log).reads ≡ fold counted counts.reads (leaves_read log)
 reads_are counts [] = refl
-reads_are counts (Read row leaf ∷ log) = reads_are (counted_by (Read row leaf) counts) log
-reads_are counts (Write row leaf ∷ log) = reads_are (counted_by (Write row leaf) counts) log
+reads_are counts (Read row leaf ∷ log) = reads_are (counts_touched (Read row leaf) counts) log
+reads_are counts (Write row leaf ∷ log) = reads_are (counts_touched (Write row leaf) counts) log
 
-writes_are : (counts : LeafCounts) (log : List Access) → (fold (λ c a. counted_by a c) counts log).writes ≡ fold counted counts.writes (leaves_written log)
+writes_are : (counts : LeafCounts) (log : List Access) → (fold (λ c a. counts_touched a c) counts log).writes ≡ fold counted counts.writes (leaves_written log)
 writes_are counts [] = refl
-writes_are counts (Read row leaf ∷ log) = writes_are (counted_by (Read row leaf) counts) log
-writes_are counts (Write row leaf ∷ log) = writes_are (counted_by (Write row leaf) counts) log
+writes_are counts (Read row leaf ∷ log) = writes_are (counts_touched (Read row leaf) counts) log
+writes_are counts (Write row leaf ∷ log) = writes_are (counts_touched (Write row leaf) counts) log
 
 -- one entry more
 one_more : {X : Type 0} (test : X → Bool) (x : X) (xs : List X) → count_by test (x ∷ xs) ≡ cond (test x) 1 0 + count_by test xs
@@ -63,7 +63,7 @@ many_writes leaf (Read row other ∷ log) =
     omega (arith, more, many_writes leaf log)
 many_writes leaf (Write row other ∷ log) = one_more (λ o. o == leaf) other (leaves_written log) ∙ ap (λ n. cond (other == leaf) 1 0 + n) (many_writes leaf log) ∙ sym (one_more (writes_leaf leaf) (Write row other) log)
 
-counts_are : (leaves : ℕ) (log : List Access) → AreCounts leaves log (fold (λ c a. counted_by a c) (no_counts leaves) log)
+counts_are : (leaves : ℕ) (log : List Access) → AreCounts leaves log (fold (λ c a. counts_touched a c) (no_counts leaves) log)
 counts_are leaves log = record {
   reads = λ leaf small. ap (λ counts. get_or counts leaf 0) (reads_are (no_counts leaves) log) ∙ count-from_zero leaves (leaves_read log) leaf small ∙ ap (λ n. min n (2 ^ 64 - 1)) (many_reads leaf log);
   writes = λ leaf small. ap (λ counts. get_or counts leaf 0) (writes_are (no_counts leaves) log) ∙ count-from_zero leaves (leaves_written log) leaf small ∙ ap (λ n. min n (2 ^ 64 - 1)) (many_writes leaf log);
@@ -74,12 +74,12 @@ abbrev warms : List (List Owner) → ℕ → Access → ℕ → ℕ → Bool
 warms layout granule access blob at = touches layout granule blob at access
 
 heat_is : (layout : List (List Owner)) (heat : HeatCounts) (log : List Access) →
-    fold (λ h a. heated layout a h) heat log ≡ record heat { blobs = fold (λ blobs hot. warmed hot blobs) heat.blobs (map (warms layout heat.granule) log) }
+    fold (λ h a. heat_touched layout a h) heat log ≡ record heat { blobs = fold (λ blobs hot. warmed hot blobs) heat.blobs (map (warms layout heat.granule) log) }
 heat_is layout heat [] = refl
-heat_is layout heat (Read row leaf ∷ log) = heat_is layout (heated layout (Read row leaf) heat) log
-heat_is layout heat (Write row leaf ∷ log) = heat_is layout (heated layout (Write row leaf) heat) log
+heat_is layout heat (Read row leaf ∷ log) = heat_is layout (heat_touched layout (Read row leaf) heat) log
+heat_is layout heat (Write row leaf ∷ log) = heat_is layout (heat_touched layout (Write row leaf) heat) log
 
-heat_are : (layout : List (List Owner)) (granule : ℕ) (log : List Access) → AreHeat layout log (fold (λ h a. heated layout a h) (no_heat granule (blob_lengths layout)) log)
+heat_are : (layout : List (List Owner)) (granule : ℕ) (log : List Access) → AreHeat layout log (fold (λ h a. heat_touched layout a h) (no_heat granule (blob_lengths layout)) log)
 heat_are layout granule log =
     let bytes = blob_lengths layout in
     subst (AreHeat layout log) (sym (heat_is layout (no_heat granule bytes) log))
@@ -95,10 +95,10 @@ are_entries term layout leaves log = record {
   counts = subst (λ (counts : Option LeafCounts). IfSome counts (AreCounts leaves log)) (sym (tallied-counts layout (no_tally term layout leaves) log)) (of_count (has_count term));
   heat = subst (λ (heat : Option HeatCounts). IfSome heat (AreHeat layout log)) (sym (heat_alone layout (no_tally term layout leaves) log)) (of_granule (granule_of term));
 } where
-  of_count : (test : Bool) → IfSome (option_map (λ counts. fold (λ c a. counted_by a c) counts log) (if test then Some (no_counts leaves) else None)) (AreCounts leaves log)
+  of_count : (test : Bool) → IfSome (option_map (λ counts. fold (λ c a. counts_touched a c) counts log) (if test then Some (no_counts leaves) else None)) (AreCounts leaves log)
   of_count true = counts_are leaves log
   of_count false = tt
 
-  of_granule : (granule : Option ℕ) → IfSome (option_map (λ heat. fold (λ h a. heated layout a h) heat log) (option_map (λ g. no_heat g (blob_lengths layout)) granule)) (AreHeat layout log)
+  of_granule : (granule : Option ℕ) → IfSome (option_map (λ heat. fold (λ h a. heat_touched layout a h) heat log) (option_map (λ g. no_heat g (blob_lengths layout)) granule)) (AreHeat layout log)
   of_granule None = tt
   of_granule (Some granule) = heat_are layout granule log

@@ -5,3 +5,5 @@ pub mod ZeroBlobs
 pub mod AccessLaws
 pub mod Counted
 pub mod CountLaws
+pub mod TouchLaws
+pub mod RowLaws

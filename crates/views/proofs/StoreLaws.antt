@@ -27,23 +27,23 @@ pub answer_narrow : (kind : LeafType) (hold : Hold) (value : ℤ) → is_between
 answer_narrow kind hold value e f = rw (e, f) refl
 
 -- a store that is taken is one of a value that fits
-pub stored_fits : (kind : LeafType) (hold : Hold) (value : ℤ) → store_answer kind hold value ≡ Ok tt → Fits kind hold value
+pub stored_fits : (kind : LeafType) (hold : Hold) (value : ℤ) → store_answer kind hold value ≡ Ok value → Fits kind hold value
 stored_fits kind hold value taken =
     ⊎_elim (λ (declared : is_between (least_of kind) (greatest_of kind) value ≡ true).
     ⊎_elim (λ (held : is_between (least_in hold.signed hold.width) (greatest_in hold.signed hold.width) value ≡ true).
     record { declared = between_true (least_of kind) (greatest_of kind) value declared; held = between_true (least_in hold.signed hold.width) (greatest_in hold.signed hold.width) value held })
     (λ (not_held : is_between (least_in hold.signed hold.width) (greatest_in hold.signed hold.width) value ≡ false).
-    absurd (let clash : Ok tt ≡ Err Narrow = sym taken ∙ answer_narrow kind hold value declared not_held in cc))
+    absurd (let clash : Ok value ≡ Err Narrow = sym taken ∙ answer_narrow kind hold value declared not_held in cc))
     (cases_Bool (is_between (least_in hold.signed hold.width) (greatest_in hold.signed hold.width) value)))
     (λ (not_declared : is_between (least_of kind) (greatest_of kind) value ≡ false).
-    absurd (let clash : Ok tt ≡ Err Range = sym taken ∙ answer_range kind hold value not_declared in cc))
+    absurd (let clash : Ok value ≡ Err Range = sym taken ∙ answer_range kind hold value not_declared in cc))
     (cases_Bool (is_between (least_of kind) (greatest_of kind) value))
 
 true_between : (least greatest value : ℤ) → least ≤ℤ value → value ≤ℤ greatest → is_between least greatest value ≡ true
 true_between least greatest value low high = grind (arith, ints)
 
 -- a value that fits is taken
-pub fitting_stored : (kind : LeafType) (hold : Hold) (value : ℤ) → IsDeclared kind value → IsIn hold.signed hold.width value → store_answer kind hold value ≡ Ok tt
+pub fitting_stored : (kind : LeafType) (hold : Hold) (value : ℤ) → IsDeclared kind value → IsIn hold.signed hold.width value → store_answer kind hold value ≡ Ok value
 fitting_stored kind hold value declared held =
     rw (
       true_between (least_of kind) (greatest_of kind) value declared.0 declared.1,

@@ -1,5 +1,7 @@
-pub mod Seen
+pub mod Tables
 pub mod Stores
+pub mod AnswerLaws
+pub mod HalfLaws
 pub mod Kept
 pub mod Refusals
 pub mod Tallies

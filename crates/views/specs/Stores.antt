@@ -1,5 +1,6 @@
 -- Which values can be stored in a leaf, and what a store answers.
-use Rattle.std.specs.Prelude.{ℕ, ◌<◌, ◌&&◌, Bool, ℤ, int_le, List, length, slice_index_or, if◌then◌else◌, Result, Ok, Err}
+use Rattle.std.specs.Prelude.{ℕ, ◌<◌, ◌&&◌, Bool, ℤ, int_le, List, length, map, slice_index_or, if◌then◌else◌, Result, Ok, Err}
+use Rattle.std.specs.List.{enumerate_from}
 use Rattle.record_dim.specs.declared.leaf_type.LeafType.{LeafType}
 use Rattle.record_dim.specs.declared.leaf_type.LeafType.TheVariants.{Bool as Truth}
 use Rattle.record_dim.specs.LeafTypes.{least_of, greatest_of, least_in, greatest_in, IsIn, IsDeclared}
@@ -17,16 +18,40 @@ kind_at kinds leaf = slice_index_or kinds leaf Truth
 abbrev pub is_between : ℤ → ℤ → ℤ → Bool
 is_between least greatest value = int_le least value && int_le value greatest
 
--- the answer to a store: `Range` outside of the declared range, `Narrow` inside it and outside of the hold's range
-abbrev pub store_answer : LeafType → Hold → ℤ → Result Unit StoreFault
+-- the answer to a store: the number that is kept, or `Range` outside of the declared range, `Narrow` inside it and outside of the hold's range
+abbrev pub store_answer : LeafType → Hold → ℤ → Result ℤ StoreFault
 store_answer kind hold value =
     if is_between (least_of kind) (greatest_of kind) value
-    then (if is_between (least_in hold.signed hold.width) (greatest_in hold.signed hold.width) value then Ok tt else Err Narrow)
+    then (if is_between (least_in hold.signed hold.width) (greatest_in hold.signed hold.width) value then Ok value else Err Narrow)
     else Err Range
 
 -- what a store of a value in a leaf answers
 abbrev pub Answer : Type 0
-Answer = ℕ → ℤ → Result Unit StoreFault
+Answer = ℕ → ℤ → Result ℤ StoreFault
+
+-- the number that an answer keeps, and the value itself where it is a refusal
+abbrev pub kept_or : ℤ → Result ℤ StoreFault → ℤ
+kept_or value (Ok kept) = kept
+kept_or value (Err fault) = value
+
+-- the number that a store of a value in a leaf keeps
+abbrev pub Keeping : Type 0
+Keeping = ℕ → ℤ → ℤ
+
+abbrev pub kept_by : Answer → Keeping
+kept_by answer leaf value = kept_or value (answer leaf value)
+
+-- the same of the values of a row, and of rows
+abbrev pub kept_row : Keeping → List ℤ → List ℤ
+kept_row keep values = map (λ value. keep value.0 value.1) (enumerate_from 0 values)
+
+abbrev pub kept_rows : Keeping → List (List ℤ) → List (List ℤ)
+kept_rows keep rows = map (kept_row keep) rows
+
+-- an answer without its number
+abbrev pub told : Result ℤ StoreFault → Result Unit StoreFault
+told (Ok kept) = Ok tt
+told (Err fault) = Err fault
 
 -- a value lies in the declared range of its leaf and in the range of its hold
 pub record Fits (kind : LeafType) (hold : Hold) (value : ℤ) : Type 0 where

@@ -17,22 +17,28 @@ pub record Tally : Type 0 where
   pub counts : Option LeafCounts
   pub heat : Option HeatCounts
 
--- one more read or write of the leaf
-abbrev pub counted_by : Access → LeafCounts → LeafCounts
-counted_by (Read row leaf) counts = record counts { reads = counted counts.reads leaf }
-counted_by (Write row leaf) counts = record counts { writes = counted counts.writes leaf }
+-- one more write, or else read, of the leaf
+abbrev pub leaf_touched : Bool → ℕ → LeafCounts → LeafCounts
+leaf_touched false leaf counts = record counts { reads = counted counts.reads leaf }
+leaf_touched true leaf counts = record counts { writes = counted counts.writes leaf }
+
+-- the counts by leaf after one access
+abbrev pub counts_touched : Access → LeafCounts → LeafCounts
+counts_touched (Read row leaf) counts = leaf_touched false leaf counts
+counts_touched (Write row leaf) counts = leaf_touched true leaf counts
 
 -- one more in each granule that holds a bit of the leaf in the row
-abbrev pub heated_at : List (List Owner) → ℕ → ℕ → HeatCounts → HeatCounts
-heated_at layout row leaf heat = record heat { blobs = warmed (is_hot layout heat.granule row leaf) heat.blobs }
+abbrev pub granules_touched : List (List Owner) → ℕ → ℕ → HeatCounts → HeatCounts
+granules_touched layout row leaf heat = record heat { blobs = warmed (is_hot layout heat.granule row leaf) heat.blobs }
 
-abbrev pub heated : List (List Owner) → Access → HeatCounts → HeatCounts
-heated layout (Read row leaf) heat = heated_at layout row leaf heat
-heated layout (Write row leaf) heat = heated_at layout row leaf heat
+-- the counts by granule after one access
+abbrev pub heat_touched : List (List Owner) → Access → HeatCounts → HeatCounts
+heat_touched layout (Read row leaf) heat = granules_touched layout row leaf heat
+heat_touched layout (Write row leaf) heat = granules_touched layout row leaf heat
 
 -- the tally after one access
 abbrev pub touched : List (List Owner) → Tally → Access → Tally
-touched layout tally access = record { counts = option_map (counted_by access) tally.counts; heat = option_map (heated layout access) tally.heat }
+touched layout tally access = record { counts = option_map (counts_touched access) tally.counts; heat = option_map (heat_touched layout access) tally.heat }
 
 -- the tally after some accesses, in order
 unfoldable pub tallied : List (List Owner) → Tally → List Access → Tally
@@ -57,32 +63,23 @@ granule_count (Some granule) bytes = granules_in granule bytes
 abbrev pub granules_for : Term → List (List Owner) → ℕ
 granules_for term layout = granule_count (granule_of term) (blob_lengths layout)
 
--- one read, and one write, of each of the first so many leaves of a row
-abbrev pub row_reads : ℕ → ℕ → List Access
-row_reads leaves row = map (Read row) (range_with_len 0 leaves)
-
-abbrev pub row_writes : ℕ → ℕ → List Access
-row_writes leaves row = map (Write row) (range_with_len 0 leaves)
-
--- the same of each of the first so many rows
-abbrev pub all_reads : ℕ → ℕ → List Access
-all_reads leaves rows = flat_map (row_reads leaves) (range_with_len 0 rows)
-
-abbrev pub all_writes : ℕ → ℕ → List Access
-all_writes leaves rows = flat_map (row_writes leaves) (range_with_len 0 rows)
-
--- so many reads of each leaf of each row, and then so many writes
-abbrev pub all_touches : ℕ → ℕ → ℕ → ℕ → List Access
-all_touches reads writes leaves rows =
-    flat_map (λ time. all_reads leaves rows) (range_with_len 0 reads) ++ flat_map (λ time. all_writes leaves rows) (range_with_len 0 writes)
-
--- a read or a write, and one of each leaf of a row, and of all rows
+-- a write, or else a read
 abbrev pub access_to : Bool → ℕ → ℕ → Access
 access_to false = Read
 access_to true = Write
 
-abbrev pub row_accesses : Bool → ℕ → ℕ → List Access
-row_accesses write leaves row = map (access_to write row) (range_with_len 0 leaves)
+-- one access, all reads or all writes, of each of the first so many leaves of a row
+abbrev pub row_accesses : (ℕ → ℕ → Access) → ℕ → ℕ → List Access
+row_accesses access leaves row = map (access row) (range_with_len 0 leaves)
 
-abbrev pub all_accesses : Bool → ℕ → ℕ → List Access
-all_accesses write leaves rows = flat_map (row_accesses write leaves) (range_with_len 0 rows)
+-- the same of each of the first so many rows
+abbrev pub all_accesses : (ℕ → ℕ → Access) → ℕ → ℕ → List Access
+all_accesses access leaves rows = flat_map (row_accesses access leaves) (range_with_len 0 rows)
+
+-- the same so many times
+abbrev pub times_accesses : (ℕ → ℕ → Access) → ℕ → ℕ → ℕ → List Access
+times_accesses access times leaves rows = flat_map (λ time. all_accesses access leaves rows) (range_with_len 0 times)
+
+-- so many reads of each leaf of each row, and then so many writes
+abbrev pub all_touches : ℕ → ℕ → ℕ → ℕ → List Access
+all_touches reads writes leaves rows = times_accesses Read reads leaves rows ++ times_accesses Write writes leaves rows

@@ -6,11 +6,11 @@ mod fault;
 mod fresh;
 mod laws;
 mod row;
+mod rows;
 mod store;
-mod touch;
 mod view;
 
 pub use fault::{MakeView, StoreFault};
-pub use laws::counts_are_entries;
+pub use laws::{counts_are_entries, laws_of_table};
 pub use row::RowRef;
 pub use view::{BlobList, View};

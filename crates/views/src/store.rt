@@ -1,5 +1,5 @@
 ghost use Rattle.std.specs.Prelude.{ℕ, ◌≡◌, ◌≤◌};
-ghost use Rattle.views.specs.Stores.{is_between, store_answer};
+ghost use Rattle.views.specs.Stores.{is_between, store_answer, told};
 
 use crate::fault::StoreFault;
 use places::Hold;
@@ -9,7 +9,7 @@ use record_dim::LeafType;
 pub fn answer(kind: LeafType, hold: Hold, value: i128) -> Result<(), StoreFault>
     requires some { 1 ≤ hold.width }
     requires narrow { hold.width ≤ 64 }
-    ensures { result ≡ store_answer kind hold value }
+    ensures { result ≡ told (store_answer kind hold value) }
 {
     if !is_between(kind.least(), kind.greatest(), value) {
         return Err(StoreFault::Range);

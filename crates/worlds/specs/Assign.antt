@@ -9,8 +9,8 @@ use Rattle.piece_bits.specs.Tables.{with_entry}
 use Rattle.record_dim.specs.declared.path.PathStep.{PathStep}
 use Rattle.row_updates.specs.Logs.{value_log}
 use Rattle.views.specs.Tallies.{Write}
-use Rattle.worlds.specs.Worlds.{World, Table, replaced}
-use Rattle.worlds.specs.Accessed.{rewritten}
+use Rattle.views.specs.Tables.{Table, after_stores}
+use Rattle.worlds.specs.Worlds.{World, replaced}
 use Rattle.worlds.specs.Outcomes.{Outcome, Goes, ◌>>=◌, Left, quiet, known, refused_if}
 use Rattle.worlds.specs.Names.{leaf_of, bound}
 use Rattle.worlds.specs.Values.{value_on, storable}
@@ -32,8 +32,8 @@ assigned table index path value = do
   is_inside ← inside table.extents index
   let row = place_in (indices table.extents) index
   number ← value_on row (slice_index_or table.rows row []) index term
-  fits ← storable table row leaf number
-  Goes (rewritten table (with_entry table.rows row leaf number) (value_log row (slice_index_or table.rows row []) index term ++ Write row leaf ∷ []))
+  kept ← storable table row leaf number
+  Goes (after_stores table (with_entry table.rows row leaf kept) (value_log row (slice_index_or table.rows row []) index term ++ Write row leaf ∷ []))
 
 unfoldable pub assign : World → List ℕ → List ℕ → List PathStep → Value → Outcome Left
 assign world name index path value = do

@@ -5,13 +5,13 @@ use Rattle.record_dim.specs.Trees.{Tree, Fields, Single, Record, Array, End, Fie
 use Rattle.map_expr.specs.Terms.{Term as MapTerm}
 use Rattle.record_dim.specs.LeafTypes.{kind_number}
 use Rattle.layout_copy.specs.Copies.{Spot, refused_at}
-use Rattle.views.specs.Tallies.{all_reads, all_writes}
-use Rattle.worlds.specs.Worlds.{World, Entry, Table}
-use Rattle.worlds.specs.Accessed.{leaf_count, accessed, rewritten}
+use Rattle.views.specs.Tallies.{Read, Write, all_accesses}
+use Rattle.views.specs.Tables.{Table, leaf_count_of, after_log, after_stores, answer_of, kept_of}
+use Rattle.views.specs.Stores.{kept_rows}
+use Rattle.worlds.specs.Worlds.{World, Entry}
 use Rattle.worlds.specs.Outcomes.{Outcome, Goes, ◌>>=◌, Left, quiet, known, refused_if, refused_by}
 use Rattle.worlds.specs.Names.{nameless, text_of_leaf}
 use Rattle.worlds.specs.Tables.{made}
-use Rattle.worlds.specs.Values.{answer_in}
 use Rattle.worlds.specs.Assign.{with_table}
 use Rattle.worlds.specs.declared.fault.CommandFault.{CommandFault}
 use Rattle.worlds.specs.declared.fault.CommandFault.TheVariants.{Mismatch, Narrow}
@@ -41,8 +41,8 @@ narrow_fault fields spot = Narrow spot.row (text_of_leaf fields spot.leaf)
 -- a table with the rows of another, where it holds them, each value written once
 unfoldable pub with_rows : Table → List (List ℤ) → Outcome Table
 with_rows table rows = do
-  held ← refused_by (narrow_fault table.fields) (refused_at (answer_in table) 0 rows)
-  Goes (rewritten table rows (all_writes (leaf_count table) (length rows)))
+  held ← refused_by (narrow_fault table.fields) (refused_at (answer_of table) 0 rows)
+  Goes (after_stores table (kept_rows (kept_of table) rows) (all_accesses Write (leaf_count_of table) (length rows)))
 
 -- the target with the rows of the source
 unfoldable pub copied : Table → Table → Outcome Table
@@ -52,7 +52,7 @@ copied source target = do
 
 -- the source, each of its values read once
 abbrev pub all_read : Table → Table
-all_read source = accessed source (all_reads (leaf_count source) (length source.rows))
+all_read source = after_log source (all_accesses Read (leaf_count_of source) (length source.rows))
 
 -- of a table onto itself, each value is read and is written
 unfoldable pub copy : World → List ℕ → List ℕ → Outcome Left

@@ -18,12 +18,11 @@ use Rattle.lane_kernels.specs.declared.kernel.Kernel.{Kernel}
 use Rattle.lane_kernels.specs.declared.kernel.Kernel.TheVariants.{Axpy, Clamp, Sum, Least, Greatest, CountWhere}
 use Rattle.lane_kernels.specs.Kernels as kernels
 use Rattle.lane_kernels.specs.Logs.{rows_log}
-use Rattle.worlds.specs.Worlds.{World, Table}
-use Rattle.worlds.specs.Accessed.{rewritten}
+use Rattle.views.specs.Tables.{Table, after_stores, answer_of, kept_of}
+use Rattle.worlds.specs.Worlds.{World}
 use Rattle.worlds.specs.Outcomes.{Outcome, Goes, ◌>>=◌, Left, shows, known, refused_if, refused_by}
 use Rattle.worlds.specs.Names.{leaf_of, text_of_leaf}
 use Rattle.worlds.specs.Texts.{number_line}
-use Rattle.worlds.specs.Values.{answer_in}
 use Rattle.worlds.specs.Assign.{with_table}
 use Rattle.worlds.specs.declared.fault.BadKernel.TheVariants.{Lanes, Wide, Constant}
 use Rattle.worlds.specs.declared.fault.CommandFault.{CommandFault}
@@ -106,9 +105,9 @@ pub record Ran : Type 0 where
 
 abbrev pub run : Table → Kernel → Outcome Ran
 run table kernel = do
-  done ← refused_by (run_fault table.fields) (kernels.kernel_fault (answer_in table) kernel table.rows)
+  done ← refused_by (run_fault table.fields) (kernels.kernel_fault (answer_of table) kernel table.rows)
   Goes (record {
-    table = rewritten table (kernels.run_rows kernel (length table.rows) table.rows) (rows_log kernel (length table.rows));
+    table = after_stores table (kernels.run_rows (kept_of table) kernel (length table.rows) table.rows) (rows_log kernel (length table.rows));
     number = kernels.number_of kernel table.rows;
   })
 

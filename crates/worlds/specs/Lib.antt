@@ -15,6 +15,5 @@ pub mod Reduce
 pub mod Copy
 pub mod Kernel
 pub mod Show
-pub mod Accessed
 pub mod Step
 pub mod FaultTexts

@@ -6,8 +6,8 @@ use Rattle.line_grammar.specs.Sentences.{Value}
 use Rattle.line_grammar.specs.declared.line.ReduceKind.{ReduceKind}
 use Rattle.line_grammar.specs.declared.line.ReduceKind.TheVariants.{Sum, Min, Max}
 use Rattle.record_dim.specs.declared.path.PathStep.{PathStep}
-use Rattle.worlds.specs.Worlds.{World, Table}
-use Rattle.worlds.specs.Accessed.{accessed}
+use Rattle.views.specs.Tables.{Table, after_log}
+use Rattle.worlds.specs.Worlds.{World}
 use Rattle.worlds.specs.Assign.{with_table}
 use Rattle.worlds.specs.Outcomes.{Outcome, Goes, Faults, ◌>>=◌, Left, shows, known, ok_or}
 use Rattle.worlds.specs.Names.{leaf_of, bound}
@@ -43,7 +43,7 @@ unfoldable pub reduction : Table → ReduceKind → List PathStep → Outcome Me
 reduction table kind path = do
   leaf ← leaf_of table.fields path
   number ← reduced kind (column leaf table.rows)
-  Goes (record { table = accessed table (column_log leaf (length table.rows)); number = number })
+  Goes (record { table = after_log table (column_log leaf (length table.rows)); number = number })
 
 unfoldable pub reduce : World → List ℕ → ReduceKind → List PathStep → Outcome Left
 reduce world name kind path = do
@@ -56,7 +56,7 @@ unfoldable pub counting : Table → Value → Outcome Measured
 counting table filter = do
   term ← bound table.fields (length table.extents) filter
   rows ← ok_or (update_fault table.fields) (counted term table.extents table.rows)
-  Goes (record { table = accessed table (count_log term table.extents table.rows (length table.rows)); number = pos rows })
+  Goes (record { table = after_log table (count_log term table.extents table.rows (length table.rows)); number = pos rows })
 
 unfoldable pub count : World → List ℕ → Value → Outcome Left
 count world name filter = do

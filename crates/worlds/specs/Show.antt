@@ -8,8 +8,8 @@ use Rattle.record_dim.specs.Leaves.{texts_of}
 use Rattle.map_any.specs.Runs.{runs_of}
 use Rattle.instrument.specs.BlobTexts.{bytes_of, bytes_text}
 use Rattle.instrument.specs.CounterTexts.{counts_text, heat_text, runs_text}
-use Rattle.worlds.specs.Worlds.{World, Table, removed}
-use Rattle.worlds.specs.Accessed.{owners_of}
+use Rattle.views.specs.Tables.{Table, owners_of}
+use Rattle.worlds.specs.Worlds.{World, removed}
 use Rattle.worlds.specs.Assign.{with_table}
 use Rattle.worlds.specs.Copy.{all_read}
 use Rattle.worlds.specs.Outcomes.{Outcome, Goes, ◌>>=◌, Left, shows, quiet, known, some_or, refused_if}

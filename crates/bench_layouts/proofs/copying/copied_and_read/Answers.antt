@@ -11,7 +11,7 @@ pub returns-in_err-copy_rounds-clause-fault : goal.returns-in_err-copy_rounds-cl
 returns-in_err-copy_rounds-clause-fault g c =
     let written = c.write_rounds.new.view in
     let work = c.args.work in
-    let rows : length written.table ≡ work.rows =
+    let rows : length written.rows ≡ work.rows =
     c.in_ok-write_rounds.ensures.rewritten.rows ∙ ap (λ (t : List (List ℤ)). length t) c.requires.table ∙ length-replicate work.rows _ in
     let once = written_once written work.rows c.in_ok-write_rounds.ensures.rewritten.measured rows c.in_ok-write_rounds.ensures.entries in
     let why = no_copy written c.args.target.now work.to work.rows c.in_err-copy_rounds.field-0.0 c.requires.schemas.1 c.requires.exprs.1 once c.in_err-copy_rounds.ensures.refused in
@@ -21,7 +21,7 @@ returns-in_err-copy_rounds-clause-fault g c =
 pub returns-clause-sum : goal.returns-clause-sum
 returns-clause-sum g c =
     let work = c.args.work in
-    let table : c.copy_rounds.new.target.table ≡ c.write_rounds.new.view.table = search rules in
+    let table : c.copy_rounds.new.target.rows ≡ c.write_rounds.new.view.rows = search rules in
     let whole : c.read_rounds.result ≡ sum_read (entry_after 1) work.rows 1 =
     c.read_rounds.ensures.sum
     ∙ ap (λ (t : List (List ℤ)). sum_read (entry t) work.rows 1) table

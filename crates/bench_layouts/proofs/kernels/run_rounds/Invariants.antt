@@ -5,7 +5,7 @@ use Rattle.bench_layouts.proofs.kernels.run_rounds.Given as goal
 
 abbrev pub invariant-loop-round : goal.invariant-loop-round
 invariant-loop-round g l = record {
-  same : l.view ≡ record l.initial.view { table = table_after l.kernel l._round l.initial.view.table; tally = l.view.tally };
-  given : l.total ≡ all_given l.kernel l._round l.initial.view.table;
+  same : l.view ≡ record l.initial.view { rows = table_after l.kernel l._round l.initial.view.rows; tally = l.view.tally };
+  given : l.total ≡ all_given l.kernel l._round l.initial.view.rows;
   bound : IsSumOfRuns l._round l.total;
 }

@@ -6,6 +6,6 @@ use Rattle.bench_layouts.proofs.table.read_round.Given as goal
 
 abbrev pub invariant-loop-row : goal.invariant-loop-row
 invariant-loop-row g l = record {
-  sum : round_sum (entry l.initial.view.table) l.row ≡ l.total;
+  sum : round_sum (entry l.initial.view.rows) l.row ≡ l.total;
   same : l.view ≡ record l.initial.view { tally = l.view.tally };
 }

@@ -6,6 +6,6 @@ use Rattle.bench_layouts.proofs.table.read_rounds.Given as goal
 
 abbrev pub invariant-loop-round : goal.invariant-loop-round
 invariant-loop-round g l = record {
-  sum : sum_read (entry l.initial.view.table) l.rows l._round ≡ l.total;
+  sum : sum_read (entry l.initial.view.rows) l.rows l._round ≡ l.total;
   same : l.view ≡ record l.initial.view { tally = l.view.tally };
 }

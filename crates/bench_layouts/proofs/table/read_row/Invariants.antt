@@ -6,6 +6,6 @@ use Rattle.bench_layouts.proofs.table.read_row.Given as goal
 
 abbrev pub invariant-loop-leaf : goal.invariant-loop-leaf
 invariant-loop-leaf g l = record {
-  sum : sum_to (entry l.initial.view.table l.row) l.leaf ≡ l.total;
+  sum : sum_to (entry l.initial.view.rows l.row) l.leaf ≡ l.total;
   same : l.view ≡ record l.initial.view { tally = l.view.tally };
 }

@@ -17,6 +17,6 @@ returns-clause-sum g c =
 
 pub read_rounds-requires-clause-small : goal.read_rounds-requires-clause-small
 read_rounds-requires-clause-small g c =
-    let rows : length c.write_rounds.new.view.table ≡ c.args.rows =
+    let rows : length c.write_rounds.new.view.rows ≡ c.args.rows =
     c.in_ok-write_rounds.ensures.rewritten.rows ∙ ap (λ (t : List (List ℤ)). length t) c.requires.table ∙ length-replicate c.args.rows _ in
     small_entries c.write_rounds.new.view c.args.work.sets c.args.rows c.in_ok-write_rounds.ensures.entries rows

@@ -15,8 +15,8 @@ pub returns-clause-table : goal.returns-clause-table
 returns-clause-table c =
     let extents = c.args.extents in
     let count = ap (λ (f : Fields). length (leaves f)) c.in_ok-schema.ensures in
-    subst (λ (n : ℕ). IfOk c.new.result (λ view. view.table ≡ zeros n 4)) (length-indices extents)
-    (subst (λ (n : ℕ). IfOk c.new.result (λ view. view.table ≡ zeros (length (indices extents)) n)) count c.new.ensures.table)
+    subst (λ (n : ℕ). IfOk c.new.result (λ view. view.rows ≡ zeros n 4)) (length-indices extents)
+    (subst (λ (n : ℕ). IfOk c.new.result (λ view. view.rows ≡ zeros (length (indices extents)) n)) count c.new.ensures.table)
 
 pub returns-clause-refused : goal.returns-clause-refused
 returns-clause-refused c =

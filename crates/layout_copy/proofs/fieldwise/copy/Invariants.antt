@@ -1,12 +1,12 @@
 use Rattle.std.proofs.Common.{◌≡◌, ◌+◌, ◌*◌, ◌≤◌, length}
-use Rattle.views.specs.Seen.{leaf_count_of, after_log}
-use Rattle.views.specs.Tallies.{all_reads}
+use Rattle.views.specs.Tables.{leaf_count_of, after_log}
+use Rattle.views.specs.Tallies.{Read, all_accesses}
 use Rattle.layout_copy.proofs.Rows.{AreCopied}
 use Rattle.layout_copy.proofs.fieldwise.copy.Given as goal
 
 abbrev pub invariant-loop-row : goal.invariant-loop-row
 invariant-loop-row g l = record {
-  source : l.source ≡ after_log l.initial.source (all_reads (leaf_count_of l.initial.source) l.row);
+  source : l.source ≡ after_log l.initial.source (all_accesses Read (leaf_count_of l.initial.source) l.row);
   values : length l.values ≡ leaf_count_of l.initial.source;
   copied : AreCopied l.initial.source l.initial.target l.target l.row;
   steps : l.steps ≤ l.initial.steps + 2 * (l.row * leaf_count_of l.initial.source);

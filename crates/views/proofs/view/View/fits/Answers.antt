@@ -10,8 +10,8 @@ use Rattle.map_expr.specs.Terms.{term_of}
 use Rattle.map_any.specs.LeafCells.{kinds_are}
 use Rattle.map_any.specs.Mappings.{holds_by}
 use Rattle.piece_bits.specs.Tables.{hold_at}
-use Rattle.views.specs.Seen.{Seen, answer_of}
-use Rattle.views.specs.Stores.{kind_at, store_answer}
+use Rattle.views.specs.Tables.{Table, answer_of}
+use Rattle.views.specs.Stores.{kind_at, store_answer, told}
 use Rattle.views.proofs.Opened.{cell_count, leaf_seen}
 use Rattle.views.proofs.StoreLaws.{fitting_stored}
 use Rattle.views.proofs.view.View.fits.Goals as goal
@@ -35,6 +35,6 @@ returns-then-takes c =
     subst (λ (ks : List LeafType). IsDeclared (kind_at ks leaf) value) (kinds_are _ kinds mapping.cells_are) (c.takes.ensures.declared c.if-takes.true) in
     let held : IsIn (hold_at holds leaf).signed (hold_at holds leaf).width value =
     subst (λ (hs : List Hold). IsIn (hold_at hs leaf).signed (hold_at hs leaf).width value) mapping.holds_are (c.takes.ensures.held c.if-takes.true) in
-    sym (fitting_stored (kind_at kinds leaf) (hold_at holds leaf) value declared held)
-    ∙ ap (λ (v : ℤ). store_answer (kind_at kinds leaf) (hold_at holds leaf) v) (to_z-of_z w128 c.args.value fits)
-    ∙ ap (λ (s : Seen). answer_of s leaf c.args.value) c.self.view_is
+    sym (ap told (fitting_stored (kind_at kinds leaf) (hold_at holds leaf) value declared held))
+    ∙ ap (λ (v : ℤ). told (store_answer (kind_at kinds leaf) (hold_at holds leaf) v)) (to_z-of_z w128 c.args.value fits)
+    ∙ ap (λ (s : Table). told (answer_of s leaf c.args.value)) c.self.view_is

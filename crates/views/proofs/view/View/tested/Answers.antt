@@ -12,8 +12,8 @@ use Rattle.map_expr.specs.Terms.{term_of}
 use Rattle.map_any.specs.Mappings.{layout_by, holds_by}
 use Rattle.piece_bits.specs.Tables.{hold_at}
 use Rattle.piece_bits.specs.CellsLaws.{hold_widths}
-use Rattle.views.specs.Seen.{Seen, answer_of}
-use Rattle.views.specs.Stores.{kind_at, store_answer}
+use Rattle.views.specs.Tables.{Table, answer_of}
+use Rattle.views.specs.Stores.{kind_at, store_answer, told}
 use Rattle.views.proofs.Opened.{cell_count, leaf_seen}
 use Rattle.views.proofs.view.View.tested.Goals as goal
 use Rattle.views.proofs.view.View.tested.Goals.{After-hold}
@@ -52,7 +52,7 @@ returns c =
     let kind_is : kind_at kinds leaf ≡ c.leaf_type.result = get_or_from_slice_get kinds leaf c.leaf_type.result Truth c.leaf_type.ensures in
     let hold_is : hold_at holds leaf ≡ c.hold.result = get_or_from_slice_get holds leaf c.hold.result (record { signed = false; width = 0 }) (hold_there (goal.at.returns c).After-hold) in
     c.answer.ensures
-    ∙ ap (λ (v : ℤ). store_answer c.leaf_type.result c.hold.result v) (to_z-of_z w128 c.args.value fits)
-    ∙ ap (λ (k : LeafType). store_answer k c.hold.result c.args.value) (sym kind_is)
-    ∙ ap (λ (h : Hold). store_answer (kind_at kinds leaf) h c.args.value) (sym hold_is)
-    ∙ ap (λ (s : Seen). answer_of s leaf c.args.value) c.self.view_is
+    ∙ ap (λ (v : ℤ). told (store_answer c.leaf_type.result c.hold.result v)) (to_z-of_z w128 c.args.value fits)
+    ∙ ap (λ (k : LeafType). told (store_answer k c.hold.result c.args.value)) (sym kind_is)
+    ∙ ap (λ (h : Hold). told (store_answer (kind_at kinds leaf) h c.args.value)) (sym hold_is)
+    ∙ ap (λ (s : Table). told (answer_of s leaf c.args.value)) c.self.view_is

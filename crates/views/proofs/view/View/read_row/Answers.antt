@@ -1,0 +1,37 @@
+use Rattle.std.proofs.Common.{rules, arith, ℕ, ◌≡◌, ◌<◌, ◌∙◌, sym, ap, FitsSigned, length}
+use Rattle.std.specs.Int.{w128}
+use Rattle.std.proofs.lemmas.Int.{to_z-of_z}
+use Rattle.views.specs.Tables.{Table, leaf_count_of, after_log}
+use Rattle.views.specs.Tallies.{Read, row_accesses}
+use Rattle.views.proofs.RowLaws.{none_read, leaf_read, row_read}
+use Rattle.views.proofs.view.View.read_row.Goals as goal
+
+pub loop-leaf-init : goal.loop-leaf-init
+loop-leaf-init g c = record {
+  read = none_read c.args.self.now c.args.row c.args.values.now (c.requires.values ∙ sym (c.laws_of_table.ensures.table.shape.leaf_count c.args.row c.requires.row_in));
+  steps = omega arith;
+}
+
+pub get-requires-clause-row_in : goal.get-requires-clause-row_in
+get-requires-clause-row_in g c = omega (arith, ap (λ (t : Table). length t.rows) c.loop-leaf.invariant.read.same, c.requires.row_in)
+
+pub get-requires-clause-leaf_in : goal.get-requires-clause-leaf_in
+get-requires-clause-leaf_in g c = omega (arith, ap leaf_count_of c.loop-leaf.invariant.read.same, c.requires.values)
+
+pub loop-leaf-preserved : goal.loop-leaf-preserved
+loop-leaf-preserved g c =
+    let value = c.get.result in
+    let fits : FitsSigned w128 value = search rules in
+    let small : c.loop-leaf.leaf < length c.loop-leaf.values = omega arith in
+    rw (to_z-of_z w128 value fits) (record {
+      read = leaf_read c.args.self.now c.loop-leaf.self c.get.new.self c.args.row c.loop-leaf.leaf c.loop-leaf.values value small c.get.ensures.value c.get.ensures.same c.loop-leaf.invariant.read;
+      steps = omega (arith, c.get.ensures.step, c.loop-leaf.invariant.steps);
+    })
+
+pub returns-clause-read : goal.returns-clause-read
+returns-clause-read g c = row_read c.args.self.now c.loop-leaf.self c.args.row c.loop-leaf.values c.loop-leaf.leaf (omega arith) c.loop-leaf.invariant.read
+
+pub returns-clause-same : goal.returns-clause-same
+returns-clause-same g c =
+    let all : c.loop-leaf.leaf ≡ leaf_count_of c.args.self.now = omega (arith, c.requires.values) in
+    c.loop-leaf.invariant.read.same ∙ ap (λ (n : ℕ). after_log c.args.self.now (row_accesses Read n c.args.row)) all

@@ -1,0 +1,33 @@
+use Rattle.std.proofs.Common.{rules, arith, ◌≡◌, ◌<◌, ◌∙◌, pos, [], sym, ap, List, ℤ, FitsSigned, get_or, length}
+use Rattle.std.specs.Int.{w128}
+use Rattle.std.proofs.lemmas.Int.{to_z-of_z}
+use Rattle.std.proofs.lemmas.List.{length-set}
+use Rattle.views.specs.Tables.{Table, leaf_count_of}
+use Rattle.views.proofs.RowLaws.{none_stored, leaf_stored, row_stored}
+use Rattle.views.proofs.view.View.store_row.Goals as goal
+
+pub loop-leaf-init : goal.loop-leaf-init
+loop-leaf-init g c = record { stored = none_stored c.args.self.now c.args.row c.args.values.now; steps = omega arith }
+
+pub set-taken-requires-clause-row_in : goal.set-taken-requires-clause-row_in
+set-taken-requires-clause-row_in g c = omega (arith, ap (λ (t : Table). length t.rows) c.loop-leaf.invariant.stored, length-set {A = List ℤ}, c.requires.row_in)
+
+pub set-taken-requires-clause-leaf_in : goal.set-taken-requires-clause-leaf_in
+set-taken-requires-clause-leaf_in g c = omega (arith, ap leaf_count_of c.loop-leaf.invariant.stored, c.requires.values)
+
+pub loop-leaf-preserved : goal.loop-leaf-preserved
+loop-leaf-preserved g c =
+    let value = get_or c.args.values.now c.loop-leaf.leaf (pos 0) in
+    let fits : FitsSigned w128 value = search rules in
+    let small : c.loop-leaf.leaf < length c.args.values.now = omega arith in
+    let numbers : length c.args.values.now ≡ length (get_or c.args.self.now.rows c.args.row []) = c.requires.values ∙ sym (c.laws_of_table.ensures.table.shape.leaf_count c.args.row c.requires.row_in) in
+    record {
+      stored = leaf_stored c.args.self.now c.loop-leaf.self c.set-taken.new.self c.args.row c.loop-leaf.leaf c.args.values.now c.set-taken.result c.requires.row_in small numbers (c.requires.taken c.loop-leaf.leaf (omega (arith, c.requires.values)))
+          (rw (to_z-of_z w128 value fits) at c.set-taken.ensures.answer) (rw (to_z-of_z w128 value fits) at c.set-taken.ensures.stored) c.loop-leaf.invariant.stored;
+      steps = omega (arith, c.set-taken.ensures.step, c.loop-leaf.invariant.steps);
+    }
+
+pub returns-clause-stored : goal.returns-clause-stored
+returns-clause-stored g c =
+    let numbers : length c.args.values.now ≡ length (get_or c.args.self.now.rows c.args.row []) = c.requires.values ∙ sym (c.laws_of_table.ensures.table.shape.leaf_count c.args.row c.requires.row_in) in
+    row_stored c.args.self.now c.loop-leaf.self c.args.row c.loop-leaf.leaf c.args.values.now (omega (arith, c.requires.values)) (omega arith) numbers c.loop-leaf.invariant.stored

@@ -1,0 +1,61 @@
+use Rattle.std.proofs.Common.{◌≡◌, ◌∙◌, length, sym, subst, arith}
+use Rattle.record_dim.specs.Schemas.{schema_fields}
+use Rattle.record_dim.specs.Leaves.{leaves}
+use Rattle.map_expr.specs.Terms.{term_of}
+use Rattle.map_any.specs.Mappings.{layout_by}
+use Rattle.views.specs.Kept.{IsTallied, tally_of}
+use Rattle.views.specs.Tallies.{Tally, touched, access_to}
+use Rattle.views.proofs.CountLaws.{tallied_kept, tallied-one}
+use Rattle.views.proofs.KeptLaws.{kind_count}
+use Rattle.views.proofs.Opened.{tallied_here, touched_there, seen_touched, rows_seen, leaf_seen, cell_count}
+use Rattle.views.proofs.TouchLaws.{touched_both, leaf_inside}
+use Rattle.views.proofs.view.View.touch.Goals as goal
+use Rattle.views.proofs.view.View.touch.Goals.{After-touch_heat}
+
+pub touch_counts-requires : goal.touch_counts-requires
+touch_counts-requires c =
+    let a = c.self.inside in
+    leaf_inside (tally_of a.counts a.heat).counts c.args.leaf (length (leaves (schema_fields a.schema))) c.self.invariant.2.each_leaf
+    (omega (arith, kind_count (schema_fields a.schema), leaf_seen a.schema a.extents a.expr a.blobs.items c.self.invariant.1 c.args.self.now c.self.view_is c.args.leaf c.requires.leaf_in))
+
+pub touch_heat-requires-clause-row_in : goal.touch_heat-requires-clause-row_in
+touch_heat-requires-clause-row_in c =
+    let a = c.self.inside in
+    omega (arith, c.requires.row_in, c.self.invariant.0.slots_are, rows_seen a.schema a.extents a.expr a.blobs.items c.self.invariant.1 c.args.self.now c.self.view_is)
+
+pub touch_heat-requires-clause-leaf_in : goal.touch_heat-requires-clause-leaf_in
+touch_heat-requires-clause-leaf_in c =
+    let a = c.self.inside in
+    omega (arith, cell_count c.self.invariant.0, leaf_seen a.schema a.extents a.expr a.blobs.items c.self.invariant.1 c.args.self.now c.self.view_is c.args.leaf c.requires.leaf_in)
+
+pub touch_heat-requires-clause-granules : goal.touch_heat-requires-clause-granules
+touch_heat-requires-clause-granules c =
+    let a = c.self.inside in
+    (tallied_here c.self.invariant.0 (tally_of a.counts a.heat) c.self.invariant.2).each_blob
+
+-- what is counted then
+counts : (c : goal.After-touch_heat) → tally_of c.touch_counts.new.counts c.touch_heat.new.heat
+    ≡ touched (layout_by (term_of c.self.inside.expr) c.self.inside.extents (schema_fields c.self.inside.schema)) (tally_of c.self.inside.counts c.self.inside.heat) (access_to c.args.write c.args.row c.args.leaf)
+counts c =
+    let tally = tally_of c.self.inside.counts c.self.inside.heat in
+    let new = tally_of c.touch_counts.new.counts c.touch_heat.new.heat in
+    touched_both _ c.args.write c.args.row c.args.leaf tally new.counts new.heat c.touch_counts.ensures c.touch_heat.ensures
+    ∙ touched_there c.self.invariant.0 tally (access_to c.args.write c.args.row c.args.leaf)
+
+pub invariant_of-self : goal.invariant_of-self
+invariant_of-self c =
+    let a = c.self.inside in
+    let layout = layout_by (term_of a.expr) a.extents (schema_fields a.schema) in (
+      c.self.invariant.0,
+      c.self.invariant.1,
+      subst (λ (t : Tally). IsTallied (term_of a.expr) layout (length (leaves (schema_fields a.schema))) t) (sym (counts (goal.at.invariant_of-self c).After-touch_heat))
+          (tallied_kept (access_to c.args.write c.args.row c.args.leaf) c.self.invariant.2),
+    )
+
+pub returns : goal.returns
+returns c =
+    let a = c.self.inside in
+    let layout = layout_by (term_of a.expr) a.extents (schema_fields a.schema) in
+    let access = access_to c.args.write c.args.row c.args.leaf in
+    seen_touched a.schema a.extents a.expr a.blobs.items c.self.view_is access (tally_of c.touch_counts.new.counts c.touch_heat.new.heat)
+    (counts (goal.at.returns c).After-touch_heat ∙ sym (tallied-one layout (tally_of a.counts a.heat) access))
