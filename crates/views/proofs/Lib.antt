@@ -7,3 +7,5 @@ pub mod Counted
 pub mod CountLaws
 pub mod TouchLaws
 pub mod RowLaws
+pub mod ColumnLaws
+pub mod StoredLaws

@@ -10,7 +10,7 @@ mod rows;
 mod store;
 mod view;
 
-pub use fault::{MakeView, StoreFault};
+pub use fault::{LaneFault, MakeView, StoreFault};
 pub use laws::{counts_are_entries, laws_of_table};
 pub use row::RowRef;
 pub use view::{BlobList, View};
