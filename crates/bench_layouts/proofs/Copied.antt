@@ -5,7 +5,7 @@ use Rattle.record_dim.specs.Schemas.{schema_fields}
 use Rattle.record_dim.specs.Leaves.{kinds_of}
 use Rattle.piece_bits.specs.Tables.{hold_at}
 use Rattle.map_expr.specs.Terms.{Term, term_of}
-use Rattle.map_any.specs.Mappings.{holds_by}
+use Rattle.map_checks.specs.Mappings.{holds_by}
 use Rattle.views.specs.Tables.{Table, answer_of}
 use Rattle.views.specs.Stores.{Answer, kind_at, store_answer}
 use Rattle.layout_copy.specs.Copies.{AreAlike, IsCopied, refused_at}

@@ -2,7 +2,7 @@
 ghost use Rattle.std.specs.Prelude.{◌≡◌, IfOk};
 ghost use Rattle.places.specs.declared.forms.AosForm.TheVariants.{Packed};
 ghost use Rattle.map_expr.specs.Terms.{term_of, Aos, Soa, Aosoa, BitAos, BitSoa, Byteswap, Bytesplit};
-ghost use Rattle.map_any.specs.Mappings.{IsBuiltTerm};
+ghost use Rattle.map_checks.specs.Mappings.{IsBuiltTerm};
 ghost use Rattle.bench_layouts.specs.Forms.{form_term};
 
 use crate::form::Form;

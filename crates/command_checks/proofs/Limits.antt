@@ -10,7 +10,7 @@ use Rattle.record_dim.specs.Trees.{Fields}
 use Rattle.record_dim.specs.Leaves.{leaves, kinds_of}
 use Rattle.record_dim.specs.Schemas.{schema_fields}
 use Rattle.map_expr.specs.Terms.{Term as MapTerm, term_of}
-use Rattle.map_any.specs.Mappings.{leaf_cells, layout_by, accepted, most_slots}
+use Rattle.map_checks.specs.Mappings.{leaf_cells, layout_by, accepted, most_slots}
 use Rattle.piece_bits.specs.Tables.{zeros}
 use Rattle.views.specs.Seen.{Seen, seen_layout, leaf_count_of}
 use Rattle.views.specs.Tallies.{no_tally, granules_for}

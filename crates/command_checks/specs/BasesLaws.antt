@@ -12,7 +12,7 @@ use Rattle.extents.specs.ShapeLaws.{product_divided, product_fixed}
 use Rattle.record_dim.specs.declared.path.PathStep.{PathStep}
 use Rattle.map_expr.specs.Terms.{Term, Aos, Soa, Aosoa, BitAos, BitSoa, Split, Byteswap, Bytesplit, Change, Count, Heat, Named}
 use Rattle.map_expr.specs.Checks.{IsNameless}
-use Rattle.map_any.specs.Mappings.{IsBuiltTerm}
+use Rattle.map_checks.specs.Mappings.{IsBuiltTerm}
 use Rattle.worlds.specs.Outcomes.{Goes, Faults}
 use Rattle.worlds.specs.Tables.{resolved}
 use Rattle.worlds.specs.declared.fault.CommandFault.TheVariants.{BadExtents}

@@ -8,7 +8,7 @@ use Rattle.record_dim.specs.declared.path.PathStep.{PathStep}
 use Rattle.record_dim.specs.Trees.{Fields}
 use Rattle.record_dim.specs.Leaves.{kinds_of, texts_of}
 use Rattle.map_expr.specs.Terms.{Term as MapTerm}
-use Rattle.map_any.specs.Mappings.{holds_by}
+use Rattle.map_checks.specs.Mappings.{holds_by}
 use Rattle.piece_bits.specs.Tables.{hold_at, with_entry}
 use Rattle.views.specs.Stores.{kind_at}
 use Rattle.views.specs.Tallies.{Access, Write, Tally, all_reads}

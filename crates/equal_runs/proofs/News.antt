@@ -7,7 +7,7 @@ use Rattle.record_dim.specs.Trees.{Tree, Fields}
 use Rattle.record_dim.specs.Leaves.{kinds_of, texts_of}
 use Rattle.map_expr.specs.Terms.{Term as MapTerm}
 use Rattle.map_expr.specs.Checks.{checked}
-use Rattle.map_any.specs.Mappings.{holds_by}
+use Rattle.map_checks.specs.Mappings.{holds_by}
 use Rattle.map_any.specs.AnyLaws.{holds_cells, length-leaf_cells}
 use Rattle.csv_rows.specs.Datasets.{records_of, rows_of, dataset_table}
 use Rattle.csv_rows.specs.declared.fault.RowFault.{RowFault}

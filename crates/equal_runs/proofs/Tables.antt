@@ -4,7 +4,7 @@ use Rattle.record_dim.specs.Trees.{Fields}
 use Rattle.extents.specs.Indices.{indices}
 use Rattle.record_dim.specs.Leaves.{leaves, kinds_of}
 use Rattle.map_expr.specs.Terms.{Term as MapTerm}
-use Rattle.map_any.specs.Mappings.{leaf_cells, layout_by, most_slots, accepted}
+use Rattle.map_checks.specs.Mappings.{leaf_cells, layout_by, most_slots, accepted}
 use Rattle.views.specs.Tallies.{Access, Tally, all_writes, granules_for, no_tally}
 use Rattle.layout_copy.specs.Copies.{refused_at}
 use Rattle.piece_bits.specs.Tables.{zeros}

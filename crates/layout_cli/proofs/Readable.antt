@@ -25,7 +25,7 @@ use Rattle.line_grammar.specs.declared.line.KernelText.TheVariants as text
 use Rattle.lane_kernels.specs.declared.kernel.Kernel.{Kernel}
 use Rattle.expr_lang.specs.Terms.{Term}
 use Rattle.record_dim.specs.Leaves.{kinds_of}
-use Rattle.map_any.specs.Mappings.{accepted, leaf_cells, most_slots}
+use Rattle.map_checks.specs.Mappings.{accepted, leaf_cells, most_slots}
 use Rattle.views.specs.Tallies.{granules_for}
 use Rattle.worlds.specs.Accessed.{owners_of}
 use Rattle.worlds.specs.Define.{define, fit}

@@ -11,7 +11,7 @@ use Rattle.places.specs.declared.piece.Cell.{Cell}
 use Rattle.places.specs.declared.piece.Hold.{Hold}
 use Rattle.record_dim.specs.declared.leaf_type.LeafType.{LeafType}
 use Rattle.map_any.specs.AnyLaws.{length-leaf_cells}
-use Rattle.map_any.specs.Mappings.{leaf_cells}
+use Rattle.map_checks.specs.Mappings.{leaf_cells}
 use Rattle.map_any.specs.Runs.{goes_on, joined, run_owner, runs_from, runs_of}
 use Rattle.places.specs.Runs.{IsOwnerBelow}
 

@@ -1,7 +1,7 @@
 // Values that views store: the bytes of each form, the edges of each type, rows that are borrowed, and views that are not made.
 ghost use Rattle.std.specs.Prelude.{◌≡◌, ◌<◌, OnOk, length};
 ghost use Rattle.map_expr.specs.Terms.{term_of};
-ghost use Rattle.map_any.specs.Mappings.{IsBuiltTerm};
+ghost use Rattle.map_checks.specs.Mappings.{IsBuiltTerm};
 ghost use Rattle.piece_bits.specs.Tables.{with_entry};
 ghost use Rattle.views.specs.Seen.{leaf_count_of};
 

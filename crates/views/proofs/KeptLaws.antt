@@ -18,7 +18,7 @@ use Rattle.places.specs.Image.{entry, image}
 use Rattle.places.specs.Laws.{IsLaidOut}
 use Rattle.extents.specs.Indices.{indices}
 use Rattle.map_expr.specs.Terms.{Term}
-use Rattle.map_any.specs.Mappings.{leaf_cells, layout_by, holds_by, IsTooBigFor}
+use Rattle.map_checks.specs.Mappings.{leaf_cells, layout_by, holds_by, IsTooBigFor}
 use Rattle.blobs.specs.Bits.{bits_of, bit_in}
 use Rattle.piece_bits.specs.Tables.{AreLaid, HasShape, hold_at, with_entry, zeros}
 use Rattle.piece_bits.specs.TableLaws.{table_shape, with_entry_same, with_entry_other, zeros_entry}

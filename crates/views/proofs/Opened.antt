@@ -16,7 +16,7 @@ use Rattle.places.specs.declared.piece.Cell.{Cell}
 use Rattle.places.specs.declared.piece.Hold.{Hold}
 use Rattle.map_expr.specs.declared.expr.MapExpr.{MapExpr}
 use Rattle.map_expr.specs.Terms.{Term, term_of}
-use Rattle.map_any.specs.Mappings.{leaf_cells, layout_by, holds_by, IsTooBigFor}
+use Rattle.map_checks.specs.Mappings.{leaf_cells, layout_by, holds_by, IsTooBigFor}
 use Rattle.map_any.specs.Counters.{is_counted}
 use Rattle.piece_bits.specs.Tables.{AreLaid, table_in, hold_at, with_entry}
 use Rattle.views.specs.Tables.{Table, leaf_count_of, answer_of, after_log, after_stores, after_write, IsTable}

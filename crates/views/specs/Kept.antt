@@ -8,7 +8,7 @@ use Rattle.places.specs.Laws.{IsLaidOut}
 use Rattle.places.specs.declared.piece.Cell.{Cell}
 use Rattle.places.specs.declared.piece.Hold.{Hold}
 use Rattle.map_expr.specs.Terms.{Term}
-use Rattle.map_any.specs.Mappings.{leaf_cells, layout_by, holds_by, IsTooBigFor}
+use Rattle.map_checks.specs.Mappings.{leaf_cells, layout_by, holds_by, IsTooBigFor}
 use Rattle.map_any.specs.Counters.{has_count, granule_of}
 use Rattle.piece_bits.specs.Tables.{AreLaid, table_in}
 use Rattle.instrument.specs.Counters.{HeatCounts, leaf_counts, heat_counts, granules_of, HasLeaves}

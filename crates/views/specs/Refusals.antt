@@ -3,7 +3,7 @@ use Rattle.std.specs.Prelude.{ℕ, ◌≡◌, ◌<◌, ◌^◌, ◌⊎◌, ⊤, 
 use Rattle.record_dim.specs.Trees.{Fields}
 use Rattle.record_dim.specs.Leaves.{kinds_of}
 use Rattle.map_expr.specs.Terms.{Term}
-use Rattle.map_any.specs.Mappings.{leaf_cells, layout_by, accepted, IsTooBigFor}
+use Rattle.map_checks.specs.Mappings.{leaf_cells, layout_by, accepted, IsTooBigFor}
 use Rattle.map_checks.specs.declared.fault.MakeMap.{MakeMap}
 use Rattle.map_checks.specs.declared.fault.MakeMap.TheVariants as map
 use Rattle.instrument.specs.declared.heat.HeatFault.{HeatFault}

@@ -8,7 +8,7 @@ use Rattle.places.specs.Layout.{Owner}
 use Rattle.places.specs.Image.{image}
 use Rattle.places.specs.declared.piece.Hold.{Hold}
 use Rattle.map_expr.specs.Terms.{Term}
-use Rattle.map_any.specs.Mappings.{layout_by, holds_by}
+use Rattle.map_checks.specs.Mappings.{layout_by, holds_by}
 use Rattle.piece_bits.specs.Tables.{HasShape, hold_at, with_entry}
 use Rattle.views.specs.Stores.{Keeping, kind_at, store_answer, kept_by, AllFit}
 use Rattle.views.specs.Tallies.{Access, Read, Write, Tally, tallied}

@@ -1,7 +1,7 @@
 ghost use Rattle.std.specs.Prelude.{ℕ, ◌≡◌, ◌+◌, ◌*◌, ◌^◌, ◌<◌, ◌≤◌, IfOk, OnOk, IfErr, OnErr, IfSome, Ok, List, false, is_some, option_map, length, sum_by};
 ghost use Rattle.extents.specs.Indices.{indices};
 ghost use Rattle.map_expr.specs.Terms.{term_of};
-ghost use Rattle.map_any.specs.Mappings.{leaf_cells, accepted, IsBuiltTerm};
+ghost use Rattle.map_checks.specs.Mappings.{leaf_cells, accepted, IsBuiltTerm};
 ghost use Rattle.map_any.specs.Counters.{has_count, granule_of, is_counted};
 ghost use Rattle.instrument.specs.Counters.{leaf_counts, heat_counts, HasLeaves};
 ghost use Rattle.views.specs.Tallies.{Access, no_tally};
@@ -59,7 +59,7 @@ impl Model for View {
     ghost use Rattle.record_dim.specs.Schemas.{schema_fields};
     ghost use Rattle.map_expr.specs.Terms.{term_of};
     ghost use Rattle.record_dim.specs.Leaves.{leaves};
-    ghost use Rattle.map_any.specs.Mappings.{layout_by};
+    ghost use Rattle.map_checks.specs.Mappings.{layout_by};
     ghost use Rattle.map_any.specs.Maps.{extents_of, term_of_map};
     ghost use Rattle.views.specs.Kept.{IsKept, IsMappingOf, IsTallied, table_under, tally_of};
 

@@ -6,7 +6,7 @@ use Rattle.extents.specs.declared.words.ExtentWord.{ExtentWord}
 use Rattle.record_dim.specs.Trees.{Fields}
 use Rattle.record_dim.specs.Leaves.{leaves, kinds_of}
 use Rattle.map_expr.specs.Terms.{Term as MapTerm}
-use Rattle.map_any.specs.Mappings.{leaf_cells, layout_by, most_slots, accepted}
+use Rattle.map_checks.specs.Mappings.{leaf_cells, layout_by, most_slots, accepted}
 use Rattle.piece_bits.specs.Tables.{zeros}
 use Rattle.views.specs.Tallies.{no_tally, granules_for}
 use Rattle.views.specs.Tables.{Table, owners_of}

@@ -2,7 +2,7 @@ use Rattle.std.proofs.Common.{◌≡◌, ◌<◌, [], length, get_or, sym, ap, �
 use Rattle.std.proofs.lemmas.List.{get_or_read}
 use Rattle.record_dim.specs.Schemas.{schema_fields}
 use Rattle.map_expr.specs.Terms.{term_of}
-use Rattle.map_any.specs.Mappings.{layout_by}
+use Rattle.map_checks.specs.Mappings.{layout_by}
 use Rattle.blobs.specs.Bits.{bits_of}
 use Rattle.views.specs.Tables.{Table, owners_of, blob_bits_of}
 use Rattle.views.proofs.KeptLaws.{kept_blob}

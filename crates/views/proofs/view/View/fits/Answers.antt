@@ -7,8 +7,8 @@ use Rattle.record_dim.specs.Schemas.{schema_fields}
 use Rattle.record_dim.specs.Leaves.{kinds_of}
 use Rattle.places.specs.declared.piece.Hold.{Hold}
 use Rattle.map_expr.specs.Terms.{term_of}
-use Rattle.map_any.specs.LeafCells.{kinds_are}
-use Rattle.map_any.specs.Mappings.{holds_by}
+use Rattle.map_checks.specs.LeafCells.{kinds_are}
+use Rattle.map_checks.specs.Mappings.{holds_by}
 use Rattle.piece_bits.specs.Tables.{hold_at}
 use Rattle.views.specs.Tables.{Table, answer_of}
 use Rattle.views.specs.Stores.{kind_at, store_answer, told}

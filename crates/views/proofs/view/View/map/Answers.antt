@@ -1,6 +1,6 @@
 use Rattle.std.proofs.Common.{◌∙◌, ap, length}
 use Rattle.extents.specs.Indices.{indices}
-use Rattle.map_any.specs.Mappings.{leaf_cells}
+use Rattle.map_checks.specs.Mappings.{leaf_cells}
 use Rattle.views.specs.Tables.{Table, leaf_types_of, owners_of, table_holds}
 use Rattle.views.proofs.view.View.map.Goals as goal
 

@@ -5,7 +5,7 @@ use Rattle.record_dim.specs.Trees.{Fields}
 use Rattle.extents.specs.Indices.{indices}
 use Rattle.map_expr.specs.Terms.{term_of}
 use Rattle.piece_bits.specs.Tables.{zeros}
-use Rattle.map_any.specs.Mappings.{layout_by}
+use Rattle.map_checks.specs.Mappings.{layout_by}
 use Rattle.views.specs.Kept.{IsTallied, tally_of}
 use Rattle.views.specs.Tallies.{Tally, no_tally}
 use Rattle.views.proofs.CountLaws.{new_tally, no_tally-tallied}

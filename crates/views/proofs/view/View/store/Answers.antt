@@ -6,7 +6,7 @@ use Rattle.record_dim.specs.Schemas.{schema_fields}
 use Rattle.places.specs.declared.piece.Hold.{Hold}
 use Rattle.map_expr.specs.Terms.{term_of}
 use Rattle.map_any.specs.Counters.{is_counted}
-use Rattle.map_any.specs.Mappings.{holds_by}
+use Rattle.map_checks.specs.Mappings.{holds_by}
 use Rattle.piece_bits.specs.Tables.{hold_at, with_entry}
 use Rattle.views.specs.Kept.{table_under, tally_of}
 use Rattle.views.specs.Tables.{Table, answer_of, leaf_type_of, table_holds}

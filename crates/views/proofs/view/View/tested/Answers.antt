@@ -9,7 +9,7 @@ use Rattle.record_dim.specs.Schemas.{schema_fields}
 use Rattle.record_dim.specs.Leaves.{kinds_of}
 use Rattle.places.specs.declared.piece.Hold.{Hold}
 use Rattle.map_expr.specs.Terms.{term_of}
-use Rattle.map_any.specs.Mappings.{layout_by, holds_by}
+use Rattle.map_checks.specs.Mappings.{layout_by, holds_by}
 use Rattle.piece_bits.specs.Tables.{hold_at}
 use Rattle.piece_bits.specs.CellsLaws.{hold_widths}
 use Rattle.views.specs.Tables.{Table, answer_of}

@@ -2,7 +2,7 @@ use Rattle.std.proofs.Common.{◌≡◌, ◌∙◌, length, sym, subst, arith}
 use Rattle.record_dim.specs.Schemas.{schema_fields}
 use Rattle.record_dim.specs.Leaves.{leaves}
 use Rattle.map_expr.specs.Terms.{term_of}
-use Rattle.map_any.specs.Mappings.{layout_by}
+use Rattle.map_checks.specs.Mappings.{layout_by}
 use Rattle.views.specs.Kept.{IsTallied, tally_of}
 use Rattle.views.specs.Tallies.{Tally, touched, access_to}
 use Rattle.views.proofs.CountLaws.{tallied_kept, tallied-one}

@@ -5,7 +5,7 @@ use Rattle.record_dim.specs.LeafTypes.{IsIn}
 use Rattle.record_dim.specs.Schemas.{schema_fields}
 use Rattle.places.specs.declared.piece.Hold.{Hold}
 use Rattle.map_expr.specs.Terms.{term_of}
-use Rattle.map_any.specs.Mappings.{holds_by}
+use Rattle.map_checks.specs.Mappings.{holds_by}
 use Rattle.piece_bits.specs.Tables.{hold_at, with_entry}
 use Rattle.views.specs.Kept.{table_under}
 use Rattle.views.proofs.Opened.{rows_seen, leaf_seen, cell_count, fits_seen, kept_after, table_same, laid_there, seen_stored}

@@ -1,7 +1,7 @@
 use Rattle.std.proofs.Common.{◌≡◌, ℕ, Bool, Option, Some, get_or, option_map, sym, ap, ◌∙◌, subst}
 use Rattle.std.specs.Prelude.{IfSome}
 use Rattle.map_expr.specs.Terms.{term_of}
-use Rattle.map_any.specs.Mappings.{layout_by}
+use Rattle.map_checks.specs.Mappings.{layout_by}
 use Rattle.record_dim.specs.Schemas.{schema_fields}
 use Rattle.instrument.specs.Counters.{HeatCounts, heat_counts, warmed}
 use Rattle.instrument.specs.declared.heat.Heat.{Heat}
