@@ -1,22 +1,14 @@
 -- What a mapping keeps, as its calls use it.
-use Rattle.std.proofs.Common.{◌≡◌, ℕ, ◌+◌, ◌*◌, ◌^◌, ◌<◌, ◌≤◌, List, [], map, length, get_or, slice_get, Some, sym, ap, ◌∙◌, subst, arith}
-use Rattle.std.specs.Prelude.{slice_index, slice_index_or, All}
-use Rattle.std.proofs.lemmas.List.{get_or-map, length-map, get_or_default}
-use Rattle.extents.specs.Indices.{indices}
-use Rattle.linearize.specs.Slots.{slot_at}
+use Rattle.std.proofs.Common.{◌≡◌, ℕ, ◌*◌, ◌<◌, List, [], length, get_or, sym, ap, ◌∙◌, arith}
+use Rattle.std.proofs.lemmas.List.{get_or-map, length-map}
 use Rattle.record_dim.specs.Trees.{Fields}
 use Rattle.record_dim.specs.Leaves.{kinds_of}
 use Rattle.places.specs.Layout.{Owner}
-use Rattle.places.specs.Laws.{IsLocated, IsPiece}
 use Rattle.places.specs.declared.piece.Hold.{Hold}
-use Rattle.places.specs.declared.piece.Piece.{Piece}
-use Rattle.piece_rules.specs.PieceRules.{begin_in, piece_in, pieces_in}
-use Rattle.piece_rules.specs.declared.rule.PieceRule.{PieceRule}
 use Rattle.map_expr.specs.Terms.{Term}
 use Rattle.map_any.specs.AnyLaws.{holds_cells}
 use Rattle.map_checks.specs.Mappings.{leaf_cells, holds_by}
-use Rattle.map_plans.specs.Ruled.{HasLengths, IsRuled, IsRuleOf, pieces_of}
-use Rattle.map_plans.specs.declared.rule.Rule.{Rule}
+use Rattle.map_plans.specs.Ruled.{HasLengths}
 
 -- the number of blobs, and the bytes of each
 pub length-sized : (layout : List (List Owner)) (lengths : List ℕ) → HasLengths layout lengths → length lengths ≡ length layout

@@ -1,17 +1,15 @@
 -- Plans of mappings of bytes, from those of their inner mappings.
-use Rattle.std.proofs.Common.{Bool, true, false, ◌≡◌, ℕ, ◌+◌, ◌-◌, ◌*◌, ◌/◌, ◌%◌, ◌^◌, ◌<◌, ◌⊎◌, get_or, inl, inr, ⊎_elim, List, [], ◌∷◌, map, length, All, refl, sym, ap, ◌∙◌, subst}
+use Rattle.std.proofs.Common.{Bool, true, false, ◌≡◌, ℕ, ◌+◌, ◌-◌, ◌*◌, ◌/◌, ◌%◌, ◌^◌, ◌<◌, ◌⊎◌, get_or, List, [], ◌∷◌, map, length, All, refl, sym, ap, ◌∙◌, subst}
 use Rattle.std.specs.Prelude.{◌||◌}
 use Rattle.std.specs.List.{sum, sum_by}
 use Rattle.record_dim.specs.declared.path.PathStep.{PathStep}
 use Rattle.std.proofs.lemmas.List.{length-map}
 use Rattle.std.proofs.lemmas.List.Sums.{sum-map}
-use Rattle.extents.specs.declared.order.Order.{Order}
 use Rattle.record_dim.specs.Trees.{Fields}
 use Rattle.places.specs.Layout.{Owner, Bit}
 use Rattle.places.specs.Rules.{renamed, relabel, byte_cells, byteswap, bytesplit}
 use Rattle.places.specs.Holds.{widths_of, full_holds, IsTooBig}
 use Rattle.places.specs.WidthsLaws.{widths_whole, widths_narrow, widths_full}
-use Rattle.places.specs.CellWidthsLaws.{length-full}
 use Rattle.places.specs.declared.piece.Cell.{Cell}
 use Rattle.places.specs.declared.piece.Hold.{Hold}
 use Rattle.map_expr.specs.Terms.{Term, Split, Byteswap, Bytesplit}
@@ -21,11 +19,10 @@ use Rattle.map_plans.specs.ByteRules.{HasWholeBytes, HasOnePiece, AreSwapped, Ar
 use Rattle.map_plans.specs.LeafOrders.{order_of, orders_of}
 use Rattle.map_checks.specs.Mappings.{layout_of, holds_of, not_full, most_slots, IsTooBigFor}
 use Rattle.map_checks.specs.Sides.{cells_under, cells_beside}
-use Rattle.map_plans.specs.Plans.{IsPlanFor, IsPlanOf}
-use Rattle.map_plans.specs.Ruled.{HasLengths, IsRuled}
+use Rattle.map_plans.specs.Plans.{IsPlanOf}
+use Rattle.map_plans.specs.Ruled.{IsRuled}
 use Rattle.map_checks.specs.TermLaws.{length-holds}
 use Rattle.map_plans.specs.declared.plan.Plan.{Plan}
-use Rattle.map_plans.specs.declared.rule.Rule.{Rule}
 use Rattle.map_plans.proofs.JoinRuleLaws.{alone_ruled, join_ruled, join_orders}
 use Rattle.map_plans.proofs.OrderLaws.{order_in}
 use Rattle.map_plans.proofs.SwapRuleLaws.{whole_ruled, swap_ruled, swap_orders}

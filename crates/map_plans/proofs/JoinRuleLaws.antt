@@ -1,5 +1,5 @@
 -- The joined rules of the bytes of cells are rules of the cells.
-use Rattle.std.proofs.Common.{◌≡◌, ℕ, zero, suc, ◌+◌, ◌-◌, ◌*◌, ◌/◌, ◌%◌, ◌^◌, ◌<◌, ◌≤◌, List, [], ◌∷◌, ◌++◌, map, length, get_or, slice_index, take, drop, replicate, sum_by, All, refl, sym, ap, ◌∙◌, subst, arith, length-append}
+use Rattle.std.proofs.Common.{◌≡◌, ℕ, zero, suc, ◌+◌, ◌-◌, ◌*◌, ◌/◌, ◌%◌, ◌^◌, ◌<◌, ◌≤◌, List, [], ◌∷◌, ◌++◌, map, length, get_or, slice_index, take, drop, replicate, sum_by, All, refl, sym, ap, ◌∙◌, subst, arith}
 use Rattle.std.specs.List.{flat_map}
 use Rattle.std.proofs.lemmas.List.{length-map, get_or-map, same_lists, get_or-take, get_or-drop, length-take-le, length-drop, take_more, take_all, map-append, append-nil, get_or_append_left, get_or-append-add, get_or-replicate, length-replicate}
 use Rattle.std.proofs.lemmas.List.Concat.{flat_map-append}
@@ -21,11 +21,11 @@ use Rattle.places.specs.declared.piece.Piece.{Piece}
 use Rattle.piece_rules.specs.PieceRules.{piece_in, pieces_in}
 use Rattle.piece_rules.specs.declared.rule.PieceRule.{PieceRule}
 use Rattle.map_bytes.specs.Cells.{bytes_of, byte_count}
-use Rattle.map_bytes.specs.ByteCellsLaws.{bytes_before, byte_cell_at, byte_within, byte_count_is, byte_count_before, length-bytes, widths_of_bytes}
+use Rattle.map_bytes.specs.ByteCellsLaws.{bytes_before, byte_cell_at, byte_within, byte_count_is, byte_count_before, length-bytes}
 use Rattle.map_bytes.specs.CutLaws.{one_of_eight}
 use Rattle.map_bytes.specs.JoinLaws.{byte_joined, none_located}
 use Rattle.map_plans.specs.ByteRules.{HasOnePiece, IsJoined, AreJoined, bytes_at}
-use Rattle.map_plans.specs.Ruled.{EachWith, IsRuleOf, IsRuled, pieces_of}
+use Rattle.map_plans.specs.Ruled.{IsRuleOf, IsRuled}
 use Rattle.map_plans.specs.declared.rule.Rule.{Rule}
 use Rattle.map_plans.proofs.OrderLaws.{order_in, with_item}
 

@@ -1,5 +1,5 @@
 -- A layout by rows over the slots of an order: which it is, and its limits.
-use Rattle.std.proofs.Common.{◌≡◌, ℕ, ◌*◌, ◌^◌, ◌<◌, inl, inr, ⊎_elim, List, map, length, sum_by, sym, ap, ◌∙◌, arith}
+use Rattle.std.proofs.Common.{◌≡◌, ℕ, ◌*◌, ◌^◌, ◌<◌, inl, inr, ⊎_elim, List, length, sum_by, sym, ap, ◌∙◌, arith}
 use Rattle.places.specs.Layout.{Owner}
 use Rattle.places.specs.Rules.{in_rows}
 use Rattle.places.specs.Holds.{widths_of, IsTooBig}

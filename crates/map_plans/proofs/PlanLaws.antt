@@ -1,20 +1,19 @@
 -- Plans of base mappings and of splits.
-use Rattle.std.proofs.Common.{◌≡◌, ℕ, ◌+◌, ◌*◌, ◌^◌, ◌<◌, ◌≤◌, ◌⊎◌, inl, inr, ⊎_elim, Bool, List, [], ◌∷◌, ◌++◌, map, length, get_or, All, refl, sym, ap, ◌∙◌, subst, arith, length-append}
+use Rattle.std.proofs.Common.{◌≡◌, ℕ, ◌+◌, ◌*◌, ◌^◌, ◌<◌, ◌≤◌, inl, inr, ⊎_elim, Bool, List, [], ◌∷◌, ◌++◌, map, length, get_or, All, refl, sym, ap, ◌∙◌, subst, arith}
 use Rattle.std.specs.Prelude.{not, max, sum_by}
 use Rattle.std.specs.List.{count_by, sum}
 use Rattle.std.proofs.lemmas.Bool.{cases_lt}
 use Rattle.std.proofs.lemmas.List.{length-map, map-append}
-use Rattle.std.proofs.lemmas.List.Sums.{sum-map, sum_by-cons, sum_by-append}
+use Rattle.std.proofs.lemmas.List.Sums.{sum-map, sum_by-cons}
 use Rattle.extents.specs.declared.order.Order.{Order}
 use Rattle.linearize.specs.Slots.{row_at, slot_count}
 use Rattle.places.specs.Layout.{Owner}
-use Rattle.places.specs.Rules.{renamed, in_rows, recelled, numbers_of, split}
+use Rattle.places.specs.Rules.{in_rows, split}
 use Rattle.places.specs.Holds.{widths_of, IsTooBig}
 use Rattle.places.specs.declared.piece.Cell.{Cell}
 use Rattle.places.specs.declared.piece.Hold.{Hold}
 use Rattle.map_plans.specs.PlansLaws.{plan_holds, plan_rules}
 use Rattle.map_plans.specs.declared.plan.Plan.{Plan}
-use Rattle.map_plans.specs.declared.rule.Rule.{Rule}
 use Rattle.record_dim.specs.declared.path.PathStep.{PathStep}
 use Rattle.record_dim.specs.Trees.{Fields}
 use Rattle.map_expr.specs.Terms.{Term, Split}
@@ -25,7 +24,7 @@ use Rattle.map_split.specs.SidesLaws.{map-merged}
 use Rattle.map_split.specs.SizesLaws.{lengths-split, bits-split}
 use Rattle.map_plans.specs.Splits.{AreSplitRules, LieWithin}
 use Rattle.map_checks.specs.Mappings.{ordered, layout_of, holds_of, most_slots, IsTooBigFor}
-use Rattle.map_plans.specs.Ruled.{HasLengths, IsRuled, IsRuleOf}
+use Rattle.map_plans.specs.Ruled.{HasLengths, IsRuled}
 use Rattle.map_plans.specs.Plans.{IsPlanFor, IsPlanOf}
 use Rattle.map_plans.proofs.Limits.{by_rows, within}
 use Rattle.map_plans.proofs.SplitRules.{split_ruled}

@@ -1,20 +1,15 @@
 -- Rules for cells: one more, and by rows.
-use Rattle.std.proofs.Common.{◌≡◌, ℕ, ◌+◌, ◌%◌, ◌^◌, ◌<◌, ◌≤◌, ⊎_elim, All, List, [], ◌∷◌, ◌++◌, length, get_or, sum_by, sym, ap, ◌∙◌, subst, arith, length-append}
-use Rattle.std.proofs.Math.Seq.{get_or-append_seam}
-use Rattle.std.proofs.lemmas.Bool.{cases_lt}
-use Rattle.std.proofs.lemmas.List.{get_or_append_left}
-use Rattle.extents.specs.Indices.{indices}
+use Rattle.std.proofs.Common.{◌≡◌, ℕ, ◌+◌, ◌%◌, ◌^◌, ◌<◌, ◌≤◌, All, List, length, sum_by, sym, ap, ◌∙◌, subst, arith}
 use Rattle.extents.specs.declared.order.Order.{Order}
 use Rattle.linearize.specs.Slots.{slot_at, slot_count, row_at}
 use Rattle.linearize.specs.SlotsLaws.{slot_at_below}
 use Rattle.places.specs.Layout.{Owner}
 use Rattle.places.specs.Rules.{in_rows}
 use Rattle.places.specs.Laws.{IsLocated}
-use Rattle.places.specs.declared.piece.Piece.{Piece}
 use Rattle.piece_rules.specs.PieceRules.{pieces_in, AreRulesOf}
 use Rattle.piece_rules.specs.declared.rule.PieceRule.{PieceRule}
 use Rattle.map_checks.specs.RowsLaws.{row_located, length-in_rows}
-use Rattle.map_plans.specs.Ruled.{EachWith, IsRuleOf, pieces_of}
+use Rattle.map_plans.specs.Ruled.{IsRuleOf}
 use Rattle.map_plans.specs.declared.rule.Rule.{Rule}
 
 -- rules by slots are rules by rows

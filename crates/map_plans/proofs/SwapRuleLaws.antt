@@ -1,8 +1,7 @@
 -- Rules with their bytes in reverse order are rules of cells whose bytes are in reverse order.
-use Rattle.std.proofs.Common.{◌≡◌, ℕ, ◌+◌, ◌%◌, ◌^◌, ◌<◌, ◌≤◌, List, [], ◌∷◌, map, length, get_or, slice_index, sum_by, All, refl, sym, ap, ◌∙◌, subst, arith}
+use Rattle.std.proofs.Common.{◌≡◌, ℕ, ◌+◌, ◌%◌, ◌^◌, ◌<◌, ◌≤◌, List, map, length, get_or, slice_index, sum_by, All, sym, ap, ◌∙◌, subst, arith}
 use Rattle.std.proofs.lemmas.List.{length-map, get_or-map, same_lists}
 use Rattle.std.proofs.lemmas.List.Elements.{All-weaker}
-use Rattle.extents.specs.Indices.{indices}
 use Rattle.extents.specs.declared.order.Order.{Order}
 use Rattle.linearize.specs.Slots.{slot_at, slot_count}
 use Rattle.places.specs.Layout.{Owner}
@@ -15,7 +14,7 @@ use Rattle.map_bytes.specs.Cuts.{swapped, swapped_rules}
 use Rattle.map_bytes.specs.CutLaws.{swapped_in, swapped_blobs, swapped_eights, swapped_bounds, swapped_bits}
 use Rattle.map_bytes.specs.SwapPiecesLaws.{swap_located}
 use Rattle.map_plans.specs.ByteRules.{HasWholeBytes, IsSwapped, AreSwapped}
-use Rattle.map_plans.specs.Ruled.{EachWith, IsRuleOf, IsRuled, pieces_of}
+use Rattle.map_plans.specs.Ruled.{IsRuleOf, IsRuled, pieces_of}
 use Rattle.map_plans.specs.declared.rule.Rule.{Rule}
 use Rattle.map_plans.proofs.OrderLaws.{order_in, with_item}
 

@@ -1,4 +1,4 @@
-use Rattle.std.proofs.Common.{◌≡◌, List, length, false, sym, ap, ◌∙◌}
+use Rattle.std.proofs.Common.{◌≡◌, List, length, sym, ap, ◌∙◌}
 use Rattle.places.specs.Holds.{full_holds}
 use Rattle.places.specs.CellWidthsLaws.{length-full}
 use Rattle.places.specs.declared.piece.Hold.{Hold}

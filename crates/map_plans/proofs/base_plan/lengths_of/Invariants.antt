@@ -1,5 +1,5 @@
 -- the lengths so far
-use Rattle.std.proofs.Common.{◌≡◌, take}
+use Rattle.std.proofs.Common.{take}
 use Rattle.map_plans.specs.Ruled.{HasLengths}
 use Rattle.map_plans.proofs.base_plan.lengths_of.Given as goal
 

@@ -1,5 +1,4 @@
-use Rattle.std.proofs.Common.{◌≡◌, ℕ, ◌+◌, ◌-◌, ◌/◌, ◌<◌, ◌≤◌, List, [], ◌∷◌, ◌++◌, length, get_or, slice_index, take, drop, All, sym, ap, ◌∙◌, subst, arith, rules, length-append}
-use Rattle.places.specs.Holds.{widths_of}
+use Rattle.std.proofs.Common.{◌≡◌, ℕ, ◌+◌, ◌<◌, ◌≤◌, List, [], ◌∷◌, length, take, All, sym, ap, ◌∙◌, subst, arith, rules, length-append}
 use Rattle.places.specs.declared.piece.Cell.{Cell}
 use Rattle.map_bytes.specs.Cells.{byte_count}
 use Rattle.map_plans.specs.ByteRules.{HasOnePiece, IsJoined, bytes_at}

@@ -1,4 +1,4 @@
-use Rattle.std.proofs.Common.{◌≡◌, ◌∙◌, ◌<◌, ◌^◌, ℕ, List, Bool, true, Err, map, length, sym, ap, subst}
+use Rattle.std.proofs.Common.{◌≡◌, ◌∙◌, ℕ, List, Bool, true, Err, map, length, sym, ap, subst}
 use Rattle.record_dim.specs.Trees.{Fields}
 use Rattle.record_dim.specs.Schemas.{schema_fields}
 use Rattle.std.specs.Prelude.{IfOk}
@@ -19,7 +19,7 @@ use Rattle.map_plans.proofs.OrderLaws.{planned_orders, orders_changed}
 use Rattle.map_plans.proofs.BytePlanLaws.{narrow_under, narrow_beside, over_swap, swap_held, swap_bytes, swap_planned, swap_ordered, over_join, join_each, join_alone, join_planned, join_ordered}
 use Rattle.map_plans.proofs.Faults.{too_big_of, handed_on, handed}
 use Rattle.map_plans.proofs.Limits.{over}
-use Rattle.map_plans.proofs.PlanLaws.{base_planned, over_under, over_beside, holds_first, holds_rest, rules_first, rules_rest, blobs_first, blobs_rest, over_all, planned}
+use Rattle.map_plans.proofs.PlanLaws.{base_planned, over_under, over_beside, holds_first, holds_rest, rules_first, rules_rest, over_all, planned}
 use Rattle.map_plans.proofs.make.+make_plan.Goals as goal
 
 pub returns-in_err-mapping-in-Soa-clause-too_big : goal.returns-in_err-mapping-in-Soa-clause-too_big

@@ -1,5 +1,5 @@
 -- what is left of the limit
-use Rattle.std.proofs.Common.{ℕ, ◌≡◌, ◌+◌, ◌^◌, take}
+use Rattle.std.proofs.Common.{◌≡◌, ◌+◌, ◌^◌, take}
 use Rattle.std.specs.List.{sum}
 use Rattle.map_plans.proofs.split_plan.is_over.Given as goal
 

@@ -1,6 +1,5 @@
 use Rattle.std.proofs.Common.{◌*◌, ◌∙◌, ℕ, List, get_or, ap}
 use Rattle.record_dim.specs.Schemas.{schema_fields}
-use Rattle.record_dim.specs.Leaves.{kinds_of}
 use Rattle.map_expr.specs.Terms.{term_of}
 use Rattle.map_checks.specs.Mappings.{layout_by}
 use Rattle.map_any.proofs.AnyFacts.{bytes_at}
