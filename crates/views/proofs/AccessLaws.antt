@@ -1,18 +1,18 @@
 -- A leaf in a row, as the short form of its rule places it.
-use Rattle.std.proofs.Common.{◌≡◌, ℕ, ℤ, ◌+◌, ◌*◌, ◌^◌, ◌<◌, ◌≤◌, Bool, false, List, [], length, map, get_or, set, slice_index, All, refl, sym, ap, ◌∙◌, subst, arith}
+use Rattle.std.proofs.Common.{◌≡◌, ℕ, ℤ, ◌+◌, ◌*◌, ◌<◌, ◌≤◌, Bool, false, List, [], length, map, get_or, set, slice_index, refl, sym, ap, ◌∙◌, subst, arith}
 use Rattle.std.specs.Int.{bit_at}
 use Rattle.std.proofs.lemmas.Option.{slice_get-get_or}
 use Rattle.record_dim.specs.LeafTypes.{IsIn}
 use Rattle.places.specs.Image.{number, digit, decoded, entry}
 use Rattle.places.specs.Layout.{Owner}
-use Rattle.places.specs.Laws.{IsLaidOut, IsPiece}
+use Rattle.places.specs.Laws.{IsLaidOut}
 use Rattle.places.specs.declared.piece.Hold.{Hold}
 use Rattle.places.specs.declared.piece.Piece.{Piece}
 use Rattle.piece_rules.specs.declared.rule.PieceRule.{PieceRule}
 use Rattle.blobs.specs.Bits.{bit_of, bit_in}
-use Rattle.piece_bits.specs.CellsLaws.{IsCell, bit_count, apart, within, read_entry_is, written_table, written_padding, still_laid}
+use Rattle.piece_bits.specs.CellsLaws.{IsCell, bit_count, apart, read_entry_is, written_table, written_padding, still_laid}
 use Rattle.piece_bits.specs.Scattered.{scattered_pieces}
-use Rattle.piece_bits.specs.Spots.{spots_of, bit_at_spot, IsWithin, AreApart}
+use Rattle.piece_bits.specs.Spots.{spots_of, bit_at_spot, AreApart}
 use Rattle.piece_bits.specs.Tables.{AreLaid, hold_at, table_in, with_entry}
 use Rattle.piece_bits.specs.Words.{IsField, IsWord, word_bit, word_place, word_pieces, word_signed, word_width}
 use Rattle.piece_bits.specs.WordsLaws.{word_blob, word_room, word_entry, word_held, word_table, word_laid}

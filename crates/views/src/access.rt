@@ -29,7 +29,12 @@ pub fn short_read(map: &AnyMap, blobs: &[Blob], row: u64, leaf: usize) -> Option
     let short = &rule.short;
     let start = short.start(row)?;
     match short.word {
-        Word::Scattered => Some(read_scattered(blobs, rule.rule.pieces.as_slice(), start, &short.field)),
+        Word::Scattered => Some(read_scattered(
+            blobs,
+            rule.rule.pieces.as_slice(),
+            start,
+            &short.field,
+        )),
         word => Some(read_word(&blobs[short.blob], start, word, &short.field)),
     }
 }
@@ -72,7 +77,13 @@ pub fn short_write(map: &AnyMap, blobs: &mut BlobList, row: u64, leaf: usize, va
     };
     match short.word {
         Word::Scattered => {
-            write_scattered(blobs, rule.rule.pieces.as_slice(), start, &short.field, value);
+            write_scattered(
+                blobs,
+                rule.rule.pieces.as_slice(),
+                start,
+                &short.field,
+                value,
+            );
             true
         }
         word => {

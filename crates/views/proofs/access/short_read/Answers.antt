@@ -38,11 +38,11 @@ read_word-requires c =
     record {
       form =
           is_word c.args.map.now.holds c.args.row c.args.leaf c.laws_of.ensures.lawful c.laws_of.ensures.paired c.requires.row_in c.requires.leaf_in
-    (c.short-rule.ensures.form c.in_ok-start.ensures.some) c.in_ok-start.start c.in_ok-start.ensures.start c.args.blobs.now c.requires.laid
+          (c.short-rule.ensures.form c.in_ok-start.ensures.some) c.in_ok-start.start c.in_ok-start.ensures.start c.args.blobs.now c.requires.laid
           c.in_default.not-Scattered;
       within =
           word_there c.args.map.now.holds c.args.row c.args.leaf c.laws_of.ensures.lawful c.laws_of.ensures.paired c.requires.row_in c.requires.leaf_in
-    (c.short-rule.ensures.form c.in_ok-start.ensures.some) c.in_ok-start.start c.in_ok-start.ensures.start c.args.blobs.now c.requires.laid
+          (c.short-rule.ensures.form c.in_ok-start.ensures.some) c.in_ok-start.start c.in_ok-start.ensures.start c.args.blobs.now c.requires.laid
           c.in_default.not-Scattered c.index-blobs-short.result there;
     }
 
