@@ -1,8 +1,10 @@
-use Rattle.std.proofs.Common.{◌≡◌, ◌∙◌, [], Result, Ok, Err, get_or, sym, ap, rules, FitsSigned}
+use Rattle.std.proofs.Common.{◌≡◌, ◌∙◌, [], ℤ, Result, Ok, Err, get_or, sym, ap, rules, FitsSigned}
 use Rattle.std.specs.Int.{w128}
 use Rattle.std.proofs.lemmas.Int.{to_z-of_z}
 use Rattle.expr_lang.specs.Bounds.{bound_term}
 use Rattle.views.specs.declared.fault.StoreFault.{StoreFault}
+use Rattle.row_updates.specs.declared.fault.UpdateFault.{UpdateFault}
+use Rattle.row_updates.specs.declared.fault.UpdateKind.{UpdateKind}
 use Rattle.row_updates.specs.Logs.{value_log}
 use Rattle.row_updates.specs.Rows.{setting_of, in_row, store_kind, ◌>>=◌}
 use Rattle.row_updates.proofs.Rows.{value_tested}
@@ -27,4 +29,6 @@ returns-in-Err-clause-value g c =
     let fits : FitsSigned w128 value = search rules in
     let gives = rw (to_z-of_z w128 value fits) at c.fits.ensures in
     let no : c.fits.result ≡ Err c.in-Err.fault = search rules in
-    ?
+    ap (λ (kind : UpdateKind). let refused : Result ℤ UpdateFault = Err (record { row = c.args.row; kind = kind }) in refused) c.store_kind.ensures
+    ∙ sym (value_tested c.args.view.now c.value_of.new.view c.args.row row c.args.index.now set (value_log c.args.row row c.args.index.now set.value) value c.fits.result (sym c.in_ok-value.ensures.value) c.value_of.ensures.same gives
+    ∙ ap (λ (r : Result Unit StoreFault). in_row c.args.row (store_kind set.leaf) r >>= (λ done. Ok value)) no)
