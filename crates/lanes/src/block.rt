@@ -46,6 +46,7 @@ impl Block {
         }
     }
 
+    /// Its sixteen numbers.
     pub fn to_array(self) -> [i64; 16]
         ensures numbers { result ≡ self }
         ensures count { length self ≡ 16 }
@@ -53,6 +54,7 @@ impl Block {
         self.lanes.to_array()
     }
 
+    /// Its lanes, each of which fits 64 bits with a sign.
     pub fn lanes(self) -> Simd<i64, 16>
         ensures lanes { IsBlock result }
         ensures value { result ≡ self }

@@ -34,7 +34,8 @@ AreAlike source target = (source.fields ≡ target.fields) × (source.extents �
 -- held
 abbrev pub IsCopied : Table → Table → Table → Result Unit CopyFault → Type 0
 IsCopied source old new (Ok done) =
-    AreAlike source old × (refused_at (answer_of old) 0 source.rows ≡ None) × (new ≡ after_stores old (kept_rows (kept_of old) source.rows) (all_accesses Write (leaf_count_of old) (length source.rows)))
+    AreAlike source old × (refused_at (answer_of old) 0 source.rows ≡ None)
+    × (new ≡ after_stores old (kept_rows (kept_of old) source.rows) (all_accesses Write (leaf_count_of old) (length source.rows)))
 IsCopied source old new (Err Mismatch) = (AreAlike source old → ⊥) × (new ≡ old)
 IsCopied source old new (Err (Narrow row leaf)) =
     AreAlike source old × (refused_at (answer_of old) 0 source.rows ≡ Some (record { row = row; leaf = leaf }))

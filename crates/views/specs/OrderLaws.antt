@@ -47,15 +47,25 @@ unfolding blobs_from warm_from
 blobs_both one other first [] = refl
 blobs_both one other first (counts ∷ blobs) = rw (blob_both (one first) (other first) 0 counts, blobs_both one other (first + 1) blobs) refl
 
-heated_both : (layout : List (List Owner)) (one other : Access) (heat : HeatCounts) → heat_touched layout other (heat_touched layout one heat) ≡ heat_touched layout one (heat_touched layout other heat)
+heated_both : (layout : List (List Owner)) (one other : Access) (heat : HeatCounts)
+    → heat_touched layout other (heat_touched layout one heat) ≡ heat_touched layout one (heat_touched layout other heat)
 unfolding blobs_from
-heated_both layout (Read row leaf) (Read more last) heat = ap (λ (blobs : List (List ℕ)). record heat { blobs = blobs }) (blobs_both (is_hot layout heat.granule row leaf) (is_hot layout heat.granule more last) 0 heat.blobs)
-heated_both layout (Read row leaf) (Write more last) heat = ap (λ (blobs : List (List ℕ)). record heat { blobs = blobs }) (blobs_both (is_hot layout heat.granule row leaf) (is_hot layout heat.granule more last) 0 heat.blobs)
-heated_both layout (Write row leaf) (Read more last) heat = ap (λ (blobs : List (List ℕ)). record heat { blobs = blobs }) (blobs_both (is_hot layout heat.granule row leaf) (is_hot layout heat.granule more last) 0 heat.blobs)
-heated_both layout (Write row leaf) (Write more last) heat = ap (λ (blobs : List (List ℕ)). record heat { blobs = blobs }) (blobs_both (is_hot layout heat.granule row leaf) (is_hot layout heat.granule more last) 0 heat.blobs)
+heated_both layout (Read row leaf) (Read more last) heat =
+    ap (λ (blobs : List (List ℕ)). record heat { blobs = blobs })
+    (blobs_both (is_hot layout heat.granule row leaf) (is_hot layout heat.granule more last) 0 heat.blobs)
+heated_both layout (Read row leaf) (Write more last) heat =
+    ap (λ (blobs : List (List ℕ)). record heat { blobs = blobs })
+    (blobs_both (is_hot layout heat.granule row leaf) (is_hot layout heat.granule more last) 0 heat.blobs)
+heated_both layout (Write row leaf) (Read more last) heat =
+    ap (λ (blobs : List (List ℕ)). record heat { blobs = blobs })
+    (blobs_both (is_hot layout heat.granule row leaf) (is_hot layout heat.granule more last) 0 heat.blobs)
+heated_both layout (Write row leaf) (Write more last) heat =
+    ap (λ (blobs : List (List ℕ)). record heat { blobs = blobs })
+    (blobs_both (is_hot layout heat.granule row leaf) (is_hot layout heat.granule more last) 0 heat.blobs)
 
 -- two accesses
-counts_both : (one other : Access) (counts : Option LeafCounts) → option_map (counts_touched other) (option_map (counts_touched one) counts) ≡ option_map (counts_touched one) (option_map (counts_touched other) counts)
+counts_both : (one other : Access) (counts : Option LeafCounts)
+    → option_map (counts_touched other) (option_map (counts_touched one) counts) ≡ option_map (counts_touched one) (option_map (counts_touched other) counts)
 counts_both one other None = refl
 counts_both one other (Some counts) = ap (λ (c : LeafCounts). Some c) (leaves_both one other counts)
 
@@ -66,7 +76,8 @@ heats_both layout one other (Some heat) = ap (λ (h : HeatCounts). Some h) (heat
 
 touched_both : (layout : List (List Owner)) (tally : Tally) (one other : Access) → touched layout (touched layout tally one) other ≡ touched layout (touched layout tally other) one
 touched_both layout tally one other =
-    ap (λ (counts : Option LeafCounts). record { counts = counts; heat = option_map (heat_touched layout other) (option_map (heat_touched layout one) tally.heat) }) (counts_both one other tally.counts)
+    ap (λ (counts : Option LeafCounts). record { counts = counts; heat = option_map (heat_touched layout other) (option_map (heat_touched layout one) tally.heat) })
+    (counts_both one other tally.counts)
     ∙ ap (λ (heat : Option HeatCounts). record { counts = option_map (counts_touched one) (option_map (counts_touched other) tally.counts); heat = heat }) (heats_both layout one other tally.heat)
 
 -- an access before others or after them
@@ -88,7 +99,8 @@ tallied-swap layout tally (access ∷ one) other =
     ∙ ap (λ (log : List Access). tallied layout tally log) (append_assoc other (access ∷ []) one)
 
 -- the accesses of two kinds of some rows, row by row or kind by kind
-swapped : (layout : List (List Owner)) (tally : Tally) (first second third : List Access) → tallied layout (tallied layout tally (first ++ second)) third ≡ tallied layout tally (first ++ (third ++ second))
+swapped : (layout : List (List Owner)) (tally : Tally) (first second third : List Access)
+    → tallied layout (tallied layout tally (first ++ second)) third ≡ tallied layout tally (first ++ (third ++ second))
 swapped layout tally first second third =
     tallied-append layout tally (first ++ second) third
     ∙ ap (λ (log : List Access). tallied layout tally log) (append_assoc first second third)
