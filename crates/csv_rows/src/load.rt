@@ -63,15 +63,9 @@ fn load_from<R: Records, L: Ledger>(
     if !found {
         return Ok(());
     }
-    let mut values = vec![in alloc; 0i128; columns.len()]?;
-    load_records(
-        view,
-        columns.as_slice(),
-        values.as_mut_slice(),
-        records,
-        fields,
-        steps,
-    )
+    let mut room = [0; 64];
+    let values = &mut room[..view.schema().leaf_count()];
+    load_records(view, columns.as_slice(), values, records, fields, steps)
 }
 
 // Reads the header, which has no field where there is no record.
