@@ -4,4 +4,3 @@ from . import (bit_fields, byte_forms, commands, copies, counts, datasets, gener
 
 TABLES = [commands, lines, refusals, datasets, layouts, splits, bit_fields, copies, morton, byte_forms, nested, kernels, values, limits, counts, heat, runs, wrappers, tallies,
           generator]
-CASES = [case for table in TABLES for case in table.CASES]
