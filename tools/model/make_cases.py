@@ -18,6 +18,7 @@ import llama_model
 from tables import TABLES
 
 BY_HAND = 'by_hand'
+FULL, NO_MEMORY = 4, 5
 CASES = {f'{table.__name__.rsplit(".", 1)[-1]}/{case.name}': case for table in TABLES for case in table.CASES}
 
 
@@ -49,6 +50,9 @@ def write_inputs(case, folder):
         files['d.csv'] = case.csv
     if case.make is not None:
         files['make'] = case.make.encode()
+    for name, value in (('into', case.into), ('room', case.room), ('memory', case.memory)):
+        if value is not None:
+            files[name] = f'{value}\n'.encode()
     for name, data in files.items():
         (folder / name).parent.mkdir(exist_ok=True)
         (folder / name).write_bytes(data)
@@ -70,16 +74,27 @@ def agrees(printed, due):
     return printed == lines(due)
 
 
+def what_is_taken(case, printed, status):
+    """What of a run's output is taken, and how the run ends, where the output is full or memory is wanting."""
+    if case.into is not None:
+        return b'', FULL
+    if case.room is not None:
+        assert len(printed) > 1024 * case.room, f'{case.name} prints too little'
+        return printed[:1024 * case.room], FULL
+    return (b'', NO_MEMORY) if case.memory is not None else (printed, status)
+
+
 def write_case(case, folder):
     """Writes a case; tells whether the model and the table agree."""
     if folder.exists():
         shutil.rmtree(folder)
     write_inputs(case, folder)
     printed, status = (lines(case.due), status_of(lines(case.due))) if case.by_hand else modelled(folder, case.words or ['run', 'script.llama'])
-    if printed:
-        (folder / 'stdout').write_bytes(printed)
-    if status:
-        (folder / 'status').write_text(f'{status}\n')
+    taken, ended = what_is_taken(case, printed, status)
+    if taken:
+        (folder / 'stdout').write_bytes(taken)
+    if ended:
+        (folder / 'status').write_text(f'{ended}\n')
     if agrees(printed, case.due) and status == status_of(printed):
         return True
     print(f'{case.name}\n  table: {case.due}\n  model: {printed[-400:].decode()}({status})')
