@@ -5,14 +5,16 @@ use std::test::Fail;
 
 // Bytes in which no two fields of more than some bits are alike.
 fn mixed(at: usize) -> u8 {
-    let square = (at as u8).wrapping_mul(at as u8);
-    square.wrapping_mul(29).wrapping_add(0x5b) ^ (at as u8).rotate_left(3)
+    let low = (at % 256) as u8;
+    low.wrapping_mul(low).wrapping_mul(29).wrapping_add(0x5b) ^ low.rotate_left(3)
 }
 
 fn mixed_blob(alloc: Global, len: usize) -> Result<Blob, NoMemory> {
     let mut blob = Blob::zeroed(alloc, len)?;
-    for at in 0..blob.len() {
-        blob.put(at, mixed(at));
+    for at in 0..len {
+        if at < blob.len() {
+            blob.put(at, mixed(at));
+        }
     }
     Ok(blob)
 }
