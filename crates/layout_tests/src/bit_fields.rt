@@ -62,6 +62,9 @@ fn is_right(alloc: Global, len: usize, from: u64, width: u32) -> Result<bool, No
     }
     let is_read = blob.bits(from, width) == plain_bits(&blob, from, width);
     let value = !plain_bits(&blob, from, width) & (u64::MAX >> (64 - width));
+    if u128::from(value) >= 1 << width {
+        return Ok(false);
+    }
     blob.put_bits(from, width, value);
     Ok(is_read && differs_there_alone(&blob, &before, from, width, value))
 }
