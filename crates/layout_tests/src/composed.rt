@@ -1,8 +1,5 @@
 // Mappings over others, made by the public constructors: where their cells lie, how they are held, and what is refused.
-ghost use Rattle.std.specs.Prelude.{◌≡◌, [], ◌∷◌, true, false, IfOk, length};
-ghost use Rattle.record_dim.specs.declared.leaf_type.LeafType.TheVariants.{I32, I16};
-ghost use Rattle.map_bytes.specs.Cells.{bytes_of, changed};
-ghost use Rattle.map_split.specs.Sides.{first_of, rest_of};
+ghost use Rattle.std.specs.Prelude.{◌≡◌, [], ◌∷◌, IfOk};
 
 use crate::mapped::cells_of;
 use lists::Sequence;
