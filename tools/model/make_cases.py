@@ -1,10 +1,10 @@
 #!/usr/bin/env python3
 """Writes the cases of the tables as folders of script, datasets, stdout and status.
 
-usage: make_cases.py FOLDER           writes each case into FOLDER
-       make_cases.py --check FOLDER.. tells the cases that stand in none of the folders as they are written
+usage: make_cases.py FOLDER          writes each case as FOLDER/TABLE/NAME
+       make_cases.py --check FOLDER  tells the cases that do not stand there as they are written, and what else stands there
 
-What is printed comes from the model, and must be what the table tells, which was worked out by hand.
+What is printed comes from the model, and must be what the table tells, which was worked out by hand. FOLDER/by_hand has the cases of no table.
 """
 import filecmp
 import pathlib
@@ -15,7 +15,11 @@ import sys
 import tempfile
 
 import llama_model
-from tables import CASES
+from tables import TABLES
+
+BY_HAND = 'by_hand'
+FULL, NO_MEMORY = 4, 5
+CASES = {f'{table.__name__.rsplit(".", 1)[-1]}/{case.name}': case for table in TABLES for case in table.CASES}
 
 
 def lines(text):
@@ -46,6 +50,9 @@ def write_inputs(case, folder):
         files['d.csv'] = case.csv
     if case.make is not None:
         files['make'] = case.make.encode()
+    for name, value in (('into', case.into), ('room', case.room), ('memory', case.memory)):
+        if value is not None:
+            files[name] = f'{value}\n'.encode()
     for name, data in files.items():
         (folder / name).parent.mkdir(exist_ok=True)
         (folder / name).write_bytes(data)
@@ -67,16 +74,27 @@ def agrees(printed, due):
     return printed == lines(due)
 
 
+def what_is_taken(case, printed, status):
+    """What of a run's output is taken, and how the run ends, where the output is full or memory is wanting."""
+    if case.into is not None:
+        return b'', FULL
+    if case.room is not None:
+        assert len(printed) > 1024 * case.room, f'{case.name} prints too little'
+        return printed[:1024 * case.room], FULL
+    return (b'', NO_MEMORY) if case.memory is not None else (printed, status)
+
+
 def write_case(case, folder):
     """Writes a case; tells whether the model and the table agree."""
     if folder.exists():
         shutil.rmtree(folder)
     write_inputs(case, folder)
     printed, status = (lines(case.due), status_of(lines(case.due))) if case.by_hand else modelled(folder, case.words or ['run', 'script.llama'])
-    if printed:
-        (folder / 'stdout').write_bytes(printed)
-    if status:
-        (folder / 'status').write_text(f'{status}\n')
+    taken, ended = what_is_taken(case, printed, status)
+    if taken:
+        (folder / 'stdout').write_bytes(taken)
+    if ended:
+        (folder / 'status').write_text(f'{ended}\n')
     if agrees(printed, case.due) and status == status_of(printed):
         return True
     print(f'{case.name}\n  table: {case.due}\n  model: {printed[-400:].decode()}({status})')
@@ -91,23 +109,26 @@ def is_same(one, other):
     return not differ and not errors and all(is_same(one / name, other / name) for name in found.common_dirs)
 
 
-def check(folders):
+def check(folder):
+    """Tells the cases that do not stand in the folder as they are written, and the folders there that are no case of a table."""
     with tempfile.TemporaryDirectory() as room:
         fresh = pathlib.Path(room)
-        wrong = [case.name for case in CASES if not write_case(case, fresh / case.name) or not any(
-            (folder / case.name).is_dir() and is_same(fresh / case.name, folder / case.name) for folder in folders)]
-    for name in wrong:
-        print(f'not as the table and the model have it: {name}')
-    return not wrong
+        wrong = [place for place, case in CASES.items() if not write_case(case, fresh / place) or not (folder / place).is_dir()
+                 or not is_same(fresh / place, folder / place)]
+    for place in wrong:
+        print(f'not as the table and the model have it: {place}')
+    found = {f'{case.parent.name}/{case.name}' for case in folder.glob('*/*') if case.parent.name != BY_HAND}
+    for place in sorted(found - CASES.keys()):
+        print(f'of no table: {place}')
+    return not wrong and found == CASES.keys()
 
 
 def main(words):
-    names = [case.name for case in CASES]
-    assert len(names) == len(set(names)), sorted(name for name in set(names) if names.count(name) > 1)
+    assert len(CASES) == sum(len(table.CASES) for table in TABLES), 'two cases of a table have one name'
     if words[:1] == ['--check']:
-        good = check([pathlib.Path(word) for word in words[1:]])
+        good = check(pathlib.Path(words[1]))
     else:
-        good = all([write_case(case, pathlib.Path(words[0], case.name)) for case in CASES])
+        good = all([write_case(case, pathlib.Path(words[0], place)) for place, case in CASES.items()])
     print(f'model: {len(CASES)} cases of the tables')
     return 0 if good else 1
 

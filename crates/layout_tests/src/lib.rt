@@ -6,6 +6,10 @@ mod aos_places;
 #[cfg(test)]
 mod aosoa_places;
 #[cfg(test)]
+mod bit_fields;
+#[cfg(test)]
+mod composed;
+#[cfg(test)]
 mod expressions;
 #[cfg(test)]
 mod files_and_texts;

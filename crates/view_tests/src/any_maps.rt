@@ -42,7 +42,7 @@ const OTHERS: [LayoutForm; 7] = [
 ];
 
 /// A flat schema with a leaf of each of these types.
-fn schema_of(alloc: Global, kinds: &[LeafType]) -> Result<Schema, Fail> {
+pub(crate) fn schema_of(alloc: Global, kinds: &[LeafType]) -> Result<Schema, Fail> {
     let mut fields = FieldList::End;
     for (number, kind) in kinds.iter().enumerate().rev() {
         let text = format!(in alloc; "f{number}")?;
@@ -56,7 +56,7 @@ fn schema_of(alloc: Global, kinds: &[LeafType]) -> Result<Schema, Fail> {
 }
 
 /// The first `rank` of these extents; the others are 1.
-fn extents_of(alloc: Global, sizes: [u32; 4], rank: usize) -> Result<Extents, Fail> {
+pub(crate) fn extents_of(alloc: Global, sizes: [u32; 4], rank: usize) -> Result<Extents, Fail> {
     let mut words = Vec::new(alloc);
     let mut rows = 1u64;
     for size in sizes.iter().take(rank) {

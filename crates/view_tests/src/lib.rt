@@ -4,6 +4,8 @@
 #[cfg(test)]
 mod any_maps;
 #[cfg(test)]
+mod blob_runs;
+#[cfg(test)]
 mod counters;
 #[cfg(test)]
 mod datasets;

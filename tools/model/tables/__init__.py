@@ -1,7 +1,6 @@
 """The cases of the language, a table for each subject."""
-from . import (bit_fields, byte_forms, commands, copies, counts, datasets, generator, heat, kernels, layouts, limits, lines, morton, nested, refusals, runs, splits,
+from . import (bit_fields, byte_forms, commands, copies, counts, datasets, exchanges, generator, heat, kernels, layouts, limits, lines, morton, nested, outputs, refusals, runs, splits,
                tallies, values, wrappers)
 
 TABLES = [commands, lines, refusals, datasets, layouts, splits, bit_fields, copies, morton, byte_forms, nested, kernels, values, limits, counts, heat, runs, wrappers, tallies,
-          generator]
-CASES = [case for table in TABLES for case in table.CASES]
+          generator, outputs, exchanges]

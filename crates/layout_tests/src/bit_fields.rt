@@ -1,0 +1,85 @@
+// Fields of bits in a blob: each width at each of the first bits and at the blob's last places, against loops over single bits.
+use blobs::Blob;
+use std::alloc::{AllocError as NoMemory, Global};
+use std::test::Fail;
+
+// Bytes in which no two fields of more than some bits are alike.
+fn mixed(at: usize) -> u8 {
+    let low = (at % 256) as u8;
+    low.wrapping_mul(low).wrapping_mul(29).wrapping_add(0x5b) ^ low.rotate_left(3)
+}
+
+fn mixed_blob(alloc: Global, len: usize) -> Result<Blob, NoMemory> {
+    let mut blob = Blob::zeroed(alloc, len)?;
+    for at in 0..len {
+        if at < blob.len() {
+            blob.put(at, mixed(at));
+        }
+    }
+    Ok(blob)
+}
+
+// A bit of a blob, 0 behind its end.
+fn bit(blob: &Blob, place: u64) -> u64 {
+    let at = (place / 8) as usize;
+    if at < blob.len() {
+        return u64::from((blob.get(at) >> (place % 8) as u32) & 1);
+    }
+    0
+}
+
+// The bits of a field as a number, bit by bit.
+fn plain_bits(blob: &Blob, from: u64, width: u32) -> u64 {
+    let mut value = 0u64;
+    for k in (0..width).rev() {
+        let place = from.wrapping_add(u64::from(k));
+        value = value.wrapping_mul(2).wrapping_add(bit(blob, place));
+    }
+    value
+}
+
+// Whether a blob has this value in a field, and all its other bits are those of another blob.
+fn differs_there_alone(blob: &Blob, other: &Blob, from: u64, width: u32, value: u64) -> bool {
+    let end = from.wrapping_add(u64::from(width));
+    let bits = (blob.len() as u64).wrapping_mul(8);
+    for place in 0..bits {
+        if (place < from || end <= place) && bit(blob, place) != bit(other, place) {
+            return false;
+        }
+    }
+    blob.len() == other.len() && plain_bits(blob, from, width) == value
+}
+
+// Whether a field that lies within the blob is read and written as the loops say; a field past its end is left out.
+fn is_right(alloc: Global, len: usize, from: u64, width: u32) -> Result<bool, NoMemory> {
+    let before = mixed_blob(alloc, len)?;
+    let mut blob = mixed_blob(alloc, len)?;
+    if len > 17 || blob.len() != len || from > 136 || width < 1 || width > 64 {
+        return Ok(false);
+    }
+    if from + u64::from(width) > blob.len() as u64 * 8 {
+        return Ok(true);
+    }
+    let is_read = blob.bits(from, width) == plain_bits(&blob, from, width);
+    let value = !plain_bits(&blob, from, width) & (u64::MAX >> (64 - width));
+    if u128::from(value) >= 1 << width {
+        return Ok(false);
+    }
+    blob.put_bits(from, width, value);
+    Ok(is_read && differs_there_alone(&blob, &before, from, width, value))
+}
+
+#[test]
+fn fields_of_each_width_are_read_and_written_anywhere(rt: HostRuntime) -> Result<(), Fail> {
+    for len in [8usize, 9, 17] {
+        let bits = len as u64 * 8;
+        for width in 1..65u32 {
+            for step in 0..8u64 {
+                let last = bits.saturating_sub(u64::from(width)).saturating_sub(step);
+                assert!(rt; is_right(rt.alloc(), len, step, width)?);
+                assert!(rt; is_right(rt.alloc(), len, last, width)?);
+            }
+        }
+    }
+    Ok(())
+}
