@@ -1,8 +1,8 @@
 -- Accesses to the rows, one after another.
-use Rattle.std.proofs.Common.{◌≡◌, ℕ, ◌+◌, ℤ, List, [], ◌∷◌, ◌++◌, sym, ap, ◌∙◌}
-use Rattle.views.specs.Tallies.{Access, Read, Write, Tally, row_accesses, all_accesses}
-use Rattle.views.specs.TallyLaws.{tallied-none, after_log-append, after_stores-append, logs_more, accesses_more}
-use Rattle.views.specs.Tables.{Table, owners_of, leaf_count_of, after_log, after_stores, after_read}
+use Rattle.std.proofs.Common.{◌≡◌, ℕ, ◌+◌, ℤ, List, [], sym, ap, ◌∙◌}
+use Rattle.views.specs.Tallies.{Read, Write, Tally, row_accesses, all_accesses}
+use Rattle.views.specs.TallyLaws.{tallied-none, after_log-append, after_stores-append, logs_more}
+use Rattle.views.specs.Tables.{Table, owners_of, leaf_count_of, after_log, after_stores}
 
 -- no store
 pub after_stores-none : (seen : Table) → seen ≡ after_stores seen seen.rows []

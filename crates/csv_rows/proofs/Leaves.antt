@@ -1,16 +1,13 @@
 -- The leaves of a view, read from a row's fields one after another.
-use Rattle.std.proofs.Common.{◌≡◌, ℕ, zero, suc, ◌+◌, ◌-◌, ◌<◌, ◌≤◌, false, ℤ, pos, append_assoc, List, [], ◌∷◌, ◌++◌, length, take, drop, get_or, set, Result, Ok, Err, OnOk, refl, sym, ap, ◌∙◌, arith, append-nil}
-use Rattle.std.proofs.lemmas.List.{at_drop_more, drop_all, take_all, take_more, take_more_set, length-map, length-take, set-set, set-get_or, get_or-set_same, drop_more, set-append_right}
-use Rattle.record_dim.specs.Schemas.{schema_fields}
+use Rattle.std.proofs.Common.{◌≡◌, ℕ, zero, suc, ◌+◌, ◌<◌, ◌≤◌, false, ℤ, List, [], ◌∷◌, length, take, drop, get_or, set, Result, Ok, Err, refl, sym, ap, ◌∙◌, arith, append-nil}
+use Rattle.std.proofs.lemmas.List.{at_drop_more, drop_all, take_all, take_more_set, length-map}
 use Rattle.record_dim.specs.Leaves.{leaves}
 use Rattle.record_dim.specs.declared.leaf_type.LeafType.{LeafType}
 use Rattle.record_dim.specs.declared.leaf_type.LeafType.TheVariants.{Bool as Truth}
 use Rattle.places.specs.declared.piece.Hold.{Hold}
-use Rattle.piece_bits.specs.Tables.{hold_at, with_entry}
+use Rattle.piece_bits.specs.Tables.{hold_at}
 use Rattle.views.specs.Stores.{kind_at}
-use Rattle.views.specs.Tallies.{Write, row_accesses}
-use Rattle.views.specs.Tables.{Table, leaf_count_of, leaf_types_of, table_holds, answer_of, after_stores, after_write}
-use Rattle.views.specs.declared.fault.StoreFault.{StoreFault}
+use Rattle.views.specs.Tables.{Table, leaf_count_of, leaf_types_of, table_holds}
 use Rattle.csv_rows.specs.Datasets.{◌>>=◌, Leaf, with_columns, value_at, row_values}
 use Rattle.csv_rows.specs.Loads.{place_of, leaves_in}
 use Rattle.csv_rows.specs.declared.fault.RowFault.{RowFault}

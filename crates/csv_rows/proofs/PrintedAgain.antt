@@ -6,7 +6,6 @@ use Rattle.places.specs.declared.piece.Hold.{Hold}
 use Rattle.std.proofs.lemmas.List.{length-map}
 use Rattle.record_dim.specs.Leaves.{leaves, texts_of}
 use Rattle.record_dim.specs.Paths.{path_text_of}
-use Rattle.record_dim.specs.Schemas.{schema_fields}
 use Rattle.views.specs.Tables.{Table, IsTable, leaf_types_of, table_holds}
 use Rattle.views.specs.Stores.{AllFit}
 use Rattle.csv_rows.specs.Loads.{dataset_of}

@@ -1,13 +1,11 @@
 -- Rows that are read, stored and copied, one leaf or one row more.
-use Rattle.std.proofs.Common.{◌≡◌, Bool, true, false, ℕ, zero, suc, ◌+◌, ◌*◌, ◌-◌, ◌<◌, ◌≤◌, ℤ, pos, List, [], ◌∷◌, ◌++◌, append_assoc, append-nil, length, take, drop, get_or, set, Option, Some, None, if◌then◌else◌, Result, Ok, Err, OnOk, is_ok, refl, sym, ap, ◌∙◌, arith}
-use Rattle.std.proofs.lemmas.List.{length-map, get_or-map, at_drop_more, take_all, drop_all, take_more, drop_more, length-take, set-set, set-get_or, get_or-set_same, length-set, take-set-le, set-append_right}
-use Rattle.piece_bits.specs.Tables.{with_entry}
-use Rattle.views.specs.Tables.{Table, answer_of, kept_of, leaf_count_of, after_log, after_stores, after_read, after_write}
+use Rattle.std.proofs.Common.{◌≡◌, Bool, true, false, ℕ, zero, suc, ◌+◌, ◌*◌, ◌<◌, ◌≤◌, ℤ, pos, List, [], ◌∷◌, ◌++◌, length, take, drop, get_or, set, Option, Some, None, if◌then◌else◌, is_ok, refl, sym, ap, ◌∙◌, arith}
+use Rattle.std.proofs.lemmas.List.{length-map, get_or-map, at_drop_more, take_more, get_or-set_same, length-set, take-set-le}
+use Rattle.views.specs.Tables.{Table, answer_of, kept_of, leaf_count_of, after_log, after_stores, after_read}
 use Rattle.views.specs.Stores.{Answer, kept_row, kept_rows}
 use Rattle.views.specs.HalfLaws.{half, half_more}
 use Rattle.views.specs.TallyLaws.{after_log-none, after_log-append, logs_more, accesses_more}
 use Rattle.views.specs.Tallies.{Access, Read, Write, row_accesses, all_accesses}
-use Rattle.views.specs.declared.fault.StoreFault.{StoreFault}
 use Rattle.layout_copy.specs.Copies.{refusing, refused_at, spot_or}
 
 -- the leaves from one on are the one and those behind it

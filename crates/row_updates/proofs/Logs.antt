@@ -5,9 +5,9 @@ use Rattle.std.proofs.lemmas.List.{append-nil, append_assoc, map-append, take_mo
 use Rattle.expr_lang.specs.Terms.{Term}
 use Rattle.linearize.specs.Slots.{index_at}
 use Rattle.views.specs.Stores.{Answer}
-use Rattle.views.specs.Tallies.{Access, Read, Write, Tally}
+use Rattle.views.specs.Tallies.{Access, Read, Write}
 use Rattle.views.specs.TallyLaws.{after_log-append, after_reads, logs_more}
-use Rattle.views.specs.Tables.{Table, owners_of, answer_of, after_log, after_stores, after_read}
+use Rattle.views.specs.Tables.{Table, answer_of, after_log, after_read}
 use Rattle.row_updates.specs.declared.fault.UpdateFault.{UpdateFault}
 use Rattle.row_updates.specs.Rows.{Setting, each, passes, new_value}
 use Rattle.row_updates.specs.Logs.{value_log, filter_log, if_ok, if_passes, sides_log, stores_log, row_log, count_log}

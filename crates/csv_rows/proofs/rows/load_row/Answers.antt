@@ -1,4 +1,4 @@
-use Rattle.std.proofs.Common.{◌≡◌, ◌∙◌, [], List, ℤ, get_or, set, ap}
+use Rattle.std.proofs.Common.{◌∙◌, List, ℤ, set, ap}
 use Rattle.views.specs.AnswerLaws.{kept_row-same}
 use Rattle.views.specs.Tables.{leaf_count_of, after_stores}
 use Rattle.views.specs.Tallies.{Write, row_accesses}

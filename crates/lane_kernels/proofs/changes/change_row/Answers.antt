@@ -1,7 +1,6 @@
-use Rattle.std.proofs.Common.{◌≡◌, ◌∙◌, Result, Ok, Err, ap, rules, FitsSigned}
+use Rattle.std.proofs.Common.{◌≡◌, ◌∙◌, Ok, Err, ap, rules, FitsSigned}
 use Rattle.std.specs.Int.{w128}
 use Rattle.std.proofs.lemmas.Int.{to_z-of_z}
-use Rattle.views.specs.declared.fault.StoreFault.{StoreFault}
 use Rattle.views.specs.declared.fault.StoreFault.TheVariants.{Range, Narrow}
 use Rattle.lane_kernels.proofs.Changed.{change_done, row_answered, told_fault}
 use Rattle.lane_kernels.proofs.changes.change_row.Goals as goal
