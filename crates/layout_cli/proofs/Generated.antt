@@ -111,10 +111,10 @@ pub generated_run : {K : Type 0} (taken : K → Option (List ℕ)) (old new : K)
 generated_run taken old new rows status few is = record { out = is.out; bytes = is.bytes; answer = generated_answer rows status is.out few is.answer }
 
 -- and its status is that of a run that reads nothing
-pub generated_cause : (rows : ℕ) (files : Option (List File)) (sink_old sink_new : ℕ) (status : Status) (out : List ℕ) → rows ≤ 65536 → Answers (λ unread. run_generated rows) ⊥ status out → HasCause files 0 0 sink_old sink_new status → HasSinkCause sink_old sink_new status
+pub generated_cause : (rows : ℕ) (files : Option (List File)) (sink_old sink_new : ℕ) (status : Status) (out : List ℕ) → rows ≤ 65536 → Answers (λ unread. run_generated rows) ⊥ status out → HasCause ⊥ files 0 0 sink_old sink_new status → HasSinkCause sink_old sink_new status
 generated_cause rows files sink_old sink_new Done out few answer cause = cause.1
 generated_cause rows files sink_old sink_new CommandFault out few answer cause = cause.1
-generated_cause rows files sink_old sink_new Usage out few answer cause = absurd (form_used _ _ None (misused_end (run_generated rows) out answer))
+generated_cause rows files sink_old sink_new Usage out few answer cause = absurd cause.0
 generated_cause rows files sink_old sink_new SourceFault out few answer cause = absurd (generated_reads rows few (unread_end (run_generated rows) out answer.0 answer.1))
 generated_cause rows files sink_old sink_new SinkFault out few answer cause = cause.1
 generated_cause rows files sink_old sink_new NoMemory out few answer cause = cause.1

@@ -10,7 +10,7 @@ use Rattle.worlds.specs.Outcomes.{Outcome, Goes, Faults, CannotRead, Left}
 use Rattle.worlds.specs.FaultTexts.{fault_text}
 use Rattle.worlds.specs.declared.fault.CommandFault.TheVariants.{ScriptTooLong}
 use Rattle.script_runs.specs.Outcome.{Output, End, Unread, Gives, IsText}
-use Rattle.script_runs.specs.Answers.{Answers, IsRun, ended}
+use Rattle.script_runs.specs.Answers.{Answers, IsRun, HasCause, ended}
 use Rattle.script_runs.specs.Fold.{run_from, after, fails_at}
 use Rattle.script_runs.specs.declared.status.Status.{Status}
 use Rattle.script_runs.specs.declared.status.Status.TheVariants.{Done, CommandFault, Usage, SourceFault, SinkFault, NoMemory}
@@ -122,3 +122,13 @@ run_short taken old new script files read_failed status short run =
       failed = λ line text gives. lines (Some line);
     } in
     record { out = run.out; bytes = run.bytes; answer = same_answer (run_from (step_text files) 1 empty (script_lines script)) (run_form script files) read_failed status run.out same run.answer }
+
+-- what words of a form say of the counts
+pub cause_of_form : (misused : Type 0) (files : Option (List File)) (shelf_old shelf_new sink_old sink_new : ℕ) (status : Status) →
+    HasCause ⊥ files shelf_old shelf_new sink_old sink_new status → HasCause misused files shelf_old shelf_new sink_old sink_new status
+cause_of_form misused files shelf_old shelf_new sink_old sink_new Done cause = cause
+cause_of_form misused files shelf_old shelf_new sink_old sink_new CommandFault cause = cause
+cause_of_form misused files shelf_old shelf_new sink_old sink_new Usage cause = absurd cause.0
+cause_of_form misused files shelf_old shelf_new sink_old sink_new SourceFault cause = cause
+cause_of_form misused files shelf_old shelf_new sink_old sink_new SinkFault cause = cause
+cause_of_form misused files shelf_old shelf_new sink_old sink_new NoMemory cause = cause

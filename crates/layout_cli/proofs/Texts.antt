@@ -64,7 +64,7 @@ told_unread taken faults old new files world sentence outcome read_failed end.No
   count = 0;
   few = omega arith;
   bytes = unread.1.wrote.bytes;
-  later = omega (arith, unread.1.wrote.unfailed);
+  unfailed = unread.1.wrote.unfailed;
 }
 told_unread taken faults old new files world sentence outcome read_failed (end.Command refusal) same tells only unread = absurd tells
 told_unread taken faults old new files world sentence outcome read_failed end.Sink same tells only unread = absurd tells
@@ -122,6 +122,6 @@ steps_same taken faults old new whole outcome read_failed (Err end.NoMemory) sam
 pub unread_cause : (file : Option (List ℕ)) (files : Option (List File)) (shelf_old shelf_new sink_old sink_new : ℕ) (ending : LineEnd) →
     TellsFile file ending → (Rose shelf_old shelf_new ⊎ IsSome files) × (shelf_old ≤ shelf_new) × (sink_new ≡ sink_old) → StepCause {S = Session} files shelf_old shelf_new sink_old sink_new (Err ending)
 unread_cause file files shelf_old shelf_new sink_old sink_new (end.Source told) tells cause = cause
-unread_cause file files shelf_old shelf_new sink_old sink_new end.NoMemory tells cause = (cause.1, omega (arith, cause.2))
+unread_cause file files shelf_old shelf_new sink_old sink_new end.NoMemory tells cause = (cause.1, cause.2)
 unread_cause file files shelf_old shelf_new sink_old sink_new (end.Command fault) tells cause = absurd tells
 unread_cause file files shelf_old shelf_new sink_old sink_new end.Sink tells cause = absurd tells

@@ -1,5 +1,5 @@
 -- The run of the program on a list of words: what it writes and how it ends, over the files of its shelf.
-use Rattle.std.specs.Prelude.{ℕ, ◌^◌, List, ◌∷◌, [], length, Option, None, Some, codes, bytes_eq, nat_lt, if◌then◌else◌}
+use Rattle.std.specs.Prelude.{ℕ, ◌≡◌, ◌^◌, List, ◌∷◌, [], length, Option, None, Some, codes, bytes_eq, nat_lt, if◌then◌else◌}
 use Rattle.csv.specs.Reading.{strip_bom}
 use Rattle.layout_io.specs.Files.{File, file_of}
 use Rattle.generator.specs.Generated.{script_text, dataset_text, generated_files}
@@ -25,6 +25,10 @@ script_name words = None
 abbrev pub gen_words : List (List ℕ) → Option ℕ
 gen_words (verb ∷ number ∷ []) = if bytes_eq verb (codes "gen") then number_of number else None
 gen_words words = None
+
+-- words of neither form
+abbrev pub IsMisuse : List (List ℕ) → Type 0
+IsMisuse words = (script_name words ≡ None) × (gen_words words ≡ None)
 
 -- what reading a file at a line gives
 abbrev pub read_at_line : List File → Option ℕ → ℕ → List ℕ → Option (List ℕ)

@@ -23,5 +23,5 @@ StepCause files shelf_old shelf_new sink_old sink_new (Ok next) = (shelf_new ≡
 StepCause files shelf_old shelf_new sink_old sink_new (Err (line.Command fault)) = (shelf_new ≡ shelf_old) × (sink_new ≡ sink_old)
 StepCause files shelf_old shelf_new sink_old sink_new (Err (line.Source name)) =
     (Rose shelf_old shelf_new ⊎ IsSome files) × (shelf_old ≤ shelf_new) × (sink_new ≡ sink_old)
-StepCause files shelf_old shelf_new sink_old sink_new (Err line.Sink) = (shelf_old ≤ shelf_new) × Rose sink_old sink_new
-StepCause files shelf_old shelf_new sink_old sink_new (Err line.NoMemory) = (shelf_old ≤ shelf_new) × (sink_old ≤ sink_new)
+StepCause files shelf_old shelf_new sink_old sink_new (Err line.Sink) = (shelf_new ≡ shelf_old) × Rose sink_old sink_new
+StepCause files shelf_old shelf_new sink_old sink_new (Err line.NoMemory) = (shelf_old ≤ shelf_new) × (sink_new ≡ sink_old)

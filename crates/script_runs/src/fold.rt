@@ -66,7 +66,7 @@ pub fn run_lines<S: Stepper, H: Shelf, K: Sink, L: Ledger>(
     ensures run { (files : List File) (world : World) → H.files shelf.old ≡ Some files → S.stands first world
         → IsRun K.taken sink.old sink.new (run_from (S.outcome files) 1 world (lines_in script.now))
         (Rose (H.faults shelf.old) (H.faults shelf.new)) result }
-    ensures cause { HasCause (H.files shelf.old) (H.faults shelf.old) (H.faults shelf.new)
+    ensures cause { HasCause ⊥ (H.files shelf.old) (H.faults shelf.old) (H.faults shelf.new)
         (K.faults sink.old) (K.faults sink.new) result }
 {
     let mut session = first;

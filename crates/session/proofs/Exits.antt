@@ -1,5 +1,5 @@
 -- How a command ends, and its answer.
-use Rattle.std.proofs.Common.{◌≡◌, ℕ, List, map, get_or, Option, Result, Err, sym, ap, ◌∙◌, arith}
+use Rattle.std.proofs.Common.{◌≡◌, ℕ, List, map, get_or, Option, Result, Err, refl, sym, ap, ◌∙◌, arith}
 use Rattle.std.specs.Prelude.{slice_set}
 use Rattle.layout_io.specs.Writing.{Wrote}
 use Rattle.layout_io.specs.WritingLaws.{Wrote-nil, with_bytes-nil}
@@ -28,7 +28,7 @@ refused taken faults old outcome fault is = record { is = is; wrote = Wrote-nil 
 
 -- want of memory, with nothing written
 pub starved : {K : Type 0} (taken : K → Option (List ℕ)) (faults : K → ℕ) (old : K) (text : List ℕ) → Fronted taken faults old old text
-starved taken faults old text = record { count = 0; few = omega arith; bytes = sym (with_bytes-nil (taken old)); later = omega arith }
+starved taken faults old text = record { count = 0; few = omega arith; bytes = sym (with_bytes-nil (taken old)); unfailed = refl }
 
 -- a command that gives up with a test
 pub gave_up : {S K : Type 0} (Stands : S → World → Type 0) (taken : K → Option (List ℕ)) (faults : K → ℕ) (old : K) (outcome : Outcome Left) (fault : StepFault) (result : Result S StepFault) →

@@ -12,7 +12,7 @@ use Rattle.worlds.specs.declared.fault.CommandFault.TheVariants.{TooBig}
 use Rattle.command_checks.specs.Gives.{Gives, GivesUp}
 use Rattle.command_checks.specs.declared.fault.StepFault.{StepFault}
 use Rattle.command_checks.specs.declared.fault.StepFault.TheVariants as step
-use Rattle.session.specs.Loads.{Loads, IsUnread, UnreadOnly, filled_table}
+use Rattle.session.specs.Loads.{Loads, IsUnread, UnreadOnly, ToldFor, filled_table}
 
 -- a file of this name is there
 pub file_there : (told : Option (List File)) (files : List File) (name : List ℕ) (P : List ℕ → Type 0) → told ≡ Some files → HasFile told name P → (bytes : List ℕ) × (file_of files name ≡ Some bytes) × P bytes
@@ -99,3 +99,14 @@ unread_after A name outcome rest (step.Command refusal) result is unread = rw is
 unread_after A name outcome rest step.NoMemory result is unread = rw is tt
 unread_after A name outcome rest step.Sink result is unread = rw is tt
 unread_after A name outcome rest step.Source result is unread = rw is (λ files. rw (unread files) refl)
+
+-- what is told of a load is told of what comes before its last step
+pub told_first : {A B : Type 0} (told : Option (List File)) (files : List File) (first : Outcome A) (rest : A → B) → ToldFor told (first >>= (λ x. Goes (rest x))) files → ToldFor told first files
+told_first told files (Goes x) rest is = tt
+told_first told files (Faults fault) rest is = tt
+told_first told files (CannotRead name) rest is = is
+
+-- the file is read, so the files are told
+pub told_reading : {X B : Type 0} (told : Option (List File)) (files : List File) (first : Outcome X) (whole : X) (name : List ℕ) (rest : X → List ℕ → Outcome B) →
+    first ≡ Goes whole → ToldFor told (first >>= (λ w. read files true name >>= rest w)) files → told ≡ Some files
+told_reading told files first whole name rest goes is = rw goes at is

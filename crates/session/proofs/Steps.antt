@@ -88,7 +88,7 @@ cause_shown taken faults old new outcome files reads (Ok next) answers = (refl, 
 cause_shown taken faults old new outcome files reads (Err (fault.Command refusal)) answers = (refl, answers.wrote.unfailed)
 cause_shown taken faults old new outcome files reads (Err fault.Source) answers = absurd answers
 cause_shown taken faults old new outcome files reads (Err fault.Sink) answers = (refl, answers.stopped.rose)
-cause_shown taken faults old new outcome files reads (Err fault.NoMemory) answers = (omega arith, answers.later)
+cause_shown taken faults old new outcome files reads (Err fault.NoMemory) answers = (omega arith, answers.unfailed)
 
 pub unread_shown : {K : Type 0} (taken : K → Option (List ℕ)) (faults : K → ℕ) (old new : K) (outcome : Outcome Left) (file : Option (List ℕ)) (whole : List File → Bool → Outcome Left) (result : Result Session StepFault) →
     Answers Stands taken faults old new outcome result → UnreadOnly file whole result

@@ -35,7 +35,7 @@ StepCause files shelf_old shelf_new sink_old sink_new (Err (fault.Command refusa
 StepCause files shelf_old shelf_new sink_old sink_new (Err fault.Source) =
     (Rose shelf_old shelf_new ⊎ IsSome files) × (shelf_old ≤ shelf_new) × (sink_new ≡ sink_old)
 StepCause files shelf_old shelf_new sink_old sink_new (Err fault.Sink) = (shelf_new ≡ shelf_old) × Rose sink_old sink_new
-StepCause files shelf_old shelf_new sink_old sink_new (Err fault.NoMemory) = (shelf_old ≤ shelf_new) × (sink_old ≤ sink_new)
+StepCause files shelf_old shelf_new sink_old sink_new (Err fault.NoMemory) = (shelf_old ≤ shelf_new) × (sink_new ≡ sink_old)
 
 -- nothing was taken at a refusal, nor where a file was not read
 abbrev pub TookNone : {S K : Type 0} → (K → Option (List ℕ)) → K → K → Result S StepFault → Type 0

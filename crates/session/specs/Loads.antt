@@ -1,5 +1,5 @@
 -- What the answer to a load says of its outcome, and of what was read.
-use Rattle.std.specs.Prelude.{ℕ, ◌≡◌, ◌≤◌, ◌⊎◌, Bool, true, false, List, length, Option, Some, None, IsSome, IsSomeAnd, IfSome, Result, Ok, Err}
+use Rattle.std.specs.Prelude.{ℕ, ◌≡◌, ◌≤◌, ◌⊎◌, Bool, true, false, List, length, Option, Some, None, IsSome, IsSomeAnd, Result, Ok, Err}
 use Rattle.layout_io.specs.Faults.{Rose}
 use Rattle.layout_io.specs.Files.{File}
 use Rattle.record_dim.specs.Schemas.{schema_fields}
@@ -59,6 +59,8 @@ abbrev pub file_in : Sentence → Option (List ℕ)
 file_in (Load name schema words term file) = Some file
 file_in sentence = None
 
--- to a line that reads a file exactly these files are told; to any other line all files are alike
-abbrev pub ToldFor : Option (List File) → Sentence → List File → Type 0
-ToldFor told sentence files = IfSome (file_in sentence) (λ file. told ≡ Some files)
+-- exactly these files are told where a file is read, so where the outcome is that it can't be read if reading fails; any other outcome is
+-- the same whatever files there are
+abbrev pub ToldFor : {A : Type 0} → Option (List File) → Outcome A → List File → Type 0
+ToldFor told (CannotRead name) files = told ≡ Some files
+ToldFor told _ files = Unit {0}

@@ -13,7 +13,7 @@ ghost use Rattle.command_checks.specs.Bases.{is_nameless};
 ghost use Rattle.command_checks.specs.Entries.{table_of, view_of};
 ghost use Rattle.command_checks.specs.Gives.{Gives};
 ghost use Rattle.session.specs.Changes.{TellsRow};
-ghost use Rattle.session.specs.Loads.{named_of, filled_table, Loads, LoadCause, UnreadOnly};
+ghost use Rattle.session.specs.Loads.{named_of, filled_table, Loads, LoadCause, UnreadOnly, ToldFor};
 
 use crate::session::Session;
 use crate::view::{Found, named};
@@ -47,7 +47,7 @@ impl Session {
         shelf: &mut H,
         steps: &mut Steps<L>,
     ) -> Result<Session, StepFault>
-        ensures loads { (files : List File) → H.files shelf.old ≡ Some files
+        ensures loads { (files : List File) → ToldFor (H.files shelf.old) (load (world_of self) name schema words.now (term_of expr.now) file.now files true) files
             → Loads left_of (load (world_of self) name schema words.now (term_of expr.now) file.now files)
             (Rose (H.faults shelf.old) (H.faults shelf.new)) result }
         ensures files { H.files shelf.new ≡ H.files shelf.old }
@@ -88,7 +88,7 @@ fn loaded_view<H: Shelf, L: Ledger>(
     shelf: &mut H,
     steps: &mut Steps<L>,
 ) -> Result<View, StepFault>
-    ensures loads { (files : List File) → H.files shelf.old ≡ Some files
+    ensures loads { (files : List File) → ToldFor (H.files shelf.old) (loaded_table (world_in records.now mappings.now views.now) name schema words.now (term_of expr.now) file.now files true) files
         → Loads table_of (loaded_table (world_in records.now mappings.now views.now) name schema words.now (term_of expr.now) file.now files)
         (Rose (H.faults shelf.old) (H.faults shelf.new)) result }
     ensures files { H.files shelf.new ≡ H.files shelf.old }

@@ -1,4 +1,4 @@
-ghost use Rattle.std.specs.Prelude.{◌≡◌, Bool, List, None};
+ghost use Rattle.std.specs.Prelude.{◌≡◌, Bool, true, List, None};
 ghost use Rattle.layout_io.specs.Faults.{Rose};
 ghost use Rattle.layout_io.specs.Files.{File};
 ghost use Rattle.line_grammar.specs.Sentences.{sentence_of};
@@ -38,7 +38,7 @@ impl Session {
         }
     }
 
-    /// Does one line of a script: the answer is that of the model where the shelf tells its files, or the line reads none. `Source` comes
+    /// Does one line of a script: the answer is that of the model where the shelf tells its files, or the line comes to read none. `Source` comes
     /// only of a line that reads a file, and whose outcome is that this file can't be read where reading fails. On every refusal the session
     /// is gone.
     #[tactic(auto, using(crate::specs::LoadsLaws::no_file))]
@@ -50,7 +50,7 @@ impl Session {
         steps: &mut Steps<L>,
     ) -> Result<Session, StepFault>
         requires { IsFit line.now }
-        ensures step { (files : List File) → ToldFor (H.files shelf.old) (sentence_of line.now) files
+        ensures step { (files : List File) → ToldFor (H.files shelf.old) (step (world_of self) (sentence_of line.now) files true) files
             → StepsTo Stands K.taken K.faults out.old out.new (step (world_of self) (sentence_of line.now) files)
             (Rose (H.faults shelf.old) (H.faults shelf.new)) result }
         ensures files { H.files shelf.new ≡ H.files shelf.old }

@@ -35,9 +35,9 @@ pub record Broke {K : Type 0} (taken : K → Option (List ℕ)) (faults : K → 
   pub goes : outcome ≡ Goes left
   pub stopped : Stopped taken faults old new left.text
 
--- a front of the text was taken
+-- a front of the text was taken, and no write failed
 pub record Fronted {K : Type 0} (taken : K → Option (List ℕ)) (faults : K → ℕ) (old new : K) (text : List ℕ) : Type 0 where
   pub count : ℕ
   pub few : count ≤ length text
   pub bytes : taken new ≡ with_bytes (taken old) (take count text)
-  pub later : faults old ≤ faults new
+  pub unfailed : faults new ≡ faults old

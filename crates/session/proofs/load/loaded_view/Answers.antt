@@ -9,7 +9,7 @@ use Rattle.views.specs.Seen.{Seen}
 use Rattle.session.specs.Stands.{world_in}
 use Rattle.command_checks.specs.Entries.{table_of, view_of}
 use Rattle.session.specs.Loads.{named_of}
-use Rattle.session.proofs.Reading.{file_there, file_missing, before_reading, was_read, was_unread, was_long, not_long, unread_test, unread_gives}
+use Rattle.session.proofs.Reading.{file_there, file_missing, before_reading, was_read, was_unread, was_long, not_long, unread_test, unread_gives, told_reading}
 use Rattle.session.proofs.load.loaded_view.Goals as goal
 
 pub returns-in_err-found-clause-loads : goal.returns-in_err-found-clause-loads
@@ -20,7 +20,8 @@ returns-in_err-found-clause-loads g c = λ files told.
 
 pub returns-in-Ok-clause-loads : goal.returns-in-Ok-clause-loads
 unfolding loaded_table
-returns-in-Ok-clause-loads g c = λ files told.
+returns-in-Ok-clause-loads g c = λ files given.
+    let told : g.H.Shelf.files c.args.shelf.now ≡ Some files = told_reading _ files _ (named_of c.in_ok-found.found) c.args.file.now (λ w. loaded (map view_of c.args.views.now) w c.args.words.now) c.in_ok-found.ensures.named given in
     let views = map view_of c.args.views.now in
     let words = c.args.words.now in
     let whole = named_of c.in_ok-found.found in
@@ -33,7 +34,8 @@ returns-in-Ok-clause-loads g c = λ files told.
 
 pub returns-in-Failed-clause-loads : goal.returns-in-Failed-clause-loads
 unfolding loaded_table
-returns-in-Failed-clause-loads g c = λ files told.
+returns-in-Failed-clause-loads g c = λ files given.
+    let told : g.H.Shelf.files c.args.shelf.now ≡ Some files = told_reading _ files _ (named_of c.in_ok-found.found) c.args.file.now (λ w. loaded (map view_of c.args.views.now) w c.args.words.now) c.in_ok-found.ensures.named given in
     let name = c.args.file.now in
     let failed = rw c.as_str.ensures.value at (rw c.in-Failed.is at c.in-Err.ensures.whole) in
     let rose = Rose (g.H.Shelf.faults c.args.shelf.now) (g.H.Shelf.faults c.read_all.new.shelf) in
@@ -42,7 +44,8 @@ returns-in-Failed-clause-loads g c = λ files told.
 
 pub returns-in-TooLong-clause-loads : goal.returns-in-TooLong-clause-loads
 unfolding loaded_table
-returns-in-TooLong-clause-loads g c = λ files told.
+returns-in-TooLong-clause-loads g c = λ files given.
+    let told : g.H.Shelf.files c.args.shelf.now ≡ Some files = told_reading _ files _ (named_of c.in_ok-found.found) c.args.file.now (λ w. loaded (map view_of c.args.views.now) w c.args.words.now) c.in_ok-found.ensures.named given in
     let name = c.args.file.now in
     let long = rw c.as_str.ensures.value at (rw c.in-TooLong.is at c.in-Err.ensures.whole) in
     let there = file_there _ files name (λ file. 2 ^ 28 < length file) told long.0 in

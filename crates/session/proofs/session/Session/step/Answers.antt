@@ -1,8 +1,9 @@
-use Rattle.std.proofs.Common.{◌≡◌, ◌∙◌, false, [], Some, sym, ap, subst}
+use Rattle.std.proofs.Common.{◌≡◌, ◌∙◌, Bool, true, false, [], sym, ap, subst}
 use Rattle.line_grammar.specs.Sentences.{sentence_of}
 use Rattle.line_grammar.specs.declared.line.Line.{Line}
 use Rattle.map_expr.specs.Terms.{term_of}
 use Rattle.worlds.specs.Load.{load}
+use Rattle.worlds.specs.Outcomes.{Outcome, Left}
 use Rattle.worlds.specs.Step.{step, command}
 use Rattle.session.specs.Loads.{file_in, ToldFor}
 use Rattle.session.specs.Stands.{world_of}
@@ -11,10 +12,12 @@ use Rattle.session.proofs.session.Session.step.Goals as goal
 
 pub returns-in-Load-clause-step : goal.returns-in-Load-clause-step
 returns-in-Load-clause-step g c = λ files told.
-    let is : g.H.Shelf.files c.args.shelf.now ≡ Some files = subst (λ (line : Line). ToldFor (g.H.Shelf.files c.args.shelf.now) (sentence_of line) files) c.in-Load.is told in
-    steps_by g.K.Sink.taken g.K.Sink.faults c.args.out.now c.args.out.now _ (load (world_of c.args.self) c.in-Load.name c.in-Load.schema c.as_slice.result.now (term_of c.in-Load.expr) c.in-Load.file files) _ c.load.result
-    (λ unread. step_is (world_of c.args.self) (sentence_of c.args.line.now) files unread ∙ ap (λ (line : Line). command (world_of c.args.self) (sentence_of line) files unread) c.in-Load.is ∙ ap (λ words. load (world_of c.args.self) c.in-Load.name c.in-Load.schema words (term_of c.in-Load.expr) c.in-Load.file files unread) (sym c.as_slice.ensures))
-    (steps_load g.K.Sink.taken g.K.Sink.faults c.args.out.now (load (world_of c.args.self) c.in-Load.name c.in-Load.schema c.as_slice.result.now (term_of c.in-Load.expr) c.in-Load.file files) _ c.load.result (c.load.ensures.loads files is))
+    let load_of = λ (unread : Bool). load (world_of c.args.self) c.in-Load.name c.in-Load.schema c.as_slice.result.now (term_of c.in-Load.expr) c.in-Load.file files unread in
+    let same : (unread : Bool) → step (world_of c.args.self) (sentence_of c.args.line.now) files unread ≡ load_of unread =
+    λ unread. step_is (world_of c.args.self) (sentence_of c.args.line.now) files unread ∙ ap (λ (line : Line). command (world_of c.args.self) (sentence_of line) files unread) c.in-Load.is ∙ ap (λ words. load (world_of c.args.self) c.in-Load.name c.in-Load.schema words (term_of c.in-Load.expr) c.in-Load.file files unread) (sym c.as_slice.ensures) in
+    let given = subst (λ (outcome : Outcome Left). ToldFor (g.H.Shelf.files c.args.shelf.now) outcome files) (same true) told in
+    steps_by g.K.Sink.taken g.K.Sink.faults c.args.out.now c.args.out.now _ load_of _ c.load.result same
+    (steps_load g.K.Sink.taken g.K.Sink.faults c.args.out.now load_of _ c.load.result (c.load.ensures.loads files given))
 
 pub returns-in-Load-clause-unread : goal.returns-in-Load-clause-unread
 returns-in-Load-clause-unread g c =
