@@ -79,3 +79,8 @@ deepest (Assign view index path value) = depth_of value
 deepest (Update view filter sets) = max (filter_depth filter) (deepest_set sets)
 deepest (Count view filter) = depth_of filter
 deepest _ = 0
+
+-- the name of the file that a line reads
+abbrev pub file_of : Sentence → Option (List ℕ)
+file_of (Load name schema words expr file) = Some file
+file_of _ = None

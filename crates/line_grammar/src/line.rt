@@ -1,3 +1,6 @@
+ghost use Rattle.std.specs.Prelude.{◌≡◌, option_map};
+ghost use Rattle.line_grammar.specs.Sentences.{file_of, sentence_of};
+
 use crate::FileName;
 use expr_lang::{BinOp, Expr};
 use extents::ExtentWord;
@@ -94,6 +97,18 @@ pub enum Line {
         view: Name,
         blob: u32,
     },
+}
+
+impl Line {
+    /// The name of the file that the line reads: of its dataset, where it is a load.
+    pub fn file(&self) -> Option<&FileName>
+        ensures { option_map (λ file. file.now) result ≡ file_of (sentence_of self.now) }
+    {
+        match self {
+            Line::Load { file, .. } => Some(file),
+            _ => None,
+        }
+    }
 }
 
 /// The path of a leaf, and the value that it gets.
