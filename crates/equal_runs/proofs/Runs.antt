@@ -20,9 +20,9 @@ use Rattle.equal_runs.proofs.Tables.{AlikeWorlds, AlikeLefts}
 
 -- after outcomes that agree, and of which none ends by a fault of how tables lie, runs go on alike
 after_alike : (m o : Bool) (number : ℕ) (x y : Outcome Left) (ends others : World → Bool) (rest later : World → Output) → Agree m o AlikeLefts x y → ends_after m x ends ≡ false → ends_after o y others ≡ false
-    → ((a b : Left) → AlikeLefts a b → ends a.world ≡ false → others b.world ≡ false → rest a.world ≡ later b.world) → after number x rest ≡ after number y later
+    → ((a b : Left) → AlikeLefts a b → ends a.held ≡ false → others b.held ≡ false → rest a.held ≡ later b.held) → after number x rest ≡ after number y later
 after_alike m o number x y ends others rest later (go a b alike) holds also next =
-    ap (λ (text : List ℕ). prepend text (rest a.world)) (sym alike.text) ∙ ap (prepend b.text) (next a b alike holds also)
+    ap (λ (text : List ℕ). prepend text (rest a.held)) (sym alike.text) ∙ ap (prepend b.text) (next a b alike holds also)
 after_alike m o number x y ends others rest later (fault f) holds also next = refl
 after_alike m o number x y ends others rest later (not_read name) holds also next = refl
 after_alike m o number x y ends others rest later (first f z is) holds also next = absurd (cc)
@@ -59,7 +59,7 @@ module _ (files : List File) (outcome : World → List ℕ → Bool → Outcome 
       (λ next. ends_by_layout files (number + 1) next ls unread) (λ next. ends_by_layout files (number + 1) next os unread)
       (λ next. run_from outcome (number + 1) next ts unread) (λ next. run_from outcome (number + 1) next us unread)
       (step_agree world other alike term files b line parts.0) holds also
-      (λ a c same ends ends_also. runs_alike (number + 1) a.world c.world same.worlds ts ls us os rest parts.1 ends ends_also)
+      (λ a c same ends ends_also. runs_alike (number + 1) a.held c.held same.worlds ts ls us os rest parts.1 ends ends_also)
       ∙ sym (ap (λ (x : Outcome Left). after number x (λ next. run_from outcome (number + 1) next us unread)) (does other changed (with_term term line) b is_also))
 
 pub equal : (files : List File) (outcome : World → List ℕ → Bool → Outcome Left) → DoesLines files outcome → EqualRuns files outcome

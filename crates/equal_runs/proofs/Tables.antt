@@ -34,7 +34,7 @@ pub record AlikeWorlds (world other : World) : Type 0 where
 
 -- what a command leaves: such worlds, and the same text
 pub record AlikeLefts (left other : Left) : Type 0 where
-  pub worlds : AlikeWorlds left.world other.world
+  pub worlds : AlikeWorlds left.held other.held
   pub text : other.text ≡ left.text
 
 -- what holds of a table under every mapping, with every tally that counts the same, holds of a table that is alike

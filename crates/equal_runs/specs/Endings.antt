@@ -35,7 +35,7 @@ is_of_layout misses _ = false
 
 -- what becomes of a run after the outcome of a line: such a fault ends it, or what comes later does
 abbrev pub ends_after : Bool → Outcome Left → (World → Bool) → Bool
-ends_after misses (Goes left) rest = rest left.world
+ends_after misses (Goes left) rest = rest left.held
 ends_after misses (Faults fault) rest = is_of_layout misses fault
 ends_after misses (CannotRead name) rest = false
 

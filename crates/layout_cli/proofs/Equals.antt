@@ -16,7 +16,7 @@ use Rattle.layout_cli.specs.Run.{run_file, run_script, run_form, faulted, script
 use Rattle.layout_cli.specs.EqualScripts.{IsScript, EqualScripts}
 
 -- a text that is a line within the limits does what the line does
-text_does : (files : List File) → DoesLines files (step_text files)
+pub text_does : (files : List File) → DoesLines files (step_text files)
 text_does files world text line unread is =
     let short : ltb 4096 (length text) ≡ false = below 4096 (length text) is.short in
     let shallow : ltb 32 (deepest line) ≡ false = below 32 (deepest line) is.shallow in

@@ -23,7 +23,7 @@ use Rattle.line_tokens.specs.declared.spots.Spot.{Spot}
 use Rattle.line_grammar.specs.declared.token.Token.{Token}
 use Rattle.layout_io.specs.Decimal.{digits_text}
 use Rattle.layout_cli.proofs.NoFile.{loads, ReadsNone, gives, stops, line_none}
-use Rattle.session.specs.Loads.{file_in}
+use Rattle.line_grammar.specs.Sentences.{file_of as file_in}
 
 abbrev sentence_in : Result Sentence ℕ → Sentence
 sentence_in (Ok sentence) = sentence

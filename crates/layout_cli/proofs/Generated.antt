@@ -36,7 +36,7 @@ run_reads outcome [] reads number world unread = unread
 run_reads outcome (text ∷ lines) reads number world unread =
     of_outcome (λ next. run_reads outcome lines reads.1 (number + 1) next) (outcome world text false) (reads.0 world) unread where
       of_outcome : ((next : World) → IsUnread (run_from outcome (number + 1) next lines None).end → ⊥) → (o : Outcome Left) → IsReadable o → IsUnread (after number o (λ next. run_from outcome (number + 1) next lines None)).end → ⊥
-      of_outcome below (Goes _) (goes left) unread = below left.world unread
+      of_outcome below (Goes _) (goes left) unread = below left.held unread
       of_outcome below (Faults _) (faults fault) unread = unread
       of_outcome below (CannotRead _) is unread = elim is [ ]
 
@@ -46,7 +46,7 @@ run_used outcome [] unread number world misused = misused
 run_used outcome (text ∷ lines) unread number world misused =
     of_outcome (λ next. run_used outcome lines unread (number + 1) next) (outcome world text (fails_at unread number)) misused where
       of_outcome : ((next : World) → IsMisused (run_from outcome (number + 1) next lines unread).end → ⊥) → (o : Outcome Left) → IsMisused (after number o (λ next. run_from outcome (number + 1) next lines unread)).end → ⊥
-      of_outcome below (Goes left) misused = below left.world misused
+      of_outcome below (Goes left) misused = below left.held misused
       of_outcome below (Faults fault) misused = misused
       of_outcome below (CannotRead name) misused = misused
 

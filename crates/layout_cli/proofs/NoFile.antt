@@ -18,7 +18,7 @@ use Rattle.line_phrases.specs.Maps.{map_at}
 use Rattle.line_phrases.specs.Paths.{path_at}
 use Rattle.schema_lang.specs.Kernels.{kernel_at}
 use Rattle.schema_lang.specs.Updates.{assignment_at, filter_at}
-use Rattle.session.specs.Loads.{file_in}
+use Rattle.line_grammar.specs.Sentences.{file_of as file_in}
 
 -- whether the first of these tokens is the word of a load
 abbrev pub is_load : Option Command → Bool

@@ -42,7 +42,7 @@ unread_later : (outcome : World → List ℕ → Bool → Outcome Left) (number 
 unread_later outcome number world [] unread line is = absurd (cc)
 unread_later outcome number world (text ∷ lines) unread line is = of_outcome (λ next. unread_later outcome (number + 1) next lines unread line) (outcome world text (fails_at unread number)) is where
   of_outcome : ((next : World) → (run_from outcome (number + 1) next lines unread).end ≡ Unread line → number + 1 ≤ line) → (o : Outcome Left) → (after number o (λ next. run_from outcome (number + 1) next lines unread)).end ≡ Unread line → number ≤ line
-  of_outcome below (Goes left) is = omega (arith, below left.world is)
+  of_outcome below (Goes left) is = omega (arith, below left.held is)
   of_outcome below (Faults fault) is = absurd (cc)
   of_outcome below (CannotRead name) is = let here : number ≡ line = ap line_in is in omega (arith, here)
 

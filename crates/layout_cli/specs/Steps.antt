@@ -1,5 +1,5 @@
 -- What the text of a line does to a world.
-use Rattle.std.specs.Prelude.{ℕ, Bool, List, length, nat_lt, ◌≡◌, if◌then◌else◌, Option, Some, Result, Ok, Err}
+use Rattle.std.specs.Prelude.{ℕ, Bool, List, length, nat_lt, ◌≡◌, if◌then◌else◌, Result, Ok, Err}
 use Rattle.layout_io.specs.Files.{File}
 use Rattle.line_grammar.specs.Sentences.{Sentence, deepest}
 use Rattle.schema_lang.specs.LineOf.{line_of}
@@ -20,8 +20,8 @@ abbrev pub step_text : List File → World → List ℕ → Bool → Outcome Lef
 step_text files world text unread = if nat_lt 4096 (length text) then Faults LineTooLong else step_line files world (line_of text) unread
 
 -- the end of a run at a line that could not read this file
-abbrev pub TellsFile : Option (List ℕ) → LineEnd → Type 0
-TellsFile file (end.Source told) = file ≡ Some told
+abbrev pub TellsFile : List ℕ → LineEnd → Type 0
+TellsFile file (end.Source told) = told ≡ file
 TellsFile file end.NoMemory = Unit {0}
 TellsFile file (end.Command fault) = ⊥
 TellsFile file end.Sink = ⊥

@@ -30,7 +30,8 @@ pub enum LineEnd {
 
 /// What does a script line by line.
 pub trait Stepper: Drop {
-    ghost use Rattle.script_runs.specs.Steps.{StepsTo, StepCause};
+    ghost use Rattle.worlds.specs.Answers.{StepsTo, StepCause};
+    ghost use Rattle.script_runs.specs.Steps.{ending_of};
 
     // The worlds that it stands for.
     ghost stands: { Self → World → Type 0 };
@@ -47,10 +48,10 @@ pub trait Stepper: Drop {
         steps: &mut Steps<L>,
     ) -> Result<Self, LineEnd>
         ensures step { (files : List File) (world : World) → H.files shelf.old ≡ Some files → stands self world
-            → StepsTo stands K.taken K.faults sink.old sink.new (outcome files world text.now)
+            → StepsTo ending_of stands K.taken K.faults sink.old sink.new (outcome files world text.now)
             (Rose (H.faults shelf.old) (H.faults shelf.new)) result }
         ensures files { H.files shelf.new ≡ H.files shelf.old }
-        ensures cause { StepCause (H.files shelf.old) (H.faults shelf.old) (H.faults shelf.new)
+        ensures cause { StepCause ending_of (H.files shelf.old) (H.faults shelf.old) (H.faults shelf.new)
             (K.faults sink.old) (K.faults sink.new) result };
 }
 

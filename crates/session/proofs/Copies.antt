@@ -185,12 +185,12 @@ is_narrow source old new row leaf is =
     let not_held : refused_at (answer_in (table_of old)) 0 source.table ≡ Some (record { row = row; leaf = leaf }) = is.1 in
     copied_alike source old is.0 ∙ rw not_held refl
 
-pub copy_refused : (source old new : Seen) (bad : CopyFault) (told : StepFault) → IsCopied source old new (Err bad) → TellsCopy (schema_fields new.schema) bad told → GivesUp (copied (table_of source) (table_of old)) told
+pub copy_refused : (source old new : Seen) (bad : CopyFault) (told : CommandFault) → IsCopied source old new (Err bad) → TellsCopy (schema_fields new.schema) bad (Ok told) → copied (table_of source) (table_of old) ≡ Faults told
 copy_refused source old new copy.Mismatch told is tells = tells_gives _ refusal.Mismatch told (differs source old new is) tells
 copy_refused source old new (copy.Narrow row leaf) told is tells =
     let same : schema_fields new.schema ≡ schema_fields old.schema = ap (λ (seen : Seen). schema_fields seen.schema) is.2 in
     tells_gives _ _ told (is_narrow source old new row leaf is)
-    (subst (λ (fields : Fields). Tells (narrow_fault fields (record { row = row; leaf = leaf })) told) same tells)
+    (subst (λ (fields : Fields). told ≡ narrow_fault fields (record { row = row; leaf = leaf })) same tells)
 
 -- a view that is known by its place
 pub known_place : (name : List ℕ) (views : List ViewEntry) (place : ℕ) (d : ViewEntry) → IsAt view_of name views place → known name (map view_of views) ≡ Goes (table_of (get_or views place d).view)

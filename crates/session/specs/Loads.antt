@@ -6,7 +6,6 @@ use Rattle.record_dim.specs.Schemas.{schema_fields}
 use Rattle.map_expr.specs.Terms.{term_of}
 use Rattle.extents.specs.declared.words.ExtentWord.{ExtentWord}
 use Rattle.csv_rows.specs.Datasets.{records_of, rows_of}
-use Rattle.line_grammar.specs.Sentences.{Sentence, Load}
 use Rattle.worlds.specs.Worlds.{Entry, Table}
 use Rattle.worlds.specs.Outcomes.{Outcome, Goes, Faults, CannotRead, ◌>>=◌}
 use Rattle.worlds.specs.Tables.{resolved, made}
@@ -28,18 +27,17 @@ filled_table views whole words bytes = do
   filled zeros (records_of bytes)
 
 -- where reading fails the outcome is that this file can't be read; a read failed, or it is the outcome in any case
-pub record IsUnread {A : Type 0} (outcome : Bool → Outcome A) (read_failed : Type 0) : Type 0 where
-  pub name : List ℕ
+pub record IsUnread {A : Type 0} (name : List ℕ) (outcome : Bool → Outcome A) (read_failed : Type 0) : Type 0 where
   pub is : outcome true ≡ CannotRead name
   pub cause : read_failed ⊎ (outcome false ≡ CannotRead name)
 
--- what an answer, seen by `view`, says of the outcome, which is given by whether reading fails
-abbrev pub Loads : {A B : Type 0} → (A → B) → (Bool → Outcome B) → Type 0 → Result A StepFault → Type 0
-Loads view outcome read_failed (Ok x) = outcome false ≡ Goes (view x)
-Loads view outcome read_failed (Err (fault.Command refusal)) = outcome false ≡ Faults refusal
-Loads view outcome read_failed (Err fault.Source) = IsUnread outcome read_failed
-Loads view outcome read_failed (Err fault.Sink) = ⊥
-Loads view outcome read_failed (Err fault.NoMemory) = Unit {0}
+-- what an answer, seen by `view`, says of the outcome of a load of this file, which is given by whether reading fails
+abbrev pub Loads : {A B : Type 0} → List ℕ → (A → B) → (Bool → Outcome B) → Type 0 → Result A StepFault → Type 0
+Loads name view outcome read_failed (Ok x) = outcome false ≡ Goes (view x)
+Loads name view outcome read_failed (Err (fault.Command refusal)) = outcome false ≡ Faults refusal
+Loads name view outcome read_failed (Err fault.Source) = IsUnread name outcome read_failed
+Loads name view outcome read_failed (Err fault.Sink) = ⊥
+Loads name view outcome read_failed (Err fault.NoMemory) = Unit {0}
 
 -- whether the count of the shelf may have risen
 abbrev pub LoadCause : {A : Type 0} → Option (List File) → ℕ → ℕ → Result A StepFault → Type 0
@@ -53,11 +51,6 @@ LoadCause files old new (Err fault.NoMemory) = old ≤ new
 abbrev pub UnreadOnly : {A B : Type 0} → Option (List ℕ) → (List File → Bool → Outcome B) → Result A StepFault → Type 0
 UnreadOnly file outcome (Err fault.Source) = IsSomeAnd file (λ name. (files : List File) → outcome files true ≡ CannotRead name)
 UnreadOnly file outcome _ = Unit {0}
-
--- the file that a line reads
-abbrev pub file_in : Sentence → Option (List ℕ)
-file_in (Load name schema words term file) = Some file
-file_in sentence = None
 
 -- exactly these files are told where a file is read, so where the outcome is that it can't be read if reading fails; any other outcome is
 -- the same whatever files there are

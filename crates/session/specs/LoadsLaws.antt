@@ -1,15 +1,15 @@
--- Which lines read a file.
+-- Which lines read a file, and what a shelf tells.
 use Rattle.std.specs.Prelude.{◌≡◌, List, Option, Some, None}
 use Rattle.std.proofs.Common.{refl}
 use Rattle.layout_io.specs.Files.{File}
-use Rattle.line_grammar.specs.Sentences.{sentence_of}
+use Rattle.line_grammar.specs.Sentences.{sentence_of, file_of}
 use Rattle.line_grammar.specs.declared.line.Line.{Line}
 use Rattle.line_grammar.specs.declared.line.Line.TheVariants as line
 use Rattle.worlds.specs.Outcomes.{Outcome, Goes, Faults, CannotRead}
-use Rattle.session.specs.Loads.{ToldFor, file_in}
+use Rattle.session.specs.Loads.{ToldFor}
 
 -- a line that is no load reads no file
-pub no_file : (l : Line) → ((name schema : _) (words : _) (expr : _) (file : _) → l ≡ line.Load name schema words expr file → ⊥) → file_in (sentence_of l) ≡ None
+pub no_file : (l : Line) → ((name schema : _) (words : _) (expr : _) (file : _) → l ≡ line.Load name schema words expr file → ⊥) → file_of (sentence_of l) ≡ None
 no_file (line.Load name schema words expr file) none = absurd (none name schema words expr file refl)
 no_file _ none = refl
 

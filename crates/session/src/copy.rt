@@ -109,19 +109,19 @@ pub fn copy_into<L: Ledger>(
 {
     match layout_copy::copy(source, target, steps) {
         Ok(()) => Ok(()),
-        Err(fault) => Err(copy_fault(alloc, target, fault)),
+        Err(fault) => Err(copy_fault(alloc, target, fault)?.into()),
     }
 }
 
 // The fault of a copy, with the path text of its leaf.
-fn copy_fault(alloc: Global, target: &View, fault: CopyFault) -> StepFault
+fn copy_fault(alloc: Global, target: &View, fault: CopyFault) -> Result<CommandFault, StepFault>
     ensures { TellsCopy (schema_fields target.now.schema) fault result }
 {
     match fault {
-        CopyFault::Mismatch => StepFault::Command(CommandFault::Mismatch),
-        CopyFault::Narrow { row, leaf } => match leaf_text(alloc, target, leaf) {
-            Ok(leaf) => StepFault::Command(CommandFault::Narrow { row, leaf }),
-            Err(fault) => fault,
-        },
+        CopyFault::Mismatch => Ok(CommandFault::Mismatch),
+        CopyFault::Narrow { row, leaf } => {
+            let leaf = leaf_text(alloc, target, leaf)?;
+            Ok(CommandFault::Narrow { row, leaf })
+        }
     }
 }

@@ -48,7 +48,7 @@ impl Session {
         steps: &mut Steps<L>,
     ) -> Result<Session, StepFault>
         ensures loads { (files : List File) → ToldFor (H.files shelf.old) (load (world_of self) name schema words.now (term_of expr.now) file.now files true) files
-            → Loads left_of (load (world_of self) name schema words.now (term_of expr.now) file.now files)
+            → Loads file.now left_of (load (world_of self) name schema words.now (term_of expr.now) file.now files)
             (Rose (H.faults shelf.old) (H.faults shelf.new)) result }
         ensures files { H.files shelf.new ≡ H.files shelf.old }
         ensures cause { LoadCause (H.files shelf.old) (H.faults shelf.old) (H.faults shelf.new) result }
@@ -89,7 +89,7 @@ fn loaded_view<H: Shelf, L: Ledger>(
     steps: &mut Steps<L>,
 ) -> Result<View, StepFault>
     ensures loads { (files : List File) → ToldFor (H.files shelf.old) (loaded_table (world_in records.now mappings.now views.now) name schema words.now (term_of expr.now) file.now files true) files
-        → Loads table_of (loaded_table (world_in records.now mappings.now views.now) name schema words.now (term_of expr.now) file.now files)
+        → Loads file.now table_of (loaded_table (world_in records.now mappings.now views.now) name schema words.now (term_of expr.now) file.now files)
         (Rose (H.faults shelf.old) (H.faults shelf.new)) result }
     ensures files { H.files shelf.new ≡ H.files shelf.old }
     ensures cause { LoadCause (H.files shelf.old) (H.faults shelf.old) (H.faults shelf.new) result }
@@ -159,39 +159,39 @@ fn fill<L: Ledger>(
 {
     match load_rows(alloc, bytes, view, steps) {
         Ok(()) => Ok(()),
-        Err(fault) => Err(row_fault(alloc, view, fault)),
+        Err(fault) => Err(row_fault(alloc, view, fault)?.into()),
     }
 }
 
 // The fault of a dataset, with the path text of its leaf.
-fn row_fault(alloc: Global, view: &View, fault: RowFault) -> StepFault
+fn row_fault(alloc: Global, view: &View, fault: RowFault) -> Result<CommandFault, StepFault>
     ensures { TellsRow (schema_fields view.now.schema) fault result }
 {
     match fault {
-        RowFault::MissingColumn { leaf } => match leaf_text(alloc, view, leaf) {
-            Ok(leaf) => StepFault::Command(CommandFault::MissingColumn { leaf }),
-            Err(fault) => fault,
-        },
-        RowFault::ColumnTwice { leaf } => match leaf_text(alloc, view, leaf) {
-            Ok(leaf) => StepFault::Command(CommandFault::ColumnTwice { leaf }),
-            Err(fault) => fault,
-        },
-        RowFault::ShortRow { row, leaf } => match leaf_text(alloc, view, leaf) {
-            Ok(leaf) => StepFault::Command(CommandFault::ShortRow { row, leaf }),
-            Err(fault) => fault,
-        },
-        RowFault::Number { row, leaf } => match leaf_text(alloc, view, leaf) {
-            Ok(leaf) => StepFault::Command(CommandFault::Number { row, leaf }),
-            Err(fault) => fault,
-        },
-        RowFault::Range { row, leaf } => match leaf_text(alloc, view, leaf) {
-            Ok(leaf) => StepFault::Command(CommandFault::Range { row, leaf }),
-            Err(fault) => fault,
-        },
-        RowFault::Narrow { row, leaf } => match leaf_text(alloc, view, leaf) {
-            Ok(leaf) => StepFault::Command(CommandFault::Narrow { row, leaf }),
-            Err(fault) => fault,
-        },
-        RowFault::NoMemory => StepFault::NoMemory,
+        RowFault::MissingColumn { leaf } => {
+            let leaf = leaf_text(alloc, view, leaf)?;
+            Ok(CommandFault::MissingColumn { leaf })
+        }
+        RowFault::ColumnTwice { leaf } => {
+            let leaf = leaf_text(alloc, view, leaf)?;
+            Ok(CommandFault::ColumnTwice { leaf })
+        }
+        RowFault::ShortRow { row, leaf } => {
+            let leaf = leaf_text(alloc, view, leaf)?;
+            Ok(CommandFault::ShortRow { row, leaf })
+        }
+        RowFault::Number { row, leaf } => {
+            let leaf = leaf_text(alloc, view, leaf)?;
+            Ok(CommandFault::Number { row, leaf })
+        }
+        RowFault::Range { row, leaf } => {
+            let leaf = leaf_text(alloc, view, leaf)?;
+            Ok(CommandFault::Range { row, leaf })
+        }
+        RowFault::Narrow { row, leaf } => {
+            let leaf = leaf_text(alloc, view, leaf)?;
+            Ok(CommandFault::Narrow { row, leaf })
+        }
+        RowFault::NoMemory => Err(StepFault::NoMemory),
     }
 }

@@ -1,6 +1,9 @@
 pub mod Worlds
 pub mod Outcomes
 pub mod Answers
+pub mod AnswersLaws
+pub mod Accessed
+pub mod OnView
 pub mod Names
 pub mod Values
 pub mod Tables
@@ -15,6 +18,5 @@ pub mod Reduce
 pub mod Copy
 pub mod Kernel
 pub mod Show
-pub mod Accessed
 pub mod Step
 pub mod FaultTexts

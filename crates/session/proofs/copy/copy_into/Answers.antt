@@ -5,4 +5,4 @@ pub returns-in-Ok-clause-copied : goal.returns-in-Ok-clause-copied
 returns-in-Ok-clause-copied g c = copied_goes c.args.source.now c.args.target.now c.copy.new.target c.in-Ok.ensures.copied
 
 pub returns-in-Err-clause-copied : goal.returns-in-Err-clause-copied
-returns-in-Err-clause-copied g c = copy_refused c.args.source.now c.args.target.now c.copy.new.target c.in-Err.fault c.copy_fault.result c.in-Err.ensures.copied c.copy_fault.ensures
+returns-in-Err-clause-copied g c = copy_refused c.args.source.now c.args.target.now c.copy.new.target c.in-Err.fault _ c.in-Err.ensures.copied c.in_ok-copy_fault.ensures

@@ -16,7 +16,7 @@ pub returns-in_err-found-clause-loads : goal.returns-in_err-found-clause-loads
 unfolding loaded_table
 returns-in_err-found-clause-loads g c = λ files told.
     let next = λ (unread : Bool) (w : Named). read files unread c.args.file.now >>= loaded (map view_of c.args.views.now) w c.args.words.now in
-    before_reading table_of _ next _ c.in_err-found.field-0.0 c.from_residual.result (search rules) c.in_err-found.ensures.named
+    before_reading c.args.file.now table_of _ next _ c.in_err-found.field-0.0 c.from_residual.result (search rules) c.in_err-found.ensures.named
 
 pub returns-in-Ok-clause-loads : goal.returns-in-Ok-clause-loads
 unfolding loaded_table

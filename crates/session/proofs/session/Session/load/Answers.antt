@@ -21,19 +21,19 @@ returns-in_err-view-clause-loads g c = λ files given.
     let rose = Rose (g.H.Shelf.faults c.args.shelf.now) (g.H.Shelf.faults c.loaded_view.new.shelf) in
     let table = λ (world : World). loaded_table world c.args.name c.args.schema c.args.words.now (term_of c.args.expr.now) c.args.file.now files in
     let lists : world_in c.as_slice.result.now c.as_slice-2.result.now c.as_slice-3.result.now ≡ world_of c.args.self = rw (c.as_slice.ensures.value, c.as_slice-2.ensures.value, c.as_slice-3.ensures.value) refl in
-    let told = subst (λ (world : World). ToldFor {A = Table} (g.H.Shelf.files c.args.shelf.now) (table world true) files) (sym lists) (told_first _ files (table (world_of c.args.self) true) (λ (made : Table). record { world = with_view (world_of c.args.self) c.args.name made; text = [] }) given) in
-    let loads = subst (λ (world : World). Loads {A = Seen} table_of (table world) rose (Err fault)) lists (c.in_err-view.ensures.loads files told) in
-    after_load {A = Seen} table_of left_of (table (world_of c.args.self))
-    (λ (made : Table). record { world = with_view (world_of c.args.self) c.args.name made; text = [] }) rose (Err fault) fault c.from_residual.result refl (search rules) loads
+    let told = subst (λ (world : World). ToldFor {A = Table} (g.H.Shelf.files c.args.shelf.now) (table world true) files) (sym lists) (told_first _ files (table (world_of c.args.self) true) (λ (made : Table). record { held = with_view (world_of c.args.self) c.args.name made; text = [] }) given) in
+    let loads = subst (λ (world : World). Loads {A = Seen} c.args.file.now table_of (table world) rose (Err fault)) lists (c.in_err-view.ensures.loads files told) in
+    after_load {A = Seen} c.args.file.now table_of left_of (table (world_of c.args.self))
+    (λ (made : Table). record { held = with_view (world_of c.args.self) c.args.name made; text = [] }) rose (Err fault) fault c.from_residual.result refl (search rules) loads
 
 pub returns-clause-loads : goal.returns-clause-loads
 unfolding load
 returns-clause-loads g c = λ files given.
     let table = λ (world : World). loaded_table world c.args.name c.args.schema c.args.words.now (term_of c.args.expr.now) c.args.file.now files in
     let lists : world_in c.as_slice.result.now c.as_slice-2.result.now c.as_slice-3.result.now ≡ world_of c.args.self = rw (c.as_slice.ensures.value, c.as_slice-2.ensures.value, c.as_slice-3.ensures.value) refl in
-    let told = subst (λ (world : World). ToldFor {A = Table} (g.H.Shelf.files c.args.shelf.now) (table world true) files) (sym lists) (told_first _ files (table (world_of c.args.self) true) (λ (made : Table). record { world = with_view (world_of c.args.self) c.args.name made; text = [] }) given) in
+    let told = subst (λ (world : World). ToldFor {A = Table} (g.H.Shelf.files c.args.shelf.now) (table world true) files) (sym lists) (told_first _ files (table (world_of c.args.self) true) (λ (made : Table). record { held = with_view (world_of c.args.self) c.args.name made; text = [] }) given) in
     let made = subst (λ (world : World). table world false ≡ Goes (table_of c.in_ok-view.view)) lists (c.in_ok-view.ensures.loads files told) in
-    goes_then _ _ _ made ∙ ap (λ (world : World). Goes (record { world = world; text = [] })) (sym c.in_ok-next.ensures.added)
+    goes_then _ _ _ made ∙ ap (λ (world : World). Goes (record { held = world; text = [] })) (sym c.in_ok-next.ensures.added)
 
 pub returns-in_err-view-clause-unread : goal.returns-in_err-view-clause-unread
 unfolding load
@@ -43,4 +43,4 @@ returns-in_err-view-clause-unread g c =
     let lists : world_in c.as_slice.result.now c.as_slice-2.result.now c.as_slice-3.result.now ≡ world_of c.args.self = rw (c.as_slice.ensures.value, c.as_slice-2.ensures.value, c.as_slice-3.ensures.value) refl in
     let unread = subst (λ (world : World). UnreadOnly {A = Seen} (Some c.args.file.now) (table world) (Err fault)) lists c.in_err-view.ensures.unread in
     unread_after Seen c.args.file.now (table (world_of c.args.self))
-    (λ (made : Table). record { world = with_view (world_of c.args.self) c.args.name made; text = [] }) fault c.from_residual.result (search rules) unread
+    (λ (made : Table). record { held = with_view (world_of c.args.self) c.args.name made; text = [] }) fault c.from_residual.result (search rules) unread

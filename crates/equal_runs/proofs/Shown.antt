@@ -1,0 +1,107 @@
+-- What a run shows of its accesses.
+use Rattle.std.proofs.Common.{◌≡◌, ℕ, ◌+◌, Bool, List, [], ◌∷◌, ◌++◌, length, Option, Some, None, refl, sym, ap, subst, ◌∙◌, arith, append_assoc, add-one}
+use Rattle.std.specs.Prelude.{IfSome}
+use Rattle.layout_io.specs.Files.{File}
+use Rattle.map_expr.specs.Terms.{Term}
+use Rattle.places.specs.Layout.{Owner}
+use Rattle.record_dim.specs.Leaves.{texts_of}
+use Rattle.line_grammar.specs.Sentences.{Sentence, Counts, Heat}
+use Rattle.instrument.specs.Counters.{LeafCounts, HeatCounts}
+use Rattle.instrument.specs.CounterTexts.{counts_text, heat_text}
+use Rattle.views.specs.Entries.{AreEntries, AreCounts, AreHeat}
+use Rattle.views.specs.Tallies.{Access, Tally, tallied, no_tally}
+use Rattle.worlds.specs.Worlds.{World, Table, empty, found}
+use Rattle.worlds.specs.Accessed.{owners_of, leaf_count}
+use Rattle.worlds.specs.OnView.{on_view}
+use Rattle.worlds.specs.Outcomes.{Outcome, Goes, Left}
+use Rattle.worlds.specs.Show.{counts, heat}
+use Rattle.worlds.specs.Step.{step}
+use Rattle.script_runs.specs.Fold.{run_from, after, prepend, fails_at}
+use Rattle.script_runs.specs.Outcome.{Output}
+use Rattle.equal_runs.specs.Lines.{AreLines}
+use Rattle.equal_runs.specs.EqualRuns.{DoesLines}
+use Rattle.equal_runs.specs.Logs.{SoFar, at_first, one_more, Comes, there, further, log_of}
+use Rattle.equal_runs.specs.Entries.{ShowsCounts, ShowsHeat, ShowsEntries}
+use Rattle.equal_runs.proofs.Entries.{none}
+use Rattle.equal_runs.proofs.Logs.{AreCounted, counted_at, step_keeps, went, known_found, same_goes}
+
+-- the accesses are those that the tables have counted, as far as a run comes
+comes_counted : (files : List File) (unread : Option ℕ) (number : ℕ) (now last : SoFar) (lines : List Sentence) → Comes files unread number now lines last → AreCounted now.world.views now.logs → AreCounted last.world.views last.logs
+comes_counted files unread number now last lines (there _ _) all = all
+comes_counted files unread number now last lines (further _ _ line left rest _ goes more) all =
+    comes_counted files unread (number + 1) (one_more now line left) last rest more (step_keeps now.world now.logs all files (fails_at unread number) line left goes)
+
+pub last_counted : (files : List File) (unread : Option ℕ) (lines : List Sentence) (now : SoFar) → Comes files unread 1 at_first lines now → AreCounted now.world.views now.logs
+last_counted files unread lines now comes = comes_counted files unread 1 at_first now lines comes none
+
+prepend-append : (a b : List ℕ) (output : Output) → prepend a (prepend b output) ≡ prepend (a ++ b) output
+prepend-append a b output = ap (λ bytes. record { bytes = bytes; end = output.end }) (sym (append_assoc a b output.bytes))
+
+-- the run over the texts of such lines
+comes_on : (files : List File) (outcome : World → List ℕ → Bool → Outcome Left) → DoesLines files outcome → (unread : Option ℕ) (number : ℕ) (now last : SoFar) (lines : List Sentence)
+    → Comes files unread number now lines last → (texts more : List (List ℕ)) → AreLines texts lines
+    → prepend now.text (run_from outcome number now.world (texts ++ more) unread) ≡ prepend last.text (run_from outcome (number + length lines) last.world more unread)
+comes_on files outcome does unread number now last lines (there _ _) [] more are = refl
+comes_on files outcome does unread number now last lines (there _ _) (text ∷ texts) more are = absurd are
+comes_on files outcome does unread number now last lines (further _ _ line left rest _ goes comes) [] more are = absurd are
+comes_on files outcome does unread number now last lines (further _ _ line left rest _ goes comes) (text ∷ texts) more are =
+    let place : number + length (line ∷ rest) ≡ number + 1 + length rest = omega arith in
+    ap (λ (o : Outcome Left). prepend now.text (after number o (λ next. run_from outcome (number + 1) next (texts ++ more) unread))) (does now.world text line (fails_at unread number) are.0 ∙ goes)
+    ∙ prepend-append now.text left.text (run_from outcome (number + 1) left.held (texts ++ more) unread)
+    ∙ comes_on files outcome does unread (number + 1) (one_more now line left) last rest comes texts more are.1
+    ∙ ap (λ (n : ℕ). prepend last.text (run_from outcome n last.world more unread)) (sym place)
+
+-- a law of what is counted, as it is told
+abbrev pub AreTold : Type 0
+AreTold = (term : Term) (layout : List (List Owner)) (leaves : ℕ) (log : List Access) → AreEntries layout leaves log (tallied layout (no_tally term layout leaves) log)
+
+module _ (told : AreTold) (files : List File) (unread : Option ℕ) (lines : List Sentence) (now : SoFar) (comes : Comes files unread 1 at_first lines now) (name : List ℕ) where
+  entries_at : (table : Table) → found name now.world.views ≡ Some table → AreEntries (owners_of table) (leaf_count table) (log_of now name) table.tally
+  entries_at table is =
+      subst (AreEntries (owners_of table) (leaf_count table) (log_of now name)) (sym (counted_at name now.world.views now.logs table (last_counted files unread lines now comes) is))
+      (told table.mapping (owners_of table) (leaf_count table) (log_of now name))
+
+  some_counts : {A : Type 0} (P : A → Type 0) (x : Option A) (a : A) → IfSome x P → x ≡ Some a → P a
+  some_counts P (Some b) a all is = let same : b ≡ a = cc in subst P same all
+  some_counts P None a all is = absurd (cc)
+
+  pub shows_counts : (fails : Bool) (left : Left) → step now.world (Counts name) files fails ≡ Goes left → ShowsCounts now name left.text
+  unfolding step on_view counts
+  shows_counts fails left is =
+      let table = went _ _ left is in
+      let new = went _ _ left table.then in
+      let done = went _ _ new.given new.first in
+      let numbers = went _ _ done.given done.first in
+      let t_is : found name now.world.views ≡ Some table.given = known_found _ _ table.given table.first in
+      record {
+        table = table.given;
+        is = t_is;
+        numbers = numbers.given;
+        shown = ap (λ (l : Left). l.text) (sym (same_goes _ left new.then)) ∙ ap (λ l. l.text) (sym (same_goes _ new.given done.then)) ∙ ap (λ d. d.text) (sym (same_goes _ done.given numbers.then));
+        counted = some_counts (AreCounts (leaf_count table.given) (log_of now name)) table.given.tally.counts numbers.given (entries_at table.given t_is).counts (known_found _ _ numbers.given numbers.first);
+      }
+
+  pub shows_heat : (fails : Bool) (left : Left) → step now.world (Heat name) files fails ≡ Goes left → ShowsHeat now name left.text
+  unfolding step on_view heat
+  shows_heat fails left is =
+      let table = went _ _ left is in
+      let new = went _ _ left table.then in
+      let done = went _ _ new.given new.first in
+      let numbers = went _ _ done.given done.first in
+      let t_is : found name now.world.views ≡ Some table.given = known_found _ _ table.given table.first in
+      record {
+        table = table.given;
+        is = t_is;
+        numbers = numbers.given;
+        shown = ap (λ (l : Left). l.text) (sym (same_goes _ left new.then)) ∙ ap (λ l. l.text) (sym (same_goes _ new.given done.then)) ∙ ap (λ d. d.text) (sym (same_goes _ done.given numbers.then));
+        counted = some_counts (AreHeat (owners_of table.given) (log_of now name)) table.given.tally.heat numbers.given (entries_at table.given t_is).heat (known_found _ _ numbers.given numbers.first);
+      }
+
+pub shows_entries : AreTold → (files : List File) (outcome : World → List ℕ → Bool → Outcome Left) → DoesLines files outcome → ShowsEntries files outcome
+shows_entries told files outcome does = record {
+  runs = λ texts more lines unread now are comes. comes_on files outcome does unread 1 at_first now lines comes texts more are ∙ ap (λ (n : ℕ). prepend now.text (run_from outcome n now.world more unread)) (order (length lines));
+  counts = λ lines unread now name fails left comes is. shows_counts told files unread lines now comes name fails left is;
+  heat = λ lines unread now name fails left comes is. shows_heat told files unread lines now comes name fails left is;
+} where
+  order : (n : ℕ) → 1 + n ≡ n + 1
+  order n = omega arith
