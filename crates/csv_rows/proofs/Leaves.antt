@@ -9,7 +9,7 @@ use Rattle.places.specs.declared.piece.Hold.{Hold}
 use Rattle.piece_bits.specs.Tables.{hold_at, with_entry}
 use Rattle.views.specs.Stores.{kind_at}
 use Rattle.views.specs.Tallies.{row_writes}
-use Rattle.views.specs.Seen.{Seen, leaf_count_of, leaf_types_of, seen_holds, answer_of, after_stores, after_write}
+use Rattle.views.specs.Tables.{Table, leaf_count_of, leaf_types_of, table_holds, answer_of, after_stores, after_write}
 use Rattle.views.specs.declared.fault.StoreFault.{StoreFault}
 use Rattle.csv_rows.specs.Datasets.{◌>>=◌, Leaf, with_columns, value_at, row_values}
 use Rattle.csv_rows.specs.Loads.{place_of, leaves_in}
@@ -33,28 +33,28 @@ joined_at (column ∷ columns) (kind ∷ kinds) [] i a b small = absurd (omega a
 joined_at (column ∷ columns) (kind ∷ kinds) (hold ∷ holds) zero a b small = refl
 joined_at (column ∷ columns) (kind ∷ kinds) (hold ∷ holds) (suc i) a b small = joined_at columns kinds holds i (omega arith) (omega arith) (omega arith)
 
-kinds_count : (seen : Seen) → length (leaf_types_of seen) ≡ leaf_count_of seen
-kinds_count seen = length-map (leaves (schema_fields seen.schema)) (λ leaf. leaf.kind)
+kinds_count : (seen : Table) → length (leaf_types_of seen) ≡ leaf_count_of seen
+kinds_count seen = length-map (leaves seen.fields) (λ leaf. leaf.kind)
 
 -- each leaf is stored in one way
-abbrev pub IsPaired : Seen → Type 0
-IsPaired seen = length (seen_holds seen) ≡ length (leaf_types_of seen)
+abbrev pub IsPaired : Table → Type 0
+IsPaired seen = length (table_holds seen) ≡ length (leaf_types_of seen)
 
-pub leaves_count : (seen : Seen) (columns : List ℕ) → IsPaired seen → length columns ≡ leaf_count_of seen → length (leaves_in seen columns) ≡ length columns
-leaves_count seen columns paired count = joined_length columns (leaf_types_of seen) (seen_holds seen) (count ∙ sym (kinds_count seen)) paired
+pub leaves_count : (seen : Table) (columns : List ℕ) → IsPaired seen → length columns ≡ leaf_count_of seen → length (leaves_in seen columns) ≡ length columns
+leaves_count seen columns paired count = joined_length columns (leaf_types_of seen) (table_holds seen) (count ∙ sym (kinds_count seen)) paired
 
 -- the values from a leaf on, of which this is the first
-leaf_at : (seen : Seen) (columns : List ℕ) (paired : IsPaired seen) (row : ℕ) (fields : List (List ℕ)) (leaf : ℕ) (column : ℕ) (found : Result ℤ RowFault) → length columns ≡ leaf_count_of seen → leaf < length columns → get_or columns leaf 0 ≡ column → value_at (place_of seen row leaf column) fields ≡ found
+leaf_at : (seen : Table) (columns : List ℕ) (paired : IsPaired seen) (row : ℕ) (fields : List (List ℕ)) (leaf : ℕ) (column : ℕ) (found : Result ℤ RowFault) → length columns ≡ leaf_count_of seen → leaf < length columns → get_or columns leaf 0 ≡ column → value_at (place_of seen row leaf column) fields ≡ found
     → row_values row fields leaf (drop leaf (leaves_in seen columns)) ≡ (found >>= (λ value. row_values row fields (leaf + 1) (drop (leaf + 1) (leaves_in seen columns)) >>= (λ values. Ok (value ∷ values))))
 leaf_at seen columns paired row fields leaf column found count small here is =
     let within : leaf < length (leaves_in seen columns) = omega (arith, leaves_count seen columns paired count) in
     at_drop_more (row_values row fields leaf) (leaves_in seen columns) leaf no_leaf within
-    ∙ ap (λ (l : Leaf). row_values row fields leaf (l ∷ drop (leaf + 1) (leaves_in seen columns))) (joined_at columns (leaf_types_of seen) (seen_holds seen) leaf (count ∙ sym (kinds_count seen)) paired small)
+    ∙ ap (λ (l : Leaf). row_values row fields leaf (l ∷ drop (leaf + 1) (leaves_in seen columns))) (joined_at columns (leaf_types_of seen) (table_holds seen) leaf (count ∙ sym (kinds_count seen)) paired small)
     ∙ ap (λ (c : ℕ). value_at (place_of seen row leaf c) fields >>= (λ value. row_values row fields (leaf + 1) (drop (leaf + 1) (leaves_in seen columns)) >>= (λ values. Ok (value ∷ values)))) here
     ∙ ap (λ (f : Result ℤ RowFault). f >>= (λ value. row_values row fields (leaf + 1) (drop (leaf + 1) (leaves_in seen columns)) >>= (λ values. Ok (value ∷ values)))) is
 
 -- one value more, one that is refused, and all
-pub leaf_read : (seen : Seen) (columns : List ℕ) (paired : IsPaired seen) (row : ℕ) (fields : List (List ℕ)) (leaf column : ℕ) (values : List ℤ) (value : ℤ) → length columns ≡ leaf_count_of seen → leaf < length columns → leaf < length values → get_or columns leaf 0 ≡ column → value_at (place_of seen row leaf column) fields ≡ Ok value
+pub leaf_read : (seen : Table) (columns : List ℕ) (paired : IsPaired seen) (row : ℕ) (fields : List (List ℕ)) (leaf column : ℕ) (values : List ℤ) (value : ℤ) → length columns ≡ leaf_count_of seen → leaf < length columns → leaf < length values → get_or columns leaf 0 ≡ column → value_at (place_of seen row leaf column) fields ≡ Ok value
     → row_values row fields 0 (leaves_in seen columns) ≡ behind (take leaf values) (row_values row fields leaf (drop leaf (leaves_in seen columns)))
     → row_values row fields 0 (leaves_in seen columns) ≡ behind (take (leaf + 1) (set values leaf value)) (row_values row fields (leaf + 1) (drop (leaf + 1) (leaves_in seen columns)))
 leaf_read seen columns paired row fields leaf column values value count small room here is before =
@@ -62,12 +62,12 @@ leaf_read seen columns paired row fields leaf column values value count small ro
     before ∙ ap (behind (take leaf values)) (leaf_at seen columns paired row fields leaf column (Ok value) count small here is ∙ one_behind value rest) ∙ behind-behind (take leaf values) (value ∷ []) rest
     ∙ ap (λ (done : List ℤ). behind done rest) (sym (take_more_set values leaf value room))
 
-pub leaf_refused : (seen : Seen) (columns : List ℕ) (paired : IsPaired seen) (row : ℕ) (fields : List (List ℕ)) (leaf column : ℕ) (values : List ℤ) (fault : RowFault) → length columns ≡ leaf_count_of seen → leaf < length columns → get_or columns leaf 0 ≡ column → value_at (place_of seen row leaf column) fields ≡ Err fault
+pub leaf_refused : (seen : Table) (columns : List ℕ) (paired : IsPaired seen) (row : ℕ) (fields : List (List ℕ)) (leaf column : ℕ) (values : List ℤ) (fault : RowFault) → length columns ≡ leaf_count_of seen → leaf < length columns → get_or columns leaf 0 ≡ column → value_at (place_of seen row leaf column) fields ≡ Err fault
     → row_values row fields 0 (leaves_in seen columns) ≡ behind (take leaf values) (row_values row fields leaf (drop leaf (leaves_in seen columns)))
     → row_values row fields 0 (leaves_in seen columns) ≡ Err fault
 leaf_refused seen columns paired row fields leaf column values fault count small here is before = before ∙ ap (behind (take leaf values)) (leaf_at seen columns paired row fields leaf column (Err fault) count small here is)
 
-pub leaves_read : (seen : Seen) (columns : List ℕ) (paired : IsPaired seen) (row : ℕ) (fields : List (List ℕ)) (leaf : ℕ) (values : List ℤ) → length columns ≡ leaf_count_of seen → length values ≡ leaf_count_of seen → length columns ≤ leaf
+pub leaves_read : (seen : Table) (columns : List ℕ) (paired : IsPaired seen) (row : ℕ) (fields : List (List ℕ)) (leaf : ℕ) (values : List ℤ) → length columns ≡ leaf_count_of seen → length values ≡ leaf_count_of seen → length columns ≤ leaf
     → row_values row fields 0 (leaves_in seen columns) ≡ behind (take leaf values) (row_values row fields leaf (drop leaf (leaves_in seen columns)))
     → row_values row fields 0 (leaves_in seen columns) ≡ Ok values
 leaves_read seen columns paired row fields leaf values count whole over before =
@@ -92,30 +92,30 @@ half_more values old leaf value small same here =
     ∙ ap (λ (f : List ℤ). f ++ drop (leaf + 1) old) (sym next)
 
 -- no value is stored yet
-pub half_none : (seen : Seen) (row : ℕ) (values : List ℤ) → seen ≡ after_stores seen (set seen.table row (half_row values (get_or seen.table row []) 0)) (row_writes 0 row)
+pub half_none : (seen : Table) (row : ℕ) (values : List ℤ) → seen ≡ after_stores seen (set seen.rows row (half_row values (get_or seen.rows row []) 0)) (row_writes 0 row)
 half_none seen row values = rw set-get_or (after_stores-none seen)
 
 -- one value more is stored
-pub leaf_stored : (seen now new : Seen) (row leaf : ℕ) (values : List ℤ) (value : ℤ) (answer : Result Unit StoreFault) → row < length seen.table → leaf < length values → length values ≡ length (get_or seen.table row []) → get_or values leaf (pos 0) ≡ value
-    → now ≡ after_stores seen (set seen.table row (half_row values (get_or seen.table row []) leaf)) (row_writes leaf row) → answer_of seen leaf value ≡ Ok tt → answer ≡ answer_of now leaf value
+pub leaf_stored : (seen now new : Table) (row leaf : ℕ) (values : List ℤ) (value : ℤ) (answer : Result Unit StoreFault) → row < length seen.rows → leaf < length values → length values ≡ length (get_or seen.rows row []) → get_or values leaf (pos 0) ≡ value
+    → now ≡ after_stores seen (set seen.rows row (half_row values (get_or seen.rows row []) leaf)) (row_writes leaf row) → answer_of seen leaf value ≡ Ok tt → answer ≡ answer_of now leaf value
     → OnOk answer (new ≡ after_write now row leaf value)
-    → new ≡ after_stores seen (set seen.table row (half_row values (get_or seen.table row []) (leaf + 1))) (row_writes (leaf + 1) row)
+    → new ≡ after_stores seen (set seen.rows row (half_row values (get_or seen.rows row []) (leaf + 1))) (row_writes (leaf + 1) row)
 leaf_stored seen now new row leaf values value answer inside small same here is fits gives stored =
-    let old = get_or seen.table row [] in
+    let old = get_or seen.rows row [] in
     let half = half_row values old leaf in
-    let ok : answer ≡ Ok tt = gives ∙ ap (λ (s : Seen). answer_of s leaf value) is ∙ fits in
+    let ok : answer ≡ Ok tt = gives ∙ ap (λ (s : Table). answer_of s leaf value) is ∙ fits in
     let done = rw ok at stored in
-    let written : with_entry (set seen.table row half) row leaf value ≡ set seen.table row (half_row values old (leaf + 1)) =
-    ap (λ (r : List ℤ). set (set seen.table row half) row (set r leaf value)) (get_or-set_same seen.table row half [] inside)
-    ∙ set-set seen.table row half (set half leaf value)
-    ∙ ap (set seen.table row) (half_more values old leaf value small same here) in
-    done ∙ ap (λ (s : Seen). after_write s row leaf value) is
-    ∙ leaf_written seen (set seen.table row half) (with_entry (set seen.table row half) row leaf value) row leaf
+    let written : with_entry (set seen.rows row half) row leaf value ≡ set seen.rows row (half_row values old (leaf + 1)) =
+    ap (λ (r : List ℤ). set (set seen.rows row half) row (set r leaf value)) (get_or-set_same seen.rows row half [] inside)
+    ∙ set-set seen.rows row half (set half leaf value)
+    ∙ ap (set seen.rows row) (half_more values old leaf value small same here) in
+    done ∙ ap (λ (s : Table). after_write s row leaf value) is
+    ∙ leaf_written seen (set seen.rows row half) (with_entry (set seen.rows row half) row leaf value) row leaf
     ∙ ap (λ (t : List (List ℤ)). after_stores seen t (row_writes (leaf + 1) row)) written
 
 -- all values are stored
-pub half_whole : (seen now : Seen) (row leaf : ℕ) (values : List ℤ) → length values ≡ length (get_or seen.table row []) → length values ≡ leaf
-    → now ≡ after_stores seen (set seen.table row (half_row values (get_or seen.table row []) leaf)) (row_writes leaf row) → now ≡ after_stores seen (set seen.table row values) (row_writes (length values) row)
+pub half_whole : (seen now : Table) (row leaf : ℕ) (values : List ℤ) → length values ≡ length (get_or seen.rows row []) → length values ≡ leaf
+    → now ≡ after_stores seen (set seen.rows row (half_row values (get_or seen.rows row []) leaf)) (row_writes leaf row) → now ≡ after_stores seen (set seen.rows row values) (row_writes (length values) row)
 half_whole seen now row leaf values same all is =
-    let whole : half_row values (get_or seen.table row []) leaf ≡ values = ap (λ (rest : List ℤ). take leaf values ++ rest) (drop_all leaf (get_or seen.table row []) (omega arith)) ∙ append-nil (take leaf values) ∙ take_all leaf values (omega arith) in
-    is ∙ ap (λ (r : List ℤ). after_stores seen (set seen.table row r) (row_writes leaf row)) whole ∙ ap (λ (n : ℕ). after_stores seen (set seen.table row values) (row_writes n row)) (sym all)
+    let whole : half_row values (get_or seen.rows row []) leaf ≡ values = ap (λ (rest : List ℤ). take leaf values ++ rest) (drop_all leaf (get_or seen.rows row []) (omega arith)) ∙ append-nil (take leaf values) ∙ take_all leaf values (omega arith) in
+    is ∙ ap (λ (r : List ℤ). after_stores seen (set seen.rows row r) (row_writes leaf row)) whole ∙ ap (λ (n : ℕ). after_stores seen (set seen.rows row values) (row_writes n row)) (sym all)

@@ -7,7 +7,7 @@ use Rattle.std.proofs.lemmas.List.{length-map}
 use Rattle.record_dim.specs.Leaves.{leaves, texts_of}
 use Rattle.record_dim.specs.Paths.{path_text_of}
 use Rattle.record_dim.specs.Schemas.{schema_fields}
-use Rattle.views.specs.Seen.{Seen, IsTable, leaf_types_of, seen_holds}
+use Rattle.views.specs.Tables.{Table, IsTable, leaf_types_of, table_holds}
 use Rattle.views.specs.Stores.{AllFit}
 use Rattle.csv_rows.specs.Loads.{dataset_of}
 use Rattle.layout_io.specs.Decimal.{decimal_text}
@@ -44,10 +44,10 @@ printed_again names kinds holds table are count some paired long fits =
     read_again names kinds holds table are count some (fit_table kinds holds table (λ row small. (long row small, fit_row kinds holds (get_or table row []) paired (long row small) (λ leaf inside. fits row leaf small inside))))
 
 -- the same of views
-pub view_again : (printed loaded : Seen) → schema_fields loaded.schema ≡ schema_fields printed.schema → AreColumnNames (texts_of (schema_fields printed.schema)) → IsTable printed → 0 < length (leaves (schema_fields printed.schema)) → length (seen_holds loaded) ≡ length (leaf_types_of loaded) → AllFit (length printed.table) (leaf_types_of loaded) (seen_holds loaded) printed.table → dataset_of loaded (records_of (print_text (texts_of (schema_fields printed.schema)) printed.table)) ≡ Ok printed.table
+pub view_again : (printed loaded : Table) → loaded.fields ≡ printed.fields → AreColumnNames (texts_of printed.fields) → IsTable printed → 0 < length (leaves printed.fields) → length (table_holds loaded) ≡ length (leaf_types_of loaded) → AllFit (length printed.rows) (leaf_types_of loaded) (table_holds loaded) printed.rows → dataset_of loaded (records_of (print_text (texts_of printed.fields) printed.rows)) ≡ Ok printed.rows
 view_again printed loaded same names table some paired fits =
-    let fields = schema_fields printed.schema in
-    let kinds : length (leaf_types_of loaded) ≡ length (leaves fields) = length-map (leaves (schema_fields loaded.schema)) (λ leaf. leaf.kind) ∙ ap (λ f. length (leaves f)) same in
+    let fields = printed.fields in
+    let kinds : length (leaf_types_of loaded) ≡ length (leaves fields) = length-map (leaves loaded.fields) (λ leaf. leaf.kind) ∙ ap (λ f. length (leaves f)) same in
     let texts : length (texts_of fields) ≡ length (leaves fields) = length-map (leaves fields) (λ leaf. path_text_of leaf.path) in
-    ap (λ f. dataset_table (texts_of f) (leaf_types_of loaded) (seen_holds loaded) (records_of (print_text (texts_of fields) printed.table))) same
-    ∙ printed_again (texts_of fields) (leaf_types_of loaded) (seen_holds loaded) printed.table names (texts ∙ sym kinds) (omega arith) paired (λ row small. table.shape.leaf_count row small ∙ sym kinds) fits
+    ap (λ f. dataset_table (texts_of f) (leaf_types_of loaded) (table_holds loaded) (records_of (print_text (texts_of fields) printed.rows))) same
+    ∙ printed_again (texts_of fields) (leaf_types_of loaded) (table_holds loaded) printed.rows names (texts ∙ sym kinds) (omega arith) paired (λ row small. table.shape.leaf_count row small ∙ sym kinds) fits

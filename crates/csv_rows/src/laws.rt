@@ -2,7 +2,7 @@
 ghost use Rattle.std.specs.Prelude.{◌≡◌, Ok, length};
 ghost use Rattle.record_dim.specs.Schemas.{schema_fields};
 ghost use Rattle.record_dim.specs.Leaves.{texts_of};
-ghost use Rattle.views.specs.Seen.{leaf_types_of, seen_holds};
+ghost use Rattle.views.specs.Tables.{leaf_types_of, table_holds};
 ghost use Rattle.views.specs.Stores.{AllFit};
 ghost use Rattle.csv_rows.specs.Datasets.{records_of};
 ghost use Rattle.csv_rows.specs.Loads.{dataset_of};
@@ -13,9 +13,9 @@ use views::View;
 /// What `print_rows` writes of a view is a dataset, and its table is that of the view, for each view of the same schema whose holds have
 /// all its values. It changes nothing.
 pub fn printed_loads(_printed: &View, _loaded: &View)
-    requires schema { schema_fields _loaded.now.schema ≡ schema_fields _printed.now.schema }
-    requires fit { AllFit (length _printed.now.table) (leaf_types_of _loaded.now) (seen_holds _loaded.now) _printed.now.table }
-    ensures { dataset_of _loaded.now (records_of (print_text (texts_of (schema_fields _printed.now.schema)) _printed.now.table)) ≡ Ok _printed.now.table }
+    requires schema { _loaded.now.fields ≡ _printed.now.fields }
+    requires fit { AllFit (length _printed.now.rows) (leaf_types_of _loaded.now) (table_holds _loaded.now) _printed.now.rows }
+    ensures { dataset_of _loaded.now (records_of (print_text (texts_of _printed.now.fields) _printed.now.rows)) ≡ Ok _printed.now.rows }
 {
     let _some = _printed.schema().leaf_count();
     let _paired = _loaded.schema();

@@ -2,7 +2,7 @@
 ghost use Rattle.std.specs.Prelude.{◌≡◌, ◌⊎◌, ◌∷◌, ℕ, List, [], IfOk, IfErr, OnOk, MatchBool, Ok, Err, length};
 ghost use Rattle.csv.specs.Records.{fields_of};
 ghost use Rattle.views.specs.Tallies.{all_writes};
-ghost use Rattle.views.specs.Seen.{leaf_count_of, after_stores};
+ghost use Rattle.views.specs.Tables.{leaf_count_of, after_stores};
 ghost use Rattle.csv_rows.specs.Datasets.{records_of, header_of, rows_of, table_from};
 ghost use Rattle.csv_rows.specs.Loads.{leaves_in, dataset_of, Keeps, KeepsRows};
 ghost use Rattle.csv_rows.specs.declared.fault.RowFault.TheVariants.{NoMemory};
@@ -27,11 +27,11 @@ pub fn load_rows<L: Ledger>(
     view: &mut View,
     steps: &mut Steps<L>,
 ) -> Result<(), RowFault>
-    requires { length view.old.table ≡ length (rows_of (records_of bytes.now)) }
-    ensures loaded { OnOk result (dataset_of view.old (records_of bytes.now) ≡ Ok view.new.table) }
+    requires { length view.old.rows ≡ length (rows_of (records_of bytes.now)) }
+    ensures loaded { OnOk result (dataset_of view.old (records_of bytes.now) ≡ Ok view.new.rows) }
     ensures refused { IfErr result (λ f. (f ≡ NoMemory) ⊎ (dataset_of view.old (records_of bytes.now) ≡ Err f)) }
     ensures kept { IfErr result (λ f. Keeps view.old (records_of bytes.now) view.new f) }
-    ensures same { OnOk result (view.new ≡ after_stores view.old view.new.table (all_writes (leaf_count_of view.old) (length view.old.table))) }
+    ensures same { OnOk result (view.new ≡ after_stores view.old view.new.rows (all_writes (leaf_count_of view.old) (length view.old.rows))) }
 {
     let text = without_marks(bytes);
     let mut fields = ByteRecord::new(alloc);
@@ -52,11 +52,11 @@ fn load_from<R: Records, L: Ledger>(
     steps: &mut Steps<L>,
 ) -> Result<(), RowFault>
     requires reading { R.stands records.old }
-    requires rows { length view.old.table ≡ length (rows_of (R.left records.old)) }
-    ensures loaded { OnOk result (dataset_of view.old (R.left records.old) ≡ Ok view.new.table) }
+    requires rows { length view.old.rows ≡ length (rows_of (R.left records.old)) }
+    ensures loaded { OnOk result (dataset_of view.old (R.left records.old) ≡ Ok view.new.rows) }
     ensures refused { IfErr result (λ f. (f ≡ NoMemory) ⊎ (dataset_of view.old (R.left records.old) ≡ Err f)) }
     ensures kept { IfErr result (λ f. Keeps view.old (R.left records.old) view.new f) }
-    ensures same { OnOk result (view.new ≡ after_stores view.old view.new.table (all_writes (leaf_count_of view.old) (length view.old.table))) }
+    ensures same { OnOk result (view.new ≡ after_stores view.old view.new.rows (all_writes (leaf_count_of view.old) (length view.old.rows))) }
 {
     let found = read_header(records, fields)?;
     let columns = leaf_columns(alloc, fields, view.schema())?;
@@ -100,13 +100,13 @@ fn load_records<R: Records, L: Ledger>(
     steps: &mut Steps<L>,
 ) -> Result<(), RowFault>
     requires reading { R.stands records.old }
-    requires rows { length view.old.table ≡ length (R.left records.old) }
+    requires rows { length view.old.rows ≡ length (R.left records.old) }
     requires columns { length columns.now ≡ leaf_count_of view.old }
     requires values { length values.old ≡ leaf_count_of view.old }
-    ensures loaded { OnOk result (table_from 0 (R.left records.old) (leaves_in view.old columns.now) ≡ Ok view.new.table) }
+    ensures loaded { OnOk result (table_from 0 (R.left records.old) (leaves_in view.old columns.now) ≡ Ok view.new.rows) }
     ensures refused { IfErr result (λ f. (f ≡ NoMemory) ⊎ (table_from 0 (R.left records.old) (leaves_in view.old columns.now) ≡ Err f)) }
     ensures kept { IfErr result (λ f. KeepsRows view.old columns.now (R.left records.old) view.new f) }
-    ensures same { OnOk result (view.new ≡ after_stores view.old view.new.table (all_writes (leaf_count_of view.old) (length view.old.table))) }
+    ensures same { OnOk result (view.new ≡ after_stores view.old view.new.rows (all_writes (leaf_count_of view.old) (length view.old.rows))) }
 {
     let _extents = view.extents();
     let mut row = 0u64;

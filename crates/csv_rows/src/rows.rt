@@ -2,7 +2,7 @@
 ghost use Rattle.std.specs.Prelude.{◌≡◌, ◌<◌, ℕ, pos, IfOk, IfErr, OnOk, Ok, Err, length, slice_index_or, slice_set};
 ghost use Rattle.csv.specs.Records.{fields_of};
 ghost use Rattle.views.specs.Tallies.{row_writes};
-ghost use Rattle.views.specs.Seen.{leaf_count_of, answer_of, after_stores};
+ghost use Rattle.views.specs.Tables.{leaf_count_of, answer_of, after_stores};
 ghost use Rattle.csv_rows.specs.Datasets.{refusal, value_at, row_values};
 ghost use Rattle.csv_rows.specs.Loads.{place_of, leaves_in};
 
@@ -22,12 +22,12 @@ pub fn load_row<L: Ledger>(
     values: &mut [i128],
     steps: &mut Steps<L>,
 ) -> Result<(), RowFault>
-    requires row_in { row < length view.old.table }
+    requires row_in { row < length view.old.rows }
     requires columns { length columns.now ≡ leaf_count_of view.old }
     requires values { length values.old ≡ leaf_count_of view.old }
     ensures count { length values.new ≡ length values.old }
     ensures read { OnOk result (row_values row (fields_of fields.now) 0 (leaves_in view.old columns.now) ≡ Ok values.new) }
-    ensures stored { OnOk result (view.new ≡ after_stores view.old (slice_set view.old.table row values.new) (row_writes (leaf_count_of view.old) row)) }
+    ensures stored { OnOk result (view.new ≡ after_stores view.old (slice_set view.old.rows row values.new) (row_writes (leaf_count_of view.old) row)) }
     ensures refused { IfErr result (λ f. row_values row (fields_of fields.now) 0 (leaves_in view.old columns.now) ≡ Err f) }
     ensures same { IfErr result (λ f. view.new ≡ view.old) }
 {
@@ -93,10 +93,10 @@ fn refusal(row: u64, leaf: usize, fault: StoreFault) -> RowFault
 
 // Stores values that fit as a row.
 fn store_row<L: Ledger>(view: &mut View, row: u64, values: &[i128], steps: &mut Steps<L>)
-    requires row_in { row < length view.old.table }
+    requires row_in { row < length view.old.rows }
     requires values { length values.now ≡ leaf_count_of view.old }
     requires fit { (leaf : ℕ) → leaf < leaf_count_of view.old → answer_of view.old leaf (slice_index_or values.now leaf (pos 0)) ≡ Ok tt }
-    ensures { view.new ≡ after_stores view.old (slice_set view.old.table row values.now) (row_writes (leaf_count_of view.old) row) }
+    ensures { view.new ≡ after_stores view.old (slice_set view.old.rows row values.now) (row_writes (leaf_count_of view.old) row) }
 {
     let _leaves = view.schema();
     for leaf in 0..values.len() {

@@ -2,7 +2,7 @@
 use Rattle.std.proofs.Common.{◌≡◌, ℕ, zero, suc, ◌+◌, ◌<◌, List, [], ◌∷◌, ◌++◌, length, get_or, set, take, ℤ, Option, Some, None, Result, Ok, Err, refl, sym, ap, subst, ◌∙◌, arith}
 use Rattle.std.specs.Option.{option_or}
 use Rattle.std.proofs.lemmas.List.{take_all}
-use Rattle.views.specs.Seen.{Seen, answer_of, after_log, after_stores, after_write}
+use Rattle.views.specs.Tables.{Table, answer_of, after_log, after_stores, after_write}
 use Rattle.views.specs.Stores.{Answer}
 use Rattle.views.specs.TallyLaws.{after_log-none, after_log-append, logs_more}
 use Rattle.views.specs.Tallies.{Access, Write}
@@ -54,53 +54,53 @@ fault_stays answer kernel start (suc count) (values ∷ rows) fault e =
     (fault_stays answer kernel (start + 1) count rows fault)
 
 -- the rows before this one are changed, and had no fault
-pub record AreChanged (old : Seen) (kernel : Kernel) (view : Seen) (row : ℕ) : Type 0 where
-  pub same : view ≡ after_stores old (run_rows kernel row old.table) (rows_log kernel row)
-  pub clean : first_fault (answer_of old) kernel 0 (take row old.table) ≡ None
+pub record AreChanged (old : Table) (kernel : Kernel) (view : Table) (row : ℕ) : Type 0 where
+  pub same : view ≡ after_stores old (run_rows kernel row old.rows) (rows_log kernel row)
+  pub clean : first_fault (answer_of old) kernel 0 (take row old.rows) ≡ None
 
-pub none_changed : (old : Seen) (kernel : Kernel) → AreChanged old kernel old 0
+pub none_changed : (old : Table) (kernel : Kernel) → AreChanged old kernel old 0
 none_changed old kernel = record { same = sym (after_log-none old); clean = refl }
 
 -- what a row's store answers where the rows before are changed is what it answers on the view as it was
-own_fault : (old view : Seen) (kernel : Kernel) (row : ℕ) (fault : Option KernelFault) → row < length old.table → AreChanged old kernel view row
-    → store_fault (answer_of view) row (stored kernel (get_or view.table row [])) ≡ fault → first_fault (answer_of old) kernel 0 (take (row + 1) old.table) ≡ fault
+own_fault : (old view : Table) (kernel : Kernel) (row : ℕ) (fault : Option KernelFault) → row < length old.rows → AreChanged old kernel view row
+    → store_fault (answer_of view) row (stored kernel (get_or view.rows row [])) ≡ fault → first_fault (answer_of old) kernel 0 (take (row + 1) old.rows) ≡ fault
 own_fault old view kernel row fault inside so_far told =
     let one : row + 1 ≡ suc row = omega arith in
     let zero_row : 0 + row ≡ row = omega arith in
-    let here : store_fault (answer_of old) row (stored kernel (get_or old.table row [])) ≡ store_fault (answer_of view) row (stored kernel (get_or view.table row [])) =
-    ap (λ (values : List ℤ). store_fault (answer_of old) row (stored kernel values)) (sym (row_stands kernel row old.table))
-    ∙ ap (λ (v : Seen). store_fault (answer_of v) row (stored kernel (get_or v.table row []))) (sym so_far.same) in
-    rw (one, fault_more (answer_of old) kernel 0 row old.table inside so_far.clean, zero_row) (here ∙ told)
+    let here : store_fault (answer_of old) row (stored kernel (get_or old.rows row [])) ≡ store_fault (answer_of view) row (stored kernel (get_or view.rows row [])) =
+    ap (λ (values : List ℤ). store_fault (answer_of old) row (stored kernel values)) (sym (row_stands kernel row old.rows))
+    ∙ ap (λ (v : Table). store_fault (answer_of v) row (stored kernel (get_or v.rows row []))) (sym so_far.same) in
+    rw (one, fault_more (answer_of old) kernel 0 row old.rows inside so_far.clean, zero_row) (here ∙ told)
 
 -- one row more
-pub change_more : (old view new : Seen) (kernel : Kernel) (row : ℕ) → row < length old.table → AreChanged old kernel view row
-    → store_fault (answer_of view) row (stored kernel (get_or view.table row [])) ≡ None
-    → new ≡ after_stores view (set view.table row (after kernel (get_or view.table row []))) (reads_on kernel row ++ writes_on kernel row) → AreChanged old kernel new (row + 1)
+pub change_more : (old view new : Table) (kernel : Kernel) (row : ℕ) → row < length old.rows → AreChanged old kernel view row
+    → store_fault (answer_of view) row (stored kernel (get_or view.rows row [])) ≡ None
+    → new ≡ after_stores view (set view.rows row (after kernel (get_or view.rows row []))) (reads_on kernel row ++ writes_on kernel row) → AreChanged old kernel new (row + 1)
 change_more old view new kernel row inside so_far told changed =
-    let table = run_rows kernel row old.table in
+    let table = run_rows kernel row old.rows in
     let own = reads_on kernel row ++ writes_on kernel row in
     let same = changed
-    ∙ ap (λ (v : Seen). after_stores v (set v.table row (after kernel (get_or v.table row []))) own) so_far.same
-    ∙ after_log-append (record old { table = set table row (after kernel (get_or table row [])) }) (rows_log kernel row) own
+    ∙ ap (λ (v : Table). after_stores v (set v.rows row (after kernel (get_or v.rows row []))) own) so_far.same
+    ∙ after_log-append (record old { rows = set table row (after kernel (get_or table row [])) }) (rows_log kernel row) own
     ∙ ap (λ (log : List Access). after_stores old (set table row (after kernel (get_or table row []))) log) (sym (logs_more (λ n. reads_on kernel n ++ writes_on kernel n) row))
-    ∙ ap (λ (values : List ℤ). after_stores old (set table row (after kernel values)) (rows_log kernel (row + 1))) (row_stands kernel row old.table)
-    ∙ ap (λ (rows : List (List ℤ)). after_stores old rows (rows_log kernel (row + 1))) (sym (row_changed kernel row old.table inside)) in
+    ∙ ap (λ (values : List ℤ). after_stores old (set table row (after kernel values)) (rows_log kernel (row + 1))) (row_stands kernel row old.rows)
+    ∙ ap (λ (rows : List (List ℤ)). after_stores old rows (rows_log kernel (row + 1))) (sym (row_changed kernel row old.rows inside)) in
     record { same = same; clean = own_fault old view kernel row None inside so_far told }
 
 -- the leaves of a view are those of the view after accesses
-narrow_stays : (old : Seen) (table : List (List ℤ)) (log : List Access) (leaf : ℕ) → IsNarrowLeaf old leaf → IsNarrowLeaf (after_stores old table log) leaf
+narrow_stays : (old : Table) (table : List (List ℤ)) (log : List Access) (leaf : ℕ) → IsNarrowLeaf old leaf → IsNarrowLeaf (after_stores old table log) leaf
 narrow_stays old table log leaf narrow = record { inside = narrow.inside; narrow = narrow.narrow }
 
-kernel_stays : (old : Seen) (table : List (List ℤ)) (log : List Access) (change : Change) → IsKernelOf old (changing change) → IsKernelOf (after_stores old table log) (changing change)
+kernel_stays : (old : Table) (table : List (List ℤ)) (log : List Access) (change : Change) → IsKernelOf old (changing change) → IsKernelOf (after_stores old table log) (changing change)
 kernel_stays old table log (Axpy a x y) is = (is.0, narrow_stays old table log x is.1, narrow_stays old table log y is.2)
 kernel_stays old table log (Clamp x lo hi) is = (narrow_stays old table log x is.0, is.1, is.2, is.3)
 
-pub row_takes : (old view : Seen) (change : Change) (row : ℕ) → AreChanged old (changing change) view row → row < length old.table → IsKernelOf old (changing change)
-    → (row < length view.table) × IsKernelOf view (changing change)
+pub row_takes : (old view : Table) (change : Change) (row : ℕ) → AreChanged old (changing change) view row → row < length old.rows → IsKernelOf old (changing change)
+    → (row < length view.rows) × IsKernelOf view (changing change)
 row_takes old view change row so_far inside is =
-    let count = ap (λ (v : Seen). length v.table) so_far.same ∙ rows_count (changing change) row old.table in (
+    let count = ap (λ (v : Table). length v.rows) so_far.same ∙ rows_count (changing change) row old.rows in (
       omega (arith, inside, count),
-      subst (λ (v : Seen). IsKernelOf v (changing change)) (sym so_far.same) (kernel_stays old (run_rows (changing change) row old.table) (rows_log (changing change) row) change is),
+      subst (λ (v : Table). IsKernelOf v (changing change)) (sym so_far.same) (kernel_stays old (run_rows (changing change) row old.rows) (rows_log (changing change) row) change is),
     )
 
 -- a kernel that stores takes no row for granted, and gives no number
@@ -117,14 +117,14 @@ write_of : (change : Change) (row : ℕ) (values : List ℤ) (store : Store) →
 write_of (Axpy a x y) row values store is = let same : y ≡ store.leaf = cc is in ap (λ (leaf : ℕ). Write row leaf ∷ []) same
 write_of (Clamp x lo hi) row values store is = let same : x ≡ store.leaf = cc is in ap (λ (leaf : ℕ). Write row leaf ∷ []) same
 
-pub change_done : (old read new : Seen) (change : Change) (row leaf : ℕ) (value : ℤ) → stored (changing change) (get_or old.table row []) ≡ Some (record { leaf = leaf; value = value })
+pub change_done : (old read new : Table) (change : Change) (row leaf : ℕ) (value : ℤ) → stored (changing change) (get_or old.rows row []) ≡ Some (record { leaf = leaf; value = value })
     → read ≡ after_log old (reads_on (changing change) row) → new ≡ after_write read row leaf value
-    → new ≡ after_stores old (set old.table row (after (changing change) (get_or old.table row []))) (reads_on (changing change) row ++ writes_on (changing change) row)
+    → new ≡ after_stores old (set old.rows row (after (changing change) (get_or old.rows row []))) (reads_on (changing change) row ++ writes_on (changing change) row)
 change_done old read new change row leaf value is reads writes =
-    let values = get_or old.table row [] in
+    let values = get_or old.rows row [] in
     rw (write_of change row values (record { leaf = leaf; value = value }) is, is)
-    (writes ∙ ap (λ (v : Seen). after_write v row leaf value) reads
-    ∙ after_log-append (record old { table = set old.table row (set values leaf value) }) (reads_on (changing change) row) (Write row leaf ∷ []))
+    (writes ∙ ap (λ (v : Table). after_write v row leaf value) reads
+    ∙ after_log-append (record old { rows = set old.rows row (set values leaf value) }) (reads_on (changing change) row) (Write row leaf ∷ []))
 
 -- a row is refused after its reads
 answer_log : (kernel : Kernel) (row leaf : ℕ) (answer : Result Unit StoreFault) (fault : KernelFault) → answer_fault row leaf answer ≡ Some fault → fault_log kernel fault ≡ rows_log kernel row ++ reads_on kernel row
@@ -136,24 +136,24 @@ refused_log : (answer : Answer) (kernel : Kernel) (row : ℕ) (store : Option St
 refused_log answer kernel row None fault is = absurd (cc)
 refused_log answer kernel row (Some store) fault is = answer_log kernel row store.leaf (answer store.leaf store.value) fault is
 
-pub change_stops : (old view new : Seen) (change : Change) (row : ℕ) (fault : KernelFault) → row < length old.table → AreChanged old (changing change) view row
-    → store_fault (answer_of view) row (stored (changing change) (get_or view.table row [])) ≡ Some fault → rows_before fault ≡ row → new ≡ after_log view (reads_on (changing change) row)
+pub change_stops : (old view new : Table) (change : Change) (row : ℕ) (fault : KernelFault) → row < length old.rows → AreChanged old (changing change) view row
+    → store_fault (answer_of view) row (stored (changing change) (get_or view.rows row [])) ≡ Some fault → rows_before fault ≡ row → new ≡ after_log view (reads_on (changing change) row)
     → IsRun old new (changing change) (Err fault)
 change_stops old view new change row fault inside so_far told named read =
     let own = own_fault old view (changing change) row (Some fault) inside so_far told in
-    let first = fault_stays (answer_of old) (changing change) 0 (row + 1) old.table fault own in (
-      rw (no_empty change old.table) first,
-      rw (named, refused_log (answer_of view) (changing change) row (stored (changing change) (get_or view.table row [])) fault told)
-          (read ∙ ap (λ (v : Seen). after_log v (reads_on (changing change) row)) so_far.same
-          ∙ after_log-append (record old { table = run_rows (changing change) row old.table }) (rows_log (changing change) row) (reads_on (changing change) row)),
+    let first = fault_stays (answer_of old) (changing change) 0 (row + 1) old.rows fault own in (
+      rw (no_empty change old.rows) first,
+      rw (named, refused_log (answer_of view) (changing change) row (stored (changing change) (get_or view.rows row [])) fault told)
+          (read ∙ ap (λ (v : Table). after_log v (reads_on (changing change) row)) so_far.same
+          ∙ after_log-append (record old { rows = run_rows (changing change) row old.rows }) (rows_log (changing change) row) (reads_on (changing change) row)),
     )
 
 -- all rows are changed
-pub change_ends : (old view : Seen) (change : Change) (row : ℕ) → row ≡ length old.table → AreChanged old (changing change) view row → IsRun old view (changing change) (Ok None)
+pub change_ends : (old view : Table) (change : Change) (row : ℕ) → row ≡ length old.rows → AreChanged old (changing change) view row → IsRun old view (changing change) (Ok None)
 change_ends old view change row whole so_far =
-    let all : take row old.table ≡ old.table = take_all row old.table (omega (arith, whole)) in
+    let all : take row old.rows ≡ old.rows = take_all row old.rows (omega (arith, whole)) in
     let clean = rw all at so_far.clean in (
-      rw (no_empty change old.table) clean,
-      sym (no_number change old.table),
+      rw (no_empty change old.rows) clean,
+      sym (no_number change old.rows),
       rw (← whole) so_far.same,
     )

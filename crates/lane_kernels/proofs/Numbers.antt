@@ -10,10 +10,9 @@ use Rattle.record_dim.specs.declared.leaf_type.LeafType.{LeafType}
 use Rattle.record_dim.specs.declared.leaf_type.LeafType.TheVariants.{Bool as Truth, U8, U16, U32, U64, I8, I16, I32, I64}
 use Rattle.record_dim.specs.LeafTypes.{width_of, IsDeclared}
 use Rattle.record_dim.specs.Leaves.{leaves}
-use Rattle.record_dim.specs.Schemas.{schema_fields}
 use Rattle.piece_bits.specs.Tables.{hold_at}
 use Rattle.views.specs.Stores.{Answer, Fits}
-use Rattle.views.specs.Seen.{Seen, IsTable, leaf_types_of, leaf_type_of, seen_holds, answer_of, after_log, after_stores, after_read}
+use Rattle.views.specs.Tables.{Table, IsTable, leaf_types_of, leaf_type_of, table_holds, answer_of, after_log, after_stores, after_read}
 use Rattle.views.specs.TallyLaws.{after_log-none, after_log-append, logs_more}
 use Rattle.views.specs.Tallies.{Read}
 use Rattle.lane_kernels.specs.Kernels.{compares, column, in_leaf, number_of, stored, first_fault, empty_fault, IsConstant, IsNarrowLeaf, IsRun}
@@ -57,12 +56,12 @@ one_read Least leaf row = refl
 one_read Greatest leaf row = refl
 one_read (Count op c) leaf row = refl
 
-pub read_more : (reduction : Reduction) (leaf row : ℕ) (old view new : Seen) → view ≡ after_log old (rows_log (reducing leaf reduction) row) → new ≡ after_read view row leaf
+pub read_more : (reduction : Reduction) (leaf row : ℕ) (old view new : Table) → view ≡ after_log old (rows_log (reducing leaf reduction) row) → new ≡ after_read view row leaf
     → new ≡ after_log old (rows_log (reducing leaf reduction) (row + 1))
 read_more reduction leaf row old view new so_far read =
     let kernel = reducing leaf reduction in
     rw (logs_more (λ n. reads_on kernel n ++ writes_on kernel n) row, one_read reduction leaf row)
-    (read ∙ ap (λ (v : Seen). after_read v row leaf) so_far ∙ after_log-append old (rows_log kernel row) (Read row leaf ∷ []))
+    (read ∙ ap (λ (v : Table). after_read v row leaf) so_far ∙ after_log-append old (rows_log kernel row) (Read row leaf ∷ []))
 
 -- a number that is small stays so
 pub start_small : (reduction : Reduction) → IsSmall 0 (start reduction)
@@ -106,11 +105,11 @@ number_is Least leaf (row ∷ rows) first = ap (λ (n : ℤ). Some (fold int_min
 number_is Greatest leaf [] first = let some = (first refl).some in absurd (omega (arith, some))
 number_is Greatest leaf (row ∷ rows) first = ap (λ (n : ℤ). Some (fold int_max n (column leaf rows))) (greatest_first (in_leaf leaf row) (first refl).narrow)
 
-pub has_first : (seen : Seen) (leaf : ℕ) → IsTable seen → IsNarrowLeaf seen leaf → 0 < length seen.table → HasFirst leaf seen.table
+pub has_first : (seen : Table) (leaf : ℕ) → IsTable seen → IsNarrowLeaf seen leaf → 0 < length seen.rows → HasFirst leaf seen.rows
 has_first seen leaf table narrow some =
-    let count = length-map (leaves (schema_fields seen.schema)) (λ leaf. leaf.kind) in
+    let count = length-map (leaves seen.fields) (λ leaf. leaf.kind) in
     let inside : leaf < length (leaf_types_of seen) = omega (arith, narrow.inside, count) in
-    let value = fits_constant (leaf_type_of seen leaf) (hold_at (seen_holds seen) leaf) (entry seen.table 0 leaf) narrow.narrow (table.fits 0 leaf some inside) in
+    let value = fits_constant (leaf_type_of seen leaf) (hold_at (table_holds seen) leaf) (entry seen.rows 0 leaf) narrow.narrow (table.fits 0 leaf some inside) in
     record { some = some; narrow = value }
 
 -- a reduction stores nothing
@@ -133,15 +132,15 @@ no_empty Greatest leaf [] first = let some = (first refl).some in absurd (omega 
 no_empty Greatest leaf (row ∷ rows) first = refl
 
 -- a reduction gives its number
-pub reduction_ends : (seen : Seen) (reduction : Reduction) (leaf : ℕ) (number : ℤ) → (wants_a_row reduction ≡ true → HasFirst leaf seen.table)
-    → number ≡ reduced reduction (column leaf seen.table) → IsRun seen (after_log seen (rows_log (reducing leaf reduction) (length seen.table))) (reducing leaf reduction) (Ok (Some number))
+pub reduction_ends : (seen : Table) (reduction : Reduction) (leaf : ℕ) (number : ℤ) → (wants_a_row reduction ≡ true → HasFirst leaf seen.rows)
+    → number ≡ reduced reduction (column leaf seen.rows) → IsRun seen (after_log seen (rows_log (reducing leaf reduction) (length seen.rows))) (reducing leaf reduction) (Ok (Some number))
 reduction_ends seen reduction leaf number first is =
     let kernel = reducing leaf reduction in
     let none = stores_nothing reduction leaf in
-    let stands = rows_stand kernel (length seen.table) seen.table none in (
-      rw (no_empty reduction leaf seen.table first) (no_fault (answer_of seen) kernel 0 seen.table none),
-      ap (λ (n : ℤ). Some n) is ∙ number_is reduction leaf seen.table first,
-      ap (λ (rows : List (List ℤ)). after_stores seen rows (rows_log kernel (length seen.table))) (sym stands),
+    let stands = rows_stand kernel (length seen.rows) seen.rows none in (
+      rw (no_empty reduction leaf seen.rows first) (no_fault (answer_of seen) kernel 0 seen.rows none),
+      ap (λ (n : ℤ). Some n) is ∙ number_is reduction leaf seen.rows first,
+      ap (λ (rows : List (List ℤ)). after_stores seen rows (rows_log kernel (length seen.rows))) (sym stands),
     )
 
 -- or has no row
@@ -153,5 +152,5 @@ empty_first Least leaf (row ∷ rows) wants none = absurd (omega (arith, none))
 empty_first Greatest leaf [] wants none = refl
 empty_first Greatest leaf (row ∷ rows) wants none = absurd (omega (arith, none))
 
-pub reduction_empty : (seen : Seen) (reduction : Reduction) (leaf : ℕ) → wants_a_row reduction ≡ true → length seen.table ≡ 0 → IsRun seen seen (reducing leaf reduction) (Err Empty)
-reduction_empty seen reduction leaf wants none = (rw (empty_first reduction leaf seen.table wants none) refl, sym (after_log-none seen))
+pub reduction_empty : (seen : Table) (reduction : Reduction) (leaf : ℕ) → wants_a_row reduction ≡ true → length seen.rows ≡ 0 → IsRun seen seen (reducing leaf reduction) (Err Empty)
+reduction_empty seen reduction leaf wants none = (rw (empty_first reduction leaf seen.rows wants none) refl, sym (after_log-none seen))

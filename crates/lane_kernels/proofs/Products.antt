@@ -4,7 +4,7 @@ use Rattle.std.specs.Prelude.{unsigned_abs}
 use Rattle.std.specs.Int.{w128}
 use Rattle.std.proofs.Math.Nat.{mul-le-mul}
 use Rattle.std.proofs.lemmas.Int.{ints, unsigned_abs-mul, fits_signed_from_abs, to_z-of_z}
-use Rattle.views.specs.Seen.{Seen}
+use Rattle.views.specs.Tables.{Table}
 use Rattle.lane_kernels.specs.Kernels.{in_leaf, stored, IsFactor, IsConstant, IsKernelOf}
 use Rattle.lane_kernels.specs.Changes.{changing}
 use Rattle.lane_kernels.specs.declared.changes.Change.{Change}
@@ -70,5 +70,5 @@ pub stored_is : (change : Change) (a : ℤ) (x y : ℕ) (values : List ℤ) (fir
 stored_is change a x y values first second is e f = rw (is, e, f) refl
 
 -- what an axpy can run with
-pub factor_of : (view : Seen) (change : Change) (a : ℤ) (x y : ℕ) → change ≡ Axpy a x y → IsKernelOf view (changing change) → IsFactor a
+pub factor_of : (view : Table) (change : Change) (a : ℤ) (x y : ℕ) → change ≡ Axpy a x y → IsKernelOf view (changing change) → IsFactor a
 factor_of view change a x y is kernel = (subst (λ (c : Change). IsKernelOf view (changing c)) is kernel).0

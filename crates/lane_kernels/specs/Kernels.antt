@@ -5,7 +5,7 @@ use Rattle.std.specs.List.{count_by}
 use Rattle.std.specs.Option.{option_or}
 use Rattle.std.specs.Ordering.{int_eq}
 use Rattle.record_dim.specs.LeafTypes.{width_of}
-use Rattle.views.specs.Seen.{Seen, leaf_count_of, leaf_type_of, answer_of, after_stores}
+use Rattle.views.specs.Tables.{Table, leaf_count_of, leaf_type_of, answer_of, after_stores}
 use Rattle.views.specs.Stores.{Answer}
 use Rattle.views.specs.declared.fault.StoreFault.TheVariants as store
 use Rattle.views.specs.declared.fault.StoreFault.{StoreFault}
@@ -99,18 +99,18 @@ rows_before (Range row leaf) = row
 rows_before (Narrow row leaf) = row
 
 -- what a kernel answers on a view, which becomes `new`; after a fault exactly the rows before it are changed
-abbrev pub IsRun : Seen → Seen → Kernel → Result (Option ℤ) KernelFault → Type 0
+abbrev pub IsRun : Table → Table → Kernel → Result (Option ℤ) KernelFault → Type 0
 IsRun old new kernel (Ok number) =
-    (kernel_fault (answer_of old) kernel old.table ≡ None) × (number ≡ number_of kernel old.table)
-    × (new ≡ after_stores old (run_rows kernel (length old.table) old.table) (rows_log kernel (length old.table)))
+    (kernel_fault (answer_of old) kernel old.rows ≡ None) × (number ≡ number_of kernel old.rows)
+    × (new ≡ after_stores old (run_rows kernel (length old.rows) old.rows) (rows_log kernel (length old.rows)))
 IsRun old new kernel (Err fault) =
-    (kernel_fault (answer_of old) kernel old.table ≡ Some fault)
-    × (new ≡ after_stores old (run_rows kernel (rows_before fault) old.table) (fault_log kernel fault))
+    (kernel_fault (answer_of old) kernel old.rows ≡ Some fault)
+    × (new ≡ after_stores old (run_rows kernel (rows_before fault) old.rows) (fault_log kernel fault))
 
 -- a leaf of a view, of at most 32 bits
-pub record IsNarrowLeaf (seen : Seen) (leaf : ℕ) : Type 0 where
-  pub inside : leaf < leaf_count_of seen
-  pub narrow : width_of (leaf_type_of seen leaf) ≤ 32
+pub record IsNarrowLeaf (table : Table) (leaf : ℕ) : Type 0 where
+  pub inside : leaf < leaf_count_of table
+  pub narrow : width_of (leaf_type_of table leaf) ≤ 32
 
 -- a factor from -2^31 to 2^31 - 1, and any other constant from -2^31 to 2^32 - 1
 abbrev pub IsFactor : ℤ → Type 0
@@ -120,13 +120,13 @@ abbrev pub IsConstant : ℤ → Type 0
 IsConstant c = (neg_ℤ (pos (2 ^ 31)) ≤ℤ c) × (c <ℤ pos (2 ^ 32))
 
 -- a kernel that can run on a view
-abbrev pub IsKernelOf : Seen → Kernel → Type 0
-IsKernelOf seen (Axpy a x y) = IsFactor a × IsNarrowLeaf seen x × IsNarrowLeaf seen y
-IsKernelOf seen (Clamp x lo hi) = IsNarrowLeaf seen x × IsConstant lo × IsConstant hi × (lo ≤ℤ hi)
-IsKernelOf seen (Sum x) = IsNarrowLeaf seen x
-IsKernelOf seen (Least x) = IsNarrowLeaf seen x
-IsKernelOf seen (Greatest x) = IsNarrowLeaf seen x
-IsKernelOf seen (CountWhere x op c) = IsNarrowLeaf seen x × IsConstant c
+abbrev pub IsKernelOf : Table → Kernel → Type 0
+IsKernelOf table (Axpy a x y) = IsFactor a × IsNarrowLeaf table x × IsNarrowLeaf table y
+IsKernelOf table (Clamp x lo hi) = IsNarrowLeaf table x × IsConstant lo × IsConstant hi × (lo ≤ℤ hi)
+IsKernelOf table (Sum x) = IsNarrowLeaf table x
+IsKernelOf table (Least x) = IsNarrowLeaf table x
+IsKernelOf table (Greatest x) = IsNarrowLeaf table x
+IsKernelOf table (CountWhere x op c) = IsNarrowLeaf table x × IsConstant c
 
 -- the most steps of a kernel for each row, and over so many rows; one more is left for a kernel that ends
 abbrev pub row_cost : Kernel → ℕ

@@ -1,6 +1,6 @@
 // Kernels that store in each row.
 ghost use Rattle.std.specs.Prelude.{◌≡◌, ◌+◌, ◌*◌, ◌++◌, ◌<◌, ◌≤◌, OnOk, OnErr, IfErr, Some, None, [], length, slice_index_or, slice_set};
-ghost use Rattle.views.specs.Seen.{leaf_count_of, answer_of, after_log, after_stores};
+ghost use Rattle.views.specs.Tables.{leaf_count_of, answer_of, after_log, after_stores};
 ghost use Rattle.lane_kernels.specs.Kernels.{IsKernelOf, IsRun, stored, with_store, store_fault, rows_before, row_cost};
 ghost use Rattle.lane_kernels.specs.Changes.{changing};
 ghost use Rattle.lane_kernels.specs.Logs.{reads_on, writes_on};
@@ -26,7 +26,7 @@ pub fn change_rows<L: Ledger>(
 ) -> Result<Option<i64>, KernelFault>
     requires { IsKernelOf view.old (changing change.now) }
     ensures run { IsRun view.old view.new (changing change.now) result }
-    ensures steps { steps.new ≤ steps.old + row_cost (changing change.now) * length view.old.table }
+    ensures steps { steps.new ≤ steps.old + row_cost (changing change.now) * length view.old.rows }
 {
     for row in 0..view.extents().count() {
         change_row(view, row, change, steps)?;
@@ -41,13 +41,13 @@ fn change_row<L: Ledger>(
     change: &Change,
     steps: &mut Steps<L>,
 ) -> Result<(), KernelFault>
-    requires row_in { row < length view.old.table }
+    requires row_in { row < length view.old.rows }
     requires kernel { IsKernelOf view.old (changing change.now) }
-    ensures taken { OnOk result (store_fault (answer_of view.old) row (stored (changing change.now) (slice_index_or view.old.table row [])) ≡ None) }
-    ensures stored { let values = slice_index_or view.old.table row [] in
-        OnOk result (view.new ≡ after_stores view.old (slice_set view.old.table row (with_store values (stored (changing change.now) values)))
+    ensures taken { OnOk result (store_fault (answer_of view.old) row (stored (changing change.now) (slice_index_or view.old.rows row [])) ≡ None) }
+    ensures stored { let values = slice_index_or view.old.rows row [] in
+        OnOk result (view.new ≡ after_stores view.old (slice_set view.old.rows row (with_store values (stored (changing change.now) values)))
         (reads_on (changing change.now) row ++ writes_on (changing change.now) row)) }
-    ensures refused { IfErr result (λ fault. store_fault (answer_of view.old) row (stored (changing change.now) (slice_index_or view.old.table row []))
+    ensures refused { IfErr result (λ fault. store_fault (answer_of view.old) row (stored (changing change.now) (slice_index_or view.old.rows row []))
         ≡ Some fault) }
     ensures named { IfErr result (λ fault. rows_before fault ≡ row) }
     ensures read { OnErr result (view.new ≡ after_log view.old (reads_on (changing change.now) row)) }
@@ -68,9 +68,9 @@ fn store_of<L: Ledger>(
     change: &Change,
     steps: &mut Steps<L>,
 ) -> (usize, i128)
-    requires row_in { row < length view.old.table }
+    requires row_in { row < length view.old.rows }
     requires kernel { IsKernelOf view.old (changing change.now) }
-    ensures store { stored (changing change.now) (slice_index_or view.old.table row []) ≡ Some (record { leaf = result.0; value = result.1 }) }
+    ensures store { stored (changing change.now) (slice_index_or view.old.rows row []) ≡ Some (record { leaf = result.0; value = result.1 }) }
     ensures leaf_in { result.0 < leaf_count_of view.old }
     ensures same { view.new ≡ after_log view.old (reads_on (changing change.now) row) }
     ensures steps { steps.new + 1 ≡ steps.old + row_cost (changing change.now) }

@@ -18,7 +18,7 @@ pub fn run_plain<L: Ledger>(
 ) -> Result<Option<i64>, KernelFault>
     requires { IsKernelOf view.old kernel.now }
     ensures run { IsRun view.old view.new kernel.now result }
-    ensures steps { steps.new ≤ steps.old + plain_cost kernel.now (length view.old.table) }
+    ensures steps { steps.new ≤ steps.old + plain_cost kernel.now (length view.old.rows) }
 {
     match *kernel {
         Kernel::Axpy { a, x, y } => change_rows(view, &Change::Axpy { a, x, y }, steps),

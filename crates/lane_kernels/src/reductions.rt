@@ -1,6 +1,6 @@
 // Kernels that give one number of all rows.
 ghost use Rattle.std.specs.Prelude.{◌≡◌, ◌+◌, ◌<◌, ◌≤◌, ◌^◌, length};
-ghost use Rattle.views.specs.Seen.{after_log};
+ghost use Rattle.views.specs.Tables.{after_log};
 ghost use Rattle.lane_kernels.specs.Kernels.{IsConstant, IsNarrowLeaf, IsRun, column, compares};
 ghost use Rattle.lane_kernels.specs.Logs.{rows_log};
 ghost use Rattle.lane_kernels.specs.Reductions.{reducing, start, taking, reduced, wants_a_row, IsSmall};
@@ -66,7 +66,7 @@ pub fn reduce_rows<L: Ledger>(
 ) -> Result<Option<i64>, KernelFault>
     requires { IsNarrowLeaf view.old leaf }
     ensures run { IsRun view.old view.new (reducing leaf reduction.now) result }
-    ensures steps { steps.new ≤ steps.old + length view.old.table }
+    ensures steps { steps.new ≤ steps.old + length view.old.rows }
 {
     if reduction.wants_a_row() && view.extents().count() == 0 {
         return Err(KernelFault::Empty);
@@ -82,9 +82,9 @@ fn reduced<L: Ledger>(
     steps: &mut Steps<L>,
 ) -> i64
     requires { IsNarrowLeaf view.old leaf }
-    ensures number { result ≡ reduced reduction.now (column leaf view.old.table) }
-    ensures same { view.new ≡ after_log view.old (rows_log (reducing leaf reduction.now) (length view.old.table)) }
-    ensures steps { steps.new ≡ steps.old + length view.old.table }
+    ensures number { result ≡ reduced reduction.now (column leaf view.old.rows) }
+    ensures same { view.new ≡ after_log view.old (rows_log (reducing leaf reduction.now) (length view.old.rows)) }
+    ensures steps { steps.new ≡ steps.old + length view.old.rows }
 {
     let mut number = reduction.start();
     for row in 0..view.extents().count() {

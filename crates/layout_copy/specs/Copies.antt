@@ -1,7 +1,6 @@
 -- What a copy of a table into another view answers, and what it leaves.
 use Rattle.std.specs.Prelude.{ℕ, ◌+◌, ◌≡◌, ℤ, List, [], ◌∷◌, ◌++◌, length, take, drop, Option, Some, None, Result, Ok, Err, is_ok, if◌then◌else◌}
-use Rattle.record_dim.specs.Schemas.{schema_fields}
-use Rattle.views.specs.Seen.{Seen, answer_of, leaf_count_of, after_stores}
+use Rattle.views.specs.Tables.{Table, answer_of, leaf_count_of, after_stores}
 use Rattle.views.specs.Tallies.{Access, row_reads, all_reads, all_writes}
 use Rattle.views.specs.Stores.{Answer}
 use Rattle.layout_copy.specs.declared.fault.CopyFault.{CopyFault}
@@ -28,17 +27,17 @@ refused_at answer row [] = None
 refused_at answer row (values ∷ rows) = spot_or row (refusing answer 0 values) (refused_at answer (row + 1) rows)
 
 -- one schema and the same extents
-abbrev pub AreAlike : Seen → Seen → Type 0
-AreAlike source target = (schema_fields source.schema ≡ schema_fields target.schema) × (source.extents ≡ target.extents)
+abbrev pub AreAlike : Table → Table → Type 0
+AreAlike source target = (source.fields ≡ target.fields) × (source.extents ≡ target.extents)
 
 -- a copy of `source` into `old`, which becomes `new`: its table, or that of the rows before the first that has a value which is not held
-abbrev pub IsCopied : Seen → Seen → Seen → Result Unit CopyFault → Type 0
+abbrev pub IsCopied : Table → Table → Table → Result Unit CopyFault → Type 0
 IsCopied source old new (Ok done) =
-    AreAlike source old × (refused_at (answer_of old) 0 source.table ≡ None) × (new ≡ after_stores old source.table (all_writes (leaf_count_of old) (length source.table)))
+    AreAlike source old × (refused_at (answer_of old) 0 source.rows ≡ None) × (new ≡ after_stores old source.rows (all_writes (leaf_count_of old) (length source.rows)))
 IsCopied source old new (Err Mismatch) = (AreAlike source old → ⊥) × (new ≡ old)
 IsCopied source old new (Err (Narrow row leaf)) =
-    AreAlike source old × (refused_at (answer_of old) 0 source.table ≡ Some (record { row = row; leaf = leaf }))
-    × (new ≡ after_stores old (take row source.table ++ drop row old.table) (all_writes (leaf_count_of old) row))
+    AreAlike source old × (refused_at (answer_of old) 0 source.rows ≡ Some (record { row = row; leaf = leaf }))
+    × (new ≡ after_stores old (take row source.rows ++ drop row old.rows) (all_writes (leaf_count_of old) row))
 
 -- the reads of the source, which has so many leaves and rows: of all, or up to the leaf of the row that is not held
 abbrev pub source_log : ℕ → ℕ → Result Unit CopyFault → List Access

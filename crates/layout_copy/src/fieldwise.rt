@@ -1,6 +1,6 @@
 // A copy that goes by the leaves of one row after another.
 ghost use Rattle.std.specs.Prelude.{◌≡◌, ◌+◌, ◌*◌, ◌<◌, ◌≤◌, ◌↔◌, [], IsTrue, IfNone, IfSome, IsErrOf, None, length, slice_index_or, slice_set};
-ghost use Rattle.views.specs.Seen.{leaf_count_of, answer_of, after_log, after_stores};
+ghost use Rattle.views.specs.Tables.{leaf_count_of, answer_of, after_log, after_stores};
 ghost use Rattle.views.specs.Tallies.{row_reads, row_writes, all_touches};
 ghost use Rattle.layout_copy.specs.Copies.{AreAlike, IsCopied, refusing, source_log};
 
@@ -18,8 +18,8 @@ pub fn copy<L: Ledger>(
     steps: &mut Steps<L>,
 ) -> Result<(), CopyFault>
     ensures copied { IsCopied source.old target.old target.new result }
-    ensures source { source.new ≡ after_log source.old (source_log (leaf_count_of source.old) (length source.old.table) result) }
-    ensures steps { steps.new ≤ steps.old + 2 * (length source.old.table * leaf_count_of source.old) }
+    ensures source { source.new ≡ after_log source.old (source_log (leaf_count_of source.old) (length source.old.rows) result) }
+    ensures steps { steps.new ≤ steps.old + 2 * (length source.old.rows * leaf_count_of source.old) }
     ensures none { IsErrOf result CopyFault.Mismatch → steps.new ≡ steps.old }
 {
     if !are_alike(source, target) {
@@ -37,7 +37,7 @@ pub fn copy<L: Ledger>(
 
 /// A copy of a view onto itself: its table stands, and each leaf of each row is read once and written once.
 pub fn copy_self(view: &mut View)
-    ensures { view.new ≡ after_log view.old (all_touches 1 1 (leaf_count_of view.old) (length view.old.table)) }
+    ensures { view.new ≡ after_log view.old (all_touches 1 1 (leaf_count_of view.old) (length view.old.rows)) }
 {
     view.touch_all(1, 1);
 }
@@ -45,7 +45,7 @@ pub fn copy_self(view: &mut View)
 // Whether two views have one schema and the same extents, and so as many rows.
 fn are_alike(source: &View, target: &View) -> bool
     ensures value { IsTrue result ↔ AreAlike source.now target.now }
-    ensures rows { IsTrue result → length source.now.table ≡ length target.now.table }
+    ensures rows { IsTrue result → length source.now.rows ≡ length target.now.rows }
 {
     source.schema().same(target.schema()) && source.extents() == target.extents()
 }
@@ -58,12 +58,12 @@ fn copy_row<L: Ledger>(
     values: &mut [i128],
     steps: &mut Steps<L>,
 ) -> Option<usize>
-    requires source_row { row < length source.old.table }
-    requires target_row { row < length target.old.table }
+    requires source_row { row < length source.old.rows }
+    requires target_row { row < length target.old.rows }
     requires leaves { leaf_count_of target.old ≡ leaf_count_of source.old }
     requires values { length values.old ≡ leaf_count_of source.old }
-    ensures refused { result ≡ refusing (answer_of target.old) 0 (slice_index_or source.old.table row []) }
-    ensures stored { IfNone result (target.new ≡ after_stores target.old (slice_set target.old.table row (slice_index_or source.old.table row []))
+    ensures refused { result ≡ refusing (answer_of target.old) 0 (slice_index_or source.old.rows row []) }
+    ensures stored { IfNone result (target.new ≡ after_stores target.old (slice_set target.old.rows row (slice_index_or source.old.rows row []))
         (row_writes (leaf_count_of target.old) row)) }
     ensures kept { IfSome result (λ _. target.new ≡ target.old) }
     ensures all_read { IfNone result (source.new ≡ after_log source.old (row_reads (leaf_count_of source.old) row)) }
@@ -86,11 +86,11 @@ fn read_row<L: Ledger>(
     values: &mut [i128],
     steps: &mut Steps<L>,
 ) -> Option<usize>
-    requires row_in { row < length source.old.table }
+    requires row_in { row < length source.old.rows }
     requires leaves { leaf_count_of target.now ≡ leaf_count_of source.old }
     requires values { length values.old ≡ leaf_count_of source.old }
-    ensures refused { result ≡ refusing (answer_of target.now) 0 (slice_index_or source.old.table row []) }
-    ensures read { IfNone result (values.new ≡ slice_index_or source.old.table row []) }
+    ensures refused { result ≡ refusing (answer_of target.now) 0 (slice_index_or source.old.rows row []) }
+    ensures read { IfNone result (values.new ≡ slice_index_or source.old.rows row []) }
     ensures all_read { IfNone result (source.new ≡ after_log source.old (row_reads (leaf_count_of source.old) row)) }
     ensures some_read { IfSome result (λ leaf. source.new ≡ after_log source.old (row_reads (leaf + 1) row)) }
     ensures steps { steps.new ≤ steps.old + leaf_count_of source.old }
@@ -109,10 +109,10 @@ fn read_row<L: Ledger>(
 
 // Stores values that fit as a row.
 fn store_row<L: Ledger>(target: &mut View, row: u64, values: &[i128], steps: &mut Steps<L>)
-    requires row_in { row < length target.old.table }
+    requires row_in { row < length target.old.rows }
     requires values { length values.now ≡ leaf_count_of target.old }
     requires fit { refusing (answer_of target.old) 0 values.now ≡ None }
-    ensures stored { target.new ≡ after_stores target.old (slice_set target.old.table row values.now) (row_writes (leaf_count_of target.old) row) }
+    ensures stored { target.new ≡ after_stores target.old (slice_set target.old.rows row values.now) (row_writes (leaf_count_of target.old) row) }
     ensures steps { steps.new ≡ steps.old + leaf_count_of target.old }
 {
     let _leaves = target.schema();

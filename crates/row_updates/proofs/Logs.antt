@@ -7,19 +7,19 @@ use Rattle.linearize.specs.Slots.{index_at}
 use Rattle.views.specs.Stores.{Answer}
 use Rattle.views.specs.Tallies.{Access, Read, Write, Tally}
 use Rattle.views.specs.TallyLaws.{after_log-append, after_reads, logs_more}
-use Rattle.views.specs.Seen.{Seen, seen_layout, answer_of, after_log, after_stores, after_read}
+use Rattle.views.specs.Tables.{Table, owners_of, answer_of, after_log, after_stores, after_read}
 use Rattle.row_updates.specs.declared.fault.UpdateFault.{UpdateFault}
 use Rattle.row_updates.specs.Rows.{Setting, each, passes, new_value}
 use Rattle.row_updates.specs.Logs.{value_log, filter_log, if_ok, if_passes, sides_log, stores_log, row_log, count_log}
 use Rattle.row_updates.proofs.Each.{parted}
 
 -- reads through a row that is borrowed
-lent_reads : (row : ℕ) (lent : MutBor Seen) (reads : List ℕ) → fold (λ (state : MutBor Seen × ℕ) (leaf : ℕ). (record state.0 { now = after_read state.0.now state.1 leaf }, state.1)) (lent, row) reads ≡ (record lent { now = fold (λ (s : Seen) leaf. after_read s row leaf) lent.now reads }, row)
+lent_reads : (row : ℕ) (lent : MutBor Table) (reads : List ℕ) → fold (λ (state : MutBor Table × ℕ) (leaf : ℕ). (record state.0 { now = after_read state.0.now state.1 leaf }, state.1)) (lent, row) reads ≡ (record lent { now = fold (λ (s : Table) leaf. after_read s row leaf) lent.now reads }, row)
 lent_reads row lent [] = refl
 lent_reads row lent (leaf ∷ reads) = lent_reads row (record lent { now = after_read lent.now row leaf }) reads
 
-pub lent_log : (row : ℕ) (lent : MutBor Seen) (reads : List ℕ) → fold (λ (state : MutBor Seen × ℕ) (leaf : ℕ). (record state.0 { now = after_read state.0.now state.1 leaf }, state.1)) (lent, row) reads ≡ (record lent { now = after_log lent.now (map (Read row) reads) }, row)
-lent_log row lent reads = lent_reads row lent reads ∙ ap (λ (s : Seen). (record lent { now = s }, row)) (after_reads row lent.now reads)
+pub lent_log : (row : ℕ) (lent : MutBor Table) (reads : List ℕ) → fold (λ (state : MutBor Table × ℕ) (leaf : ℕ). (record state.0 { now = after_read state.0.now state.1 leaf }, state.1)) (lent, row) reads ≡ (record lent { now = after_log lent.now (map (Read row) reads) }, row)
+lent_log row lent reads = lent_reads row lent reads ∙ ap (λ (s : Table). (record lent { now = s }, row)) (after_reads row lent.now reads)
 
 if_ok_none : {A : Type 0} (result : Result A UpdateFault) → if_ok result [] ≡ []
 if_ok_none (Ok x) = refl
@@ -63,9 +63,9 @@ pub stores_push : (number : ℕ) (sets : List Setting) (n : ℕ) (d : Setting) �
 stores_push number sets n d small = ap (stores_log number) (take_more sets n d small) ∙ map-append (λ (set : Setting). Write number set.leaf) (take n sets) (get_or sets n d ∷ [])
 
 -- accesses that left the table, after others that left it
-pub log_more : (old view after : Seen) (log : List Access) (more : Answer → List (List ℤ) → List Access) → view ≡ after_log old log → after ≡ after_log view (more (answer_of view) view.table) → after ≡ after_log old (log ++ more (answer_of old) old.table)
+pub log_more : (old view after : Table) (log : List Access) (more : Answer → List (List ℤ) → List Access) → view ≡ after_log old log → after ≡ after_log view (more (answer_of view) view.rows) → after ≡ after_log old (log ++ more (answer_of old) old.rows)
 log_more old view after log more so_far last =
-    last ∙ ap (λ (s : Seen). after_log s (more (answer_of s) s.table)) so_far ∙ after_log-append old log (more (answer_of old) old.table)
+    last ∙ ap (λ (s : Table). after_log s (more (answer_of s) s.rows)) so_far ∙ after_log-append old log (more (answer_of old) old.rows)
 
 -- the accesses of a row by what its filter gives: it is left out, or has a fault, or its right sides have one, or it is updated
 abbrev tested_log : Answer → Option (Term ℕ) → List Setting → ℕ → List ℤ → List ℕ → Result Bool UpdateFault → List Access
@@ -93,7 +93,7 @@ row_log_done answer filter sets number row index values test done =
     ∙ sym (append_assoc (filter_log number row index filter) sides (stores_log number sets))
 
 -- the reads of one row more that is counted
-pub count_push : (old view after : Seen) (filter : Term ℕ) (row : ℕ) → view ≡ after_log old (count_log filter old.extents old.table row) → after ≡ after_log view (value_log row (get_or view.table row []) (index_at old.extents row) filter) → after ≡ after_log old (count_log filter old.extents old.table (row + 1))
+pub count_push : (old view after : Table) (filter : Term ℕ) (row : ℕ) → view ≡ after_log old (count_log filter old.extents old.rows row) → after ≡ after_log view (value_log row (get_or view.rows row []) (index_at old.extents row) filter) → after ≡ after_log old (count_log filter old.extents old.rows (row + 1))
 count_push old view after filter row so_far last =
-    log_more old view after (count_log filter old.extents old.table row) (λ answer table. value_log row (get_or table row []) (index_at old.extents row) filter) so_far last
-    ∙ ap (after_log old) (sym (logs_more (λ number. value_log number (get_or old.table number []) (index_at old.extents number) filter) row))
+    log_more old view after (count_log filter old.extents old.rows row) (λ answer table. value_log row (get_or table row []) (index_at old.extents row) filter) so_far last
+    ∙ ap (after_log old) (sym (logs_more (λ number. value_log number (get_or old.rows number []) (index_at old.extents number) filter) row))

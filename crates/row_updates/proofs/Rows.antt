@@ -11,7 +11,7 @@ use Rattle.linearize.specs.Slots.{index_at}
 use Rattle.piece_bits.specs.Tables.{with_entry}
 use Rattle.views.specs.Tallies.{Write}
 use Rattle.views.specs.TallyLaws.{after_log-none, logs_more}
-use Rattle.views.specs.Seen.{Seen, answer_of, after_stores, after_write}
+use Rattle.views.specs.Tables.{Table, answer_of, after_stores, after_write}
 use Rattle.views.specs.declared.fault.StoreFault.{StoreFault}
 use Rattle.row_updates.specs.declared.fault.UpdateFault.{UpdateFault}
 use Rattle.row_updates.specs.declared.update.Assign.{Assign}
@@ -60,29 +60,29 @@ sides_stopped answer number row index sets place set values fault small is so_fa
     ∙ ap (λ (s : Setting). sides_log answer number row index (take place (map setting_of sets)) ++ value_log number row index s.value) at
 
 -- one store more
-pub stored_more : (old view new : Seen) (row place : ℕ) (sets : List Assign) (set : Assign) (values : List ℤ) → row < length old.table → place < length sets → place < length values → set ≡ get_or sets place set
-    → view ≡ after_stores old (slice_set old.table row (with_values (take place (map setting_of sets)) (take place values) (get_or old.table row []))) (stores_log row (take place (map setting_of sets)))
+pub stored_more : (old view new : Table) (row place : ℕ) (sets : List Assign) (set : Assign) (values : List ℤ) → row < length old.rows → place < length sets → place < length values → set ≡ get_or sets place set
+    → view ≡ after_stores old (slice_set old.rows row (with_values (take place (map setting_of sets)) (take place values) (get_or old.rows row []))) (stores_log row (take place (map setting_of sets)))
     → new ≡ after_write view row set.leaf (get_or values place (pos 0))
-    → new ≡ after_stores old (slice_set old.table row (with_values (take (place + 1) (map setting_of sets)) (take (place + 1) values) (get_or old.table row []))) (stores_log row (take (place + 1) (map setting_of sets)))
+    → new ≡ after_stores old (slice_set old.rows row (with_values (take (place + 1) (map setting_of sets)) (take (place + 1) values) (get_or old.rows row []))) (stores_log row (take (place + 1) (map setting_of sets)))
 stored_more old view new row place sets set values inside small short is so_far more =
-    let row_so_far = with_values (take place (map setting_of sets)) (take place values) (get_or old.table row []) in
+    let row_so_far = with_values (take place (map setting_of sets)) (take place values) (get_or old.rows row []) in
     let at = setting_at sets place set (setting_of set) small is in
     let one : place + 1 ≡ suc place = omega arith in
-    let row_now : with_values (take (place + 1) (map setting_of sets)) (take (place + 1) values) (get_or old.table row []) ≡ slice_set row_so_far set.leaf (get_or values place (pos 0)) =
-    ap (λ (n : ℕ). with_values (take n (map setting_of sets)) (take n values) (get_or old.table row [])) one
-    ∙ with_values_push (map setting_of sets) values (get_or old.table row []) place (setting_of set) (pos 0) (settings_long sets place small) short
+    let row_now : with_values (take (place + 1) (map setting_of sets)) (take (place + 1) values) (get_or old.rows row []) ≡ slice_set row_so_far set.leaf (get_or values place (pos 0)) =
+    ap (λ (n : ℕ). with_values (take n (map setting_of sets)) (take n values) (get_or old.rows row [])) one
+    ∙ with_values_push (map setting_of sets) values (get_or old.rows row []) place (setting_of set) (pos 0) (settings_long sets place small) short
     ∙ ap (λ (s : Setting). slice_set row_so_far s.leaf (get_or values place (pos 0))) at in
-    let here : get_or (slice_set old.table row row_so_far) row [] ≡ row_so_far = get_or-set_same old.table row row_so_far [] inside in
-    let twice = set-set old.table row row_so_far (slice_set row_so_far set.leaf (get_or values place (pos 0))) in
-    let table = ap (λ (r : List ℤ). slice_set (slice_set old.table row row_so_far) row (slice_set r set.leaf (get_or values place (pos 0)))) here ∙ twice ∙ ap (slice_set old.table row) (sym row_now) in
+    let here : get_or (slice_set old.rows row row_so_far) row [] ≡ row_so_far = get_or-set_same old.rows row row_so_far [] inside in
+    let twice = set-set old.rows row row_so_far (slice_set row_so_far set.leaf (get_or values place (pos 0))) in
+    let table = ap (λ (r : List ℤ). slice_set (slice_set old.rows row row_so_far) row (slice_set r set.leaf (get_or values place (pos 0)))) here ∙ twice ∙ ap (slice_set old.rows row) (sym row_now) in
     let log = stores_log row (take place (map setting_of sets)) in
     let logs : stores_log row (take (place + 1) (map setting_of sets)) ≡ log ++ Write row set.leaf ∷ [] =
     stores_push row (map setting_of sets) place (setting_of set) (settings_long sets place small) ∙ ap (λ (s : Setting). log ++ Write row s.leaf ∷ []) at in
-    let before = slice_set old.table row row_so_far in
-    more ∙ ap (λ (v : Seen). after_write v row set.leaf (get_or values place (pos 0))) so_far
+    let before = slice_set old.rows row row_so_far in
+    more ∙ ap (λ (v : Table). after_write v row set.leaf (get_or values place (pos 0))) so_far
     ∙ after_stores-append old before (with_entry before row set.leaf (get_or values place (pos 0))) log (Write row set.leaf ∷ [])
     ∙ ap (λ (t : List (List ℤ)). after_stores old t (log ++ Write row set.leaf ∷ [])) table
-    ∙ ap (after_stores old (slice_set old.table row (with_values (take (place + 1) (map setting_of sets)) (take (place + 1) values) (get_or old.table row [])))) (sym logs)
+    ∙ ap (after_stores old (slice_set old.rows row (with_values (take (place + 1) (map setting_of sets)) (take (place + 1) values) (get_or old.rows row [])))) (sym logs)
 
 fits_from : (number : ℕ) (set : Setting) (got : ℤ) (told : Result Unit StoreFault) (value : ℤ) → (in_row number (store_kind set.leaf) told >>= (λ fits. Ok got)) ≡ Ok value → (told ≡ Ok tt) × (got ≡ value)
 fits_from number set got (Ok done) value e = (refl, cc)
@@ -126,52 +126,52 @@ same_behind xs ys n d small less same =
     let e = sym (drop_more xs n d small) ∙ same ∙ drop_more ys n d less in cc
 
 -- rows so far
-pub record AreUpdated (old : Seen) (filter : Option (Term ℕ)) (sets : List Setting) (view : Seen) (row : ℕ) : Type 0 where
-  pub same : view ≡ after_stores old view.table (update_log old filter sets row)
-  pub count : length view.table ≡ length old.table
-  pub front : updated_rows (answer_of old) filter sets old.extents old.table row ≡ Ok (take row view.table)
-  pub back : drop row view.table ≡ drop row old.table
+pub record AreUpdated (old : Table) (filter : Option (Term ℕ)) (sets : List Setting) (view : Table) (row : ℕ) : Type 0 where
+  pub same : view ≡ after_stores old view.rows (update_log old filter sets row)
+  pub count : length view.rows ≡ length old.rows
+  pub front : updated_rows (answer_of old) filter sets old.extents old.rows row ≡ Ok (take row view.rows)
+  pub back : drop row view.rows ≡ drop row old.rows
 
-pub none_updated : (view : Seen) (filter : Option (Term ℕ)) (sets : List Setting) → AreUpdated view filter sets view 0
+pub none_updated : (view : Table) (filter : Option (Term ℕ)) (sets : List Setting) → AreUpdated view filter sets view 0
 none_updated view filter sets = record { same = sym (after_log-none view); count = refl; front = refl; back = refl }
 
 -- what the next row of the table so far gives is what the row gives as it stood
-row_here : {A : Type 0} (gives : Answer → List ℤ → List ℕ → A) (old view : Seen) (filter : Option (Term ℕ)) (sets : List Setting) (row : ℕ) → AreUpdated old filter sets view row → gives (answer_of view) (get_or view.table row []) (index_at view.extents row) ≡ gives (answer_of old) (get_or old.table row []) (index_at old.extents row)
+row_here : {A : Type 0} (gives : Answer → List ℤ → List ℕ → A) (old view : Table) (filter : Option (Term ℕ)) (sets : List Setting) (row : ℕ) → AreUpdated old filter sets view row → gives (answer_of view) (get_or view.rows row []) (index_at view.extents row) ≡ gives (answer_of old) (get_or old.rows row []) (index_at old.extents row)
 row_here gives old view filter sets row so_far =
-    ap (λ (v : Seen). gives (answer_of v) (get_or view.table row []) (index_at v.extents row)) so_far.same
-    ∙ ap (λ (r : List ℤ). gives (answer_of old) r (index_at old.extents row)) (same_at view.table old.table row [] so_far.back)
+    ap (λ (v : Table). gives (answer_of v) (get_or view.rows row []) (index_at v.extents row)) so_far.same
+    ∙ ap (λ (r : List ℤ). gives (answer_of old) r (index_at old.extents row)) (same_at view.rows old.rows row [] so_far.back)
 
-pub rows_stopped : (old view : Seen) (filter : Option (Term ℕ)) (sets : List Setting) (row : ℕ) (fault : UpdateFault) → row < length old.table → AreUpdated old filter sets view row → updated_row (answer_of view) filter sets row (get_or view.table row []) (index_at view.extents row) ≡ Err fault → updated_rows (answer_of old) filter sets old.extents old.table (length old.table) ≡ Err fault
+pub rows_stopped : (old view : Table) (filter : Option (Term ℕ)) (sets : List Setting) (row : ℕ) (fault : UpdateFault) → row < length old.rows → AreUpdated old filter sets view row → updated_row (answer_of view) filter sets row (get_or view.rows row []) (index_at view.extents row) ≡ Err fault → updated_rows (answer_of old) filter sets old.extents old.rows (length old.rows) ≡ Err fault
 rows_stopped old view filter sets row fault small so_far stop =
     let here = row_here (λ answer numbers index. updated_row answer filter sets row numbers index) old view filter sets row so_far in
-    rows_stop (λ number. updated_row (answer_of old) filter sets number (get_or old.table number []) (index_at old.extents number)) (length old.table) row (take row view.table) fault small so_far.front (sym here ∙ stop)
+    rows_stop (λ number. updated_row (answer_of old) filter sets number (get_or old.rows number []) (index_at old.extents number)) (length old.rows) row (take row view.rows) fault small so_far.front (sym here ∙ stop)
 
 -- the accesses of one row more, which was changed or left
-pub rows_touched : (old view after : Seen) (filter : Option (Term ℕ)) (sets : List Setting) (row : ℕ) (table : List (List ℤ)) → AreUpdated old filter sets view row → after ≡ after_stores view table (row_log (answer_of view) filter sets row (get_or view.table row []) (index_at view.extents row)) → after ≡ after_stores old after.table (update_log old filter sets (row + 1))
+pub rows_touched : (old view after : Table) (filter : Option (Term ℕ)) (sets : List Setting) (row : ℕ) (table : List (List ℤ)) → AreUpdated old filter sets view row → after ≡ after_stores view table (row_log (answer_of view) filter sets row (get_or view.rows row []) (index_at view.extents row)) → after ≡ after_stores old after.rows (update_log old filter sets (row + 1))
 rows_touched old view after filter sets row table so_far more =
     let log = update_log old filter sets row in
-    let one = row_log (answer_of old) filter sets row (get_or old.table row []) (index_at old.extents row) in
+    let one = row_log (answer_of old) filter sets row (get_or old.rows row []) (index_at old.extents row) in
     let here = row_here (λ answer numbers index. row_log answer filter sets row numbers index) old view filter sets row so_far in
-    let logs = logs_more (λ number. row_log (answer_of old) filter sets number (get_or old.table number []) (index_at old.extents number)) row in
+    let logs = logs_more (λ number. row_log (answer_of old) filter sets number (get_or old.rows number []) (index_at old.extents number)) row in
     more ∙ ap (after_stores view table) here
-    ∙ ap (λ (s : Seen). after_stores s table one) so_far.same
-    ∙ after_stores-append old view.table table log one
+    ∙ ap (λ (s : Table). after_stores s table one) so_far.same
+    ∙ after_stores-append old view.rows table log one
     ∙ ap (after_stores old table) (sym logs)
-    ∙ ap (λ (t : List (List ℤ)). after_stores old t (update_log old filter sets (row + 1))) (sym (ap (λ (s : Seen). s.table) more))
+    ∙ ap (λ (t : List (List ℤ)). after_stores old t (update_log old filter sets (row + 1))) (sym (ap (λ (s : Table). s.rows) more))
 
 -- one row more
-pub rows_more : (old view after : Seen) (filter : Option (Term ℕ)) (sets : List Setting) (row : ℕ) (new : List ℤ) → row < length old.table → AreUpdated old filter sets view row → updated_row (answer_of view) filter sets row (get_or view.table row []) (index_at view.extents row) ≡ Ok new → after ≡ after_stores view (slice_set view.table row new) (row_log (answer_of view) filter sets row (get_or view.table row []) (index_at view.extents row)) → AreUpdated old filter sets after (row + 1)
+pub rows_more : (old view after : Table) (filter : Option (Term ℕ)) (sets : List Setting) (row : ℕ) (new : List ℤ) → row < length old.rows → AreUpdated old filter sets view row → updated_row (answer_of view) filter sets row (get_or view.rows row []) (index_at view.extents row) ≡ Ok new → after ≡ after_stores view (slice_set view.rows row new) (row_log (answer_of view) filter sets row (get_or view.rows row []) (index_at view.extents row)) → AreUpdated old filter sets after (row + 1)
 rows_more old view after filter sets row new small so_far gives changed =
-    let inside : row < length view.table = omega (arith, small, so_far.count) in
-    let table : after.table ≡ slice_set view.table row new = ap (λ (s : Seen). s.table) changed in
+    let inside : row < length view.rows = omega (arith, small, so_far.count) in
+    let table : after.rows ≡ slice_set view.rows row new = ap (λ (s : Table). s.rows) changed in
     let past : row < row + 1 = omega arith in
     let here = row_here (λ answer numbers index. updated_row answer filter sets row numbers index) old view filter sets row so_far in
     record {
-      same = rows_touched old view after filter sets row (slice_set view.table row new) so_far changed;
-      count = ap length table ∙ length-set view.table row new ∙ so_far.count;
-      front = rows_push (λ number. updated_row (answer_of old) filter sets number (get_or old.table number []) (index_at old.extents number)) row (take row view.table) new so_far.front (sym here ∙ gives)
-          ∙ ap (λ (t : List (List ℤ)). Ok t) (sym (take_more_set view.table row new inside) ∙ ap (take (row + 1)) (sym table));
-      back = ap (drop (row + 1)) table ∙ drop-set-lt (row + 1) view.table row new past ∙ same_behind view.table old.table row [] inside small so_far.back;
+      same = rows_touched old view after filter sets row (slice_set view.rows row new) so_far changed;
+      count = ap length table ∙ length-set view.rows row new ∙ so_far.count;
+      front = rows_push (λ number. updated_row (answer_of old) filter sets number (get_or old.rows number []) (index_at old.extents number)) row (take row view.rows) new so_far.front (sym here ∙ gives)
+          ∙ ap (λ (t : List (List ℤ)). Ok t) (sym (take_more_set view.rows row new inside) ∙ ap (take (row + 1)) (sym table));
+      back = ap (drop (row + 1)) table ∙ drop-set-lt (row + 1) view.rows row new past ∙ same_behind view.rows old.rows row [] inside small so_far.back;
     }
 
 -- rows that pass, counted

@@ -5,7 +5,7 @@ use Rattle.expr_lang.specs.Terms.{Term}
 use Rattle.expr_lang.specs.Values.{outcome_of}
 use Rattle.linearize.specs.Slots.{index_at}
 use Rattle.views.specs.Tallies.{Access, Read, Write}
-use Rattle.views.specs.Seen.{Seen, answer_of}
+use Rattle.views.specs.Tables.{Table, answer_of}
 use Rattle.views.specs.Stores.{Answer}
 use Rattle.row_updates.specs.declared.fault.UpdateFault.{UpdateFault}
 use Rattle.row_updates.specs.Rows.{Setting, each, passes, new_value}
@@ -51,8 +51,8 @@ rows_log answer filter sets extents rows count =
     flat_map (λ number. row_log answer filter sets number (slice_index_or rows number []) (index_at extents number)) (range_with_len 0 count)
 
 -- the same of a view's rows
-abbrev pub update_log : Seen → Option (Term ℕ) → List Setting → ℕ → List Access
-update_log seen filter sets count = rows_log (answer_of seen) filter sets seen.extents seen.table count
+abbrev pub update_log : Table → Option (Term ℕ) → List Setting → ℕ → List Access
+update_log table filter sets count = rows_log (answer_of table) filter sets table.extents table.rows count
 
 -- those of a count over the first so many rows
 abbrev pub count_log : Term ℕ → List ℕ → List (List ℤ) → ℕ → List Access

@@ -9,7 +9,7 @@ use Rattle.expr_lang.specs.Bounds.{bound_term, bound_leaves, bound_rank}
 use Rattle.expr_lang.specs.Terms.{Term}
 use Rattle.expr_lang.specs.Values.{outcome_of, is_true}
 use Rattle.linearize.specs.Slots.{index_at}
-use Rattle.views.specs.Seen.{Seen, leaf_count_of, answer_of}
+use Rattle.views.specs.Tables.{Table, leaf_count_of, answer_of}
 use Rattle.views.specs.Stores.{Answer}
 use Rattle.views.specs.declared.fault.StoreFault.{StoreFault}
 use Rattle.views.specs.declared.fault.StoreFault.TheVariants as store
@@ -94,8 +94,8 @@ updated_rows answer filter sets extents rows count =
     each (λ number. updated_row answer filter sets number (slice_index_or rows number []) (index_at extents number)) (range_with_len 0 count)
 
 -- the same of a view's rows
-abbrev pub updated_of : Seen → Option (Term ℕ) → List Setting → ℕ → Result (List (List ℤ)) UpdateFault
-updated_of seen filter sets count = updated_rows (answer_of seen) filter sets seen.extents seen.table count
+abbrev pub updated_of : Table → Option (Term ℕ) → List Setting → ℕ → Result (List (List ℤ)) UpdateFault
+updated_of table filter sets count = updated_rows (answer_of table) filter sets table.extents table.rows count
 
 -- in how many rows the filter is not 0
 abbrev pub counted : Term ℕ → List ℕ → List (List ℤ) → Result ℕ UpdateFault
@@ -104,11 +104,11 @@ counted filter extents rows = do
   Ok (count_by (λ test. test) tests)
 
 -- an expression is bound to the leaves and the rank of a view
-pub record IsOver (seen : Seen) (bound : Bound) : Type 0 where
-  pub leaves : bound_leaves bound ≡ leaf_count_of seen
-  pub rank : bound_rank bound ≡ length seen.extents
+pub record IsOver (table : Table) (bound : Bound) : Type 0 where
+  pub leaves : bound_leaves bound ≡ leaf_count_of table
+  pub rank : bound_rank bound ≡ length table.extents
 
 -- a leaf of a view, and an expression that is bound to it
-pub record IsSetOf (seen : Seen) (set : Assign) : Type 0 where
-  pub inside : set.leaf < leaf_count_of seen
-  pub over : IsOver seen set.value
+pub record IsSetOf (table : Table) (set : Assign) : Type 0 where
+  pub inside : set.leaf < leaf_count_of table
+  pub over : IsOver table set.value

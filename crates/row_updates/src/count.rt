@@ -1,7 +1,7 @@
 // Rows where an expression is not 0, counted.
 ghost use Rattle.std.specs.Prelude.{◌≡◌, ◌+◌, OnOk, IfErr, length};
 ghost use Rattle.expr_lang.specs.Bounds.{bound_term};
-ghost use Rattle.views.specs.Seen.{after_log};
+ghost use Rattle.views.specs.Tables.{after_log};
 ghost use Rattle.row_updates.specs.Rows.{IsOver, counted};
 ghost use Rattle.row_updates.specs.Logs.{count_log};
 
@@ -20,9 +20,9 @@ pub fn count_where<L: Ledger>(
     steps: &mut Steps<L>,
 ) -> Result<u64, UpdateFault>
     requires { IsOver view.old filter.now }
-    ensures value { result ≡ counted (bound_term filter.now) view.old.extents view.old.table }
-    ensures same { OnOk result (view.new ≡ after_log view.old (count_log (bound_term filter.now) view.old.extents view.old.table (length view.old.table))) }
-    ensures so_far { IfErr result (λ fault. view.new ≡ after_log view.old (count_log (bound_term filter.now) view.old.extents view.old.table (fault.row + 1))) }
+    ensures value { result ≡ counted (bound_term filter.now) view.old.extents view.old.rows }
+    ensures same { OnOk result (view.new ≡ after_log view.old (count_log (bound_term filter.now) view.old.extents view.old.rows (length view.old.rows))) }
+    ensures so_far { IfErr result (λ fault. view.new ≡ after_log view.old (count_log (bound_term filter.now) view.old.extents view.old.rows (fault.row + 1))) }
 {
     let mut count = 0;
     for row in 0..view.extents().count() {

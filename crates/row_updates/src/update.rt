@@ -1,7 +1,7 @@
 // New values of leaves, row by row.
 ghost use Rattle.std.specs.Prelude.{◌≡◌, ◌<◌, ◌≤◌, ◌+◌, ℕ, ℤ, pos, Ok, OnOk, OnErr, IfErr, IfSome, All, [], List, length, map, take, drop, slice_index_or, slice_set};
 ghost use Rattle.expr_lang.specs.Bounds.{bound_term};
-ghost use Rattle.views.specs.Seen.{answer_of, after_log, after_stores};
+ghost use Rattle.views.specs.Tables.{answer_of, after_log, after_stores};
 ghost use Rattle.linearize.specs.Slots.{index_at};
 ghost use Rattle.row_updates.specs.Rows.{IsOver, IsSetOf, Setting, setting_of, filter_term, each, store_kind, new_value, with_values, updated_row, updated_of};
 ghost use Rattle.row_updates.specs.Logs.{value_log, sides_log, stores_log, row_log, update_log};
@@ -32,13 +32,13 @@ pub fn update_rows<L: Ledger>(
     requires filter { IfSome filter (λ bound. IsOver view.old bound.now) }
     requires sets { All (IsSetOf view.old) sets.now }
     requires few { length sets.now ≤ 64 }
-    ensures stored { OnOk result (updated_of view.old (filter_term filter.entry) (map setting_of sets.now) (length view.old.table) ≡ Ok view.new.table) }
-    ensures refused { IfErr result (λ fault. updated_of view.old (filter_term filter.entry) (map setting_of sets.now) (length view.old.table) ≡ Err fault) }
-    ensures before { IfErr result (λ fault. updated_of view.old (filter_term filter.entry) (map setting_of sets.now) fault.row ≡ Ok (take fault.row view.new.table)) }
-    ensures behind { IfErr result (λ fault. drop fault.row view.new.table ≡ drop fault.row view.old.table) }
-    ensures same { OnOk result (view.new ≡ after_stores view.old view.new.table
-        (update_log view.old (filter_term filter.entry) (map setting_of sets.now) (length view.old.table))) }
-    ensures so_far { IfErr result (λ fault. view.new ≡ after_stores view.old view.new.table
+    ensures stored { OnOk result (updated_of view.old (filter_term filter.entry) (map setting_of sets.now) (length view.old.rows) ≡ Ok view.new.rows) }
+    ensures refused { IfErr result (λ fault. updated_of view.old (filter_term filter.entry) (map setting_of sets.now) (length view.old.rows) ≡ Err fault) }
+    ensures before { IfErr result (λ fault. updated_of view.old (filter_term filter.entry) (map setting_of sets.now) fault.row ≡ Ok (take fault.row view.new.rows)) }
+    ensures behind { IfErr result (λ fault. drop fault.row view.new.rows ≡ drop fault.row view.old.rows) }
+    ensures same { OnOk result (view.new ≡ after_stores view.old view.new.rows
+        (update_log view.old (filter_term filter.entry) (map setting_of sets.now) (length view.old.rows))) }
+    ensures so_far { IfErr result (λ fault. view.new ≡ after_stores view.old view.new.rows
         (update_log view.old (filter_term filter.entry) (map setting_of sets.now) (fault.row + 1))) }
 {
     let mut values = [0; 64];
@@ -57,20 +57,20 @@ fn update_row<L: Ledger>(
     values: &mut [i128; 64],
     steps: &mut Steps<L>,
 ) -> Result<(), UpdateFault>
-    requires row_in { row < length view.old.table }
+    requires row_in { row < length view.old.rows }
     requires filter { IfSome filter (λ bound. IsOver view.old bound.now) }
     requires sets { All (IsSetOf view.old) sets.now }
     requires few { length sets.now ≤ 64 }
     ensures stored { OnOk result ((new : List ℤ)
         × (updated_row (answer_of view.old) (filter_term filter.entry) (map setting_of sets.now)
-        row (slice_index_or view.old.table row []) (index_at view.old.extents row) ≡ Ok new)
-        × (view.new ≡ after_stores view.old (slice_set view.old.table row new) (row_log (answer_of view.old) (filter_term filter.entry)
-        (map setting_of sets.now) row (slice_index_or view.old.table row []) (index_at view.old.extents row)))) }
+        row (slice_index_or view.old.rows row []) (index_at view.old.extents row) ≡ Ok new)
+        × (view.new ≡ after_stores view.old (slice_set view.old.rows row new) (row_log (answer_of view.old) (filter_term filter.entry)
+        (map setting_of sets.now) row (slice_index_or view.old.rows row []) (index_at view.old.extents row)))) }
     ensures refused { IfErr result (λ fault. updated_row (answer_of view.old) (filter_term filter.entry) (map setting_of sets.now)
-        row (slice_index_or view.old.table row []) (index_at view.old.extents row) ≡ Err fault) }
+        row (slice_index_or view.old.rows row []) (index_at view.old.extents row) ≡ Err fault) }
     ensures named { IfErr result (λ fault. fault.row ≡ row) }
     ensures kept { OnErr result (view.new ≡ after_log view.old (row_log (answer_of view.old) (filter_term filter.entry)
-        (map setting_of sets.now) row (slice_index_or view.old.table row []) (index_at view.old.extents row))) }
+        (map setting_of sets.now) row (slice_index_or view.old.rows row []) (index_at view.old.extents row))) }
 {
     let index = view.extents().index_of(row);
     if !passes(view, row, index.as_slice(), filter, steps)? {
@@ -90,16 +90,16 @@ fn new_values<L: Ledger>(
     values: &mut [i128; 64],
     steps: &mut Steps<L>,
 ) -> Result<(), UpdateFault>
-    requires row_in { row < length view.old.table }
+    requires row_in { row < length view.old.rows }
     requires rank { length index.now ≡ length view.old.extents }
     requires sets { All (IsSetOf view.old) sets.now }
     requires few { length sets.now ≤ 64 }
-    ensures values { OnOk result (each (new_value (answer_of view.old) row (slice_index_or view.old.table row []) index.now) (map setting_of sets.now)
+    ensures values { OnOk result (each (new_value (answer_of view.old) row (slice_index_or view.old.rows row []) index.now) (map setting_of sets.now)
         ≡ Ok (take (length sets.now) values.new)) }
-    ensures refused { IfErr result (λ fault. each (new_value (answer_of view.old) row (slice_index_or view.old.table row []) index.now) (map setting_of sets.now)
+    ensures refused { IfErr result (λ fault. each (new_value (answer_of view.old) row (slice_index_or view.old.rows row []) index.now) (map setting_of sets.now)
         ≡ Err fault) }
     ensures named { IfErr result (λ fault. fault.row ≡ row) }
-    ensures same { view.new ≡ after_log view.old (sides_log (answer_of view.old) row (slice_index_or view.old.table row []) index.now (map setting_of sets.now)) }
+    ensures same { view.new ≡ after_log view.old (sides_log (answer_of view.old) row (slice_index_or view.old.rows row []) index.now (map setting_of sets.now)) }
 {
     for (place, set) in sets.iter().enumerate() {
         values[place] = new_value(view, row, index, set, steps)?;
@@ -115,12 +115,12 @@ fn new_value<L: Ledger>(
     set: &Assign,
     steps: &mut Steps<L>,
 ) -> Result<i128, UpdateFault>
-    requires row_in { row < length view.old.table }
+    requires row_in { row < length view.old.rows }
     requires rank { length index.now ≡ length view.old.extents }
     requires set { IsSetOf view.old set.now }
-    ensures value { result ≡ new_value (answer_of view.old) row (slice_index_or view.old.table row []) index.now (setting_of set.now) }
+    ensures value { result ≡ new_value (answer_of view.old) row (slice_index_or view.old.rows row []) index.now (setting_of set.now) }
     ensures named { IfErr result (λ fault. fault.row ≡ row) }
-    ensures same { view.new ≡ after_log view.old (value_log row (slice_index_or view.old.table row []) index.now (bound_term set.now.value)) }
+    ensures same { view.new ≡ after_log view.old (value_log row (slice_index_or view.old.rows row []) index.now (bound_term set.now.value)) }
 {
     let value = value_of(view, row, index, &set.value, steps)?;
     match view.fits(set.leaf, value) {
@@ -140,13 +140,13 @@ fn store_values<L: Ledger>(
     values: &[i128; 64],
     steps: &mut Steps<L>,
 )
-    requires row_in { row < length view.old.table }
+    requires row_in { row < length view.old.rows }
     requires sets { All (IsSetOf view.old) sets.now }
     requires few { length sets.now ≤ 64 }
     requires fit { (place : ℕ) (other : Setting) → place < length sets.now
         → answer_of view.old (slice_index_or (map setting_of sets.now) place other).leaf (slice_index_or values.now place (pos 0)) ≡ Ok tt }
     ensures { view.new ≡ after_stores view.old
-        (slice_set view.old.table row (with_values (map setting_of sets.now) (take (length sets.now) values.now) (slice_index_or view.old.table row [])))
+        (slice_set view.old.rows row (with_values (map setting_of sets.now) (take (length sets.now) values.now) (slice_index_or view.old.rows row [])))
         (stores_log row (map setting_of sets.now)) }
 {
     for (place, set) in sets.iter().enumerate() {

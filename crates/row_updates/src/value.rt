@@ -2,7 +2,7 @@
 ghost use Rattle.std.specs.Prelude.{◌≡◌, ◌<◌, IfErr, IfSome, [], length, slice_index_or};
 ghost use Rattle.expr_lang.specs.Bounds.{bound_term, bound_leaves, bound_rank};
 ghost use Rattle.expr_lang.specs.Values.{outcome_of};
-ghost use Rattle.views.specs.Seen.{leaf_count_of, after_log};
+ghost use Rattle.views.specs.Tables.{leaf_count_of, after_log};
 ghost use Rattle.row_updates.specs.Rows.{IsOver, filter_term, eval_kind, value_of, passes};
 ghost use Rattle.row_updates.specs.Logs.{value_log, filter_log};
 
@@ -21,11 +21,11 @@ pub fn value_on<L: Ledger>(
     index: &[u64],
     steps: &mut Steps<L>,
 ) -> Result<i128, EvalFault>
-    requires row_in { row < length view.old.table }
+    requires row_in { row < length view.old.rows }
     requires leaves { bound_leaves expr.now ≡ leaf_count_of view.old }
     requires rank { length index.now ≡ bound_rank expr.now }
-    ensures value { result ≡ (outcome_of (slice_index_or view.old.table row []) index.now (bound_term expr.now)).answer }
-    ensures same { view.new ≡ after_log view.old (value_log row (slice_index_or view.old.table row []) index.now (bound_term expr.now)) }
+    ensures value { result ≡ (outcome_of (slice_index_or view.old.rows row []) index.now (bound_term expr.now)).answer }
+    ensures same { view.new ≡ after_log view.old (value_log row (slice_index_or view.old.rows row []) index.now (bound_term expr.now)) }
 {
     let _leaves = view.schema();
     let mut entry = view.row_mut(row);
@@ -40,12 +40,12 @@ pub fn value_of<L: Ledger>(
     value: &Bound,
     steps: &mut Steps<L>,
 ) -> Result<i128, UpdateFault>
-    requires row_in { row < length view.old.table }
+    requires row_in { row < length view.old.rows }
     requires rank { length index.now ≡ length view.old.extents }
     requires over { IsOver view.old value.now }
-    ensures value { result ≡ value_of row (slice_index_or view.old.table row []) index.now (bound_term value.now) }
+    ensures value { result ≡ value_of row (slice_index_or view.old.rows row []) index.now (bound_term value.now) }
     ensures named { IfErr result (λ fault. fault.row ≡ row) }
-    ensures same { view.new ≡ after_log view.old (value_log row (slice_index_or view.old.table row []) index.now (bound_term value.now)) }
+    ensures same { view.new ≡ after_log view.old (value_log row (slice_index_or view.old.rows row []) index.now (bound_term value.now)) }
 {
     match value_on(view, row, value, index, steps) {
         Ok(value) => Ok(value),
@@ -64,12 +64,12 @@ pub fn passes<L: Ledger>(
     filter: Option<&Bound>,
     steps: &mut Steps<L>,
 ) -> Result<bool, UpdateFault>
-    requires row_in { row < length view.old.table }
+    requires row_in { row < length view.old.rows }
     requires rank { length index.now ≡ length view.old.extents }
     requires filter { IfSome filter (λ bound. IsOver view.old bound.now) }
-    ensures value { result ≡ passes row (slice_index_or view.old.table row []) index.now (filter_term filter.entry) }
+    ensures value { result ≡ passes row (slice_index_or view.old.rows row []) index.now (filter_term filter.entry) }
     ensures named { IfErr result (λ fault. fault.row ≡ row) }
-    ensures same { view.new ≡ after_log view.old (filter_log row (slice_index_or view.old.table row []) index.now (filter_term filter.entry)) }
+    ensures same { view.new ≡ after_log view.old (filter_log row (slice_index_or view.old.rows row []) index.now (filter_term filter.entry)) }
 {
     match filter {
         None => Ok(true),

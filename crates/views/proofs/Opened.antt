@@ -18,7 +18,7 @@ use Rattle.map_expr.specs.declared.expr.MapExpr.{MapExpr}
 use Rattle.map_expr.specs.Terms.{Term, term_of}
 use Rattle.map_any.specs.Mappings.{leaf_cells, layout_by, holds_by, IsTooBigFor}
 use Rattle.piece_bits.specs.Tables.{AreLaid, table_in, hold_at, with_entry}
-use Rattle.views.specs.Seen.{Seen, leaf_count_of, answer_of, after_log, after_stores, after_write, IsTable}
+use Rattle.views.specs.Tables.{Table, leaf_count_of, answer_of, after_log, after_stores, after_write, IsTable}
 use Rattle.views.specs.Stores.{kind_at, store_answer, Fits}
 use Rattle.views.specs.Tallies.{Access, Write, Tally, touched, tallied, all_touches}
 use Rattle.views.specs.Kept.{IsKept, IsMappingOf, IsTallied, table_under}
@@ -32,8 +32,8 @@ length-leaf_cells kinds =
     length-map (enumerate_from 0 kinds) cell ∙ length-enumerate_from 0 kinds
 
 -- what a mapping says is what its expression says
-module _ {term : Term} {extents : List ℕ} {fields : Fields} {mapped : Term} {layout : List (List Owner)} {slots : ℕ} {cells : List Cell} {holds : List Hold}
-    (mapping : IsMappingOf term extents fields mapped layout slots cells holds) where
+module _ {term : Term} {extents : List ℕ} {fields : Fields} {mapped : Term} {inside : List ℕ} {layout : List (List Owner)} {slots : ℕ} {cells : List Cell} {holds : List Hold}
+    (mapping : IsMappingOf term extents fields mapped inside layout slots cells holds) where
   pub cell_count : length cells ≡ length (kinds_of fields)
   cell_count = ap (length {A = Cell}) mapping.cells_are ∙ length-leaf_cells (kinds_of fields)
 
@@ -84,11 +84,11 @@ module _ {term : Term} {extents : List ℕ} {fields : Fields} {mapped : Term} {l
   paired_there paired = ap (length {A = Hold}) (sym mapping.holds_are) ∙ paired ∙ cell_count
 
 -- the same after copies of the schema and the expression
-pub mapping_copied : {term copy mapped : Term} {fields same : Fields} {extents : List ℕ} {layout : List (List Owner)} {slots : ℕ} {cells : List Cell} {holds : List Hold} →
-    copy ≡ term → same ≡ fields → IsMappingOf term extents fields mapped layout slots cells holds → IsMappingOf copy extents same mapped layout slots cells holds
-mapping_copied {term} {copy} {mapped} {fields} {same} {extents} {layout} {slots} {cells} {holds} terms trees mapping =
-    subst (λ (t : Term). IsMappingOf t extents same mapped layout slots cells holds) (sym terms)
-    (subst (λ (f : Fields). IsMappingOf term extents f mapped layout slots cells holds) (sym trees) mapping)
+pub mapping_copied : {term copy mapped : Term} {fields same : Fields} {extents inside : List ℕ} {layout : List (List Owner)} {slots : ℕ} {cells : List Cell} {holds : List Hold} →
+    copy ≡ term → same ≡ fields → IsMappingOf term extents fields mapped inside layout slots cells holds → IsMappingOf copy extents same mapped inside layout slots cells holds
+mapping_copied {term} {copy} {mapped} {fields} {same} {extents} {inside} {layout} {slots} {cells} {holds} terms trees mapping =
+    subst (λ (t : Term). IsMappingOf t extents same mapped inside layout slots cells holds) (sym terms)
+    (subst (λ (f : Fields). IsMappingOf term extents f mapped inside layout slots cells holds) (sym trees) mapping)
 
 pub within_copied : {term copy : Term} {fields same : Fields} (extents : List ℕ) → copy ≡ term → same ≡ fields →
     (IsTooBigFor term extents fields (leaf_cells (kinds_of fields)) → ⊥) → IsTooBigFor copy extents same (leaf_cells (kinds_of same)) → ⊥
@@ -97,19 +97,19 @@ within_copied {term} {copy} {fields} {same} extents terms trees within =
     (subst (λ (f : Fields). IsTooBigFor term extents f (leaf_cells (kinds_of f)) → ⊥) (sym trees) within)
 
 -- what callers see of the fields
-abbrev pub seen_from : Schema → List ℕ → MapExpr → List (List ℕ) → Tally → Seen
+abbrev pub seen_from : Schema → List ℕ → MapExpr → List (List ℕ) → Tally → Table
 seen_from schema extents expr blobs tally = record {
-  schema = schema;
+  fields = schema_fields schema;
   extents = extents;
-  expr = expr;
-  table = table_under (term_of expr) extents (schema_fields schema) blobs;
+  mapping = term_of expr;
+  rows = table_under (term_of expr) extents (schema_fields schema) blobs;
   tally = tally;
 }
 
 module _ (schema : Schema) (extents : List ℕ) (expr : MapExpr) (blobs : List (List ℕ)) (kept : IsKept (term_of expr) extents (schema_fields schema) blobs)
-    {tally : Tally} (seen : Seen) (is : seen_from schema extents expr blobs tally ≡ seen) where
-  pub rows_seen : length seen.table ≡ length (indices extents)
-  rows_seen = ap (λ (s : Seen). length s.table) (sym is) ∙ row_count (term_of expr) extents (schema_fields schema) blobs kept
+    {tally : Tally} (seen : Table) (is : seen_from schema extents expr blobs tally ≡ seen) where
+  pub rows_seen : length seen.rows ≡ length (indices extents)
+  rows_seen = ap (λ (s : Table). length s.rows) (sym is) ∙ row_count (term_of expr) extents (schema_fields schema) blobs kept
 
   pub table_seen : IsTable seen
   table_seen =
@@ -119,12 +119,12 @@ module _ (schema : Schema) (extents : List ℕ) (expr : MapExpr) (blobs : List (
         shape = kept_shape (term_of expr) extents fields blobs kept (length (leaves (schema_fields schema))) (kind_count (schema_fields schema));
         fits = kept_fits (term_of expr) extents fields blobs kept;
       } in
-      subst (λ (s : Seen). IsTable s) is here
+      subst (λ (s : Table). IsTable s) is here
 
   -- a leaf that callers name is a leaf of the schema
   pub leaf_seen : (leaf : ℕ) → leaf < leaf_count_of seen → leaf < length (kinds_of (schema_fields schema))
   leaf_seen leaf l =
-      let inside : leaf < length (leaves (schema_fields schema)) = subst (λ (s : Seen). leaf < leaf_count_of s) (sym is) l in
+      let inside : leaf < length (leaves (schema_fields schema)) = subst (λ (s : Table). leaf < leaf_count_of s) (sym is) l in
       omega (arith, kind_count (schema_fields schema))
 
   -- a value whose store is taken fits
@@ -133,11 +133,11 @@ module _ (schema : Schema) (extents : List ℕ) (expr : MapExpr) (blobs : List (
   fits_seen leaf value taken =
       let kind = kind_at (kinds_of (schema_fields schema)) leaf in
       let hold = hold_at (holds_by (term_of expr) (schema_fields schema)) leaf in
-      let here : store_answer kind hold value ≡ Ok tt = ap (λ (s : Seen). answer_of s leaf value) is ∙ sym taken in
+      let here : store_answer kind hold value ≡ Ok tt = ap (λ (s : Table). answer_of s leaf value) is ∙ sym taken in
       stored_fits kind hold value here
 
   -- a fitting value is written
-  pub kept_after : (row leaf : ℕ) (value : ℤ) (new : List (List ℕ)) → row < length seen.table → leaf < leaf_count_of seen → Ok tt ≡ answer_of seen leaf value →
+  pub kept_after : (row leaf : ℕ) (value : ℤ) (new : List (List ℕ)) → row < length seen.rows → leaf < leaf_count_of seen → Ok tt ≡ answer_of seen leaf value →
       AreLaid (layout_by (term_of expr) extents (schema_fields schema)) new →
       table_under (term_of expr) extents (schema_fields schema) new
       ≡ with_entry (table_under (term_of expr) extents (schema_fields schema) blobs) row leaf value →
@@ -147,16 +147,16 @@ module _ (schema : Schema) (extents : List ℕ) (expr : MapExpr) (blobs : List (
       new row leaf value (omega (arith, rows_seen)) (leaf_seen leaf leaf_in) laid table (fits_seen leaf value taken)
 
 -- an entry that is read is one of the table that callers see
-pub entry_seen : (schema : Schema) (extents : List ℕ) (expr : MapExpr) (blobs : List (List ℕ)) {tally : Tally} {seen : Seen} {mapped : Term}
-    {layout : List (List Owner)} {slots : ℕ} {cells : List Cell} {holds : List Hold} → IsMappingOf (term_of expr) extents (schema_fields schema) mapped layout slots cells holds
+pub entry_seen : (schema : Schema) (extents : List ℕ) (expr : MapExpr) (blobs : List (List ℕ)) {tally : Tally} {seen : Table} {mapped : Term} {inside : List ℕ}
+    {layout : List (List Owner)} {slots : ℕ} {cells : List Cell} {holds : List Hold} → IsMappingOf (term_of expr) extents (schema_fields schema) mapped inside layout slots cells holds
     → seen_from schema extents expr blobs tally ≡ seen → (lent : List (List ℕ)) → lent ≡ blobs → (row leaf : ℕ)
-    → entry (table_in layout slots holds lent) row leaf ≡ entry seen.table row leaf
-entry_seen schema extents expr blobs mapping is lent same row leaf = read_here mapping lent blobs same row leaf ∙ ap (λ (s : Seen). entry s.table row leaf) is
+    → entry (table_in layout slots holds lent) row leaf ≡ entry seen.rows row leaf
+entry_seen schema extents expr blobs mapping is lent same row leaf = read_here mapping lent blobs same row leaf ∙ ap (λ (s : Table). entry s.rows row leaf) is
 
 -- the view after an access that left its table, or stored a value
-module _ (schema : Schema) (extents : List ℕ) (expr : MapExpr) (blobs : List (List ℕ)) {tally : Tally} {seen : Seen} (is : seen_from schema extents expr blobs tally ≡ seen) where
+module _ (schema : Schema) (extents : List ℕ) (expr : MapExpr) (blobs : List (List ℕ)) {tally : Tally} {seen : Table} (is : seen_from schema extents expr blobs tally ≡ seen) where
   pub seen_touched : (access : Access) (new : Tally) → new ≡ tallied (layout_by (term_of expr) extents (schema_fields schema)) tally (access ∷ []) → seen_from schema extents expr blobs new ≡ after_log seen (access ∷ [])
-  seen_touched access new counts = ap (seen_from schema extents expr blobs) counts ∙ ap (λ (s : Seen). after_log s (access ∷ [])) is
+  seen_touched access new counts = ap (seen_from schema extents expr blobs) counts ∙ ap (λ (s : Table). after_log s (access ∷ [])) is
 
   pub seen_written : (row leaf : ℕ) (value : ℤ) (stored : List (List ℕ)) (new : Tally) →
       table_under (term_of expr) extents (schema_fields schema) stored ≡ with_entry (table_under (term_of expr) extents (schema_fields schema) blobs) row leaf value →
@@ -164,4 +164,4 @@ module _ (schema : Schema) (extents : List ℕ) (expr : MapExpr) (blobs : List (
   seen_written row leaf value stored new table counts =
       ap (λ (t : Tally). seen_from schema extents expr stored t) counts
       ∙ ap (λ (t : List (List ℤ)). after_stores (seen_from schema extents expr blobs tally) t (Write row leaf ∷ [])) table
-      ∙ ap (λ (s : Seen). after_write s row leaf value) is
+      ∙ ap (λ (s : Table). after_write s row leaf value) is

@@ -17,9 +17,10 @@ use Rattle.instrument.specs.declared.heat.Heat.{Heat}
 use Rattle.views.specs.Tallies.{Tally, blob_lengths}
 use Rattle.views.specs.Stores.{AllFit}
 
--- a mapping is of an expression, and has its layout, rows, leaves and holds
-pub record IsMappingOf (term : Term) (extents : List ℕ) (fields : Fields) (mapped : Term) (layout : List (List Owner)) (slots : ℕ) (cells : List Cell) (holds : List Hold) : Type 0 where
+-- a mapping is of an expression over an array, and has its layout, rows, leaves and holds
+pub record IsMappingOf (term : Term) (extents : List ℕ) (fields : Fields) (mapped : Term) (mapped_extents : List ℕ) (layout : List (List Owner)) (slots : ℕ) (cells : List Cell) (holds : List Hold) : Type 0 where
   pub term_is : mapped ≡ term
+  pub extents_are : mapped_extents ≡ extents
   pub layout_is : layout ≡ layout_by term extents fields
   pub slots_are : slots ≡ length (indices extents)
   pub cells_are : cells ≡ leaf_cells (kinds_of fields)

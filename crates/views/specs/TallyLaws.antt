@@ -9,7 +9,7 @@ use Rattle.std.proofs.lemmas.List.FromFn.{map-range_with_len_more}
 use Rattle.places.specs.Layout.{Owner}
 use Rattle.instrument.specs.Counters.{LeafCounts}
 use Rattle.views.specs.Tallies.{Access, Read, Tally, counted_by, touched, tallied}
-use Rattle.views.specs.Seen.{Seen, seen_layout, after_log, after_stores, after_read}
+use Rattle.views.specs.Tables.{Table, owners_of, after_log, after_stores, after_read}
 
 -- no access counts nothing
 pub tallied-none : (layout : List (List Owner)) (tally : Tally) → tallied layout tally [] ≡ tally
@@ -21,15 +21,15 @@ pub tallied-append : (layout : List (List Owner)) (tally : Tally) (log more : Li
 unfolding tallied
 tallied-append layout tally log more = sym (fold-append (touched layout) tally log more)
 
-pub after_log-none : (seen : Seen) → after_log seen [] ≡ seen
-after_log-none seen = ap (λ (tally : Tally). record seen { tally = tally }) (tallied-none (seen_layout seen) seen.tally)
+pub after_log-none : (table : Table) → after_log table [] ≡ table
+after_log-none table = ap (λ (tally : Tally). record table { tally = tally }) (tallied-none (owners_of table) table.tally)
 
-pub after_log-append : (seen : Seen) (log more : List Access) → after_log (after_log seen log) more ≡ after_log seen (log ++ more)
-after_log-append seen log more = ap (λ (tally : Tally). record seen { tally = tally }) (tallied-append (seen_layout seen) seen.tally log more)
+pub after_log-append : (table : Table) (log more : List Access) → after_log (after_log table log) more ≡ after_log table (log ++ more)
+after_log-append table log more = ap (λ (tally : Tally). record table { tally = tally }) (tallied-append (owners_of table) table.tally log more)
 
 -- stores after others
-pub after_stores-append : (seen : Seen) (first second : List (List ℤ)) (log more : List Access) → after_stores (after_stores seen first log) second more ≡ after_stores seen second (log ++ more)
-after_stores-append seen first second log more = ap (λ (tally : Tally). record seen { table = second; tally = tally }) (tallied-append (seen_layout seen) seen.tally log more)
+pub after_stores-append : (table : Table) (first second : List (List ℤ)) (log more : List Access) → after_stores (after_stores table first log) second more ≡ after_stores table second (log ++ more)
+after_stores-append table first second log more = ap (λ (tally : Tally). record table { rows = second; tally = tally }) (tallied-append (owners_of table) table.tally log more)
 
 -- the counts by leaf are counted alone, however the bits lie
 pub tallied-counts : (layout : List (List Owner)) (tally : Tally) (log : List Access)
@@ -46,9 +46,9 @@ tallied-counts layout tally (access ∷ log) = tallied-counts layout (touched la
   once (Some counts) = refl
 
 -- reads of leaves of one row, one after another
-pub after_reads : (row : ℕ) (seen : Seen) (leaves : List ℕ) → fold (λ (s : Seen) leaf. after_read s row leaf) seen leaves ≡ after_log seen (map (Read row) leaves)
-after_reads row seen [] = sym (after_log-none seen)
-after_reads row seen (leaf ∷ leaves) = after_reads row (after_read seen row leaf) leaves ∙ after_log-append seen (Read row leaf ∷ []) (map (Read row) leaves)
+pub after_reads : (row : ℕ) (table : Table) (leaves : List ℕ) → fold (λ (s : Table) leaf. after_read s row leaf) table leaves ≡ after_log table (map (Read row) leaves)
+after_reads row table [] = sym (after_log-none table)
+after_reads row table (leaf ∷ leaves) = after_reads row (after_read table row leaf) leaves ∙ after_log-append table (Read row leaf ∷ []) (map (Read row) leaves)
 
 -- the logs of the first so many rows or leaves, and of one more
 pub logs_more : {A : Type 0} (logs : ℕ → List A) (count : ℕ) → flat_map logs (range_with_len 0 (count + 1)) ≡ flat_map logs (range_with_len 0 count) ++ logs count

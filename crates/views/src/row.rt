@@ -2,7 +2,7 @@ ghost use Rattle.std.specs.Prelude.{◌≡◌, ◌+◌, ◌<◌, OnOk, OnErr, le
 ghost use Rattle.places.specs.Image.{entry};
 ghost use Rattle.piece_bits.specs.Tables.{hold_at};
 ghost use Rattle.views.specs.Stores.{Fits};
-ghost use Rattle.views.specs.Seen.{leaf_count_of, leaf_type_of, seen_holds, answer_of, after_read, after_write};
+ghost use Rattle.views.specs.Tables.{leaf_count_of, leaf_type_of, table_holds, answer_of, after_read, after_write};
 
 use crate::fault::StoreFault;
 use crate::view::View;
@@ -20,7 +20,7 @@ pub struct RowRef<'a> {
 impl View {
     /// The row of this number.
     pub fn row_mut(&mut self, row: u64) -> RowRef<'_>
-        requires { row < length self.old.table }
+        requires { row < length self.old.rows }
         ensures same_view { result.view.ghost_name ≡ self.entry.ghost_name }
         ensures view { result.view.now ≡ self.old }
         ensures row { result.row ≡ row }
@@ -32,10 +32,10 @@ impl View {
 impl RowRef<'_> {
     /// The value of a leaf in the row. It takes one step.
     pub fn get<L: Ledger>(&mut self, leaf: usize, steps: &mut Steps<L>) -> i128
-        requires row_in { self.old.row < length self.old.view.now.table }
+        requires row_in { self.old.row < length self.old.view.now.rows }
         requires leaf_in { leaf < leaf_count_of self.old.view.now }
-        ensures value { result ≡ entry self.old.view.now.table self.old.row leaf }
-        ensures fits { Fits (leaf_type_of self.old.view.now leaf) (hold_at (seen_holds self.old.view.now) leaf) result }
+        ensures value { result ≡ entry self.old.view.now.rows self.old.row leaf }
+        ensures fits { Fits (leaf_type_of self.old.view.now leaf) (hold_at (table_holds self.old.view.now) leaf) result }
         ensures same { self.new.view.now ≡ after_read self.old.view.now self.old.row leaf }
         ensures same_row { self.new.row ≡ self.old.row }
         ensures same_view { self.new.view.ghost_name ≡ self.old.view.ghost_name }
@@ -51,7 +51,7 @@ impl RowRef<'_> {
         value: i128,
         steps: &mut Steps<L>,
     ) -> Result<(), StoreFault>
-        requires row_in { self.old.row < length self.old.view.now.table }
+        requires row_in { self.old.row < length self.old.view.now.rows }
         requires leaf_in { leaf < leaf_count_of self.old.view.now }
         ensures answer { result ≡ answer_of self.old.view.now leaf value }
         ensures stored { OnOk result (self.new.view.now ≡ after_write self.old.view.now self.old.row leaf value) }
@@ -68,11 +68,11 @@ impl RowRef<'_> {
 impl Row for RowRef<'_> {
     ghost use Rattle.std.specs.Prelude.{ℕ, [], slice_index_or};
     ghost use Rattle.std.specs.Borrow.{MutBor};
-    ghost use Rattle.views.specs.Seen.{Seen, after_read};
+    ghost use Rattle.views.specs.Tables.{Table, after_read};
 
-    ghost State = { MutBor Seen × ℕ };
+    ghost State = { MutBor Table × ℕ };
 
-    ghost numbers = { λ r. slice_index_or r.view.now.table r.row [] };
+    ghost numbers = { λ r. slice_index_or r.view.now.rows r.row [] };
 
     ghost state = { λ r. (r.view, r.row) };
 

@@ -45,32 +45,30 @@ pub struct View {
 
 impl Model for View {
     ghost use Rattle.std.specs.Prelude.{◌≡◌, length};
-    ghost use Rattle.record_dim.specs.contracts.dim.Dim as dim;
-    ghost use Rattle.record_dim.specs.contracts.dim.FieldList as list;
-    ghost use Rattle.map_expr.specs.contracts.expr.MapExpr as mapping;
+    ghost use Rattle.views.specs.Tables.{Table};
     ghost use Rattle.std.specs.Coded.{codes};
-    ghost use Rattle.views.specs.Seen.{Seen};
+    ghost use Rattle.views.specs.Codes.{coded_fields, coded_term};
 
-    ghost Value = { Seen };
+    ghost Value = { Table };
 
-    ghost coded = { Prim.hlevel (codes, dim.the_row.coded, list.the_row.coded, mapping.the_row.coded) };
+    ghost coded = { Prim.hlevel (codes, coded_fields, coded_term) };
 
     ghost use Rattle.record_dim.specs.Schemas.{schema_fields};
     ghost use Rattle.map_expr.specs.Terms.{term_of};
     ghost use Rattle.record_dim.specs.Leaves.{leaves};
     ghost use Rattle.map_any.specs.Mappings.{layout_by};
-    ghost use Rattle.map_any.specs.Maps.{term_of_map};
+    ghost use Rattle.map_any.specs.Maps.{extents_of, term_of_map};
     ghost use Rattle.views.specs.Kept.{IsKept, IsMappingOf, IsTallied, table_under, tally_of};
 
     ghost view = { λ v. record {
-      schema = v.schema;
+      fields = schema_fields v.schema;
       extents = v.extents;
-      expr = v.expr;
-      table = table_under (term_of v.expr) v.extents (schema_fields v.schema) v.blobs.items;
+      mapping = term_of v.expr;
+      rows = table_under (term_of v.expr) v.extents (schema_fields v.schema) v.blobs.items;
       tally = tally_of v.counts v.heat;
     } };
 
-    ghost invariant = { λ v. IsMappingOf (term_of v.expr) v.extents (schema_fields v.schema) (term_of_map v.map) (⟦<AnyMap as Mapping>⟧.layout v.map)
+    ghost invariant = { λ v. IsMappingOf (term_of v.expr) v.extents (schema_fields v.schema) (term_of_map v.map) (extents_of v.map) (⟦<AnyMap as Mapping>⟧.layout v.map)
         (⟦<AnyMap as Mapping>⟧.slot_count v.map) (⟦<AnyMap as Mapping>⟧.cell_list v.map) (⟦<AnyMap as Mapping>⟧.hold_list v.map)
         × IsKept (term_of v.expr) v.extents (schema_fields v.schema) v.blobs.items
         × IsTallied (term_of v.expr) (layout_by (term_of v.expr) v.extents (schema_fields v.schema)) (length (leaves (schema_fields v.schema)))
@@ -79,11 +77,12 @@ impl Model for View {
 
 impl View {
     ghost use Rattle.record_dim.specs.Schemas.{schema_fields};
+    ghost use Rattle.map_any.specs.Maps.{extents_of, term_of_map};
     ghost use Rattle.record_dim.specs.Leaves.{leaves, kinds_of};
     ghost use Rattle.piece_bits.specs.Tables.{hold_at};
     ghost use Rattle.views.specs.Stores.{Fits};
     ghost use Rattle.views.specs.Refusals.{IsOver, IsNoView};
-    ghost use Rattle.views.specs.Seen.{leaf_count_of, leaf_type_of, leaf_types_of, seen_layout, seen_holds, answer_of, blob_bits_of, after_log, after_read, after_write, IsTable};
+    ghost use Rattle.views.specs.Tables.{leaf_count_of, leaf_type_of, leaf_types_of, owners_of, table_holds, answer_of, blob_bits_of, after_log, after_read, after_write, IsTable};
 
     /// A view of zeros, which lies in memory as the expression says. `Bad` comes exactly where the expression is refused, and `TooBig`
     /// exactly where it is not and is over a limit.
@@ -94,11 +93,11 @@ impl View {
         expr: &MapExpr,
     ) -> Result<View, MakeView>
         requires built { IsBuiltTerm (term_of expr.now) }
-        ensures schema { IfOk result (λ v. schema_fields v.schema ≡ schema_fields schema.now) }
+        ensures schema { IfOk result (λ v. v.fields ≡ schema_fields schema.now) }
         ensures extents { IfOk result (λ v. v.extents ≡ extents) }
-        ensures expr { IfOk result (λ v. term_of v.expr ≡ term_of expr.now) }
-        ensures tally { IfOk result (λ v. v.tally ≡ no_tally (term_of v.expr) (seen_layout v) (leaf_count_of v)) }
-        ensures table { IfOk result (λ v. v.table ≡ zeros (length (indices extents)) (length (leaves (schema_fields schema.now)))) }
+        ensures expr { IfOk result (λ v. v.mapping ≡ term_of expr.now) }
+        ensures tally { IfOk result (λ v. v.tally ≡ no_tally v.mapping (owners_of v) (leaf_count_of v)) }
+        ensures table { IfOk result (λ v. v.rows ≡ zeros (length (indices extents)) (length (leaves (schema_fields schema.now)))) }
 
         // Only want of memory comes before the other answers.
         ensures accepted { OnOk result (accepted (term_of expr.now) (schema_fields schema.now) (leaf_cells (kinds_of (schema_fields schema.now))) ≡ Ok tt) }
@@ -125,9 +124,9 @@ impl View {
 
     /// The schema of the rows. A row has a number for each leaf, and each leaf is stored in one way.
     pub fn schema(&self) -> &Schema
-        ensures value { result.now ≡ self.now.schema }
+        ensures value { schema_fields result.now ≡ self.now.fields }
         ensures table { IsTable self.now }
-        ensures paired { length (seen_holds self.now) ≡ length (leaf_types_of self.now) }
+        ensures paired { length (table_holds self.now) ≡ length (leaf_types_of self.now) }
     {
         &self.schema
     }
@@ -142,24 +141,26 @@ impl View {
 
     /// How the rows lie in memory.
     pub fn expr(&self) -> &MapExpr
-        ensures { result.now ≡ self.now.expr }
+        ensures { term_of result.now ≡ self.now.mapping }
     {
         &self.expr
     }
 
     /// The mapping of the expression over the leaves and the rows.
     pub fn map(&self) -> &AnyMap
-        ensures layout { ⟦<AnyMap as Mapping>⟧.layout result.now ≡ seen_layout self.now }
+        ensures extents { extents_of result.now ≡ self.now.extents }
+        ensures term { term_of_map result.now ≡ self.now.mapping }
+        ensures layout { ⟦<AnyMap as Mapping>⟧.layout result.now ≡ owners_of self.now }
         ensures slots { ⟦<AnyMap as Mapping>⟧.slot_count result.now ≡ length (indices self.now.extents) }
         ensures cells { ⟦<AnyMap as Mapping>⟧.cell_list result.now ≡ leaf_cells (leaf_types_of self.now) }
-        ensures holds { ⟦<AnyMap as Mapping>⟧.hold_list result.now ≡ seen_holds self.now }
+        ensures holds { ⟦<AnyMap as Mapping>⟧.hold_list result.now ≡ table_holds self.now }
     {
         &self.map
     }
 
     /// A blob. Its bits are those of the image of the table, and its padding is 0.
     pub fn blob(&self, b: usize) -> &Blob
-        requires { b < length (seen_layout self.now) }
+        requires { b < length (owners_of self.now) }
         ensures { bits_of result.now ≡ blob_bits_of self.now b }
     {
         &self.blobs[b]
@@ -167,7 +168,7 @@ impl View {
 
     /// The number of bytes of all blobs, at most 2^28.
     pub fn blob_bytes(&self) -> u64
-        ensures sum { 8 * result ≡ sum_by length (seen_layout self.now) }
+        ensures sum { 8 * result ≡ sum_by length (owners_of self.now) }
         ensures few { result ≤ 2 ^ 28 }
     {
         let mut bytes = 0;
@@ -179,10 +180,10 @@ impl View {
 
     /// The value of a leaf in a row. It takes one step.
     pub fn get<L: Ledger>(&mut self, row: u64, leaf: usize, steps: &mut Steps<L>) -> i128
-        requires row_in { row < length self.old.table }
+        requires row_in { row < length self.old.rows }
         requires leaf_in { leaf < leaf_count_of self.old }
-        ensures value { result ≡ entry self.old.table row leaf }
-        ensures fits { Fits (leaf_type_of self.old leaf) (hold_at (seen_holds self.old) leaf) result }
+        ensures value { result ≡ entry self.old.rows row leaf }
+        ensures fits { Fits (leaf_type_of self.old leaf) (hold_at (table_holds self.old) leaf) result }
         ensures same { self.new ≡ after_read self.old row leaf }
         ensures step { steps.new ≡ steps.old + 1 }
     {
@@ -196,10 +197,10 @@ impl View {
     // The same by the whole rule. It counts the read.
     #[inline(never)]
     fn get_by_rule(&mut self, row: u64, leaf: usize) -> i128
-        requires row_in { row < length self.old.table }
+        requires row_in { row < length self.old.rows }
         requires leaf_in { leaf < leaf_count_of self.old }
-        ensures value { result ≡ entry self.old.table row leaf }
-        ensures fits { Fits (leaf_type_of self.old leaf) (hold_at (seen_holds self.old) leaf) result }
+        ensures value { result ≡ entry self.old.rows row leaf }
+        ensures fits { Fits (leaf_type_of self.old leaf) (hold_at (table_holds self.old) leaf) result }
         ensures same { self.new ≡ after_read self.old row leaf }
     {
         count_read(&self.map, &mut self.counts, &mut self.heat, row, leaf);
@@ -236,7 +237,7 @@ impl View {
         value: i128,
         steps: &mut Steps<L>,
     ) -> Result<(), StoreFault>
-        requires row_in { row < length self.old.table }
+        requires row_in { row < length self.old.rows }
         requires leaf_in { leaf < leaf_count_of self.old }
         ensures answer { result ≡ answer_of self.old leaf value }
         ensures stored { OnOk result (self.new ≡ after_write self.old row leaf value) }
@@ -255,7 +256,7 @@ impl View {
     // Makes the value of a leaf in a row this one, which fits, by the whole rule. It counts the write.
     #[inline(never)]
     fn set_by_rule(&mut self, row: u64, leaf: usize, value: i128)
-        requires row_in { row < length self.old.table }
+        requires row_in { row < length self.old.rows }
         requires leaf_in { leaf < leaf_count_of self.old }
         requires taken { answer_of self.old leaf value ≡ Ok tt }
         ensures { self.new ≡ after_write self.old row leaf value }
@@ -267,7 +268,7 @@ impl View {
     /// The accesses by leaf, exactly where the expression counts them.
     pub fn counts(&self) -> Option<&Counts>
         ensures value { option_map (λ c. leaf_counts c.now) result ≡ self.now.tally.counts }
-        ensures counted { is_some result ≡ has_count (term_of self.now.expr) }
+        ensures counted { is_some result ≡ has_count self.now.mapping }
         ensures leaves { IfSome result (λ c. HasLeaves (leaf_counts c.now) (leaf_count_of self.now)) }
     {
         self.counts.as_ref()
@@ -276,14 +277,14 @@ impl View {
     /// The accesses by granule, exactly where the expression counts them.
     pub fn heat(&self) -> Option<&Heat>
         ensures value { option_map (λ h. heat_counts h.now) result ≡ self.now.tally.heat }
-        ensures counted { is_some result ≡ is_some (granule_of (term_of self.now.expr)) }
+        ensures counted { is_some result ≡ is_some (granule_of self.now.mapping) }
     {
         self.heat.as_ref()
     }
 
     /// Counts so many reads of each leaf of each row, and then so many writes.
     pub fn touch_all(&mut self, reads: u64, writes: u64)
-        ensures { self.new ≡ after_log self.old (all_touches reads writes (leaf_count_of self.old) (length self.old.table)) }
+        ensures { self.new ≡ after_log self.old (all_touches reads writes (leaf_count_of self.old) (length self.old.rows)) }
     {
         count_all(&self.map, &mut self.counts, &mut self.heat, reads, writes);
     }

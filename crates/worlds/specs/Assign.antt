@@ -9,7 +9,7 @@ use Rattle.piece_bits.specs.Tables.{with_entry}
 use Rattle.record_dim.specs.declared.path.PathStep.{PathStep}
 use Rattle.row_updates.specs.Logs.{value_log}
 use Rattle.views.specs.Tallies.{Write}
-use Rattle.worlds.specs.Worlds.{Table}
+use Rattle.views.specs.Tables.{Table}
 use Rattle.worlds.specs.OnView.{Done, stores}
 use Rattle.worlds.specs.Outcomes.{Outcome, Goes, ◌>>=◌, refused_if}
 use Rattle.worlds.specs.Names.{leaf_of, bound}

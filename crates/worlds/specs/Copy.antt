@@ -6,12 +6,11 @@ use Rattle.map_expr.specs.Terms.{Term as MapTerm}
 use Rattle.map_bytes.specs.Cells.{kind_number}
 use Rattle.layout_copy.specs.Copies.{Spot, refused_at}
 use Rattle.views.specs.Tallies.{all_reads, all_writes}
-use Rattle.worlds.specs.Worlds.{World, Entry, Table}
-use Rattle.worlds.specs.Accessed.{leaf_count, accessed, rewritten}
+use Rattle.views.specs.Tables.{Table, leaf_count_of, answer_of, after_log, after_stores}
+use Rattle.worlds.specs.Worlds.{World, Entry}
 use Rattle.worlds.specs.Outcomes.{Outcome, Goes, ◌>>=◌, Left, quiet, known, refused_if, refused_by}
 use Rattle.worlds.specs.Names.{nameless, text_of_leaf}
 use Rattle.worlds.specs.Tables.{made}
-use Rattle.worlds.specs.Values.{answer_in}
 use Rattle.worlds.specs.OnView.{with_table}
 use Rattle.worlds.specs.declared.fault.CommandFault.{CommandFault}
 use Rattle.worlds.specs.declared.fault.CommandFault.TheVariants.{Mismatch, Narrow}
@@ -41,8 +40,8 @@ narrow_fault fields spot = Narrow spot.row (text_of_leaf fields spot.leaf)
 -- a table with the rows of another, where it holds them, each value written once
 unfoldable pub with_rows : Table → List (List ℤ) → Outcome Table
 with_rows table rows = do
-  held ← refused_by (narrow_fault table.fields) (refused_at (answer_in table) 0 rows)
-  Goes (rewritten table rows (all_writes (leaf_count table) (length rows)))
+  held ← refused_by (narrow_fault table.fields) (refused_at (answer_of table) 0 rows)
+  Goes (after_stores table rows (all_writes (leaf_count_of table) (length rows)))
 
 -- the target with the rows of the source
 unfoldable pub copied : Table → Table → Outcome Table
@@ -52,7 +51,7 @@ copied source target = do
 
 -- the source, each of its values read once
 abbrev pub all_read : Table → Table
-all_read source = accessed source (all_reads (leaf_count source) (length source.rows))
+all_read source = after_log source (all_reads (leaf_count_of source) (length source.rows))
 
 -- of a table onto itself, each value is read and is written
 unfoldable pub copy : World → List ℕ → List ℕ → Outcome Left

@@ -18,12 +18,11 @@ use Rattle.lane_kernels.specs.declared.kernel.Kernel.{Kernel}
 use Rattle.lane_kernels.specs.declared.kernel.Kernel.TheVariants.{Axpy, Clamp, Sum, Least, Greatest, CountWhere}
 use Rattle.lane_kernels.specs.Kernels as kernels
 use Rattle.lane_kernels.specs.Logs.{rows_log}
-use Rattle.worlds.specs.Worlds.{Table}
+use Rattle.views.specs.Tables.{Table, answer_of}
 use Rattle.worlds.specs.OnView.{Done}
 use Rattle.worlds.specs.Outcomes.{Outcome, Goes, ◌>>=◌, refused_if, refused_by}
 use Rattle.worlds.specs.Names.{leaf_of, text_of_leaf}
 use Rattle.worlds.specs.Texts.{number_line}
-use Rattle.worlds.specs.Values.{answer_in}
 use Rattle.worlds.specs.declared.fault.BadKernel.TheVariants.{Lanes, Wide, Constant}
 use Rattle.worlds.specs.declared.fault.CommandFault.{CommandFault}
 use Rattle.worlds.specs.declared.fault.CommandFault.TheVariants.{BadKernel, Empty, Range, Narrow}
@@ -106,7 +105,7 @@ number_text (Some number) = number_line number
 -- what a kernel that can run does
 abbrev pub run : Table → Kernel → Outcome Done
 run table kernel = do
-  done ← refused_by (run_fault table.fields) (kernels.kernel_fault (answer_in table) kernel table.rows)
+  done ← refused_by (run_fault table.fields) (kernels.kernel_fault (answer_of table) kernel table.rows)
   Goes (record {
     rows = kernels.run_rows kernel (length table.rows) table.rows;
     log = rows_log kernel (length table.rows);

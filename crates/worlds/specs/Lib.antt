@@ -2,7 +2,6 @@ pub mod Worlds
 pub mod Outcomes
 pub mod Answers
 pub mod AnswersLaws
-pub mod Accessed
 pub mod OnView
 pub mod Names
 pub mod Values

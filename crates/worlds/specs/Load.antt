@@ -3,15 +3,14 @@ use Rattle.std.specs.Prelude.{ℕ, ◌^◌, Bool, List, length, Option, Some, No
 use Rattle.extents.specs.declared.words.ExtentWord.{ExtentWord}
 use Rattle.layout_io.specs.Files.{File, file_of}
 use Rattle.record_dim.specs.Trees.{Fields}
-use Rattle.record_dim.specs.Leaves.{kinds_of, texts_of}
 use Rattle.map_expr.specs.Terms.{Term as MapTerm}
-use Rattle.map_any.specs.Mappings.{holds_by}
-use Rattle.csv_rows.specs.Datasets.{records_of, rows_of, dataset_table}
+use Rattle.csv_rows.specs.Datasets.{records_of, rows_of}
+use Rattle.csv_rows.specs.Loads.{dataset_of}
 use Rattle.csv_rows.specs.declared.fault.RowFault.{RowFault}
 use Rattle.csv_rows.specs.declared.fault.RowFault.TheVariants as rows
 use Rattle.views.specs.Tallies.{all_writes}
-use Rattle.worlds.specs.Worlds.{World, Entry, Table}
-use Rattle.worlds.specs.Accessed.{leaf_count, rewritten}
+use Rattle.views.specs.Tables.{Table, leaf_count_of, after_stores}
+use Rattle.worlds.specs.Worlds.{World, Entry}
 use Rattle.worlds.specs.Outcomes.{Outcome, Goes, CannotRead, ◌>>=◌, Left, quiet, refused_if, ok_or}
 use Rattle.worlds.specs.Names.{text_of_leaf}
 use Rattle.worlds.specs.Tables.{resolved, made}
@@ -41,9 +40,8 @@ row_fault fields rows.NoMemory = fault.TooBig
 -- a table of zeros with the values of a dataset in place of them, each written once
 abbrev pub filled : Table → List (List (List ℕ)) → Outcome Table
 filled table records = do
-  rows ← ok_or (row_fault table.fields)
-      (dataset_table (texts_of table.fields) (kinds_of table.fields) (holds_by table.mapping table.fields) records)
-  Goes (rewritten table rows (all_writes (leaf_count table) (length table.rows)))
+  rows ← ok_or (row_fault table.fields) (dataset_of table records)
+  Goes (after_stores table rows (all_writes (leaf_count_of table) (length table.rows)))
 
 -- the table of a dataset of these bytes, beside these views
 unfoldable pub loaded : List (Entry Table) → Named → List ExtentWord → List ℕ → Outcome Table

@@ -1,8 +1,8 @@
 -- Commands that work on one view: each is a definition on its table.
 use Rattle.std.specs.Prelude.{ℕ, ℤ, List, [], Option, Some, None}
 use Rattle.views.specs.Tallies.{Access}
-use Rattle.worlds.specs.Worlds.{World, Table, replaced}
-use Rattle.worlds.specs.Accessed.{rewritten}
+use Rattle.views.specs.Tables.{Table, after_stores}
+use Rattle.worlds.specs.Worlds.{World, replaced}
 use Rattle.worlds.specs.Outcomes.{Outcome, Goes, ◌>>=◌, LeftOf, Left, quiet, shows, known}
 
 -- what a command does to a table: the rows that it leaves, its accesses in order, and what it writes
@@ -22,7 +22,7 @@ tells table text = record { rows = table.rows; log = []; text = text }
 abbrev pub done_to : Table → Outcome Done → Outcome (LeftOf Table)
 done_to table outcome = do
   done ← outcome
-  Goes (record { held = rewritten table done.rows done.log; text = done.text })
+  Goes (record { held = after_stores table done.rows done.log; text = done.text })
 
 -- the world with this table under the name of another
 abbrev pub with_table : World → List ℕ → Table → World

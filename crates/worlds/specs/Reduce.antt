@@ -6,7 +6,7 @@ use Rattle.line_grammar.specs.Sentences.{Value}
 use Rattle.line_grammar.specs.declared.line.ReduceKind.{ReduceKind}
 use Rattle.line_grammar.specs.declared.line.ReduceKind.TheVariants.{Sum, Min, Max}
 use Rattle.record_dim.specs.declared.path.PathStep.{PathStep}
-use Rattle.worlds.specs.Worlds.{Table}
+use Rattle.views.specs.Tables.{Table}
 use Rattle.worlds.specs.OnView.{Done}
 use Rattle.worlds.specs.Outcomes.{Outcome, Goes, Faults, ◌>>=◌, ok_or}
 use Rattle.worlds.specs.Names.{leaf_of, bound}

@@ -8,8 +8,8 @@ use Rattle.record_dim.specs.Leaves.{texts_of}
 use Rattle.map_any.specs.Runs.{runs_of}
 use Rattle.instrument.specs.BlobTexts.{bytes_of, bytes_text}
 use Rattle.instrument.specs.CounterTexts.{counts_text, heat_text, runs_text}
-use Rattle.worlds.specs.Worlds.{World, Table, removed}
-use Rattle.worlds.specs.Accessed.{leaf_count, owners_of}
+use Rattle.views.specs.Tables.{Table, owners_of, leaf_count_of}
+use Rattle.worlds.specs.Worlds.{World, removed}
 use Rattle.worlds.specs.OnView.{Done, tells}
 use Rattle.worlds.specs.Outcomes.{Outcome, Goes, ◌>>=◌, Left, quiet, known, some_or, refused_if}
 use Rattle.worlds.specs.Tables.{blob_bits}
@@ -19,7 +19,7 @@ use Rattle.worlds.specs.declared.fault.CommandFault.TheVariants.{BadIndex, NotCo
 
 -- each value is read once
 unfoldable pub print : Table → Outcome Done
-print table = Goes (record { rows = table.rows; log = all_reads (leaf_count table) (length table.rows); text = print_text (texts_of table.fields) table.rows })
+print table = Goes (record { rows = table.rows; log = all_reads (leaf_count_of table) (length table.rows); text = print_text (texts_of table.fields) table.rows })
 
 unfoldable pub counts : Table → Outcome Done
 counts table = do

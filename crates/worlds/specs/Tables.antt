@@ -9,8 +9,8 @@ use Rattle.map_expr.specs.Terms.{Term as MapTerm}
 use Rattle.map_any.specs.Mappings.{leaf_cells, layout_by, most_slots, accepted}
 use Rattle.piece_bits.specs.Tables.{zeros}
 use Rattle.views.specs.Tallies.{no_tally, granules_for}
-use Rattle.worlds.specs.Worlds.{Entry, Table}
-use Rattle.worlds.specs.Accessed.{owners_of}
+use Rattle.views.specs.Tables.{Table, owners_of}
+use Rattle.worlds.specs.Worlds.{Entry}
 use Rattle.worlds.specs.Outcomes.{Outcome, Goes, ◌>>=◌, refused_if, refused_by, ok_or}
 use Rattle.worlds.specs.declared.fault.CommandFault.TheVariants.{TooManyViews, TooBig, BadExtents, BadMapping}
 

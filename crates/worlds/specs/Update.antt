@@ -7,11 +7,10 @@ use Rattle.row_updates.specs.Logs.{rows_log}
 use Rattle.row_updates.specs.declared.fault.UpdateFault.{UpdateFault}
 use Rattle.row_updates.specs.declared.fault.UpdateKind.{UpdateKind}
 use Rattle.row_updates.specs.declared.fault.UpdateKind.TheVariants as kind
-use Rattle.worlds.specs.Worlds.{Table}
+use Rattle.views.specs.Tables.{Table, answer_of}
 use Rattle.worlds.specs.OnView.{Done, stores}
 use Rattle.worlds.specs.Outcomes.{Outcome, Goes, ◌>>=◌, ok_or}
 use Rattle.worlds.specs.Names.{text_of_leaf, bound_filter, bound_sets, each_once, leaves_of}
-use Rattle.worlds.specs.Values.{answer_in}
 use Rattle.worlds.specs.declared.fault.CommandFault.{CommandFault}
 use Rattle.worlds.specs.declared.fault.CommandFault.TheVariants.{Range, Narrow, Overflow, DivideByZero}
 
@@ -31,5 +30,5 @@ updated table filter sets = do
   test ← bound_filter table.fields (length table.extents) filter
   settings ← bound_sets table.fields (length table.extents) sets
   once ← each_once table.fields [] (leaves_of settings)
-  rows ← ok_or (update_fault table.fields) (updated_rows (answer_in table) test settings table.extents table.rows (length table.rows))
-  Goes (stores rows (rows_log (answer_in table) test settings table.extents table.rows (length table.rows)))
+  rows ← ok_or (update_fault table.fields) (updated_rows (answer_of table) test settings table.extents table.rows (length table.rows))
+  Goes (stores rows (rows_log (answer_of table) test settings table.extents table.rows (length table.rows)))

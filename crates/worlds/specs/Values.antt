@@ -1,16 +1,12 @@
 -- The values of expressions on the rows of a table, and what can be stored in a leaf.
 use Rattle.std.specs.Prelude.{ℕ, ℤ, List}
-use Rattle.record_dim.specs.Leaves.{kinds_of}
 use Rattle.expr_lang.specs.Terms.{Term}
 use Rattle.expr_lang.specs.Values.{outcome_of}
 use Rattle.expr_lang.specs.declared.fault.EvalFault.{EvalFault}
 use Rattle.expr_lang.specs.declared.fault.EvalFault.TheVariants as eval
-use Rattle.map_any.specs.Mappings.{holds_by}
-use Rattle.piece_bits.specs.Tables.{hold_at}
-use Rattle.views.specs.Stores.{Answer, kind_at, store_answer}
 use Rattle.views.specs.declared.fault.StoreFault.{StoreFault}
 use Rattle.views.specs.declared.fault.StoreFault.TheVariants as store
-use Rattle.worlds.specs.Worlds.{Table}
+use Rattle.views.specs.Tables.{Table, answer_of}
 use Rattle.worlds.specs.Outcomes.{Outcome, ok_or}
 use Rattle.worlds.specs.Names.{text_of_leaf}
 use Rattle.worlds.specs.declared.fault.CommandFault.{CommandFault}
@@ -30,10 +26,6 @@ store_fault row leaf store.Narrow = Narrow row leaf
 abbrev pub value_on : ℕ → List ℤ → List ℕ → Term ℕ → Outcome ℤ
 value_on number row index value = ok_or (eval_fault number) (outcome_of row index value).answer
 
--- what a store in a leaf of a table answers
-abbrev pub answer_in : Table → Answer
-answer_in table leaf value = store_answer (kind_at (kinds_of table.fields) leaf) (hold_at (holds_by table.mapping table.fields) leaf) value
-
 -- a value goes into a leaf of the row of this number
 abbrev pub storable : Table → ℕ → ℕ → ℤ → Outcome (Unit {0})
-storable table number leaf value = ok_or (store_fault number (text_of_leaf table.fields leaf)) (answer_in table leaf value)
+storable table number leaf value = ok_or (store_fault number (text_of_leaf table.fields leaf)) (answer_of table leaf value)

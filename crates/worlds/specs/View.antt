@@ -3,7 +3,8 @@ use Rattle.std.specs.Prelude.{ℕ, List, None}
 use Rattle.extents.specs.declared.words.ExtentWord.{ExtentWord}
 use Rattle.record_dim.specs.Trees.{Fields}
 use Rattle.map_expr.specs.Terms.{Term as MapTerm}
-use Rattle.worlds.specs.Worlds.{World, Table, added}
+use Rattle.views.specs.Tables.{Table}
+use Rattle.worlds.specs.Worlds.{World, added}
 use Rattle.worlds.specs.Outcomes.{Outcome, Goes, ◌>>=◌, Left, quiet, free, known}
 use Rattle.worlds.specs.Names.{nameless}
 use Rattle.worlds.specs.Tables.{room, shaped, resolved, made}

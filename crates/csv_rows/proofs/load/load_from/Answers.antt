@@ -28,7 +28,7 @@ pub returns-then-not-found-clause-same : goal.returns-then-not-found-clause-same
 returns-then-not-found-clause-same g c =
     let found : c.in_ok-found.found ≡ false = search rules in
     let none = rw found at c.in_ok-found.ensures.found in
-    no_row_stored c.args.view.now (length c.args.view.now.table) (c.requires.rows ∙ ap (λ records. length (rows_of records)) none)
+    no_row_stored c.args.view.now (length c.args.view.now.rows) (c.requires.rows ∙ ap (λ records. length (rows_of records)) none)
 
 pub returns-clause-loaded : goal.returns-clause-loaded
 returns-clause-loaded g c =
@@ -36,7 +36,7 @@ returns-clause-loaded g c =
     let read = rw found at c.in_ok-found.ensures.found in
     let columns = rw c.schema.ensures.value at c.in_ok-columns.ensures.found in
     let known : IsKnown c.args.view.now (g.R.Records.left c.args.records.now) (g.R.Records.left c.read_header.new.records) c.in_ok-columns.columns.items = record { header = fields_of c.read_header.new.fields; parts = read.1; found = columns } in
-    dataset_loaded c.args.view.now (g.R.Records.left c.args.records.now) (g.R.Records.left c.read_header.new.records) c.in_ok-columns.columns.items c.load_records.new.view.table c.load_records.result known (rw c.as_slice.ensures.value at c.load_records.ensures.loaded)
+    dataset_loaded c.args.view.now (g.R.Records.left c.args.records.now) (g.R.Records.left c.read_header.new.records) c.in_ok-columns.columns.items c.load_records.new.view.rows c.load_records.result known (rw c.as_slice.ensures.value at c.load_records.ensures.loaded)
 
 pub returns-clause-refused : goal.returns-clause-refused
 returns-clause-refused g c =

@@ -4,7 +4,7 @@ use Rattle.std.proofs.lemmas.Int.{to_z-of_z}
 use Rattle.std.proofs.lemmas.Bool.{cases_eq}
 use Rattle.std.proofs.lemmas.List.{length-set, get_or-set_same, get_or-set_other}
 use Rattle.csv.specs.Records.{fields_of}
-use Rattle.views.specs.Seen.{answer_of}
+use Rattle.views.specs.Tables.{answer_of}
 use Rattle.csv_rows.proofs.Leaves.{leaf_read, leaf_refused, leaves_read}
 use Rattle.csv_rows.proofs.rows.read_row.Goals as goal
 

@@ -21,15 +21,15 @@ loop-row-preserved g c =
     let value = c.narrow_value-value.result in
     let fits : FitsSigned w64 c.taking-number.result = search rules in
     let fits_value : FitsSigned w64 value = search rules in
-    let rows : length (indices c.extents.result) ≡ length view.table = ap (λ (e : List ℕ). length (indices e)) c.extents.ensures.value ∙ sym c.extents.ensures.table.rows in
-    let inside : row < length view.table = omega arith in
-    let so_far : c.loop-row.number ≡ reduced kind (take row (column c.args.leaf view.table)) = cc (c.loop-row.number-is, c.loop-row.invariant.so_far) in
+    let rows : length (indices c.extents.result) ≡ length view.rows = ap (λ (e : List ℕ). length (indices e)) c.extents.ensures.value ∙ sym c.extents.ensures.table.rows in
+    let inside : row < length view.rows = omega arith in
+    let so_far : c.loop-row.number ≡ reduced kind (take row (column c.args.leaf view.rows)) = cc (c.loop-row.number-is, c.loop-row.invariant.so_far) in
     let plain = to_z-of_z w64 value fits_value in
-    let read : value ≡ in_leaf c.args.leaf (get_or view.table row []) = rw c.loop-row.invariant.same at c.narrow_value-value.ensures.value in
+    let read : value ≡ in_leaf c.args.leaf (get_or view.rows row []) = rw c.loop-row.invariant.same at c.narrow_value-value.ensures.value in
     let gives : c.taking-number.result ≡ taking kind c.loop-row.number value = cc (c.taking-number.ensures.value, c.loop-row.number-is, plain) in
     rw (to_z-of_z w64 c.taking-number.result fits) (record {
       same = read_more kind c.args.leaf row view c.loop-row.view c.narrow_value-value.new.view c.loop-row.invariant.same c.narrow_value-value.ensures.same;
       small = c.taking-number.ensures.small;
-      so_far = gives ∙ reduced_more kind c.args.leaf row view.table c.loop-row.number value inside read so_far;
+      so_far = gives ∙ reduced_more kind c.args.leaf row view.rows c.loop-row.number value inside read so_far;
       counted = omega (arith, c.narrow_value-value.ensures.step, c.loop-row.invariant.counted);
     })

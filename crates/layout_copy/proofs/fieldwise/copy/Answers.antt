@@ -1,6 +1,6 @@
 use Rattle.std.proofs.Common.{rules, arith, ◌≡◌, ◌<◌, ◌∙◌, ◌+◌, ℕ, List, length, ap, sym}
 use Rattle.extents.specs.Indices.{indices}
-use Rattle.views.specs.Seen.{leaf_count_of}
+use Rattle.views.specs.Tables.{leaf_count_of}
 use Rattle.views.specs.TallyLaws.{after_log-none}
 use Rattle.views.specs.Tallies.{row_reads}
 use Rattle.layout_copy.specs.Copies.{AreAlike}
@@ -11,8 +11,8 @@ pub returns-in-Some-clause-copied : goal.returns-in-Some-clause-copied
 returns-in-Some-clause-copied g c =
     let source = c.args.source.now in
     let alike : AreAlike source c.args.target.now = search rules in
-    let rows : length (indices c.extents.result) ≡ length source.table = ap (λ (e : List ℕ). length (indices e)) c.extents.ensures.value ∙ sym c.extents.ensures.table.rows in
-    let small : c.loop-row.row < length source.table = omega (arith, c.loop-row-test.true, c.count-row-end.ensures.rows, rows) in
+    let rows : length (indices c.extents.result) ≡ length source.rows = ap (λ (e : List ℕ). length (indices e)) c.extents.ensures.value ∙ sym c.extents.ensures.table.rows in
+    let small : c.loop-row.row < length source.rows = omega (arith, c.loop-row-test.true, c.count-row-end.ensures.rows, rows) in
     let refused = sym (rw c.loop-row.invariant.source at c.in-Some.ensures.refused) in (
       alike,
       row_refused source c.args.target.now c.loop-row.target c.loop-row.row c.in-Some.leaf small c.loop-row.invariant.copied refused,
@@ -39,9 +39,9 @@ loop-row-init g c = record {
 pub loop-row-preserved : goal.loop-row-preserved
 loop-row-preserved g c =
     let source = c.args.source.now in
-    let same : length source.table ≡ length c.args.target.now.table = search rules in
-    let rows : length (indices c.extents.result) ≡ length source.table = ap (λ (e : List ℕ). length (indices e)) c.extents.ensures.value ∙ sym c.extents.ensures.table.rows in
-    let small : c.loop-row.row < length source.table = omega (arith, c.loop-row-test.true, c.count-row-end.ensures.rows, rows) in
+    let same : length source.rows ≡ length c.args.target.now.rows = search rules in
+    let rows : length (indices c.extents.result) ≡ length source.rows = ap (λ (e : List ℕ). length (indices e)) c.extents.ensures.value ∙ sym c.extents.ensures.table.rows in
+    let small : c.loop-row.row < length source.rows = omega (arith, c.loop-row-test.true, c.count-row-end.ensures.rows, rows) in
     let held = sym (rw c.loop-row.invariant.source at c.in_default.ensures.refused) in
     let stored = rw c.loop-row.invariant.source at c.in_default.ensures.stored in
     let read = rw (ap leaf_count_of c.loop-row.invariant.source) at c.in_default.ensures.all_read in

@@ -1,5 +1,5 @@
 use Rattle.std.proofs.Common.{◌≡◌, ◌+◌, ◌*◌, ◌≤◌, length}
-use Rattle.views.specs.Seen.{leaf_count_of, after_log}
+use Rattle.views.specs.Tables.{leaf_count_of, after_log}
 use Rattle.views.specs.Tallies.{all_reads}
 use Rattle.layout_copy.proofs.Rows.{AreCopied}
 use Rattle.layout_copy.proofs.fieldwise.copy.Given as goal

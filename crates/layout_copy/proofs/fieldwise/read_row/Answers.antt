@@ -1,7 +1,7 @@
 use Rattle.std.proofs.Common.{rules, arith, ◌≡◌, ◌∙◌, [], get_or, pos, is_ok, true, FitsSigned, refl, sym}
 use Rattle.std.specs.Int.{w128}
 use Rattle.std.proofs.lemmas.Int.{to_z-of_z}
-use Rattle.views.specs.Seen.{answer_of}
+use Rattle.views.specs.Tables.{answer_of}
 use Rattle.views.specs.TallyLaws.{after_log-none}
 use Rattle.layout_copy.proofs.Rows.{leaf_read, read_more}
 use Rattle.layout_copy.proofs.fieldwise.read_row.Goals as goal
@@ -24,9 +24,9 @@ loop-leaf-preserved g c =
     let plain = to_z-of_z w128 value fits in
     let told : c.fits.result ≡ answer_of c.args.target.now leaf value = rw plain at c.fits.ensures in
     let taken : is_ok c.fits.result ≡ true = search rules in
-    let read : value ≡ get_or (get_or c.args.source.now.table c.args.row []) leaf (pos 0) = rw c.loop-leaf.invariant.source at c.get-value.ensures.value in
+    let read : value ≡ get_or (get_or c.args.source.now.rows c.args.row []) leaf (pos 0) = rw c.loop-leaf.invariant.source at c.get-value.ensures.value in
     rw plain (record {
       source = read_more c.args.source.now c.loop-leaf.source c.get-value.new.self c.args.row leaf c.loop-leaf.invariant.source c.get-value.ensures.same;
-      read = leaf_read (answer_of c.args.target.now) (get_or c.args.source.now.table c.args.row []) c.loop-leaf.values leaf value (omega arith) read (rw told at taken) c.loop-leaf.invariant.read;
+      read = leaf_read (answer_of c.args.target.now) (get_or c.args.source.now.rows c.args.row []) c.loop-leaf.values leaf value (omega arith) read (rw told at taken) c.loop-leaf.invariant.read;
       steps = omega (arith, c.get-value.ensures.step, c.loop-leaf.invariant.steps);
     })

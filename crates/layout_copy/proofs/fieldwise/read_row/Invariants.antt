@@ -1,5 +1,5 @@
 use Rattle.std.proofs.Common.{◌≡◌, ◌+◌, ◌≤◌, [], get_or}
-use Rattle.views.specs.Seen.{answer_of, after_log}
+use Rattle.views.specs.Tables.{answer_of, after_log}
 use Rattle.views.specs.Tallies.{row_reads}
 use Rattle.layout_copy.proofs.Rows.{AreRead}
 use Rattle.layout_copy.proofs.fieldwise.read_row.Given as goal
@@ -7,6 +7,6 @@ use Rattle.layout_copy.proofs.fieldwise.read_row.Given as goal
 abbrev pub invariant-loop-leaf : goal.invariant-loop-leaf
 invariant-loop-leaf g l = record {
   source : l.source ≡ after_log l.initial.source (row_reads l.leaf l.row);
-  read : AreRead (answer_of l.target) (get_or l.initial.source.table l.row []) l.values l.leaf;
+  read : AreRead (answer_of l.target) (get_or l.initial.source.rows l.row []) l.values l.leaf;
   steps : l.steps ≤ l.initial.steps + l.leaf;
 }

@@ -1,7 +1,7 @@
 use Rattle.std.proofs.Common.{rules, arith, ◌≡◌, ◌<◌, ◌∙◌, Err, length, ℕ, List, ap, sym}
 use Rattle.expr_lang.specs.Bounds.{bound_term}
 use Rattle.extents.specs.Indices.{indices}
-use Rattle.views.specs.Seen.{Seen}
+use Rattle.views.specs.Tables.{Table}
 use Rattle.views.specs.TallyLaws.{after_log-none}
 use Rattle.row_updates.proofs.Logs.{count_push}
 use Rattle.row_updates.proofs.Rows.{index_is, none_counted, one_counted, counted_stop, counted_all}
@@ -14,25 +14,25 @@ pub returns-in_err-passes-clause-value : goal.returns-in_err-passes-clause-value
 returns-in_err-passes-clause-value g c =
     let view = c.args.view.now in
     let is : c.from_residual.result ≡ Err c.in_err-passes.field-0.0 = search rules in
-    let rows : length (indices c.extents.result) ≡ length view.table = ap (λ (e : List ℕ). length (indices e)) c.extents.ensures.value ∙ sym c.extents.ensures.table.rows in
-    let small : c.loop-row.row < length view.table = omega arith in
-    let extents : c.extents-in-loop-row.result ≡ view.extents = c.extents-in-loop-row.ensures.value ∙ ap (λ (s : Seen). s.extents) c.loop-row.invariant.same in
+    let rows : length (indices c.extents.result) ≡ length view.rows = ap (λ (e : List ℕ). length (indices e)) c.extents.ensures.value ∙ sym c.extents.ensures.table.rows in
+    let small : c.loop-row.row < length view.rows = omega arith in
+    let extents : c.extents-in-loop-row.result ≡ view.extents = c.extents-in-loop-row.ensures.value ∙ ap (λ (s : Table). s.extents) c.loop-row.invariant.same in
     let index = index_is view.extents c.extents-in-loop-row.result c.loop-row.row c.index_of-index.result.items c.as_slice.result.now extents c.index_of-index.ensures.entry c.as_slice.ensures.value in
     let stop = sym (rw (c.loop-row.invariant.same, index) at c.in_err-passes.ensures.value) in
-    is ∙ sym (counted_stop (bound_term c.args.filter.now) view.extents view.table c.loop-row.row c.loop-row.count c.in_err-passes.field-0.0 small c.loop-row.invariant.counted stop)
+    is ∙ sym (counted_stop (bound_term c.args.filter.now) view.extents view.rows c.loop-row.row c.loop-row.count c.in_err-passes.field-0.0 small c.loop-row.invariant.counted stop)
 
 pub returns-in_err-passes-clause-so_far : goal.returns-in_err-passes-clause-so_far
 returns-in_err-passes-clause-so_far g c =
     let view = c.args.view.now in
     let is : c.from_residual.result ≡ Err c.in_err-passes.field-0.0 = search rules in
-    let extents : c.extents-in-loop-row.result ≡ view.extents = c.extents-in-loop-row.ensures.value ∙ ap (λ (s : Seen). s.extents) c.loop-row.invariant.same in
+    let extents : c.extents-in-loop-row.result ≡ view.extents = c.extents-in-loop-row.ensures.value ∙ ap (λ (s : Table). s.extents) c.loop-row.invariant.same in
     let index = index_is view.extents c.extents-in-loop-row.result c.loop-row.row c.index_of-index.result.items c.as_slice.result.now extents c.index_of-index.ensures.entry c.as_slice.ensures.value in
     rw (is, c.in_err-passes.ensures.named) (count_push view c.loop-row.view c.passes.new.view (bound_term c.args.filter.now) c.loop-row.row c.loop-row.invariant.same (rw index at c.passes.ensures.same))
 
 pub loop-row-preserved : goal.loop-row-preserved
 loop-row-preserved g c =
     let view = c.args.view.now in
-    let extents : c.extents-in-loop-row.result ≡ view.extents = c.extents-in-loop-row.ensures.value ∙ ap (λ (s : Seen). s.extents) c.loop-row.invariant.same in
+    let extents : c.extents-in-loop-row.result ≡ view.extents = c.extents-in-loop-row.ensures.value ∙ ap (λ (s : Table). s.extents) c.loop-row.invariant.same in
     let index = index_is view.extents c.extents-in-loop-row.result c.loop-row.row c.index_of-index.result.items c.as_slice.result.now extents c.index_of-index.ensures.entry c.as_slice.ensures.value in
     let gives = sym (rw (c.loop-row.invariant.same, index) at c.in_ok-passes.ensures.value) in
     record {
@@ -43,6 +43,6 @@ loop-row-preserved g c =
 pub returns-clause-value : goal.returns-clause-value
 returns-clause-value g c =
     let view = c.args.view.now in
-    let rows : length (indices c.extents.result) ≡ length view.table = ap (λ (e : List ℕ). length (indices e)) c.extents.ensures.value ∙ sym c.extents.ensures.table.rows in
-    let whole : c.loop-row.row ≡ length view.table = omega arith in
-    sym (counted_all (bound_term c.args.filter.now) view.extents view.table c.loop-row.row c.loop-row.count whole c.loop-row.invariant.counted)
+    let rows : length (indices c.extents.result) ≡ length view.rows = ap (λ (e : List ℕ). length (indices e)) c.extents.ensures.value ∙ sym c.extents.ensures.table.rows in
+    let whole : c.loop-row.row ≡ length view.rows = omega arith in
+    sym (counted_all (bound_term c.args.filter.now) view.extents view.rows c.loop-row.row c.loop-row.count whole c.loop-row.invariant.counted)

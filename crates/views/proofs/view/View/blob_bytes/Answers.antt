@@ -5,7 +5,7 @@ use Rattle.std.proofs.lemmas.List.Sums.{sum_by_more_le}
 use Rattle.record_dim.specs.Schemas.{schema_fields}
 use Rattle.map_expr.specs.Terms.{term_of}
 use Rattle.places.specs.Layout.{Owner}
-use Rattle.views.specs.Seen.{Seen, seen_layout}
+use Rattle.views.specs.Tables.{Table, owners_of}
 use Rattle.views.proofs.KeptLaws.{byte_count, few_bytes}
 use Rattle.views.proofs.view.View.blob_bytes.Goals as goal
 
@@ -29,7 +29,7 @@ returns-clause-sum c =
     c.loop-blob.invariant ∙ ap (sum_by (length {A = ℕ})) (whole ∙ c.deref-blob-items.ensures.value) in
     ap (λ (n : ℕ). 8 * n) bytes
     ∙ byte_count (term_of a.expr) a.extents (schema_fields a.schema) a.blobs.items c.self.invariant.1
-    ∙ ap (λ (s : Seen). sum_by (length {A = Owner}) (seen_layout s)) c.self.view_is
+    ∙ ap (λ (s : Table). sum_by (length {A = Owner}) (owners_of s)) c.self.view_is
 
 pub returns-clause-few : goal.returns-clause-few
 returns-clause-few c =

@@ -10,7 +10,7 @@ use Rattle.map_expr.specs.Terms.{term_of}
 use Rattle.map_any.specs.LeafCells.{kinds_are}
 use Rattle.map_any.specs.Mappings.{holds_by}
 use Rattle.piece_bits.specs.Tables.{hold_at}
-use Rattle.views.specs.Seen.{Seen, answer_of}
+use Rattle.views.specs.Tables.{Table, answer_of}
 use Rattle.views.specs.Stores.{kind_at, store_answer}
 use Rattle.views.proofs.Opened.{cell_count, leaf_seen}
 use Rattle.views.proofs.StoreLaws.{fitting_stored}
@@ -37,4 +37,4 @@ returns-then-takes c =
     subst (λ (hs : List Hold). IsIn (hold_at hs leaf).signed (hold_at hs leaf).width value) mapping.holds_are (c.takes.ensures.held c.if-takes.true) in
     sym (fitting_stored (kind_at kinds leaf) (hold_at holds leaf) value declared held)
     ∙ ap (λ (v : ℤ). store_answer (kind_at kinds leaf) (hold_at holds leaf) v) (to_z-of_z w128 c.args.value fits)
-    ∙ ap (λ (s : Seen). answer_of s leaf c.args.value) c.self.view_is
+    ∙ ap (λ (s : Table). answer_of s leaf c.args.value) c.self.view_is

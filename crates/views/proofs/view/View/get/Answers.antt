@@ -6,7 +6,7 @@ use Rattle.piece_bits.specs.Tables.{hold_at}
 use Rattle.map_expr.specs.Terms.{term_of}
 use Rattle.map_any.specs.Counters.{is_counted}
 use Rattle.views.specs.Kept.{tally_of}
-use Rattle.views.specs.Seen.{leaf_types_of, leaf_type_of, seen_holds}
+use Rattle.views.specs.Tables.{leaf_types_of, leaf_type_of, table_holds}
 use Rattle.views.specs.Stores.{Fits}
 use Rattle.views.specs.Tallies.{Read}
 use Rattle.record_dim.specs.Schemas.{schema_fields}
@@ -35,13 +35,13 @@ returns-in-Some-clause-fits g c =
     let seen = c.args.self.now in
     let row = c.args.row in
     let leaf = c.args.leaf in
-    let read : c.in-Some.value ≡ entry seen.table row leaf =
+    let read : c.in-Some.value ≡ entry seen.rows row leaf =
     c.in-Some.ensures.value ∙ entry_seen a.schema a.extents a.expr a.blobs.items c.self.invariant.0 c.self.view_is c.as_slice.result.now c.as_slice.ensures.value row leaf in
     let table = table_seen a.schema a.extents a.expr a.blobs.items c.self.invariant.1 seen c.self.view_is in
-    let leaf_in : leaf < length (leaf_types_of seen) = omega (arith, kind_count (schema_fields seen.schema), c.requires.leaf_in) in
+    let leaf_in : leaf < length (leaf_types_of seen) = omega (arith, kind_count seen.fields, c.requires.leaf_in) in
     let fits : SFits w128 c.in-Some.value = search rules in
-    let is : entry seen.table row leaf ≡ to_z w128 (of_z w128 c.in-Some.value) = sym read ∙ sym (to_z-of_z w128 c.in-Some.value fits) in
-    subst (λ (v : ℤ). Fits (leaf_type_of seen leaf) (hold_at (seen_holds seen) leaf) v) is (table.fits row leaf c.requires.row_in leaf_in)
+    let is : entry seen.rows row leaf ≡ to_z w128 (of_z w128 c.in-Some.value) = sym read ∙ sym (to_z-of_z w128 c.in-Some.value fits) in
+    subst (λ (v : ℤ). Fits (leaf_type_of seen leaf) (hold_at (table_holds seen) leaf) v) is (table.fits row leaf c.requires.row_in leaf_in)
 
 pub returns-in-Some-clause-same : goal.returns-in-Some-clause-same
 returns-in-Some-clause-same g c =

@@ -3,7 +3,7 @@ use Rattle.std.specs.Int.{w128}
 use Rattle.std.proofs.lemmas.Int.{to_z-of_z}
 use Rattle.places.specs.Image.{entry}
 use Rattle.piece_bits.specs.Tables.{hold_at}
-use Rattle.views.specs.Seen.{leaf_types_of, leaf_type_of, seen_holds}
+use Rattle.views.specs.Tables.{leaf_types_of, leaf_type_of, table_holds}
 use Rattle.views.specs.Stores.{Fits}
 use Rattle.record_dim.specs.Schemas.{schema_fields}
 use Rattle.views.proofs.KeptLaws.{kind_count}
@@ -51,7 +51,7 @@ pub read_by_rule-requires-clause-laid : goal.read_by_rule-requires-clause-laid
 read_by_rule-requires-clause-laid c =
     laid_here c.self.invariant.0 c.as_slice.result.now c.self.inside.blobs.items c.as_slice.ensures.value c.self.invariant.1.laid
 
-value : (c : goal.After-read_by_rule) → c.read_by_rule.result ≡ entry c.args.self.now.table c.args.row c.args.leaf
+value : (c : goal.After-read_by_rule) → c.read_by_rule.result ≡ entry c.args.self.now.rows c.args.row c.args.leaf
 value c =
     let a = c.self.inside in
     c.read_by_rule.ensures ∙ entry_seen a.schema a.extents a.expr a.blobs.items c.self.invariant.0 c.self.view_is c.as_slice.result.now c.as_slice.ensures.value c.args.row c.args.leaf
@@ -68,11 +68,11 @@ returns-clause-fits c =
     let row = c.args.row in
     let leaf = c.args.leaf in
     let table = table_seen a.schema a.extents a.expr a.blobs.items c.self.invariant.1 seen c.self.view_is in
-    let leaf_in : leaf < length (leaf_types_of seen) = omega (arith, kind_count (schema_fields seen.schema), c.requires.leaf_in) in
+    let leaf_in : leaf < length (leaf_types_of seen) = omega (arith, kind_count seen.fields, c.requires.leaf_in) in
     let fits : SFits w128 c.read_by_rule.result = search rules in
-    let is : entry seen.table row leaf ≡ to_z w128 (of_z w128 c.read_by_rule.result) =
+    let is : entry seen.rows row leaf ≡ to_z w128 (of_z w128 c.read_by_rule.result) =
     sym (value (goal.at.returns-clause-fits c).After-read_by_rule) ∙ sym (to_z-of_z w128 c.read_by_rule.result fits) in
-    subst (λ (v : ℤ). Fits (leaf_type_of seen leaf) (hold_at (seen_holds seen) leaf) v) is (table.fits row leaf c.requires.row_in leaf_in)
+    subst (λ (v : ℤ). Fits (leaf_type_of seen leaf) (hold_at (table_holds seen) leaf) v) is (table.fits row leaf c.requires.row_in leaf_in)
 
 pub invariant_of-self : goal.invariant_of-self
 invariant_of-self c =

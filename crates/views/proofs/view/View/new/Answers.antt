@@ -17,7 +17,7 @@ pub invariant_of-result : goal.invariant_of-result
 invariant_of-result c =
     let made = c.in_ok-map.ensures in
     let mapping = mapping_copied {extents = c.args.extents} c.in_ok-expr.ensures c.in_ok-schema.ensures
-    (record { term_is = made.term; layout_is = made.layout; slots_are = made.slots; cells_are = made.cells; holds_are = made.holds }) in
+    (record { term_is = made.term; extents_are = made.extents; layout_is = made.layout; slots_are = made.slots; cells_are = made.cells; holds_are = made.holds }) in
     let layout = layout_by (term_of c.in_ok-expr.expr) c.args.extents (schema_fields c.in_ok-schema.schema) in
     let leaf_count = length (leaves (schema_fields c.in_ok-schema.schema)) in
     let tally : tally_of c.in_ok-counts.counts c.in_ok-heat.heat ≡ no_tally (term_of c.in_ok-expr.expr) layout leaf_count =
@@ -35,7 +35,7 @@ pub returns-clause-table : goal.returns-clause-table
 returns-clause-table c =
     let made = c.in_ok-map.ensures in
     let mapping = mapping_copied {extents = c.args.extents} c.in_ok-expr.ensures c.in_ok-schema.ensures
-    (record { term_is = made.term; layout_is = made.layout; slots_are = made.slots; cells_are = made.cells; holds_are = made.holds }) in
+    (record { term_is = made.term; extents_are = made.extents; layout_is = made.layout; slots_are = made.slots; cells_are = made.cells; holds_are = made.holds }) in
     let fields = schema_fields c.in_ok-schema.schema in
     let paired = paired_there mapping c.laws_of.ensures.paired in
     zero_table (term_of c.in_ok-expr.expr) c.args.extents fields c.in_ok-blobs.blobs.items
@@ -47,7 +47,7 @@ pub returns-clause-tally : goal.returns-clause-tally
 returns-clause-tally c =
     let made = c.in_ok-map.ensures in
     let mapping = mapping_copied {extents = c.args.extents} c.in_ok-expr.ensures c.in_ok-schema.ensures
-    (record { term_is = made.term; layout_is = made.layout; slots_are = made.slots; cells_are = made.cells; holds_are = made.holds }) in
+    (record { term_is = made.term; extents_are = made.extents; layout_is = made.layout; slots_are = made.slots; cells_are = made.cells; holds_are = made.holds }) in
     new_tally c.in_ok-counts.counts c.in_ok-heat.heat c.in_ok-expr.ensures mapping.layout_is
     (c.leaf_count.ensures.value ∙ ap (λ (f : Fields). length (leaves f)) (sym c.in_ok-schema.ensures)) c.in_ok-counts.ensures c.in_ok-heat.ensures.zero
 

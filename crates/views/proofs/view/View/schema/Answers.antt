@@ -1,5 +1,5 @@
 use Rattle.std.proofs.Common.{◌≡◌, length, subst}
-use Rattle.views.specs.Seen.{Seen, leaf_types_of, seen_holds}
+use Rattle.views.specs.Tables.{Table, leaf_types_of, table_holds}
 use Rattle.views.proofs.Opened.{table_seen}
 use Rattle.views.proofs.view.View.schema.Goals as goal
 
@@ -10,4 +10,4 @@ returns-clause-table c =
 
 pub returns-clause-paired : goal.returns-clause-paired
 returns-clause-paired c =
-    subst (λ (s : Seen). length (seen_holds s) ≡ length (leaf_types_of s)) c.self.view_is c.self.invariant.1.paired
+    subst (λ (s : Table). length (table_holds s) ≡ length (leaf_types_of s)) c.self.view_is c.self.invariant.1.paired

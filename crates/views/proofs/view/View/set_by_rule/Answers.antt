@@ -9,7 +9,7 @@ use Rattle.map_expr.specs.Terms.{term_of}
 use Rattle.map_any.specs.Mappings.{layout_by}
 use Rattle.piece_bits.specs.Tables.{hold_at, with_entry}
 use Rattle.views.specs.Kept.{IsTallied, tally_of, table_under}
-use Rattle.views.specs.Seen.{answer_of}
+use Rattle.views.specs.Tables.{answer_of}
 use Rattle.views.specs.Tallies.{Write, Tally, touched}
 use Rattle.views.proofs.CountLaws.{tallied_kept, tallied-one}
 use Rattle.views.proofs.Opened.{rows_seen, leaf_seen, cell_count, fits_seen, kept_after, table_same, laid_there, tallied_here, touched_there, seen_written}

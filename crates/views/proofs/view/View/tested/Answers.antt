@@ -12,7 +12,7 @@ use Rattle.map_expr.specs.Terms.{term_of}
 use Rattle.map_any.specs.Mappings.{layout_by, holds_by}
 use Rattle.piece_bits.specs.Tables.{hold_at}
 use Rattle.piece_bits.specs.CellsLaws.{hold_widths}
-use Rattle.views.specs.Seen.{Seen, answer_of}
+use Rattle.views.specs.Tables.{Table, answer_of}
 use Rattle.views.specs.Stores.{kind_at, store_answer}
 use Rattle.views.proofs.Opened.{cell_count, leaf_seen}
 use Rattle.views.proofs.view.View.tested.Goals as goal
@@ -55,4 +55,4 @@ returns c =
     ∙ ap (λ (v : ℤ). store_answer c.leaf_type.result c.hold.result v) (to_z-of_z w128 c.args.value fits)
     ∙ ap (λ (k : LeafType). store_answer k c.hold.result c.args.value) (sym kind_is)
     ∙ ap (λ (h : Hold). store_answer (kind_at kinds leaf) h c.args.value) (sym hold_is)
-    ∙ ap (λ (s : Seen). answer_of s leaf c.args.value) c.self.view_is
+    ∙ ap (λ (s : Table). answer_of s leaf c.args.value) c.self.view_is

@@ -5,7 +5,7 @@ use Rattle.record_dim.specs.Leaves.{leaves}
 use Rattle.map_expr.specs.Terms.{term_of}
 use Rattle.map_any.specs.Mappings.{layout_by}
 use Rattle.views.specs.Kept.{IsTallied, tally_of}
-use Rattle.views.specs.Seen.{Seen, after_log}
+use Rattle.views.specs.Tables.{Table, after_log}
 use Rattle.views.specs.Tallies.{Tally, tallied, all_touches}
 use Rattle.views.proofs.CountLaws.{log_kept}
 use Rattle.views.proofs.KeptLaws.{row_count}
@@ -40,7 +40,7 @@ invariant_of-self c =
 pub returns : goal.returns
 returns c =
     let a = c.self.inside in
-    let touches : Seen → Seen = λ s. after_log s (all_touches c.args.reads c.args.writes (length (leaves (schema_fields s.schema))) (length s.table)) in
+    let touches : Table → Table = λ s. after_log s (all_touches c.args.reads c.args.writes (length (leaves s.fields)) (length s.rows)) in
     let layout = layout_by (term_of a.expr) a.extents (schema_fields a.schema) in
     let leaf_count = length (leaves (schema_fields a.schema)) in
     let rows = row_count (term_of a.expr) a.extents (schema_fields a.schema) a.blobs.items c.self.invariant.1 in
