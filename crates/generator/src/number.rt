@@ -6,6 +6,9 @@ use itoa::Buffer;
 use record_dim::Text;
 use std::alloc::AllocError as NoMemory;
 
+/// The most rows that a generated script has.
+const MAX_ROWS: u32 = 65_536;
+
 /// The number of rows that a word names: a decimal from 1 to 65,536 without a leading zero.
 pub fn gen_number(word: &str) -> Option<u32>
     ensures number { result ≡ number_of word.now }
@@ -24,7 +27,7 @@ pub fn gen_number(word: &str) -> Option<u32>
 fn is_number_word(word: &str, n: u32) -> bool
     ensures { result ≡ is_number_word word.now n }
 {
-    1 <= n && n <= 65_536 && word == Buffer::new().format(n)
+    1 <= n && n <= MAX_ROWS && word == Buffer::new().format(n)
 }
 
 // Puts the number and what stands behind it at the end of the text.

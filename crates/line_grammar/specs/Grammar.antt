@@ -1,5 +1,5 @@
 -- The grammar of a line. A word or a sign in `Behind` stands for itself, and `Joined` puts one phrase behind another.
--- `n` bounds how deep brackets nest in the recursive phrases: a line has any such depth.
+-- `n` bounds how deep brackets nest in the recursive phrases: a line has any such depth. `version` is the version of the language.
 use Rattle.std.specs.Prelude.{ℕ, zero, suc, List, [], ◌∷◌, ◌++◌, Option, Some, None, codes, ℤ, neg_ℤ}
 use Rattle.phrases.specs.Phrases.{IsItem, Behind, Joined, IsEither, IsNothing, Repeats}
 use Rattle.phrases.specs.Column.{IsAny}
@@ -22,8 +22,9 @@ use Rattle.line_grammar.specs.declared.line.KernelWord.{KernelWord}
 use Rattle.line_grammar.specs.declared.line.KernelWord.TheVariants as kernel_word
 use Rattle.line_grammar.specs.declared.line.MapWord.{MapWord}
 use Rattle.line_grammar.specs.declared.line.MapWord.TheVariants as form
+use Rattle.line_grammar.specs.declared.version.Version.{Version}
 use Rattle.line_grammar.specs.Tokens.{name_of, number_of, count_of, string_of, type_of, integer_type_of, order_of, aos_form_of, soa_form_of, map_word, index_of, choice_of, or_of, and_of, comparison_of, sum_of, product_of, kernel_word_of, reduction_of, command_of}
-use Rattle.line_grammar.specs.Sentences.{Assignment, Sentence, Value, Blank, Define, Mapping, View, Load, Assign, Update, Kernel, Reduce, Count, Copy, Relayout, Print, Counts, Heat, Layout, Drop, Bytes}
+use Rattle.line_grammar.specs.Sentences.{Assignment, New, Sentence, Value, Blank, Define, Mapping, View, Load, Assign, Update, Kernel, Reduce, Count, Copy, Relayout, Print, Counts, Heat, Layout, Drop, Bytes}
 
 -- what is said of phrases: a list of tokens, and the value that it has
 abbrev pub Phrase : Type 0 → Type 1
@@ -102,39 +103,39 @@ abbrev pub IsConst : Phrase ℤ
 IsConst = IsEither (Behind (Sign Minus) (Joined IsNumber (λ number. IsNothing (neg_ℤ number)))) IsNumber
 
 -- the inside of a form's brackets, in which maps are `IsMap`
-abbrev pub IsForm : Phrase MapTerm → MapWord → Phrase MapTerm
+abbrev pub IsForm : Version → Phrase MapTerm → MapWord → Phrase MapTerm
 -- ("packed" | "aligned" | "min") "," order
-IsForm IsMap form.Aos = Joined (IsItem aos_form_of) (λ form. Behind (Sign Comma) (Joined (IsItem order_of) (λ order. IsNothing (Aos form order))))
+IsForm version IsMap form.Aos = Joined (IsItem aos_form_of) (λ form. Behind (Sign Comma) (Joined (IsItem order_of) (λ order. IsNothing (Aos form order))))
 -- ("single" | "aligned" | "multi") "," order
-IsForm IsMap form.Soa = Joined (IsItem soa_form_of) (λ form. Behind (Sign Comma) (Joined (IsItem order_of) (λ order. IsNothing (Soa form order))))
+IsForm version IsMap form.Soa = Joined (IsItem soa_form_of) (λ form. Behind (Sign Comma) (Joined (IsItem order_of) (λ order. IsNothing (Soa form order))))
 -- COUNT "," order
-IsForm IsMap form.Aosoa = Joined IsCount (λ lanes. Behind (Sign Comma) (Joined (IsItem order_of) (λ order. IsNothing (Aosoa lanes order))))
-IsForm IsMap form.BitAos = Joined IsCount (λ width. Behind (Sign Comma) (Joined (IsItem order_of) (λ order. IsNothing (BitAos width order))))
-IsForm IsMap form.BitSoa = Joined IsCount (λ width. Behind (Sign Comma) (Joined (IsItem order_of) (λ order. IsNothing (BitSoa width order))))
+IsForm version IsMap form.Aosoa = Joined IsCount (λ lanes. Behind (Sign Comma) (Joined (IsItem order_of) (λ order. IsNothing (Aosoa lanes order))))
+IsForm version IsMap form.BitAos = Joined IsCount (λ width. Behind (Sign Comma) (Joined (IsItem order_of) (λ order. IsNothing (BitAos width order))))
+IsForm version IsMap form.BitSoa = Joined IsCount (λ width. Behind (Sign Comma) (Joined (IsItem order_of) (λ order. IsNothing (BitSoa width order))))
 -- path "," map "," map
-IsForm IsMap form.Split = Joined IsPath (λ path. Behind (Sign Comma) (Joined IsMap (λ first. Behind (Sign Comma) (Joined IsMap (λ rest. IsNothing (Split path first rest))))))
+IsForm version IsMap form.Split = Joined IsPath (λ path. Behind (Sign Comma) (Joined IsMap (λ first. Behind (Sign Comma) (Joined IsMap (λ rest. IsNothing (Split path first rest))))))
 -- map
-IsForm IsMap form.Byteswap = Joined IsMap (λ inner. IsNothing (Byteswap inner))
-IsForm IsMap form.Bytesplit = Joined IsMap (λ inner. IsNothing (Bytesplit inner))
+IsForm version IsMap form.Byteswap = Joined IsMap (λ inner. IsNothing (Byteswap inner))
+IsForm version IsMap form.Bytesplit = Joined IsMap (λ inner. IsNothing (Bytesplit inner))
 -- TYPE "->" INTTYPE "," map
-IsForm IsMap form.Change = Joined (IsItem type_of) (λ from. Behind (Sign Arrow)
+IsForm version IsMap form.Change = Joined (IsItem type_of) (λ from. Behind (Sign Arrow)
     (Joined (IsItem integer_type_of) (λ to. Behind (Sign Comma) (Joined IsMap (λ inner. IsNothing (Change from to inner))))))
 -- map
-IsForm IsMap form.Count = Joined IsMap (λ inner. IsNothing (Counted inner))
+IsForm version IsMap form.Count = Joined IsMap (λ inner. IsNothing (Counted inner))
 -- COUNT "," map
-IsForm IsMap form.Heat = Joined IsCount (λ granule. Behind (Sign Comma) (Joined IsMap (λ inner. IsNothing (Heated granule inner))))
+IsForm version IsMap form.Heat = Joined IsCount (λ granule. Behind (Sign Comma) (Joined IsMap (λ inner. IsNothing (Heated granule inner))))
 
 -- a word that begins a form is that form where "(" follows it, and a NAME else
-abbrev pub IsFormOrName : Phrase MapTerm → List ℕ → Option MapWord → Phrase MapTerm
-IsFormOrName IsMap word None = IsNothing (Named word)
-IsFormOrName IsMap word (Some form) = IsEither
-    (Behind (Sign OpenParen) (Joined (IsForm IsMap form) (λ map. Behind (Sign CloseParen) (IsNothing map))))
+abbrev pub IsFormOrName : Version → Phrase MapTerm → List ℕ → Option MapWord → Phrase MapTerm
+IsFormOrName version IsMap word None = IsNothing (Named word)
+IsFormOrName version IsMap word (Some form) = IsEither
+    (Behind (Sign OpenParen) (Joined (IsForm version IsMap form) (λ map. Behind (Sign CloseParen) (IsNothing map))))
     (IsNothing (Named word))
 
 -- map = WORD "(" .. ")" | NAME
-abbrev pub IsMap : ℕ → Phrase MapTerm
-IsMap zero = Joined IsName (λ word. IsNothing (Named word))
-IsMap (suc n) = Joined IsName (λ word. IsFormOrName (IsMap n) word (map_word word))
+abbrev pub IsMap : Version → ℕ → Phrase MapTerm
+IsMap version zero = Joined IsName (λ word. IsNothing (Named word))
+IsMap version (suc n) = Joined IsName (λ word. IsFormOrName version (IsMap version n) word (map_word word))
 
 -- phrase (operator phrase)*, grouped to the left
 abbrev pub IsLink : (Token → Option BinOp) → Phrase Value → Value → Phrase Value
@@ -242,49 +243,52 @@ IsKernelInside kernel_word.CountWhere = Joined IsPath (λ x. Joined (IsItem comp
 abbrev pub IsKernel : Phrase KernelText
 IsKernel = Joined (IsItem kernel_word_of) (λ word. Behind (Sign OpenParen) (Joined (IsKernelInside word) (λ kernel. Behind (Sign CloseParen) (IsNothing kernel))))
 
+-- NAME ":" NAME "[" phrase ("," phrase)* "]" "as" map
+abbrev pub IsNew : Version → Phrase ExtentWord → ℕ → Phrase New
+IsNew version IsWord n = Joined IsName (λ name. Behind (Sign Colon) (Joined IsName (λ schema. Joined (IsBracketList IsWord) (λ words.
+    Behind (Word (codes "as")) (Joined (IsMap version n) (λ map. IsNothing (record { name = name; schema = schema; words = words; term = map })))))))
+
 -- what stands behind the word of a command
-abbrev pub IsBody : ℕ → Command → Phrase Sentence
+abbrev pub IsBody : Version → ℕ → Command → Phrase Sentence
 -- "record" NAME fields
-IsBody n command.Record = Joined IsName (λ name. Joined (IsFields n) (λ fields. IsNothing (Define name (Record fields))))
+IsBody version n command.Record = Joined IsName (λ name. Joined (IsFields n) (λ fields. IsNothing (Define name (Record fields))))
 -- "mapping" NAME "=" map
-IsBody n command.Mapping = Joined IsName (λ name. Behind (Sign Equals) (Joined (IsMap n) (λ map. IsNothing (Mapping name map))))
+IsBody version n command.Mapping = Joined IsName (λ name. Behind (Sign Equals) (Joined (IsMap version n) (λ map. IsNothing (Mapping name map))))
 -- "view" NAME ":" NAME "[" COUNT ("," COUNT)* "]" "as" map
-IsBody n command.View = Joined IsName (λ name. Behind (Sign Colon) (Joined IsName (λ schema. Joined (IsBracketList IsFixed) (λ words.
-    Behind (Word (codes "as")) (Joined (IsMap n) (λ map. IsNothing (View name schema words map)))))))
+IsBody version n command.View = Joined (IsNew version IsFixed n) (λ new. IsNothing (View new))
 -- "load" NAME ":" NAME "[" ext ("," ext)* "]" "as" map "from" STRING
-IsBody n command.Load = Joined IsName (λ name. Behind (Sign Colon) (Joined IsName (λ schema. Joined (IsBracketList IsExtent) (λ words.
-    Behind (Word (codes "as")) (Joined (IsMap n) (λ map. Behind (Word (codes "from")) (Joined IsString (λ file. IsNothing (Load name schema words map file)))))))))
+IsBody version n command.Load = Joined (IsNew version IsExtent n) (λ new. Behind (Word (codes "from")) (Joined IsString (λ file. IsNothing (Load new file))))
 -- "set" NAME "[" COUNT ("," COUNT)* "]" "." path "=" expr
-IsBody n command.Set = Joined IsName (λ view. Joined (IsBracketList IsCount)
+IsBody version n command.Set = Joined IsName (λ view. Joined (IsBracketList IsCount)
     (λ index. Behind (Sign Dot) (Joined IsPath (λ path. Behind (Sign Equals) (Joined (IsExpr n) (λ value. IsNothing (Assign view index path value)))))))
 -- "update" NAME ("where" expr)? "set" path "=" expr ("," path "=" expr)*
-IsBody n command.Update = Joined IsName (λ view. Joined (IsFilter n) (λ filter. Behind (Word (codes "set")) (Joined (IsListed (IsAssignment n)) (λ sets. IsNothing (Update view filter sets)))))
+IsBody version n command.Update = Joined IsName (λ view. Joined (IsFilter n) (λ filter. Behind (Word (codes "set")) (Joined (IsListed (IsAssignment n)) (λ sets. IsNothing (Update view filter sets)))))
 -- "kernel" NAME kern "lanes" COUNT
-IsBody n command.Kernel = Joined IsName (λ view. Joined IsKernel (λ kernel. Behind (Word (codes "lanes")) (Joined IsCount (λ lanes. IsNothing (Kernel view kernel lanes)))))
+IsBody version n command.Kernel = Joined IsName (λ view. Joined IsKernel (λ kernel. Behind (Word (codes "lanes")) (Joined IsCount (λ lanes. IsNothing (Kernel view kernel lanes)))))
 -- "reduce" NAME "count" "where" expr | "reduce" NAME ("sum" | "min" | "max") path
-IsBody n command.Reduce = Joined IsName (λ view. IsEither
+IsBody version n command.Reduce = Joined IsName (λ view. IsEither
     (Behind (Word (codes "count")) (Behind (Word (codes "where")) (Joined (IsExpr n) (λ filter. IsNothing (Count view filter)))))
     (Joined (IsItem reduction_of) (λ kind. Joined IsPath (λ path. IsNothing (Reduce view kind path)))))
 -- "copy" NAME "to" NAME
-IsBody n command.Copy = Joined IsName (λ source. Behind (Word (codes "to")) (Joined IsName (λ target. IsNothing (Copy source target))))
+IsBody version n command.Copy = Joined IsName (λ source. Behind (Word (codes "to")) (Joined IsName (λ target. IsNothing (Copy source target))))
 -- "relayout" NAME "as" map
-IsBody n command.Relayout = Joined IsName (λ view. Behind (Word (codes "as")) (Joined (IsMap n) (λ map. IsNothing (Relayout view map))))
+IsBody version n command.Relayout = Joined IsName (λ view. Behind (Word (codes "as")) (Joined (IsMap version n) (λ map. IsNothing (Relayout view map))))
 -- ("print" | "counts" | "heat" | "layout" | "drop") NAME
-IsBody n command.Print = Joined IsName (λ view. IsNothing (Print view))
-IsBody n command.Counts = Joined IsName (λ view. IsNothing (Counts view))
-IsBody n command.Heat = Joined IsName (λ view. IsNothing (Heat view))
-IsBody n command.Layout = Joined IsName (λ view. IsNothing (Layout view))
-IsBody n command.Drop = Joined IsName (λ view. IsNothing (Drop view))
+IsBody version n command.Print = Joined IsName (λ view. IsNothing (Print view))
+IsBody version n command.Counts = Joined IsName (λ view. IsNothing (Counts view))
+IsBody version n command.Heat = Joined IsName (λ view. IsNothing (Heat view))
+IsBody version n command.Layout = Joined IsName (λ view. IsNothing (Layout view))
+IsBody version n command.Drop = Joined IsName (λ view. IsNothing (Drop view))
 -- "bytes" NAME COUNT
-IsBody n command.Bytes = Joined IsName (λ view. Joined IsCount (λ blob. IsNothing (Bytes view blob)))
+IsBody version n command.Bytes = Joined IsName (λ view. Joined IsCount (λ blob. IsNothing (Bytes view blob)))
 
 -- line = nothing | command
-abbrev pub IsCommand : ℕ → Phrase Sentence
-IsCommand n = Joined (IsItem command_of) (IsBody n)
+abbrev pub IsCommand : Version → ℕ → Phrase Sentence
+IsCommand version n = Joined (IsItem command_of) (IsBody version n)
 
-abbrev pub IsLine : ℕ → Phrase Sentence
-IsLine n = IsEither (IsNothing Blank) (IsCommand n)
+abbrev pub IsLine : Version → ℕ → Phrase Sentence
+IsLine version n = IsEither (IsNothing Blank) (IsCommand version n)
 
 -- a line, however deep its brackets nest
-abbrev pub IsSentence : Phrase Sentence
-IsSentence = IsAny IsLine
+abbrev pub IsSentence : Version → Phrase Sentence
+IsSentence version = IsAny (IsLine version)

@@ -20,13 +20,20 @@ pub record Assignment : Type 0 where
   pub path : List PathStep
   pub value : Value
 
+-- what makes a view: its name, the name of its record, its extents and its mapping
+pub record New : Type 0 where
+  pub name : List ℕ
+  pub schema : List ℕ
+  pub words : List ExtentWord
+  pub term : MapTerm
+
 -- a line; a name is its bytes, and a path the list of its steps
 pub data Sentence : Type 0 where
   Blank : Sentence
   Define : List ℕ → Tree → Sentence
   Mapping : List ℕ → MapTerm → Sentence
-  View : List ℕ → List ℕ → List ExtentWord → MapTerm → Sentence
-  Load : List ℕ → List ℕ → List ExtentWord → MapTerm → List ℕ → Sentence
+  View : New → Sentence
+  Load : New → List ℕ → Sentence
   Assign : List ℕ → List ℕ → List PathStep → Value → Sentence
   Update : List ℕ → Option Value → List Assignment → Sentence
   Kernel : List ℕ → KernelText → ℕ → Sentence
@@ -49,8 +56,8 @@ abbrev pub sentence_of : Line → Sentence
 sentence_of line.Blank = Blank
 sentence_of (line.Define name dim) = Define name (tree_of dim)
 sentence_of (line.Mapping name expr) = Mapping name (map_of expr)
-sentence_of (line.View name schema words expr) = View name schema words (map_of expr)
-sentence_of (line.Load name schema words expr file) = Load name schema words (map_of expr) file
+sentence_of (line.View name schema words expr) = View (record { name = name; schema = schema; words = words; term = map_of expr })
+sentence_of (line.Load name schema words expr file) = Load (record { name = name; schema = schema; words = words; term = map_of expr }) file
 sentence_of (line.Assign view index path value) = Assign view index path (term_of value)
 sentence_of (line.Update view filter sets) = Update view (option_map term_of filter) (map assignment_of sets)
 sentence_of (line.Kernel view kernel lanes) = Kernel view kernel lanes
@@ -82,5 +89,5 @@ deepest _ = 0
 
 -- the name of the file that a line reads
 abbrev pub file_of : Sentence → Option (List ℕ)
-file_of (Load name schema words expr file) = Some file
+file_of (Load new file) = Some file
 file_of _ = None

@@ -3,15 +3,14 @@ ghost use Rattle.std.specs.List.{list_all};
 ghost use Rattle.line_tokens.specs.Bytes.{is_text_byte};
 ghost use Rattle.line_grammar.specs.FileNames.{is_file_name};
 
+use line_tokens::MAX_STRING_BYTES;
 use std::marker::Model;
-
-const MOST_BYTES: usize = 200;
 
 /// The name of a file as a string of a script holds it: 1 to 200 bytes from 20 to 7E hexadecimal other than `"` and `\`.
 /// It takes no memory. Contracts see its bytes.
 #[derive(Clone, Copy)]
 pub struct FileName {
-    bytes: [u8; MOST_BYTES],
+    bytes: [u8; MAX_STRING_BYTES],
     len: usize,
 }
 
@@ -38,7 +37,7 @@ impl FileName {
         if !is_file_name(text) {
             return None;
         }
-        let mut bytes = [0; MOST_BYTES];
+        let mut bytes = [0; MAX_STRING_BYTES];
         bytes[..text.len()].copy_from_slice(text);
         Some(FileName {
             bytes,
@@ -62,7 +61,7 @@ impl FileName {
 pub(crate) fn is_file_name(text: &[u8]) -> bool
     ensures { result ≡ is_file_name text.now }
 {
-    !text.is_empty() && text.len() <= MOST_BYTES && are_text_bytes(text)
+    !text.is_empty() && text.len() <= MAX_STRING_BYTES && are_text_bytes(text)
 }
 
 fn are_text_bytes(text: &[u8]) -> bool

@@ -6,6 +6,7 @@ mod items;
 mod line;
 mod quoted;
 mod token;
+mod version;
 mod words;
 
 pub use file_name::FileName;
@@ -19,4 +20,5 @@ pub use line::{
 };
 pub use quoted::Quoted;
 pub use token::Token;
+pub use version::Version;
 pub use words::Spelled;

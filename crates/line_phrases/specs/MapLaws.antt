@@ -15,6 +15,7 @@ use Rattle.line_grammar.specs.declared.line.MapWord.{MapWord}
 use Rattle.line_grammar.specs.declared.line.MapWord.TheVariants as form
 use Rattle.line_grammar.specs.declared.token.Token.{Token}
 use Rattle.line_grammar.specs.declared.token.Token.TheVariants.{Word, Sign as Signed}
+use Rattle.line_grammar.specs.declared.version.Version.{Version}
 use Rattle.line_grammar.specs.Tokens.{is_sign, type_of, integer_type_of, order_of, aos_form_of, soa_form_of, map_word}
 use Rattle.line_grammar.specs.Grammar.{IsForm, IsFormOrName, IsMap}
 use Rattle.line_phrases.specs.Maps.{aos_at, aosoa_at, bit_aos_at, bit_soa_at, form_at, form_or_name_at, map_at, soa_at}
@@ -40,37 +41,37 @@ ordered_parses : (f : Order → MapTerm) → Parses (Behind (Signed Comma) (Join
     (behind_at (is_sign Comma) (then_at (item_at order_of) (λ order. give_at (f order)))) (Not OpenParen)
 ordered_parses f = behind_parses (exact_sign Comma) (then_parses Always order_parses (λ order. give_parses (Not OpenParen) (f order)) (anything _ _))
 
-pub form_parses : {Is : List Token → MapTerm → Type 0} {read : List Token → Result (MapTerm × List Token) ℕ} → Parses Is read (Not OpenParen) → (form : MapWord)
-    → Parses (IsForm Is form) (form_at read form) (Not OpenParen)
+pub form_parses : (version : Version) {Is : List Token → MapTerm → Type 0} {read : List Token → Result (MapTerm × List Token) ℕ} → Parses Is read (Not OpenParen) → (form : MapWord)
+    → Parses (IsForm version Is form) (form_at version read form) (Not OpenParen)
 unfolding form_at aos_at soa_at aosoa_at bit_aos_at bit_soa_at
-form_parses p form.Aos = then_parses Always (item_parses aos_form_of (Word (codes "packed")) aos.Packed refl) (λ form. ordered_parses (λ order. Aos form order)) (anything _ _)
-form_parses p form.Soa = then_parses Always (item_parses soa_form_of (Word (codes "single")) soa.Single refl) (λ form. ordered_parses (λ order. Soa form order)) (anything _ _)
-form_parses p form.Aosoa = then_parses Always count_parses (λ lanes. ordered_parses (λ order. Aosoa lanes order)) (anything _ _)
-form_parses p form.BitAos = then_parses Always count_parses (λ width. ordered_parses (λ order. BitAos width order)) (anything _ _)
-form_parses p form.BitSoa = then_parses Always count_parses (λ width. ordered_parses (λ order. BitSoa width order)) (anything _ _)
-form_parses p form.Split = then_parses (AfterLevel 6) path_parses (λ path. behind_parses (exact_sign Comma) (then_parses (Not OpenParen) p
+form_parses version p form.Aos = then_parses Always (item_parses aos_form_of (Word (codes "packed")) aos.Packed refl) (λ form. ordered_parses (λ order. Aos form order)) (anything _ _)
+form_parses version p form.Soa = then_parses Always (item_parses soa_form_of (Word (codes "single")) soa.Single refl) (λ form. ordered_parses (λ order. Soa form order)) (anything _ _)
+form_parses version p form.Aosoa = then_parses Always count_parses (λ lanes. ordered_parses (λ order. Aosoa lanes order)) (anything _ _)
+form_parses version p form.BitAos = then_parses Always count_parses (λ width. ordered_parses (λ order. BitAos width order)) (anything _ _)
+form_parses version p form.BitSoa = then_parses Always count_parses (λ width. ordered_parses (λ order. BitSoa width order)) (anything _ _)
+form_parses version p form.Split = then_parses (AfterLevel 6) path_parses (λ path. behind_parses (exact_sign Comma) (then_parses (Not OpenParen) p
     (λ first. behind_parses (exact_sign Comma) (inner_parses p (λ rest. Split path first rest)))
     (λ a ys v rest h after. behind_not OpenParen (Signed Comma) refl _ ys v rest h)))
     (λ a ys v rest h after. behind_after 6 (Signed Comma) (omega arith) _ ys v rest h)
-form_parses p form.Byteswap = inner_parses p Byteswap
-form_parses p form.Bytesplit = inner_parses p Bytesplit
-form_parses p form.Change = then_parses Always type_parses (λ from. behind_parses (exact_sign Arrow) (then_parses Always integer_type_parses
+form_parses version p form.Byteswap = inner_parses p Byteswap
+form_parses version p form.Bytesplit = inner_parses p Bytesplit
+form_parses version p form.Change = then_parses Always type_parses (λ from. behind_parses (exact_sign Arrow) (then_parses Always integer_type_parses
     (λ to. behind_parses (exact_sign Comma) (inner_parses p (λ inner. Change from to inner))) (anything _ _))) (anything _ _)
-form_parses p form.Count = inner_parses p Count
-form_parses p form.Heat = then_parses Always count_parses (λ granule. behind_parses (exact_sign Comma) (inner_parses p (λ inner. Heat granule inner))) (anything _ _)
+form_parses version p form.Count = inner_parses p Count
+form_parses version p form.Heat = then_parses Always count_parses (λ granule. behind_parses (exact_sign Comma) (inner_parses p (λ inner. Heat granule inner))) (anything _ _)
 
-form_or_name_parses : {Is : List Token → MapTerm → Type 0} {read : List Token → Result (MapTerm × List Token) ℕ} → Parses Is read (Not OpenParen) → (word : List ℕ) (form : Option MapWord) →
-    Parses (IsFormOrName Is word form) (form_or_name_at read word form) (Not OpenParen)
+form_or_name_parses : (version : Version) {Is : List Token → MapTerm → Type 0} {read : List Token → Result (MapTerm × List Token) ℕ} → Parses Is read (Not OpenParen) → (word : List ℕ) (form : Option MapWord) →
+    Parses (IsFormOrName version Is word form) (form_or_name_at version read word form) (Not OpenParen)
 unfolding form_or_name_at
-form_or_name_parses p word None = give_parses (Not OpenParen) (Named word)
-form_or_name_parses p word (Some form) = either_parses (is_sign OpenParen)
-    (behind_parses (exact_sign OpenParen) (then_parses (Not OpenParen) (form_parses p form) (λ map. behind_parses (exact_sign CloseParen) (give_parses (Not OpenParen) map))
+form_or_name_parses version p word None = give_parses (Not OpenParen) (Named word)
+form_or_name_parses version p word (Some form) = either_parses (is_sign OpenParen)
+    (behind_parses (exact_sign OpenParen) (then_parses (Not OpenParen) (form_parses version p form) (λ map. behind_parses (exact_sign CloseParen) (give_parses (Not OpenParen) map))
     (λ a ys v rest h after. behind_not OpenParen (Signed CloseParen) refl _ ys v rest h)))
     (give_parses (Not OpenParen) (Named word))
     (λ xs v rest h _. behind_starts (is_sign OpenParen) (Signed OpenParen) true refl _ xs v rest h)
     (λ xs v rest h after. rw h.0 after)
 
-pub map_parses : (n : ℕ) → Parses (IsMap n) (map_at n) (Not OpenParen)
+pub map_parses : (version : Version) (n : ℕ) → Parses (IsMap version n) (map_at version n) (Not OpenParen)
 unfolding map_at
-map_parses zero = then_parses Always name_parses (λ word. give_parses (Not OpenParen) (Named word)) (anything _ _)
-map_parses (suc n) = then_parses Always name_parses (λ word. form_or_name_parses (map_parses n) word (map_word word)) (anything _ _)
+map_parses version zero = then_parses Always name_parses (λ word. give_parses (Not OpenParen) (Named word)) (anything _ _)
+map_parses version (suc n) = then_parses Always name_parses (λ word. form_or_name_parses version (map_parses version n) word (map_word word)) (anything _ _)

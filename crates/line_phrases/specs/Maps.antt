@@ -6,6 +6,7 @@ use Rattle.map_expr.specs.Terms.{Term as MapTerm, Aos, Soa, Aosoa, BitAos, BitSo
 use Rattle.line_grammar.specs.declared.line.MapWord.{MapWord}
 use Rattle.line_grammar.specs.declared.line.MapWord.TheVariants as form
 use Rattle.line_grammar.specs.declared.token.Token.{Token}
+use Rattle.line_grammar.specs.declared.version.Version.{Version}
 use Rattle.line_grammar.specs.Tokens.{is_sign, name_of, count_of, type_of, integer_type_of, order_of, aos_form_of, soa_form_of, map_word}
 use Rattle.line_phrases.specs.Paths.{path_at}
 
@@ -26,27 +27,27 @@ unfoldable pub bit_soa_at : List Token → Result (MapTerm × List Token) ℕ
 bit_soa_at = then_at (item_at count_of) (λ width. behind_at (is_sign Comma) (then_at (item_at order_of) (λ order. give_at (BitSoa width order))))
 
 -- the inside of the brackets of each form, in which `read` reads mappings
-unfoldable pub form_at : (List Token → Result (MapTerm × List Token) ℕ) → MapWord → List Token → Result (MapTerm × List Token) ℕ
-form_at read form.Aos = aos_at
-form_at read form.Soa = soa_at
-form_at read form.Aosoa = aosoa_at
-form_at read form.BitAos = bit_aos_at
-form_at read form.BitSoa = bit_soa_at
-form_at read form.Split = then_at path_at (λ path. behind_at (is_sign Comma) (then_at read (λ first. behind_at (is_sign Comma) (then_at read (λ rest. give_at (Split path first rest))))))
-form_at read form.Byteswap = then_at read (λ inner. give_at (Byteswap inner))
-form_at read form.Bytesplit = then_at read (λ inner. give_at (Bytesplit inner))
-form_at read form.Change = then_at (item_at type_of) (λ from. behind_at (is_sign Arrow)
+unfoldable pub form_at : Version → (List Token → Result (MapTerm × List Token) ℕ) → MapWord → List Token → Result (MapTerm × List Token) ℕ
+form_at version read form.Aos = aos_at
+form_at version read form.Soa = soa_at
+form_at version read form.Aosoa = aosoa_at
+form_at version read form.BitAos = bit_aos_at
+form_at version read form.BitSoa = bit_soa_at
+form_at version read form.Split = then_at path_at (λ path. behind_at (is_sign Comma) (then_at read (λ first. behind_at (is_sign Comma) (then_at read (λ rest. give_at (Split path first rest))))))
+form_at version read form.Byteswap = then_at read (λ inner. give_at (Byteswap inner))
+form_at version read form.Bytesplit = then_at read (λ inner. give_at (Bytesplit inner))
+form_at version read form.Change = then_at (item_at type_of) (λ from. behind_at (is_sign Arrow)
     (then_at (item_at integer_type_of) (λ to. behind_at (is_sign Comma) (then_at read (λ inner. give_at (Change from to inner))))))
-form_at read form.Count = then_at read (λ inner. give_at (Count inner))
-form_at read form.Heat = then_at (item_at count_of) (λ granule. behind_at (is_sign Comma) (then_at read (λ inner. give_at (Heat granule inner))))
+form_at version read form.Count = then_at read (λ inner. give_at (Count inner))
+form_at version read form.Heat = then_at (item_at count_of) (λ granule. behind_at (is_sign Comma) (then_at read (λ inner. give_at (Heat granule inner))))
 
-unfoldable pub form_or_name_at : (List Token → Result (MapTerm × List Token) ℕ) → List ℕ → Option MapWord → List Token → Result (MapTerm × List Token) ℕ
-form_or_name_at read word None = give_at (Named word)
-form_or_name_at read word (Some form) = either_at (is_sign OpenParen)
-    (behind_at (is_sign OpenParen) (then_at (form_at read form) (λ map. behind_at (is_sign CloseParen) (give_at map))))
+unfoldable pub form_or_name_at : Version → (List Token → Result (MapTerm × List Token) ℕ) → List ℕ → Option MapWord → List Token → Result (MapTerm × List Token) ℕ
+form_or_name_at version read word None = give_at (Named word)
+form_or_name_at version read word (Some form) = either_at (is_sign OpenParen)
+    (behind_at (is_sign OpenParen) (then_at (form_at version read form) (λ map. behind_at (is_sign CloseParen) (give_at map))))
     (give_at (Named word))
 
 -- a mapping in which brackets nest at most so deep
-unfoldable pub map_at : ℕ → List Token → Result (MapTerm × List Token) ℕ
-map_at zero = then_at (item_at name_of) (λ word. give_at (Named word))
-map_at (suc n) = then_at (item_at name_of) (λ word. form_or_name_at (map_at n) word (map_word word))
+unfoldable pub map_at : Version → ℕ → List Token → Result (MapTerm × List Token) ℕ
+map_at version zero = then_at (item_at name_of) (λ word. give_at (Named word))
+map_at version (suc n) = then_at (item_at name_of) (λ word. form_or_name_at version (map_at version n) word (map_word word))

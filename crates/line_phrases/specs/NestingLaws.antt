@@ -17,6 +17,7 @@ use Rattle.line_grammar.specs.declared.line.MapWord.{MapWord}
 use Rattle.line_grammar.specs.declared.line.MapWord.TheVariants as form
 use Rattle.line_grammar.specs.declared.token.Token.{Token}
 use Rattle.line_grammar.specs.declared.token.Token.TheVariants.{Word, Sign as Signed}
+use Rattle.line_grammar.specs.declared.version.Version.{Version}
 use Rattle.line_grammar.specs.Sentences.{Value}
 use Rattle.line_grammar.specs.Tokens.{is_sign, is_word, name_of, map_word, choice_of, or_of, and_of, sum_of, product_of}
 use Rattle.line_grammar.specs.Grammar.{IsAtom, IsBraced, IsBracketed, IsChain, IsChoice, IsExpr, IsExprOver, IsField, IsFields, IsForm, IsFormOrName, IsListed, IsMap, IsPrefixed, IsSum}
@@ -90,66 +91,66 @@ fields_alike n m le = alike_below (suc n) n (omega arith) (braced_alike n (field
 
 -- mappings
 
-form_wider : {Is IsAlso : List Token → MapTerm → Type 0} → Wider Is IsAlso → (form : MapWord) → Wider (IsForm Is form) (IsForm IsAlso form)
-form_wider one form.Aos = same_wider _
-form_wider one form.Soa = same_wider _
-form_wider one form.Aosoa = same_wider _
-form_wider one form.BitAos = same_wider _
-form_wider one form.BitSoa = same_wider _
-form_wider one form.Split = joined_wider (same_wider _) (λ path. behind_wider _ (joined_wider one (λ first. behind_wider _ (joined_wider one (λ rest. same_wider _)))))
-form_wider one form.Byteswap = joined_wider one (λ inner. same_wider _)
-form_wider one form.Bytesplit = joined_wider one (λ inner. same_wider _)
-form_wider one form.Change = joined_wider (same_wider _) (λ from. behind_wider _ (joined_wider (same_wider _) (λ to. behind_wider _ (joined_wider one (λ inner. same_wider _)))))
-form_wider one form.Count = joined_wider one (λ inner. same_wider _)
-form_wider one form.Heat = joined_wider (same_wider _) (λ granule. behind_wider _ (joined_wider one (λ inner. same_wider _)))
+form_wider : (version : Version) {Is IsAlso : List Token → MapTerm → Type 0} → Wider Is IsAlso → (form : MapWord) → Wider (IsForm version Is form) (IsForm version IsAlso form)
+form_wider version one form.Aos = same_wider _
+form_wider version one form.Soa = same_wider _
+form_wider version one form.Aosoa = same_wider _
+form_wider version one form.BitAos = same_wider _
+form_wider version one form.BitSoa = same_wider _
+form_wider version one form.Split = joined_wider (same_wider _) (λ path. behind_wider _ (joined_wider one (λ first. behind_wider _ (joined_wider one (λ rest. same_wider _)))))
+form_wider version one form.Byteswap = joined_wider one (λ inner. same_wider _)
+form_wider version one form.Bytesplit = joined_wider one (λ inner. same_wider _)
+form_wider version one form.Change = joined_wider (same_wider _) (λ from. behind_wider _ (joined_wider (same_wider _) (λ to. behind_wider _ (joined_wider one (λ inner. same_wider _)))))
+form_wider version one form.Count = joined_wider one (λ inner. same_wider _)
+form_wider version one form.Heat = joined_wider (same_wider _) (λ granule. behind_wider _ (joined_wider one (λ inner. same_wider _)))
 
-form_or_name_wider : {Is IsAlso : List Token → MapTerm → Type 0} → Wider Is IsAlso → (word : List ℕ) (form : Option MapWord) → Wider (IsFormOrName Is word form) (IsFormOrName IsAlso word form)
-form_or_name_wider one word None = same_wider _
-form_or_name_wider one word (Some form) = either_wider (behind_wider _ (joined_wider (form_wider one form) (λ map. same_wider _))) (same_wider _)
+form_or_name_wider : (version : Version) {Is IsAlso : List Token → MapTerm → Type 0} → Wider Is IsAlso → (word : List ℕ) (form : Option MapWord) → Wider (IsFormOrName version Is word form) (IsFormOrName version IsAlso word form)
+form_or_name_wider version one word None = same_wider _
+form_or_name_wider version one word (Some form) = either_wider (behind_wider _ (joined_wider (form_wider version one form) (λ map. same_wider _))) (same_wider _)
 
-only_name : (Is : List Token → MapTerm → Type 0) (word : List ℕ) (form : Option MapWord) → Wider (IsNothing (Named word)) (IsFormOrName Is word form)
-only_name Is word None xs v h = h
-only_name Is word (Some form) xs v h = inr h
+only_name : (version : Version) (Is : List Token → MapTerm → Type 0) (word : List ℕ) (form : Option MapWord) → Wider (IsNothing (Named word)) (IsFormOrName version Is word form)
+only_name version Is word None xs v h = h
+only_name version Is word (Some form) xs v h = inr h
 
-pub map_wider : (n m : ℕ) → n ≤ m → Wider (IsMap n) (IsMap m)
-map_wider zero zero le = same_wider _
-map_wider zero (suc m) le = joined_wider (same_wider _) (λ word. only_name (IsMap m) word (map_word word))
-map_wider (suc n) zero le = absurd (omega arith)
-map_wider (suc n) (suc m) le = joined_wider (same_wider _) (λ word. form_or_name_wider (map_wider n m (omega arith)) word (map_word word))
+pub map_wider : (version : Version) (n m : ℕ) → n ≤ m → Wider (IsMap version n) (IsMap version m)
+map_wider version zero zero le = same_wider _
+map_wider version zero (suc m) le = joined_wider (same_wider _) (λ word. only_name version (IsMap version m) word (map_word word))
+map_wider version (suc n) zero le = absurd (omega arith)
+map_wider version (suc n) (suc m) le = joined_wider (same_wider _) (λ word. form_or_name_wider version (map_wider version n m (omega arith)) word (map_word word))
 
-form_alike : (n : ℕ) {Is : List Token → MapTerm → Type 0} {read other : List Token → Result (MapTerm × List Token) ℕ} → Parses Is read (Not OpenParen) → Alike n read other → (form : MapWord)
-    → Alike n (form_at read form) (form_at other form)
+form_alike : (version : Version) (n : ℕ) {Is : List Token → MapTerm → Type 0} {read other : List Token → Result (MapTerm × List Token) ℕ} → Parses Is read (Not OpenParen) → Alike n read other → (form : MapWord)
+    → Alike n (form_at version read form) (form_at version other form)
 unfolding form_at
-form_alike n p one form.Aos = same_alike n _
-form_alike n p one form.Soa = same_alike n _
-form_alike n p one form.Aosoa = same_alike n _
-form_alike n p one form.BitAos = same_alike n _
-form_alike n p one form.BitSoa = same_alike n _
-form_alike n p one form.Split = then_alike n (no_longer path_parses) (same_alike n _)
+form_alike version n p one form.Aos = same_alike n _
+form_alike version n p one form.Soa = same_alike n _
+form_alike version n p one form.Aosoa = same_alike n _
+form_alike version n p one form.BitAos = same_alike n _
+form_alike version n p one form.BitSoa = same_alike n _
+form_alike version n p one form.Split = then_alike n (no_longer path_parses) (same_alike n _)
     (λ path. behind_kept n _ (then_alike n (no_longer p) one (λ first. behind_kept n _ (then_alike n (no_longer p) one (λ rest. same_alike n _)))))
-form_alike n p one form.Byteswap = then_alike n (no_longer p) one (λ inner. same_alike n _)
-form_alike n p one form.Bytesplit = then_alike n (no_longer p) one (λ inner. same_alike n _)
-form_alike n p one form.Change = then_alike n (no_longer type_parses) (same_alike n _)
+form_alike version n p one form.Byteswap = then_alike n (no_longer p) one (λ inner. same_alike n _)
+form_alike version n p one form.Bytesplit = then_alike n (no_longer p) one (λ inner. same_alike n _)
+form_alike version n p one form.Change = then_alike n (no_longer type_parses) (same_alike n _)
     (λ from. behind_kept n _ (then_alike n (no_longer integer_type_parses) (same_alike n _) (λ to. behind_kept n _ (then_alike n (no_longer p) one (λ inner. same_alike n _)))))
-form_alike n p one form.Count = then_alike n (no_longer p) one (λ inner. same_alike n _)
-form_alike n p one form.Heat = then_alike n (no_longer count_parses) (same_alike n _) (λ granule. behind_kept n _ (then_alike n (no_longer p) one (λ inner. same_alike n _)))
+form_alike version n p one form.Count = then_alike n (no_longer p) one (λ inner. same_alike n _)
+form_alike version n p one form.Heat = then_alike n (no_longer count_parses) (same_alike n _) (λ granule. behind_kept n _ (then_alike n (no_longer p) one (λ inner. same_alike n _)))
 
-form_or_name_alike : (n : ℕ) {Is : List Token → MapTerm → Type 0} {read other : List Token → Result (MapTerm × List Token) ℕ} → Parses Is read (Not OpenParen) → Alike n read other
+form_or_name_alike : (version : Version) (n : ℕ) {Is : List Token → MapTerm → Type 0} {read other : List Token → Result (MapTerm × List Token) ℕ} → Parses Is read (Not OpenParen) → Alike n read other
     → (word : List ℕ) (form : Option MapWord) →
-    Alike (suc n) (form_or_name_at read word form) (form_or_name_at other word form)
+    Alike (suc n) (form_or_name_at version read word form) (form_or_name_at version other word form)
 unfolding form_or_name_at
-form_or_name_alike n p one word None = same_alike (suc n) _
-form_or_name_alike n p one word (Some form) = either_alike (suc n) _ (behind_alike n _ (then_alike n (no_longer (form_parses p form)) (form_alike n p one form) (λ map. same_alike n _)))
+form_or_name_alike version n p one word None = same_alike (suc n) _
+form_or_name_alike version n p one word (Some form) = either_alike (suc n) _ (behind_alike n _ (then_alike n (no_longer (form_parses version p form)) (form_alike version n p one form) (λ map. same_alike n _)))
     (same_alike (suc n) _)
 
-pub map_alike : (n m : ℕ) → n ≤ m → Alike n (map_at n) (map_at m)
+pub map_alike : (version : Version) (n m : ℕ) → n ≤ m → Alike n (map_at version n) (map_at version m)
 unfolding map_at
-map_alike zero zero le [] small = refl
-map_alike zero (suc m) le [] small = refl
-map_alike zero m le (token ∷ us) small = absurd (omega arith)
-map_alike (suc n) zero le tokens small = absurd (omega arith)
-map_alike (suc n) (suc m) le tokens small =
-    then_alike (suc n) (no_longer name_parses) (same_alike (suc n) (item_at name_of)) (λ word. form_or_name_alike n (map_parses n) (map_alike n m (omega arith)) word (map_word word)) tokens small
+map_alike version zero zero le [] small = refl
+map_alike version zero (suc m) le [] small = refl
+map_alike version zero m le (token ∷ us) small = absurd (omega arith)
+map_alike version (suc n) zero le tokens small = absurd (omega arith)
+map_alike version (suc n) (suc m) le tokens small =
+    then_alike (suc n) (no_longer name_parses) (same_alike (suc n) (item_at name_of)) (λ word. form_or_name_alike version n (map_parses version n) (map_alike version n m (omega arith)) word (map_word word)) tokens small
 
 -- expressions
 

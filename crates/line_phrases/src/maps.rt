@@ -6,18 +6,23 @@ ghost use Rattle.line_phrases.specs.Maps.{aos_at, aosoa_at, bit_aos_at, bit_soa_
 
 use crate::{ReadError, Tokens, read_path};
 use extents::Order;
-use line_grammar::{Count, IntegerType, MapWord, map_word};
+use line_grammar::{Count, IntegerType, MapWord, Version, map_word};
 use line_tokens::Sign;
 use map_expr::MapExpr;
 use places::{AosForm, SoaForm};
 use record_dim::{LeafType, Name};
 use std::alloc::Global;
 
-/// The mapping at the front. Its brackets nest at most `room` deep.
+/// The mapping at the front, in a version of the language. Its brackets nest at most `room` deep.
 #[cycle(map)]
 #[tactic(auto, unfolding(crate::specs::Maps::map_at, crate::specs::Maps::form_or_name_at))]
-pub fn read_map(alloc: Global, room: usize, tokens: &mut Tokens) -> Result<MapExpr, ReadError>
-    ensures gives { Gives (λ x. (term_of x, tokens.new)) result (map_at room tokens.old) }
+pub fn read_map(
+    alloc: Global,
+    version: Version,
+    room: usize,
+    tokens: &mut Tokens,
+) -> Result<MapExpr, ReadError>
+    ensures gives { Gives (λ x. (term_of x, tokens.new)) result (map_at version room tokens.old) }
     ensures shorter { OnOk result (length tokens.new < length tokens.old) }
 {
     let word = tokens.item::<Name>()?;
@@ -31,7 +36,7 @@ pub fn read_map(alloc: Global, room: usize, tokens: &mut Tokens) -> Result<MapEx
                 return Ok(MapExpr::Named(word));
             }
             tokens.sign(Sign::OpenParen)?;
-            let map = read_form(alloc, room - 1, form, tokens)?;
+            let map = read_form(alloc, version, room - 1, form, tokens)?;
             tokens.sign(Sign::CloseParen)?;
             Ok(map)
         }
@@ -43,11 +48,12 @@ pub fn read_map(alloc: Global, room: usize, tokens: &mut Tokens) -> Result<MapEx
 #[tactic(auto, unfolding(crate::specs::Maps::form_at))]
 fn read_form(
     alloc: Global,
+    version: Version,
     room: usize,
     form: MapWord,
     tokens: &mut Tokens,
 ) -> Result<MapExpr, ReadError>
-    ensures gives { Gives (λ x. (term_of x, tokens.new)) result (form_at (map_at room) form tokens.old) }
+    ensures gives { Gives (λ x. (term_of x, tokens.new)) result (form_at version (map_at version room) form tokens.old) }
     ensures shorter { OnOk result (length tokens.new < length tokens.old) }
 {
     match form {
@@ -56,64 +62,79 @@ fn read_form(
         MapWord::Aosoa => read_aosoa(tokens),
         MapWord::BitAos => read_bit_aos(tokens),
         MapWord::BitSoa => read_bit_soa(tokens),
-        MapWord::Split => read_split(alloc, room, tokens),
+        MapWord::Split => read_split(alloc, version, room, tokens),
         MapWord::Byteswap => {
-            let map = read_map(alloc, room, tokens)?;
+            let map = read_map(alloc, version, room, tokens)?;
             Ok(MapExpr::Byteswap(Box::new(alloc, map)?))
         }
         MapWord::Bytesplit => {
-            let map = read_map(alloc, room, tokens)?;
+            let map = read_map(alloc, version, room, tokens)?;
             Ok(MapExpr::Bytesplit(Box::new(alloc, map)?))
         }
-        MapWord::Change => read_change(alloc, room, tokens),
+        MapWord::Change => read_change(alloc, version, room, tokens),
         MapWord::Count => {
-            let map = read_map(alloc, room, tokens)?;
+            let map = read_map(alloc, version, room, tokens)?;
             Ok(MapExpr::Count(Box::new(alloc, map)?))
         }
-        MapWord::Heat => read_heat(alloc, room, tokens),
+        MapWord::Heat => read_heat(alloc, version, room, tokens),
     }
 }
 
 #[cycle(map)]
 #[tactic(auto, unfolding(crate::specs::Maps::form_at))]
-fn read_split(alloc: Global, room: usize, tokens: &mut Tokens) -> Result<MapExpr, ReadError>
-    ensures gives { Gives (λ x. (term_of x, tokens.new)) result (form_at (map_at room) form.Split tokens.old) }
+fn read_split(
+    alloc: Global,
+    version: Version,
+    room: usize,
+    tokens: &mut Tokens,
+) -> Result<MapExpr, ReadError>
+    ensures gives { Gives (λ x. (term_of x, tokens.new)) result (form_at version (map_at version room) form.Split tokens.old) }
     ensures shorter { OnOk result (length tokens.new < length tokens.old) }
 {
     let path = read_path(alloc, tokens)?;
     tokens.sign(Sign::Comma)?;
-    let first = read_map(alloc, room, tokens)?;
+    let first = read_map(alloc, version, room, tokens)?;
     let first = Box::new(alloc, first)?;
     tokens.sign(Sign::Comma)?;
-    let rest = read_map(alloc, room, tokens)?;
+    let rest = read_map(alloc, version, room, tokens)?;
     let rest = Box::new(alloc, rest)?;
     Ok(MapExpr::Split { path, first, rest })
 }
 
 #[cycle(map)]
 #[tactic(auto, unfolding(crate::specs::Maps::form_at))]
-fn read_change(alloc: Global, room: usize, tokens: &mut Tokens) -> Result<MapExpr, ReadError>
-    ensures gives { Gives (λ x. (term_of x, tokens.new)) result (form_at (map_at room) form.Change tokens.old) }
+fn read_change(
+    alloc: Global,
+    version: Version,
+    room: usize,
+    tokens: &mut Tokens,
+) -> Result<MapExpr, ReadError>
+    ensures gives { Gives (λ x. (term_of x, tokens.new)) result (form_at version (map_at version room) form.Change tokens.old) }
     ensures shorter { OnOk result (length tokens.new < length tokens.old) }
 {
     let from = tokens.item::<LeafType>()?;
     tokens.sign(Sign::Arrow)?;
     let to = tokens.item::<IntegerType>()?;
     tokens.sign(Sign::Comma)?;
-    let map = read_map(alloc, room, tokens)?;
+    let map = read_map(alloc, version, room, tokens)?;
     let inner = Box::new(alloc, map)?;
     Ok(MapExpr::Change { from, to, inner })
 }
 
 #[cycle(map)]
 #[tactic(auto, unfolding(crate::specs::Maps::form_at))]
-fn read_heat(alloc: Global, room: usize, tokens: &mut Tokens) -> Result<MapExpr, ReadError>
-    ensures gives { Gives (λ x. (term_of x, tokens.new)) result (form_at (map_at room) form.Heat tokens.old) }
+fn read_heat(
+    alloc: Global,
+    version: Version,
+    room: usize,
+    tokens: &mut Tokens,
+) -> Result<MapExpr, ReadError>
+    ensures gives { Gives (λ x. (term_of x, tokens.new)) result (form_at version (map_at version room) form.Heat tokens.old) }
     ensures shorter { OnOk result (length tokens.new < length tokens.old) }
 {
     let granule = tokens.item::<Count>()?;
     tokens.sign(Sign::Comma)?;
-    let map = read_map(alloc, room, tokens)?;
+    let map = read_map(alloc, version, room, tokens)?;
     let inner = Box::new(alloc, map)?;
     Ok(MapExpr::Heat { granule, inner })
 }

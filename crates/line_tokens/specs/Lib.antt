@@ -4,7 +4,9 @@ pub mod Tokens
 pub mod Next
 pub mod Spots
 pub mod Spelled
+pub mod Ends
 pub mod DecimalLaws
+pub mod EndLaws
 pub mod NextTokenLaws
 pub mod SignsLaws
 pub mod SpelledLaws

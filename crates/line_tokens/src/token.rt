@@ -10,12 +10,16 @@ ghost use Rattle.line_tokens.specs.Tokens.{IsBadFrom, IsEnd, IsInside, IsTokenFr
 
 use crate::sign::{Sign, double_sign, single_sign};
 
-const MAX_WORD: usize = 32;
+/// The most bytes of a word.
+const MAX_WORD_BYTES: usize = 32;
 
-const MAX_STRING: usize = 200;
+/// The most bytes between the quotes of a string.
+pub const MAX_STRING_BYTES: usize = 200;
 
+/// The greatest number.
 const MAX_NUMBER: u128 = (1 << 127) - 1;
 
+/// The most brackets that are open at once.
 const MAX_BRACKETS: u32 = 64;
 
 /// What stands next in a line's text. Places are byte offsets from the start of the text.
@@ -172,7 +176,7 @@ fn word_at(rest: &[u8]) -> Option<(usize, TokenKind)>
     ensures fits { IfSome result (λ token. token.0 ≤ length rest.now) }
 {
     let length = count_word_bytes(rest);
-    if length <= MAX_WORD {
+    if length <= MAX_WORD_BYTES {
         Some((length, TokenKind::Word))
     } else {
         None
@@ -214,7 +218,7 @@ fn string_at(rest: &[u8]) -> Option<(usize, TokenKind)>
 {
     let inside = count_text_bytes(&rest[1..]);
     let is_closed = rest.len() > inside + 1 && rest[inside + 1] == b'"';
-    if 1 <= inside && inside <= MAX_STRING && is_closed {
+    if 1 <= inside && inside <= MAX_STRING_BYTES && is_closed {
         Some((inside + 2, TokenKind::Text))
     } else {
         None

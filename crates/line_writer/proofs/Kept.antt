@@ -10,6 +10,7 @@ use Rattle.expr_lang.specs.declared.expr.BinOp.TheVariants.{Eq, Ne, Lt, Le, Gt, 
 use Rattle.expr_lang.specs.Terms.{depth_of}
 use Rattle.line_grammar.specs.declared.token.Token.{Token}
 use Rattle.line_grammar.specs.declared.token.Token.TheVariants.{Word, Number, Text, Sign, Bad}
+use Rattle.line_grammar.specs.declared.version.Version.{Version}
 use Rattle.line_grammar.specs.declared.line.Command.{Command}
 use Rattle.line_grammar.specs.declared.line.Command.TheVariants as command
 use Rattle.line_grammar.specs.declared.line.KernelText.{KernelText}
@@ -157,8 +158,8 @@ kernel_inside_gives word.CountWhere = joined_gives {Q = λ xs v. KeptKernel word
     joined_gives {Q = λ xs v. KeptKernel word.CountWhere v} const_gives (λ h c i'' kc s''. nothing_gives {Q = λ xs v. KeptKernel word.CountWhere v} (kernel.CountWhere x op c) (count_where_kept x op c kx e kc))))
 
 -- a line is kept: its canonical tokens are read as this line, and open no 65th bracket
-abbrev pub IsKept : Sentence → Type 0
-IsKept sentence = deepest sentence ≤ 32 → Fits 64 (line_tokens sentence) × IsLine 32 (line_tokens sentence) sentence
+abbrev pub IsKept : Version → Sentence → Type 0
+IsKept version sentence = deepest sentence ≤ 32 → Fits 64 (line_tokens sentence) × IsLine version 32 (line_tokens sentence) sentence
 
 -- the words of such lines
 set_word : IsSpelled (Word (codes "set"))
@@ -199,8 +200,8 @@ kernel_word_back word.Greatest = refl
 kernel_word_back word.CountWhere = refl
 
 -- a command with a word in front
-command_line : (c : Command) (text : List ℕ) (rest : List Token) (s : Sentence) → command_of (Word text) ≡ Some c → IsBody 32 c rest s → IsLine 32 (Word text ∷ rest) s
-command_line c text rest s e h = inr (join (Word text ∷ []) rest c s (Word text, refl, e) h)
+command_line : (version : Version) (c : Command) (text : List ℕ) (rest : List Token) (s : Sentence) → command_of (Word text) ≡ Some c → IsBody version 32 c rest s → IsLine version 32 (Word text ∷ rest) s
+command_line version c text rest s e h = inr (join (Word text ∷ []) rest c s (Word text, refl, e) h)
 
 name_in : (name : List ℕ) → KeptName name → IsSpelled (Word name)
 name_in name h = h.spelled.0
@@ -212,11 +213,11 @@ value_reads : (value : Value) → IsGood value → depth_of value ≤ 32 → IsE
 value_reads value good small = value_read value 32 good (omega arith)
 
 -- reduce .. count where
-pub count_kept : (view : List ℕ) (filter : Value) → KeptName view → IsGood filter → IsKept (Count view filter)
-count_kept view filter kv good = λ small. (
+pub count_kept : (version : Version) (view : List ℕ) (filter : Value) → KeptName view → IsGood filter → IsKept version (Count view filter)
+count_kept version view filter kv good = λ small. (
   fits_more 32 64 _ (omega arith) (fits_flat 32 (Word (codes "reduce")) _ refl reduce_word (fits_flat 32 (Word view) _ refl (name_in view kv)
       (fits_flat 32 (Word (codes "count")) _ refl count_word (fits_flat 32 (Word (codes "where")) _ refl where_word (value_in filter good small))))),
-  command_line command.Reduce (codes "reduce") _ _ refl (join (Word view ∷ []) _ view _ kv.reads
+  command_line version command.Reduce (codes "reduce") _ _ refl (join (Word view ∷ []) _ view _ kv.reads
       (inl (refl, (refl, last (λ filter. Count view filter) (value_tokens filter) filter (value_reads filter good small))))),
 )
 
@@ -228,11 +229,11 @@ kernel_reads word text k = rw k.whole (join (Word (kernel_word word) ∷ []) (Si
 kernel_fits : (word : KernelWord) (text : KernelText) → KeptKernel word text → Fits 2 (kernel_tokens text)
 kernel_fits word text k = rw k.whole (form_fits 1 (kernel_word word) k.inside (kernel_word_spelled word) k.fits)
 
-pub kernel_kept : (view : List ℕ) (word : KernelWord) (text : KernelText) (lanes : ℕ) → KeptName view → KeptKernel word text → KeptCount lanes → IsKept (Kernel view text lanes)
-kernel_kept view word text lanes kv k kl = λ small. (
+pub kernel_kept : (version : Version) (view : List ℕ) (word : KernelWord) (text : KernelText) (lanes : ℕ) → KeptName view → KeptKernel word text → KeptCount lanes → IsKept version (Kernel view text lanes)
+kernel_kept version view word text lanes kv k kl = λ small. (
   fits_more 2 64 _ (omega arith) (fits_flat 2 (Word (codes "kernel")) _ refl kernel_command (fits_flat 2 (Word view) _ refl (name_in view kv)
       (fits_append 2 (kernel_tokens text) _ (kernel_fits word text k) (fits_flat 2 (Word (codes "lanes")) _ refl lanes_word (fits_more 0 2 _ (omega arith) (one_fits (count_token lanes) refl kl.spelled.0)))))),
-  command_line command.Kernel (codes "kernel") _ _ refl (join (Word view ∷ []) _ view _ kv.reads
+  command_line version command.Kernel (codes "kernel") _ _ refl (join (Word view ∷ []) _ view _ kv.reads
       (join (kernel_tokens text) (Word (codes "lanes") ∷ count_token lanes ∷ []) text _ (kernel_reads word text k)
       (refl, last (λ lanes. Kernel view text lanes) (count_token lanes ∷ []) lanes kl.reads))),
 )
@@ -258,12 +259,12 @@ index_tokens index = bracket_list (map (λ count. count_token count ∷ []) inde
 index_fits : (index : List ℕ) → Each IsSpelled (index_tokens index) → Fits 1 (index_tokens index)
 index_fits index h = bracket_list_fits 0 _ (counts_fit index (spelled_commas _ (each_front IsSpelled (with_commas (map (λ count. count_token count ∷ []) index)) (Sign CloseBracket ∷ []) h.1)))
 
-pub assign_kept : (view : List ℕ) (index : List ℕ) (path : List PathStep) (value : Value) → KeptName view → Kept (IsBracketList IsCount) index_tokens index → KeptPath path → IsGood value → IsKept (Assign view index path value)
-assign_kept view index path value kv ki kp good = λ small. (
+pub assign_kept : (version : Version) (view : List ℕ) (index : List ℕ) (path : List PathStep) (value : Value) → KeptName view → Kept (IsBracketList IsCount) index_tokens index → KeptPath path → IsGood value → IsKept version (Assign view index path value)
+assign_kept version view index path value kv ki kp good = λ small. (
   fits_more 32 64 _ (omega arith) (fits_flat 32 (Word (codes "set")) _ refl set_word (fits_flat 32 (Word view) _ refl (name_in view kv)
       (fits_append 32 (index_tokens index) _ (fits_more 1 32 _ (omega arith) (index_fits index ki.spelled)) (fits_flat 32 (Sign Dot) _ refl refl
       (fits_append 32 (path_tokens path) _ (fits_more 1 32 _ (omega arith) (path_in path kp)) (fits_flat 32 (Sign Equals) _ refl refl (value_in value good small))))))),
-  command_line command.Set (codes "set") _ _ refl (join (Word view ∷ []) _ view _ kv.reads
+  command_line version command.Set (codes "set") _ _ refl (join (Word view ∷ []) _ view _ kv.reads
       (join (index_tokens index) (Sign Dot ∷ (path_tokens path ++ Sign Equals ∷ value_tokens value)) index _ ki.reads (
         refl,
         join (path_tokens path) (Sign Equals ∷ value_tokens value) path _ kp.reads
@@ -321,12 +322,12 @@ filter_fits : (filter : Option Value) → IsGoodFilter filter → filter_depth f
 filter_fits None good small = fits_more 0 32 [] (omega arith) no_tokens_fit
 filter_fits (Some filter) good small = fits_flat 32 (Word (codes "where")) _ refl where_word (value_in filter good small)
 
-pub update_kept : (view : List ℕ) (filter : Option Value) (sets : List Assignment) → KeptName view → IsGoodFilter filter → IsFull sets → Each IsGoodSet sets → IsKept (Update view filter sets)
-update_kept view filter sets kv good full goods = λ small.
+pub update_kept : (version : Version) (view : List ℕ) (filter : Option Value) (sets : List Assignment) → KeptName view → IsGoodFilter filter → IsFull sets → Each IsGoodSet sets → IsKept version (Update view filter sets)
+update_kept version view filter sets kv good full goods = λ small.
     let low : filter_depth filter ≤ 32 = omega arith in let low' : deepest_set sets ≤ 32 = omega arith in (
       fits_more 32 64 _ (omega arith) (fits_flat 32 (Word (codes "update")) _ refl update_word (fits_flat 32 (Word view) _ refl (name_in view kv)
           (fits_append 32 (filter_tokens filter) _ (filter_fits filter good low) (fits_flat 32 (Word (codes "set")) _ refl set_word (commas_fit 32 _ (sets_fit sets goods low')))))),
-      command_line command.Update (codes "update") _ _ refl (join (Word view ∷ []) _ view _ kv.reads
+      command_line version command.Update (codes "update") _ _ refl (join (Word view ∷ []) _ view _ kv.reads
           (join (filter_tokens filter) (Word (codes "set") ∷ with_commas (map assignment_tokens sets)) filter _ (filter_reads filter good low)
           (refl, last (λ sets. Update view filter sets) (with_commas (map assignment_tokens sets)) sets (sets_read sets full goods low')))),
     )

@@ -7,113 +7,101 @@ use Rattle.extents.specs.declared.words.ExtentWord.{ExtentWord}
 use Rattle.map_expr.specs.Terms.{Term as MapTerm}
 use Rattle.line_grammar.specs.declared.token.Token.{Token}
 use Rattle.line_grammar.specs.declared.token.Token.TheVariants.{Word, Text, Sign}
+use Rattle.line_grammar.specs.declared.version.Version.{Version}
 use Rattle.line_grammar.specs.declared.line.Command.{Command}
 use Rattle.line_grammar.specs.declared.line.Command.TheVariants as command
 use Rattle.line_grammar.specs.declared.line.KernelWord.{KernelWord}
 use Rattle.line_grammar.specs.Sentences.{Assignment, Sentence, Blank, Define, Mapping, View, Load, Assign, Update, Kernel, Reduce, Count, Copy, Relayout, Print, Counts, Heat, Layout, Drop, Bytes}
-use Rattle.line_grammar.specs.Grammar.{Phrase, IsName, IsMore, IsListed, IsAssignment, IsFilter, IsKernel, IsBody, IsLine}
+use Rattle.line_grammar.specs.Grammar.{Phrase, IsName, IsMore, IsListed, IsAssignment, IsFilter, IsKernel, IsNew, IsBody, IsLine}
 use Rattle.line_grammar.specs.Words.{reduction_word, command_word}
-use Rattle.line_writer.specs.Canonical.{count_token, bracket_list, extent_tokens, map_tokens, path_tokens, view_tokens, line_tokens}
+use Rattle.line_writer.specs.Canonical.{count_token, bracket_list, extent_tokens, map_tokens, path_tokens, new_tokens, line_tokens}
 use Rattle.line_writer.proofs.Gives.{Each, each_append, Gives, nothing_gives, behind_gives, joined_gives, either_gives, repeats_gives, gives_also}
 use Rattle.line_writer.proofs.Words.{name_gives, count_gives, string_gives, reduction_gives, command_gives, kernel_word_gives}
-use Rattle.line_writer.proofs.Phrases.{sound, path_gives, fields_give, map_gives, bracket_list_gives, fixed_gives, extent_gives}
+use Rattle.line_writer.proofs.Phrases.{IsWritten, sound, path_gives, fields_give, map_gives, bracket_list_gives, fixed_gives, extent_gives}
 use Rattle.line_writer.proofs.Leaves.{expr_gives}
 use Rattle.line_writer.proofs.Kept.{kept_from, kept_gives, KeptKernel, kernel_inside_gives, IsGoodSet, IsGoodFilter, IsFull, index_tokens, IsKept, count_kept, kernel_kept, assign_kept, update_kept}
 
 -- the tokens are the canonical ones, or the line is kept
-abbrev pub IsDone : List Token → Sentence → Type 0
-IsDone xs sentence = (line_tokens sentence ≡ xs) ⊎ IsKept sentence
+abbrev pub IsDone : Version → List Token → Sentence → Type 0
+IsDone version xs sentence = (line_tokens sentence ≡ xs) ⊎ IsKept version sentence
 
 -- the same of what stands behind a word
-abbrev IsBehind : List ℕ → List Token → Sentence → Type 0
-IsBehind word xs sentence = IsDone (Word word ∷ xs) sentence
+abbrev IsBehind : Version → List ℕ → List Token → Sentence → Type 0
+IsBehind version word xs sentence = IsDone version (Word word ∷ xs) sentence
 
 -- a command with a name alone
-named_body : (word : List ℕ) (value : List ℕ → Sentence) → ((view : List ℕ) → line_tokens (value view) ≡ Word word ∷ Word view ∷ []) → Gives (Joined IsName (λ view. IsNothing (value view))) (IsBehind word)
-named_body word value is = joined_gives {Q = IsBehind word} name_gives (λ front view i same s.
-    nothing_gives {Q = λ xs v. IsBehind word (front ++ xs) v} (value view) (inl (is view ∙ ap (λ k. Word word ∷ (k ++ [])) same)))
+named_body : (version : Version) (word : List ℕ) (value : List ℕ → Sentence) → ((view : List ℕ) → line_tokens (value view) ≡ Word word ∷ Word view ∷ []) → Gives (Joined IsName (λ view. IsNothing (value view))) (IsBehind version word)
+named_body version word value is = joined_gives {Q = IsBehind version word} name_gives (λ front view i same s.
+    nothing_gives {Q = λ xs v. IsBehind version word (front ++ xs) v} (value view) (inl (is view ∙ ap (λ k. Word word ∷ (k ++ [])) same)))
 
-record_body : (n : ℕ) → Gives (IsBody n command.Record) (IsBehind (codes "record"))
-record_body n = joined_gives {Q = IsBehind (codes "record")} name_gives (λ front name i same s.
-    joined_gives {Q = λ xs v. IsBehind (codes "record") (front ++ xs) v} (fields_give n) (λ back fields i' same' s'.
-    nothing_gives {Q = λ xs v. IsBehind (codes "record") (front ++ (back ++ xs)) v} (Define name (Record fields))
+record_body : (version : Version) (n : ℕ) → Gives (IsBody version n command.Record) (IsBehind version (codes "record"))
+record_body version n = joined_gives {Q = IsBehind version (codes "record")} name_gives (λ front name i same s.
+    joined_gives {Q = λ xs v. IsBehind version (codes "record") (front ++ xs) v} (fields_give n) (λ back fields i' same' s'.
+    nothing_gives {Q = λ xs v. IsBehind version (codes "record") (front ++ (back ++ xs)) v} (Define name (Record fields))
     (inl (ap (λ k. Word (codes "record") ∷ Word name ∷ (k ++ [])) same' ∙ ap (λ k. Word (codes "record") ∷ (k ++ (back ++ []))) same))))
 
-mapping_body : (n : ℕ) → Gives (IsBody n command.Mapping) (IsBehind (codes "mapping"))
-mapping_body n = joined_gives {Q = IsBehind (codes "mapping")} name_gives (λ front name i same s. behind_gives {Q = λ xs v. IsBehind (codes "mapping") (front ++ xs) v} (Sign Equals) sound
-    (joined_gives {Q = λ xs v. IsBehind (codes "mapping") (front ++ (Sign Equals ∷ xs)) v} (map_gives n) (λ back term i' same' s'.
-    nothing_gives {Q = λ xs v. IsBehind (codes "mapping") (front ++ (Sign Equals ∷ (back ++ xs))) v} (Mapping name term)
+mapping_body : (version : Version) (n : ℕ) → Gives (IsBody version n command.Mapping) (IsBehind version (codes "mapping"))
+mapping_body version n = joined_gives {Q = IsBehind version (codes "mapping")} name_gives (λ front name i same s. behind_gives {Q = λ xs v. IsBehind version (codes "mapping") (front ++ xs) v} (Sign Equals) sound
+    (joined_gives {Q = λ xs v. IsBehind version (codes "mapping") (front ++ (Sign Equals ∷ xs)) v} (map_gives version n) (λ back term i' same' s'.
+    nothing_gives {Q = λ xs v. IsBehind version (codes "mapping") (front ++ (Sign Equals ∷ (back ++ xs))) v} (Mapping name term)
     (inl (ap (λ k. Word (codes "mapping") ∷ Word name ∷ Sign Equals ∷ k) (same' ∙ sym (append-nil back))
     ∙ ap (λ k. Word (codes "mapping") ∷ (k ++ (Sign Equals ∷ (back ++ [])))) same)))))
 
-relayout_body : (n : ℕ) → Gives (IsBody n command.Relayout) (IsBehind (codes "relayout"))
-relayout_body n = joined_gives {Q = IsBehind (codes "relayout")} name_gives (λ front name i same s. behind_gives {Q = λ xs v. IsBehind (codes "relayout") (front ++ xs) v} (Word (codes "as")) sound
-    (joined_gives {Q = λ xs v. IsBehind (codes "relayout") (front ++ (Word (codes "as") ∷ xs)) v} (map_gives n) (λ back term i' same' s'.
-    nothing_gives {Q = λ xs v. IsBehind (codes "relayout") (front ++ (Word (codes "as") ∷ (back ++ xs))) v} (Relayout name term)
+relayout_body : (version : Version) (n : ℕ) → Gives (IsBody version n command.Relayout) (IsBehind version (codes "relayout"))
+relayout_body version n = joined_gives {Q = IsBehind version (codes "relayout")} name_gives (λ front name i same s. behind_gives {Q = λ xs v. IsBehind version (codes "relayout") (front ++ xs) v} (Word (codes "as")) sound
+    (joined_gives {Q = λ xs v. IsBehind version (codes "relayout") (front ++ (Word (codes "as") ∷ xs)) v} (map_gives version n) (λ back term i' same' s'.
+    nothing_gives {Q = λ xs v. IsBehind version (codes "relayout") (front ++ (Word (codes "as") ∷ (back ++ xs))) v} (Relayout name term)
     (inl (ap (λ k. Word (codes "relayout") ∷ Word name ∷ Word (codes "as") ∷ k) (same' ∙ sym (append-nil back))
     ∙ ap (λ k. Word (codes "relayout") ∷ (k ++ (Word (codes "as") ∷ (back ++ [])))) same)))))
 
-copy_body : (n : ℕ) → Gives (IsBody n command.Copy) (IsBehind (codes "copy"))
-copy_body n = joined_gives {Q = IsBehind (codes "copy")} name_gives (λ front source i same s. behind_gives {Q = λ xs v. IsBehind (codes "copy") (front ++ xs) v} (Word (codes "to")) sound
-    (joined_gives {Q = λ xs v. IsBehind (codes "copy") (front ++ (Word (codes "to") ∷ xs)) v} name_gives (λ back target i' same' s'.
-    nothing_gives {Q = λ xs v. IsBehind (codes "copy") (front ++ (Word (codes "to") ∷ (back ++ xs))) v} (Copy source target)
+copy_body : (version : Version) (n : ℕ) → Gives (IsBody version n command.Copy) (IsBehind version (codes "copy"))
+copy_body version n = joined_gives {Q = IsBehind version (codes "copy")} name_gives (λ front source i same s. behind_gives {Q = λ xs v. IsBehind version (codes "copy") (front ++ xs) v} (Word (codes "to")) sound
+    (joined_gives {Q = λ xs v. IsBehind version (codes "copy") (front ++ (Word (codes "to") ∷ xs)) v} name_gives (λ back target i' same' s'.
+    nothing_gives {Q = λ xs v. IsBehind version (codes "copy") (front ++ (Word (codes "to") ∷ (back ++ xs))) v} (Copy source target)
     (inl (ap (λ k. Word (codes "copy") ∷ Word source ∷ Word (codes "to") ∷ k) (same' ∙ sym (append-nil back))
     ∙ ap (λ k. Word (codes "copy") ∷ (k ++ (Word (codes "to") ∷ (back ++ [])))) same)))))
 
-bytes_body : (n : ℕ) → Gives (IsBody n command.Bytes) (IsBehind (codes "bytes"))
-bytes_body n = joined_gives {Q = IsBehind (codes "bytes")} name_gives (λ front view i same s.
-    joined_gives {Q = λ xs v. IsBehind (codes "bytes") (front ++ xs) v} count_gives (λ back blob i' same' s'.
-    nothing_gives {Q = λ xs v. IsBehind (codes "bytes") (front ++ (back ++ xs)) v} (Bytes view blob)
+bytes_body : (version : Version) (n : ℕ) → Gives (IsBody version n command.Bytes) (IsBehind version (codes "bytes"))
+bytes_body version n = joined_gives {Q = IsBehind version (codes "bytes")} name_gives (λ front view i same s.
+    joined_gives {Q = λ xs v. IsBehind version (codes "bytes") (front ++ xs) v} count_gives (λ back blob i' same' s'.
+    nothing_gives {Q = λ xs v. IsBehind version (codes "bytes") (front ++ (back ++ xs)) v} (Bytes view blob)
     (inl (ap (λ k. Word (codes "bytes") ∷ Word view ∷ (k ++ [])) same' ∙ ap (λ k. Word (codes "bytes") ∷ (k ++ (back ++ []))) same))))
 
--- the parts of a view, up to its mapping
-view_same : (name schema : List ℕ) (words : List ExtentWord) (term : MapTerm) (f g w m : List Token) →
-    Word name ∷ [] ≡ f → Word schema ∷ [] ≡ g → bracket_list (map extent_tokens words) ≡ w → map_tokens term ≡ m →
-    view_tokens name schema words term ≡ f ++ (Sign Colon ∷ (g ++ (w ++ (Word (codes "as") ∷ m))))
-view_same name schema words term f g w m a b c d =
-    ap (λ k. Word name ∷ Sign Colon ∷ Word schema ∷ (bracket_list (map extent_tokens words) ++ Word (codes "as") ∷ k)) d
-    ∙ ap (λ k. Word name ∷ Sign Colon ∷ Word schema ∷ (k ++ Word (codes "as") ∷ m)) c
-    ∙ ap (λ k. Word name ∷ Sign Colon ∷ (k ++ (w ++ Word (codes "as") ∷ m))) b
-    ∙ ap (λ k. k ++ (Sign Colon ∷ (g ++ (w ++ Word (codes "as") ∷ m)))) a
+-- what makes a view
+new_gives : (version : Version) {IsWord : Phrase ExtentWord} (n : ℕ) → Gives IsWord (IsWritten extent_tokens) → Gives (IsNew version IsWord n) (IsWritten new_tokens)
+new_gives version n one = joined_gives {Q = IsWritten new_tokens} name_gives (λ f name i1 a s1. behind_gives {Q = λ xs v. new_tokens v ≡ f ++ xs} (Sign Colon) sound
+    (joined_gives {Q = λ xs v. new_tokens v ≡ f ++ (Sign Colon ∷ xs)} name_gives (λ g schema i2 b s2.
+    joined_gives {Q = λ xs v. new_tokens v ≡ f ++ (Sign Colon ∷ (g ++ xs))} (bracket_list_gives extent_tokens one) (λ w words i3 c s3.
+    behind_gives {Q = λ xs v. new_tokens v ≡ f ++ (Sign Colon ∷ (g ++ (w ++ xs)))} (Word (codes "as")) sound
+    (joined_gives {Q = λ xs v. new_tokens v ≡ f ++ (Sign Colon ∷ (g ++ (w ++ (Word (codes "as") ∷ xs))))} (map_gives version n) (λ m term i4 d s4.
+    nothing_gives {Q = λ xs v. new_tokens v ≡ f ++ (Sign Colon ∷ (g ++ (w ++ (Word (codes "as") ∷ (m ++ xs)))))} (record { name = name; schema = schema; words = words; term = term })
+    (ap (λ k. Word name ∷ Sign Colon ∷ Word schema ∷ (bracket_list (map extent_tokens words) ++ Word (codes "as") ∷ k)) (d ∙ sym (append-nil m))
+    ∙ ap (λ k. Word name ∷ Sign Colon ∷ Word schema ∷ (k ++ Word (codes "as") ∷ (m ++ []))) c
+    ∙ ap (λ k. Word name ∷ Sign Colon ∷ (k ++ (w ++ Word (codes "as") ∷ (m ++ [])))) b
+    ∙ ap (λ k. k ++ (Sign Colon ∷ (g ++ (w ++ Word (codes "as") ∷ (m ++ []))))) a)))))))
 
-view_body : (n : ℕ) → Gives (IsBody n command.View) (IsBehind (codes "view"))
-view_body n = joined_gives {Q = IsBehind (codes "view")} name_gives (λ f name i1 a s1. behind_gives {Q = λ xs v. IsBehind (codes "view") (f ++ xs) v} (Sign Colon) sound
-    (joined_gives {Q = λ xs v. IsBehind (codes "view") (f ++ (Sign Colon ∷ xs)) v} name_gives (λ g schema i2 b s2.
-    joined_gives {Q = λ xs v. IsBehind (codes "view") (f ++ (Sign Colon ∷ (g ++ xs))) v} (bracket_list_gives extent_tokens fixed_gives) (λ w words i3 c s3.
-    behind_gives {Q = λ xs v. IsBehind (codes "view") (f ++ (Sign Colon ∷ (g ++ (w ++ xs)))) v} (Word (codes "as")) sound
-    (joined_gives {Q = λ xs v. IsBehind (codes "view") (f ++ (Sign Colon ∷ (g ++ (w ++ (Word (codes "as") ∷ xs))))) v} (map_gives n) (λ m term i4 d s4.
-    nothing_gives {Q = λ xs v. IsBehind (codes "view") (f ++ (Sign Colon ∷ (g ++ (w ++ (Word (codes "as") ∷ (m ++ xs)))))) v} (View name schema words term)
-    (inl (ap (λ k. Word (codes "view") ∷ k) (view_same name schema words term f g w (m ++ []) a b c (d ∙ sym (append-nil m)))))))))))
+view_body : (version : Version) (n : ℕ) → Gives (IsBody version n command.View) (IsBehind version (codes "view"))
+view_body version n = joined_gives {Q = IsBehind version (codes "view")} (new_gives version n fixed_gives) (λ f new i same s.
+    nothing_gives {Q = λ xs v. IsBehind version (codes "view") (f ++ xs) v} (View new) (inl (ap (λ k. Word (codes "view") ∷ k) (same ∙ sym (append-nil f)))))
 
-load_same : (f g w m t : List Token) → (f ++ (Sign Colon ∷ (g ++ (w ++ (Word (codes "as") ∷ m))))) ++ Word (codes "from") ∷ t
-    ≡ f ++ (Sign Colon ∷ (g ++ (w ++ (Word (codes "as") ∷ (m ++ (Word (codes "from") ∷ t))))))
-load_same f g w m t =
-    append_assoc f (Sign Colon ∷ (g ++ (w ++ (Word (codes "as") ∷ m)))) (Word (codes "from") ∷ t)
-    ∙ ap (λ k. f ++ (Sign Colon ∷ k)) (append_assoc g (w ++ (Word (codes "as") ∷ m)) (Word (codes "from") ∷ t)
-    ∙ ap (λ k. g ++ k) (append_assoc w (Word (codes "as") ∷ m) (Word (codes "from") ∷ t)))
-
-load_body : (n : ℕ) → Gives (IsBody n command.Load) (IsBehind (codes "load"))
-load_body n = joined_gives {Q = IsBehind (codes "load")} name_gives (λ f name i1 a s1. behind_gives {Q = λ xs v. IsBehind (codes "load") (f ++ xs) v} (Sign Colon) sound
-    (joined_gives {Q = λ xs v. IsBehind (codes "load") (f ++ (Sign Colon ∷ xs)) v} name_gives (λ g schema i2 b s2.
-    joined_gives {Q = λ xs v. IsBehind (codes "load") (f ++ (Sign Colon ∷ (g ++ xs))) v} (bracket_list_gives extent_tokens extent_gives) (λ w words i3 c s3.
-    behind_gives {Q = λ xs v. IsBehind (codes "load") (f ++ (Sign Colon ∷ (g ++ (w ++ xs)))) v} (Word (codes "as")) sound
-    (joined_gives {Q = λ xs v. IsBehind (codes "load") (f ++ (Sign Colon ∷ (g ++ (w ++ (Word (codes "as") ∷ xs))))) v} (map_gives n) (λ m term i4 d s4.
-    behind_gives {Q = λ xs v. IsBehind (codes "load") (f ++ (Sign Colon ∷ (g ++ (w ++ (Word (codes "as") ∷ (m ++ xs)))))) v} (Word (codes "from")) sound
-    (joined_gives {Q = λ xs v. IsBehind (codes "load") (f ++ (Sign Colon ∷ (g ++ (w ++ (Word (codes "as") ∷ (m ++ (Word (codes "from") ∷ xs))))))) v} string_gives (λ t file i5 e s5.
-    nothing_gives {Q = λ xs v. IsBehind (codes "load") (f ++ (Sign Colon ∷ (g ++ (w ++ (Word (codes "as") ∷ (m ++ (Word (codes "from") ∷ (t ++ xs)))))))) v} (Load name schema words term file)
-    (inl (ap (λ k. Word (codes "load") ∷ (k ++ Word (codes "from") ∷ Text file ∷ [])) (view_same name schema words term f g w m a b c d)
-    ∙ ap (λ k. Word (codes "load") ∷ k) (load_same f g w m (Text file ∷ []) ∙ ap (λ k. f ++ (Sign Colon ∷ (g ++ (w ++ (Word (codes "as") ∷ (m ++ (Word (codes "from") ∷ k))))))) (e ∙ sym (append-nil t)))))))))))))
+load_body : (version : Version) (n : ℕ) → Gives (IsBody version n command.Load) (IsBehind version (codes "load"))
+load_body version n = joined_gives {Q = IsBehind version (codes "load")} (new_gives version n extent_gives) (λ f new i same s.
+    behind_gives {Q = λ xs v. IsBehind version (codes "load") (f ++ xs) v} (Word (codes "from")) sound
+    (joined_gives {Q = λ xs v. IsBehind version (codes "load") (f ++ (Word (codes "from") ∷ xs)) v} string_gives (λ g file i' same' s'.
+    nothing_gives {Q = λ xs v. IsBehind version (codes "load") (f ++ (Word (codes "from") ∷ (g ++ xs))) v} (Load new file)
+    (inl (ap (λ k. Word (codes "load") ∷ (k ++ Word (codes "from") ∷ Text file ∷ [])) same
+    ∙ ap (λ k. Word (codes "load") ∷ (f ++ Word (codes "from") ∷ k)) (same' ∙ sym (append-nil g)))))))
 
 -- lines with expressions and kernels
-kept_behind : (word : List ℕ) {Is : Phrase Sentence} → Gives Is (λ xs v. IsKept v) → Gives Is (IsBehind word)
-kept_behind word one = gives_also one (λ xs v i s h. inr h)
+kept_behind : (version : Version) (word : List ℕ) {Is : Phrase Sentence} → Gives Is (λ xs v. IsKept version v) → Gives Is (IsBehind version word)
+kept_behind version word one = gives_also one (λ xs v i s h. inr h)
 
-set_body : (n : ℕ) → Gives (IsBody n command.Set) (λ xs v. IsKept v)
-set_body n = joined_gives {Q = λ xs v. IsKept v} (kept_gives (λ k. Word k ∷ []) name_gives) (λ f view i1 kv s1.
-    joined_gives {Q = λ xs v. IsKept v} (kept_gives index_tokens (bracket_list_gives (λ count. count_token count ∷ []) count_gives)) (λ g index i2 ki s2.
-    behind_gives {Q = λ xs v. IsKept v} (Sign Dot) sound (joined_gives {Q = λ xs v. IsKept v} (kept_gives path_tokens path_gives) (λ h path i3 kp s3.
-    behind_gives {Q = λ xs v. IsKept v} (Sign Equals) sound (joined_gives {Q = λ xs v. IsKept v} (expr_gives n) (λ e value i4 good s4.
-    nothing_gives {Q = λ xs v. IsKept v} (Assign view index path value) (assign_kept view index path value kv ki kp good)))))))
+set_body : (version : Version) (n : ℕ) → Gives (IsBody version n command.Set) (λ xs v. IsKept version v)
+set_body version n = joined_gives {Q = λ xs v. IsKept version v} (kept_gives (λ k. Word k ∷ []) name_gives) (λ f view i1 kv s1.
+    joined_gives {Q = λ xs v. IsKept version v} (kept_gives index_tokens (bracket_list_gives (λ count. count_token count ∷ []) count_gives)) (λ g index i2 ki s2.
+    behind_gives {Q = λ xs v. IsKept version v} (Sign Dot) sound (joined_gives {Q = λ xs v. IsKept version v} (kept_gives path_tokens path_gives) (λ h path i3 kp s3.
+    behind_gives {Q = λ xs v. IsKept version v} (Sign Equals) sound (joined_gives {Q = λ xs v. IsKept version v} (expr_gives n) (λ e value i4 good s4.
+    nothing_gives {Q = λ xs v. IsKept version v} (Assign view index path value) (assign_kept version view index path value kv ki kp good)))))))
 
 filter_gives : (n : ℕ) → Gives (IsFilter n) (λ xs v. IsGoodFilter v)
 filter_gives n = either_gives
@@ -137,59 +125,59 @@ sets_give n = joined_gives {Q = λ xs v. IsFull v × Each IsGoodSet v} (assignme
     nothing_gives {Q = λ xs v. IsFull v × Each IsGoodSet v} (found ++ next ∷ []) (full_more found next, each_append IsGoodSet found (next ∷ []) goods.1 (good', tt))))
     (first ∷ []) (tt, (good, tt)))
 
-update_body : (n : ℕ) → Gives (IsBody n command.Update) (λ xs v. IsKept v)
-update_body n = joined_gives {Q = λ xs v. IsKept v} (kept_gives (λ k. Word k ∷ []) name_gives) (λ f view i1 kv s1.
-    joined_gives {Q = λ xs v. IsKept v} (filter_gives n) (λ g filter i2 good s2.
-    behind_gives {Q = λ xs v. IsKept v} (Word (codes "set")) sound (joined_gives {Q = λ xs v. IsKept v} (sets_give n) (λ h sets i3 goods s3.
-    nothing_gives {Q = λ xs v. IsKept v} (Update view filter sets) (update_kept view filter sets kv good goods.0 goods.1)))))
+update_body : (version : Version) (n : ℕ) → Gives (IsBody version n command.Update) (λ xs v. IsKept version v)
+update_body version n = joined_gives {Q = λ xs v. IsKept version v} (kept_gives (λ k. Word k ∷ []) name_gives) (λ f view i1 kv s1.
+    joined_gives {Q = λ xs v. IsKept version v} (filter_gives n) (λ g filter i2 good s2.
+    behind_gives {Q = λ xs v. IsKept version v} (Word (codes "set")) sound (joined_gives {Q = λ xs v. IsKept version v} (sets_give n) (λ h sets i3 goods s3.
+    nothing_gives {Q = λ xs v. IsKept version v} (Update view filter sets) (update_kept version view filter sets kv good goods.0 goods.1)))))
 
 kernel_gives : Gives IsKernel (λ xs text. (word : KernelWord) × KeptKernel word text)
 kernel_gives = joined_gives {Q = λ xs text. (word : KernelWord) × KeptKernel word text} kernel_word_gives (λ f word i1 e s1.
     behind_gives {Q = λ xs text. (word : KernelWord) × KeptKernel word text} (Sign OpenParen) sound (joined_gives {Q = λ xs text. (word : KernelWord) × KeptKernel word text} (kernel_inside_gives word) (λ g text i2 k s2.
     behind_gives {Q = λ xs text. (word : KernelWord) × KeptKernel word text} (Sign CloseParen) sound (nothing_gives {Q = λ xs text. (word : KernelWord) × KeptKernel word text} text (word, k)))))
 
-kernel_body : (n : ℕ) → Gives (IsBody n command.Kernel) (λ xs v. IsKept v)
-kernel_body n = joined_gives {Q = λ xs v. IsKept v} (kept_gives (λ k. Word k ∷ []) name_gives) (λ f view i1 kv s1.
-    joined_gives {Q = λ xs v. IsKept v} kernel_gives (λ g text i2 k s2.
-    behind_gives {Q = λ xs v. IsKept v} (Word (codes "lanes")) sound (joined_gives {Q = λ xs v. IsKept v} (kept_gives (λ k. count_token k ∷ []) count_gives) (λ h lanes i3 kl s3.
-    nothing_gives {Q = λ xs v. IsKept v} (Kernel view text lanes) (kernel_kept view k.0 text lanes kv k.1 kl)))))
+kernel_body : (version : Version) (n : ℕ) → Gives (IsBody version n command.Kernel) (λ xs v. IsKept version v)
+kernel_body version n = joined_gives {Q = λ xs v. IsKept version v} (kept_gives (λ k. Word k ∷ []) name_gives) (λ f view i1 kv s1.
+    joined_gives {Q = λ xs v. IsKept version v} kernel_gives (λ g text i2 k s2.
+    behind_gives {Q = λ xs v. IsKept version v} (Word (codes "lanes")) sound (joined_gives {Q = λ xs v. IsKept version v} (kept_gives (λ k. count_token k ∷ []) count_gives) (λ h lanes i3 kl s3.
+    nothing_gives {Q = λ xs v. IsKept version v} (Kernel view text lanes) (kernel_kept version view k.0 text lanes kv k.1 kl)))))
 
-reduce_body : (n : ℕ) → Gives (IsBody n command.Reduce) (IsBehind (codes "reduce"))
-reduce_body n = joined_gives {Q = IsBehind (codes "reduce")} name_gives (λ f view i1 a s1. either_gives
-    (behind_gives {Q = λ xs v. IsBehind (codes "reduce") (f ++ xs) v} (Word (codes "count")) sound
-    (behind_gives {Q = λ xs v. IsBehind (codes "reduce") (f ++ (Word (codes "count") ∷ xs)) v} (Word (codes "where")) sound
-    (joined_gives {Q = λ xs v. IsBehind (codes "reduce") (f ++ (Word (codes "count") ∷ (Word (codes "where") ∷ xs))) v} (expr_gives n) (λ g filter i2 good s2.
-    nothing_gives {Q = λ xs v. IsBehind (codes "reduce") (f ++ (Word (codes "count") ∷ (Word (codes "where") ∷ (g ++ xs)))) v} (Count view filter)
-    (inr (count_kept view filter (kept_from IsName (λ k. Word k ∷ []) f view a i1 s1) good))))))
-    (joined_gives {Q = λ xs v. IsBehind (codes "reduce") (f ++ xs) v} reduction_gives (λ g kind i2 b s2.
-    joined_gives {Q = λ xs v. IsBehind (codes "reduce") (f ++ (g ++ xs)) v} path_gives (λ h path i3 c s3.
-    nothing_gives {Q = λ xs v. IsBehind (codes "reduce") (f ++ (g ++ (h ++ xs))) v} (Reduce view kind path)
+reduce_body : (version : Version) (n : ℕ) → Gives (IsBody version n command.Reduce) (IsBehind version (codes "reduce"))
+reduce_body version n = joined_gives {Q = IsBehind version (codes "reduce")} name_gives (λ f view i1 a s1. either_gives
+    (behind_gives {Q = λ xs v. IsBehind version (codes "reduce") (f ++ xs) v} (Word (codes "count")) sound
+    (behind_gives {Q = λ xs v. IsBehind version (codes "reduce") (f ++ (Word (codes "count") ∷ xs)) v} (Word (codes "where")) sound
+    (joined_gives {Q = λ xs v. IsBehind version (codes "reduce") (f ++ (Word (codes "count") ∷ (Word (codes "where") ∷ xs))) v} (expr_gives n) (λ g filter i2 good s2.
+    nothing_gives {Q = λ xs v. IsBehind version (codes "reduce") (f ++ (Word (codes "count") ∷ (Word (codes "where") ∷ (g ++ xs)))) v} (Count view filter)
+    (inr (count_kept version view filter (kept_from IsName (λ k. Word k ∷ []) f view a i1 s1) good))))))
+    (joined_gives {Q = λ xs v. IsBehind version (codes "reduce") (f ++ xs) v} reduction_gives (λ g kind i2 b s2.
+    joined_gives {Q = λ xs v. IsBehind version (codes "reduce") (f ++ (g ++ xs)) v} path_gives (λ h path i3 c s3.
+    nothing_gives {Q = λ xs v. IsBehind version (codes "reduce") (f ++ (g ++ (h ++ xs))) v} (Reduce view kind path)
     (inl (ap (λ k. Word (codes "reduce") ∷ Word view ∷ Word (reduction_word kind) ∷ k) (c ∙ sym (append-nil h))
     ∙ ap (λ k. Word (codes "reduce") ∷ Word view ∷ (k ++ (h ++ []))) b
     ∙ ap (λ k. Word (codes "reduce") ∷ (k ++ (g ++ (h ++ [])))) a))))))
 
-body_gives : (n : ℕ) (c : Command) → Gives (IsBody n c) (IsBehind (command_word c))
-body_gives n command.Record = record_body n
-body_gives n command.Mapping = mapping_body n
-body_gives n command.View = view_body n
-body_gives n command.Load = load_body n
-body_gives n command.Set = kept_behind (codes "set") (set_body n)
-body_gives n command.Update = kept_behind (codes "update") (update_body n)
-body_gives n command.Kernel = kept_behind (codes "kernel") (kernel_body n)
-body_gives n command.Reduce = reduce_body n
-body_gives n command.Copy = copy_body n
-body_gives n command.Relayout = relayout_body n
-body_gives n command.Print = named_body (codes "print") Print (λ view. refl)
-body_gives n command.Counts = named_body (codes "counts") Counts (λ view. refl)
-body_gives n command.Heat = named_body (codes "heat") Heat (λ view. refl)
-body_gives n command.Layout = named_body (codes "layout") Layout (λ view. refl)
-body_gives n command.Drop = named_body (codes "drop") Drop (λ view. refl)
-body_gives n command.Bytes = bytes_body n
+body_gives : (version : Version) (n : ℕ) (c : Command) → Gives (IsBody version n c) (IsBehind version (command_word c))
+body_gives version n command.Record = record_body version n
+body_gives version n command.Mapping = mapping_body version n
+body_gives version n command.View = view_body version n
+body_gives version n command.Load = load_body version n
+body_gives version n command.Set = kept_behind version (codes "set") (set_body version n)
+body_gives version n command.Update = kept_behind version (codes "update") (update_body version n)
+body_gives version n command.Kernel = kept_behind version (codes "kernel") (kernel_body version n)
+body_gives version n command.Reduce = reduce_body version n
+body_gives version n command.Copy = copy_body version n
+body_gives version n command.Relayout = relayout_body version n
+body_gives version n command.Print = named_body version (codes "print") Print (λ view. refl)
+body_gives version n command.Counts = named_body version (codes "counts") Counts (λ view. refl)
+body_gives version n command.Heat = named_body version (codes "heat") Heat (λ view. refl)
+body_gives version n command.Layout = named_body version (codes "layout") Layout (λ view. refl)
+body_gives version n command.Drop = named_body version (codes "drop") Drop (λ view. refl)
+body_gives version n command.Bytes = bytes_body version n
 
-done_along : (xs ys : List Token) (v : Sentence) → xs ≡ ys → IsDone xs v → IsDone ys v
-done_along xs ys v e (inl h) = inl (h ∙ e)
-done_along xs ys v e (inr h) = inr h
+done_along : (version : Version) (xs ys : List Token) (v : Sentence) → xs ≡ ys → IsDone version xs v → IsDone version ys v
+done_along version xs ys v e (inl h) = inl (h ∙ e)
+done_along version xs ys v e (inr h) = inr h
 
-pub line_gives : (n : ℕ) → Gives (IsLine n) IsDone
-line_gives n = either_gives (nothing_gives {Q = IsDone} Blank (inl refl))
-    (joined_gives {Q = IsDone} command_gives (λ front c i same s. gives_also (body_gives n c) (λ xs v i s h. done_along _ _ v (ap (λ k. k ++ xs) same) h)))
+pub line_gives : (version : Version) (n : ℕ) → Gives (IsLine version n) (IsDone version)
+line_gives version n = either_gives (nothing_gives {Q = IsDone version} Blank (inl refl))
+    (joined_gives {Q = IsDone version} command_gives (λ front c i same s. gives_also (body_gives version n c) (λ xs v i s h. done_along version _ _ v (ap (λ k. k ++ xs) same) h)))

@@ -11,6 +11,7 @@ use Rattle.extents.specs.declared.order.Order.{Order}
 use Rattle.map_expr.specs.Terms.{Term as MapTerm, Aos, Soa, Aosoa, BitAos, BitSoa, Split, Byteswap, Bytesplit, Change, Count as Counted, Heat as Heated, Named}
 use Rattle.line_grammar.specs.declared.token.Token.{Token}
 use Rattle.line_grammar.specs.declared.token.Token.TheVariants.{Word, Sign}
+use Rattle.line_grammar.specs.declared.version.Version.{Version}
 use Rattle.line_grammar.specs.declared.line.MapWord.{MapWord}
 use Rattle.line_grammar.specs.declared.line.MapWord.TheVariants as form
 use Rattle.line_grammar.specs.Tokens.{map_word, order_of}
@@ -161,8 +162,8 @@ inner_gives word value one is = joined_gives {Q = IsInside word} one (λ front i
     nothing_gives {Q = λ xs v. IsInside word (front ++ xs) v} (value inner)
     (is inner ∙ ap (λ k. form_tokens word k) (same ∙ sym (append-nil front))))
 
-split_gives : {Is : Phrase MapTerm} → Gives Is (IsWritten map_tokens) → Gives (IsForm Is form.Split) (IsInside (codes "split"))
-split_gives one = joined_gives {Q = IsInside (codes "split")} path_gives (λ front path i same s.
+split_gives : (version : Version) {Is : Phrase MapTerm} → Gives Is (IsWritten map_tokens) → Gives (IsForm version Is form.Split) (IsInside (codes "split"))
+split_gives version one = joined_gives {Q = IsInside (codes "split")} path_gives (λ front path i same s.
     behind_gives {Q = λ xs v. IsInside (codes "split") (front ++ xs) v} (Sign Comma) sound
     (joined_gives {Q = λ xs v. IsInside (codes "split") (front ++ (Sign Comma ∷ xs)) v} one (λ middle first i' same' s'.
     behind_gives {Q = λ xs v. IsInside (codes "split") (front ++ (Sign Comma ∷ (middle ++ xs))) v} (Sign Comma) sound
@@ -172,8 +173,8 @@ split_gives one = joined_gives {Q = IsInside (codes "split")} path_gives (λ fro
     ∙ ap (λ k. form_tokens (codes "split") (front ++ Sign Comma ∷ (k ++ Sign Comma ∷ map_tokens rest))) same'
     ∙ ap (λ k. form_tokens (codes "split") (front ++ Sign Comma ∷ (middle ++ Sign Comma ∷ k))) (same'' ∙ sym (append-nil back))))))))
 
-change_gives : {Is : Phrase MapTerm} → Gives Is (IsWritten map_tokens) → Gives (IsForm Is form.Change) (IsInside (codes "change"))
-change_gives one = joined_gives {Q = IsInside (codes "change")} type_gives (λ front from i same s.
+change_gives : (version : Version) {Is : Phrase MapTerm} → Gives Is (IsWritten map_tokens) → Gives (IsForm version Is form.Change) (IsInside (codes "change"))
+change_gives version one = joined_gives {Q = IsInside (codes "change")} type_gives (λ front from i same s.
     behind_gives {Q = λ xs v. IsInside (codes "change") (front ++ xs) v} (Sign Arrow) sound
     (joined_gives {Q = λ xs v. IsInside (codes "change") (front ++ (Sign Arrow ∷ xs)) v} integer_type_gives (λ middle to i' same' s'.
     behind_gives {Q = λ xs v. IsInside (codes "change") (front ++ (Sign Arrow ∷ (middle ++ xs))) v} (Sign Comma) sound
@@ -183,46 +184,46 @@ change_gives one = joined_gives {Q = IsInside (codes "change")} type_gives (λ f
     ∙ ap (λ k. form_tokens (codes "change") (front ++ Sign Arrow ∷ (k ++ Sign Comma ∷ map_tokens inner))) same'
     ∙ ap (λ k. form_tokens (codes "change") (front ++ Sign Arrow ∷ (middle ++ Sign Comma ∷ k))) (same'' ∙ sym (append-nil back))))))))
 
-heat_gives : {Is : Phrase MapTerm} → Gives Is (IsWritten map_tokens) → Gives (IsForm Is form.Heat) (IsInside (codes "heat"))
-heat_gives one = joined_gives {Q = IsInside (codes "heat")} count_gives (λ front granule i same s.
+heat_gives : (version : Version) {Is : Phrase MapTerm} → Gives Is (IsWritten map_tokens) → Gives (IsForm version Is form.Heat) (IsInside (codes "heat"))
+heat_gives version one = joined_gives {Q = IsInside (codes "heat")} count_gives (λ front granule i same s.
     behind_gives {Q = λ xs v. IsInside (codes "heat") (front ++ xs) v} (Sign Comma) sound
     (joined_gives {Q = λ xs v. IsInside (codes "heat") (front ++ (Sign Comma ∷ xs)) v} one (λ back inner i' same' s'.
     nothing_gives {Q = λ xs v. IsInside (codes "heat") (front ++ (Sign Comma ∷ (back ++ xs))) v} (Heated granule inner)
     (ap (λ k. form_tokens (codes "heat") (k ++ Sign Comma ∷ map_tokens inner)) same
     ∙ ap (λ k. form_tokens (codes "heat") (front ++ Sign Comma ∷ k)) (same' ∙ sym (append-nil back))))))
 
-form_gives : {Is : Phrase MapTerm} → Gives Is (IsWritten map_tokens) → (form : MapWord) → Gives (IsForm Is form) (IsInside (form_word form))
-form_gives one form.Aos = ordered_gives (λ form. Word (aos_word form)) (codes "aos") Aos aos_form_gives (λ form order. refl)
-form_gives one form.Soa = ordered_gives (λ form. Word (soa_word form)) (codes "soa") Soa soa_form_gives (λ form order. refl)
-form_gives one form.Aosoa = ordered_gives count_token (codes "aosoa") Aosoa count_gives (λ lanes order. refl)
-form_gives one form.BitAos = ordered_gives count_token (codes "bitaos") BitAos count_gives (λ width order. refl)
-form_gives one form.BitSoa = ordered_gives count_token (codes "bitsoa") BitSoa count_gives (λ width order. refl)
-form_gives one form.Split = split_gives one
-form_gives one form.Byteswap = inner_gives (codes "byteswap") Byteswap one (λ inner. refl)
-form_gives one form.Bytesplit = inner_gives (codes "bytesplit") Bytesplit one (λ inner. refl)
-form_gives one form.Change = change_gives one
-form_gives one form.Count = inner_gives (codes "count") Counted one (λ inner. refl)
-form_gives one form.Heat = heat_gives one
+form_gives : (version : Version) {Is : Phrase MapTerm} → Gives Is (IsWritten map_tokens) → (form : MapWord) → Gives (IsForm version Is form) (IsInside (form_word form))
+form_gives version one form.Aos = ordered_gives (λ form. Word (aos_word form)) (codes "aos") Aos aos_form_gives (λ form order. refl)
+form_gives version one form.Soa = ordered_gives (λ form. Word (soa_word form)) (codes "soa") Soa soa_form_gives (λ form order. refl)
+form_gives version one form.Aosoa = ordered_gives count_token (codes "aosoa") Aosoa count_gives (λ lanes order. refl)
+form_gives version one form.BitAos = ordered_gives count_token (codes "bitaos") BitAos count_gives (λ width order. refl)
+form_gives version one form.BitSoa = ordered_gives count_token (codes "bitsoa") BitSoa count_gives (λ width order. refl)
+form_gives version one form.Split = split_gives version one
+form_gives version one form.Byteswap = inner_gives (codes "byteswap") Byteswap one (λ inner. refl)
+form_gives version one form.Bytesplit = inner_gives (codes "bytesplit") Bytesplit one (λ inner. refl)
+form_gives version one form.Change = change_gives version one
+form_gives version one form.Count = inner_gives (codes "count") Counted one (λ inner. refl)
+form_gives version one form.Heat = heat_gives version one
 
 -- what stands behind the word that begins a mapping
 abbrev IsBehindWord : List ℕ → List Token → MapTerm → Type 0
 IsBehindWord word xs v = map_tokens v ≡ Word word ∷ xs
 
-form_or_name_gives : {Is : Phrase MapTerm} → Gives Is (IsWritten map_tokens) → (word : List ℕ) (form : Option MapWord) → map_word word ≡ form → Gives (IsFormOrName Is word form) (IsBehindWord word)
-form_or_name_gives one word None is = nothing_gives {Q = IsBehindWord word} (Named word) refl
-form_or_name_gives {Is = Is} one word (Some form) is = either_gives
+form_or_name_gives : (version : Version) {Is : Phrase MapTerm} → Gives Is (IsWritten map_tokens) → (word : List ℕ) (form : Option MapWord) → map_word word ≡ form → Gives (IsFormOrName version Is word form) (IsBehindWord word)
+form_or_name_gives version one word None is = nothing_gives {Q = IsBehindWord word} (Named word) refl
+form_or_name_gives version {Is = Is} one word (Some form) is = either_gives
     (behind_gives {Q = IsBehindWord word} (Sign OpenParen) sound
-    (joined_gives {Q = λ xs v. IsBehindWord word (Sign OpenParen ∷ xs) v} (form_gives one form) (λ front map i same s.
+    (joined_gives {Q = λ xs v. IsBehindWord word (Sign OpenParen ∷ xs) v} (form_gives version one form) (λ front map i same s.
     behind_gives {Q = λ xs v. IsBehindWord word (Sign OpenParen ∷ (front ++ xs)) v} (Sign CloseParen) sound
     (nothing_gives {Q = λ xs v. IsBehindWord word (Sign OpenParen ∷ (front ++ (Sign CloseParen ∷ xs))) v} map
     (same ∙ ap (λ k. form_tokens k front) (sym (map_word_is word form is)))))))
     (nothing_gives {Q = IsBehindWord word} (Named word) refl)
 
-pub map_gives : (n : ℕ) → Gives (IsMap n) (IsWritten map_tokens)
-map_gives zero = joined_gives {Q = IsWritten map_tokens} name_gives (λ front name i same s.
+pub map_gives : (version : Version) (n : ℕ) → Gives (IsMap version n) (IsWritten map_tokens)
+map_gives version zero = joined_gives {Q = IsWritten map_tokens} name_gives (λ front name i same s.
     nothing_gives {Q = λ xs v. map_tokens v ≡ front ++ xs} (Named name) (same ∙ sym (append-nil front)))
-map_gives (suc n) = joined_gives {Q = IsWritten map_tokens} name_gives (λ front word i same s.
-    gives_also (form_or_name_gives (map_gives n) word (map_word word) refl) (λ xs v i s is. is ∙ ap (λ k. k ++ xs) same))
+map_gives version (suc n) = joined_gives {Q = IsWritten map_tokens} name_gives (λ front word i same s.
+    gives_also (form_or_name_gives version (map_gives version n) word (map_word word) refl) (λ xs v i s is. is ∙ ap (λ k. k ++ xs) same))
 
 -- lists in brackets
 pub bracket_list_gives : {A : Type 0} {Is : Phrase A} (tokens : A → List Token) → Gives Is (IsWritten tokens) → Gives (IsBracketList Is) (λ xs v. bracket_list (map tokens v) ≡ xs)

@@ -10,6 +10,8 @@ use Rattle.std.specs.Fmt.{decimal}
 use Rattle.std.specs.List.{list_all, AllPass}
 use Rattle.std.specs.Str.Parse.{AllDigits}
 use Rattle.line_tokens.specs.Bytes.{is_text_byte}
+use Rattle.line_tokens.specs.EndLaws.{joined_no_end}
+use Rattle.line_tokens.specs.Ends.{NoEnd}
 use Rattle.line_tokens.specs.Next.{next_of}
 use Rattle.line_tokens.specs.Spelled.{Spells, HasRoom, AreSpelled, joined}
 use Rattle.line_tokens.specs.Spots.{brackets_after, Spots}
@@ -24,6 +26,7 @@ use Rattle.line_tokens.specs.SpotLaws.{spot_at}
 use Rattle.record_dim.specs.NameBytesLaws.{both}
 use Rattle.line_grammar.specs.declared.token.Token.{Token}
 use Rattle.line_grammar.specs.declared.token.Token.TheVariants.{Word, Number, Text, Sign, Bad}
+use Rattle.line_grammar.specs.declared.version.Version.{Version}
 use Rattle.line_grammar.specs.Tokens.{kind_token}
 use Rattle.line_grammar.specs.Sentences.{Sentence, deepest}
 use Rattle.line_grammar.specs.Grammar.{IsLine, IsSentence}
@@ -157,20 +160,39 @@ each_spelled : (brackets : ℕ) (tokens : List Token) → AreSpelled brackets (m
 each_spelled brackets [] h = tt
 each_spelled brackets (token ∷ tokens) h = (h.0, each_spelled (brackets_after (written token).kind brackets) tokens h.2)
 
-joined_reads : (tokens : List Token) (sentence : Sentence) → AreSpelled 0 (map written tokens) → IsSentence tokens sentence → Reads (joined (map written tokens)) sentence
-joined_reads tokens sentence spelled is =
+joined_reads : (version : Version) (tokens : List Token) (sentence : Sentence) → AreSpelled 0 (map written tokens) → IsSentence version tokens sentence → Reads version (joined (map written tokens)) sentence
+joined_reads version tokens sentence spelled is =
     let read = joined_read (map written tokens) spelled in
     let same = spots_back (joined (map written tokens)) 0 0 read.spots tokens read.read read.kinds read.bytes (each_spelled 0 tokens spelled) in
     record { spots = read.spots; tokens = read.read; line = rw same is }
 
-done_reads : (n : ℕ) (tokens : List Token) (sentence : Sentence) → IsLine n tokens sentence → AreSpelled 0 (map written tokens) → deepest sentence ≤ 32 → IsDone tokens sentence → Reads (canonical sentence) sentence
-unfolding canonical
-done_reads n tokens sentence is spelled small (inl same) = joined_reads (line_tokens sentence) sentence (rw same spelled) (n, rw same is)
-done_reads n tokens sentence is spelled small (inr kept) = let k = kept small in joined_reads (line_tokens sentence) sentence (fits_alone (line_tokens sentence) k.0) (32, k.1)
+-- the canonical tokens of a line are spelled, and are read as this line
+record IsRead (version : Version) (sentence : Sentence) : Type 0 where
+  spelled : AreSpelled 0 (map written (line_tokens sentence))
+  line : IsSentence version (line_tokens sentence) sentence
+
+done_read : (version : Version) (n : ℕ) (tokens : List Token) (sentence : Sentence) → IsLine version n tokens sentence → AreSpelled 0 (map written tokens) → deepest sentence ≤ 32 → IsDone version tokens sentence → IsRead version sentence
+done_read version n tokens sentence is spelled small (inl same) = record { spelled = rw same spelled; line = (n, rw same is) }
+done_read version n tokens sentence is spelled small (inr kept) = let k = kept small in record { spelled = fits_alone (line_tokens sentence) k.0; line = (32, k.1) }
+
+tokens_read : (version : Version) (text : List ℕ) (sentence : Sentence) → Reads version text sentence → deepest sentence ≤ 32 → IsRead version sentence
+tokens_read version text sentence h small =
+    let tokens : List Token = tokens_of text h.spots in
+    let done = (line_gives version h.line.0).at tokens sentence h.line.1 (spots_clean text 0 0 h.spots h.tokens) in
+    done_read version h.line.0 tokens sentence h.line.1 (spots_room text 0 0 h.spots h.tokens done.0) small done.1
 
 -- the canonical text of a line that some text is, with no expression deeper than 32, is this line
-pub reads_back : (text : List ℕ) (sentence : Sentence) → Reads text sentence → deepest sentence ≤ 32 → Reads (canonical sentence) sentence
-reads_back text sentence h small =
-    let tokens : List Token = tokens_of text h.spots in
-    let done = (line_gives h.line.0).at tokens sentence h.line.1 (spots_clean text 0 0 h.spots h.tokens) in
-    done_reads h.line.0 tokens sentence h.line.1 (spots_room text 0 0 h.spots h.tokens done.0) small done.1
+pub reads_back : (version : Version) (text : List ℕ) (sentence : Sentence) → Reads version text sentence → deepest sentence ≤ 32 → Reads version (canonical sentence) sentence
+unfolding canonical
+reads_back version text sentence h small =
+    let read = tokens_read version text sentence h small in
+    joined_reads version (line_tokens sentence) sentence read.spelled read.line
+
+-- its canonical tokens are spelled, and open no 65th bracket
+pub are_spelled : (version : Version) (text : List ℕ) (sentence : Sentence) → Reads version text sentence → deepest sentence ≤ 32 → AreSpelled 0 (map written (line_tokens sentence))
+are_spelled version text sentence h small = (tokens_read version text sentence h small).spelled
+
+-- it ends no line
+pub no_end : (version : Version) (text : List ℕ) (sentence : Sentence) → Reads version text sentence → deepest sentence ≤ 32 → NoEnd (canonical sentence)
+unfolding canonical
+no_end version text sentence h small = joined_no_end (map written (line_tokens sentence)) (are_spelled version text sentence h small)

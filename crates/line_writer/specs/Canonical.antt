@@ -21,7 +21,7 @@ use Rattle.line_grammar.specs.declared.line.KernelText.TheVariants as kernel
 use Rattle.line_grammar.specs.declared.line.KernelWord.TheVariants as worded
 use Rattle.line_grammar.specs.declared.line.MapWord.TheVariants as map_form
 use Rattle.line_grammar.specs.Words.{type_word, order_word, aos_word, soa_word, form_word, kernel_word, reduction_word, command_word, operator}
-use Rattle.line_grammar.specs.Sentences.{Assignment, Sentence, Value, Blank, Define, Mapping, View, Load, Assign, Update, Kernel, Reduce, Count, Copy, Relayout, Print, Counts, Heat, Layout, Drop, Bytes}
+use Rattle.line_grammar.specs.Sentences.{Assignment, New, Sentence, Value, Blank, Define, Mapping, View, Load, Assign, Update, Kernel, Reduce, Count, Copy, Relayout, Print, Counts, Heat, Layout, Drop, Bytes}
 
 -- a number; the minus of a negative one is a token of its own
 abbrev pub number_tokens : ℤ → List Token
@@ -137,9 +137,10 @@ abbrev pub extent_tokens : ExtentWord → List Token
 extent_tokens (extent.Fixed count) = count_token count ∷ []
 extent_tokens extent.Rows = Sign Question ∷ []
 
-abbrev pub view_tokens : List ℕ → List ℕ → List ExtentWord → MapTerm → List Token
-view_tokens name schema words map_term =
-    Word name ∷ Sign Colon ∷ Word schema ∷ (bracket_list (map extent_tokens words) ++ Word (codes "as") ∷ map_tokens map_term)
+-- what makes a view
+abbrev pub new_tokens : New → List Token
+new_tokens new =
+    Word new.name ∷ Sign Colon ∷ Word new.schema ∷ (bracket_list (map extent_tokens new.words) ++ Word (codes "as") ∷ map_tokens new.term)
 
 -- the parts of an update
 abbrev pub assignment_tokens : Assignment → List Token
@@ -163,8 +164,8 @@ abbrev pub line_tokens : Sentence → List Token
 line_tokens Blank = []
 line_tokens (Define name tree) = Word (command_word command.Record) ∷ Word name ∷ held_tokens tree
 line_tokens (Mapping name expr) = Word (command_word command.Mapping) ∷ Word name ∷ Sign Equals ∷ map_tokens expr
-line_tokens (View name schema words expr) = Word (command_word command.View) ∷ view_tokens name schema words expr
-line_tokens (Load name schema words expr file) = Word (command_word command.Load) ∷ (view_tokens name schema words expr ++ Word (codes "from") ∷ Text file ∷ [])
+line_tokens (View new) = Word (command_word command.View) ∷ new_tokens new
+line_tokens (Load new file) = Word (command_word command.Load) ∷ (new_tokens new ++ Word (codes "from") ∷ Text file ∷ [])
 line_tokens (Assign view index path value) = Word (command_word command.Set) ∷ Word view ∷
     (bracket_list (map (λ count. count_token count ∷ []) index) ++ Sign Dot ∷ (path_tokens path ++ Sign Equals ∷ value_tokens value))
 line_tokens (Update view filter sets) = Word (command_word command.Update) ∷ Word view ∷ (filter_tokens filter ++ Word (codes "set") ∷ with_commas (map assignment_tokens sets))

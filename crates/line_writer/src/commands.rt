@@ -7,7 +7,7 @@ ghost use Rattle.line_tokens.specs.declared.sign.Sign.TheVariants.{Dot, Equals};
 ghost use Rattle.line_grammar.specs.declared.token.Token.TheVariants.{Word, Sign, Text as Quoted};
 ghost use Rattle.line_grammar.specs.Sentences.{assignment_of};
 ghost use Rattle.line_grammar.specs.Words.{command_word, kernel_word, operator, reduction_word};
-ghost use Rattle.line_writer.specs.Canonical.{count_token, number_tokens, path_tokens, held_tokens, map_tokens, bracket_list, with_commas, assignment_tokens, filter_tokens, value_tokens, view_tokens, form_tokens, kernel_tokens};
+ghost use Rattle.line_writer.specs.Canonical.{count_token, number_tokens, path_tokens, held_tokens, map_tokens, bracket_list, with_commas, assignment_tokens, filter_tokens, value_tokens, new_tokens, form_tokens, kernel_tokens};
 ghost use Rattle.line_writer.specs.Texts.{behind};
 
 use crate::mapping::{open, write_map};
@@ -56,7 +56,7 @@ pub(crate) fn write_view(
     words: &ExtentWords,
     expr: &MapExpr,
 ) -> Result<(), NoMemory>
-    ensures { OnOk result (text.new ≡ behind (text.old ++ command_word command) (view_tokens name.now schema.now words.now (map_of expr.now))) }
+    ensures { OnOk result (text.new ≡ behind (text.old ++ command_word command) (new_tokens (record { name = name.now; schema = schema.now; words = words.now; term = map_of expr.now }))) }
 {
     write_named(text, command, name)?;
     push(text, ":")?;
@@ -75,7 +75,7 @@ pub(crate) fn write_load(
     expr: &MapExpr,
     file: &FileName,
 ) -> Result<(), NoMemory>
-    ensures { OnOk result (text.new ≡ behind (text.old ++ command_word Command.Load) (view_tokens name.now schema.now words.now (map_of expr.now) ++ Word (codes "from") ∷ Quoted file.now ∷ [])) }
+    ensures { OnOk result (text.new ≡ behind (text.old ++ command_word Command.Load) (new_tokens (record { name = name.now; schema = schema.now; words = words.now; term = map_of expr.now }) ++ Word (codes "from") ∷ Quoted file.now ∷ [])) }
 {
     write_view(text, Command::Load, name, schema, words, expr)?;
     write_file(text, file)

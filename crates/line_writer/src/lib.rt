@@ -2,6 +2,7 @@
 #![tactic(auto)]
 
 mod commands;
+mod laws;
 mod line;
 mod mapping;
 mod parts;
@@ -9,4 +10,5 @@ mod record;
 mod tokens;
 mod value;
 
+pub use laws::canonical_law;
 pub use line::write_line;

@@ -1,4 +1,5 @@
 ghost use Rattle.std.specs.Prelude.{ℕ, List, ◌≡◌, ◌≤◌, [], IfOk, OnOk};
+ghost use Rattle.line_grammar.specs.declared.version.Version.{Version};
 ghost use Rattle.line_grammar.specs.Sentences.{sentence_of, deepest};
 ghost use Rattle.line_grammar.specs.Reads.{Reads};
 ghost use Rattle.line_writer.specs.Texts.{canonical};
@@ -19,8 +20,8 @@ use std::alloc::{AllocError as NoMemory, Global};
 pub fn write_line(alloc: Global, line: &Line) -> Result<Text, NoMemory>
     ensures text { IfOk result (λ text. text ≡ canonical (sentence_of line.now)) }
     // It is read as the same line, where some text is this line and no expression is deeper than 32.
-    ensures reads_back { (read : List ℕ) → Reads read (sentence_of line.now) → deepest (sentence_of line.now) ≤ 32 →
-        IfOk result (λ text. Reads text (sentence_of line.now)) }
+    ensures reads_back { (version : Version) (read : List ℕ) → Reads version read (sentence_of line.now)
+        → deepest (sentence_of line.now) ≤ 32 → IfOk result (λ text. Reads version text (sentence_of line.now)) }
 {
     let mut text = Text::new(alloc);
     write_command(&mut text, line)?;

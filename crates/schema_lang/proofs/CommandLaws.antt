@@ -1,5 +1,5 @@
 -- How each command is read, and a whole line.
-use Rattle.std.proofs.Common.{ℕ, ◌≤◌, true, false, inl, inr, List, [], ◌++◌, codes, None, is_some, refl, ap, neg_ℤ, arith}
+use Rattle.std.proofs.Common.{ℕ, ◌≤◌, true, false, inl, inr, List, [], ◌++◌, codes, None, Result, is_some, refl, ap, neg_ℤ, arith}
 use Rattle.phrases.specs.Phrases.{Behind, IsItem, IsNothing}
 use Rattle.phrases.specs.Reading.{item_at, give_at}
 use Rattle.phrases.specs.ParsesLaws.{Always, Parses, behind_parses, either_parses, give_parses, item_parses, said_otherwise, then_parses}
@@ -11,6 +11,7 @@ use Rattle.phrases.specs.AlikeLaws.{Alike, either_alike, no_longer, same_alike, 
 use Rattle.phrases.specs.UnboundedLaws.{Nests}
 use Rattle.line_tokens.specs.declared.sign.Sign.TheVariants.{OpenParen, CloseParen, Colon, Comma, Dot, Equals, EqualEqual, Minus}
 use Rattle.record_dim.specs.Trees.{Record}
+use Rattle.extents.specs.declared.words.ExtentWord.{ExtentWord}
 use Rattle.expr_lang.specs.declared.expr.BinOp.TheVariants.{Eq}
 use Rattle.line_grammar.specs.declared.line.Command.{Command}
 use Rattle.line_grammar.specs.declared.line.Command.TheVariants as command
@@ -20,9 +21,10 @@ use Rattle.line_grammar.specs.declared.line.KernelWord.TheVariants as word
 use Rattle.line_grammar.specs.declared.line.ReduceKind.TheVariants as reduce
 use Rattle.line_grammar.specs.declared.token.Token.{Token}
 use Rattle.line_grammar.specs.declared.token.Token.TheVariants.{Word, Text, Sign as Signed}
+use Rattle.line_grammar.specs.declared.version.Version.{Version}
 use Rattle.line_grammar.specs.Sentences.{Blank, Define, Mapping, View, Load, Assign, Update, Kernel, Reduce, Count, Copy, Relayout, Print, Counts, Heat, Layout, Drop, Bytes}
 use Rattle.line_grammar.specs.Tokens.{is_sign, is_word, number_of, string_of, comparison_of, kernel_word_of, reduction_of, command_of}
-use Rattle.line_grammar.specs.Grammar.{IsAssignment, IsBody, IsCommand, IsConst, IsFilter, IsKernel, IsKernelInside, IsLine}
+use Rattle.line_grammar.specs.Grammar.{IsAssignment, IsBody, IsCommand, IsConst, IsFilter, IsKernel, IsKernelInside, IsLine, IsNew}
 use Rattle.line_phrases.specs.Constants.{const_at}
 use Rattle.line_phrases.specs.BasicsLaws.{AfterLevel, Not, anything, apart, behind_after, behind_not, count_parses, exact_sign, exact_word, name_parses, number_parses, starts_level}
 use Rattle.line_phrases.specs.FieldLaws.{fields_parses}
@@ -34,7 +36,7 @@ use Rattle.line_phrases.specs.NestingLaws.{behind_kept, expr_alike, expr_wider, 
 use Rattle.line_phrases.specs.PathsLaws.{path_parses}
 use Rattle.schema_lang.specs.Kernels.{axpy_at, clamp_at, count_where_at, inside_at, kernel_at}
 use Rattle.schema_lang.specs.Updates.{assignment_at, filter_at}
-use Rattle.schema_lang.specs.Bodies.{any_token, assign_at, body_at, bytes_at, command_at, copy_at, define_at, kernel_line_at, line_at, load_at, mapping_at, reduce_at, relayout_at, update_at, view_at}
+use Rattle.schema_lang.specs.Bodies.{any_token, assign_at, body_at, bytes_at, command_at, copy_at, define_at, kernel_line_at, line_at, load_at, mapping_at, new_at, reduce_at, relayout_at, update_at, view_at}
 use Rattle.schema_lang.proofs.Assignments.{AfterFilter, assignment_parses, filter_parses}
 
 -- kernels
@@ -83,50 +85,56 @@ ended_after P f last a ys v rest h after = rw (h.0, after) last
 string_parses : Parses (IsItem string_of) (item_at string_of) Always
 string_parses = item_parses string_of (Text (codes "a")) (codes "a") refl
 
-body_parses : (n : ℕ) (c : Command) → Parses (IsBody n c) (body_at n c) AtEnd
+new_parses : (version : Version) {IsWord : List Token → ExtentWord → Type 0} {read : List Token → Result (ExtentWord × List Token) ℕ} → Parses IsWord read Always → (n : ℕ)
+    → Parses (IsNew version IsWord n) (new_at version read n) (Not OpenParen)
+unfolding new_at
+new_parses version p n = then_parses Always name_parses (λ name. behind_parses (exact_sign Colon) (then_parses Always name_parses (λ schema. then_parses Always (bracket_list_parses p) (λ words.
+    behind_parses (exact_word (codes "as")) (then_parses (Not OpenParen) (map_parses version n) (λ map. give_parses (Not OpenParen) (record { name = name; schema = schema; words = words; term = map }))
+    (λ a ys v rest h after. rw h.0 after))) (anything _ _)) (anything _ _))) (anything _ _)
+
+body_parses : (version : Version) (n : ℕ) (c : Command) → Parses (IsBody version n c) (body_at version n c) AtEnd
 unfolding body_at define_at mapping_at view_at load_at assign_at update_at kernel_line_at reduce_at copy_at relayout_at bytes_at
-body_parses n command.Record = then_parses Always name_parses (λ name. then_parses Always (fields_parses n) (λ fields. give_parses AtEnd (Define name (Record fields))) (anything _ _)) (anything _ _)
-body_parses n command.Mapping = then_parses Always name_parses (λ name. behind_parses (exact_sign Equals)
-    (then_parses (Not OpenParen) (map_parses n) (λ map. give_parses AtEnd (Mapping name map)) (ended_after (Not OpenParen) (Mapping name) refl))) (anything _ _)
-body_parses n command.View = then_parses Always name_parses (λ name. behind_parses (exact_sign Colon) (then_parses Always name_parses (λ schema. then_parses Always (bracket_list_parses fixed_parses) (λ words.
-    behind_parses (exact_word (codes "as")) (then_parses (Not OpenParen) (map_parses n) (λ map. give_parses AtEnd (View name schema words map)) (ended_after (Not OpenParen) (View name schema words) refl))) (anything _ _)) (anything _ _))) (anything _ _)
-body_parses n command.Load = then_parses Always name_parses (λ name. behind_parses (exact_sign Colon) (then_parses Always name_parses (λ schema. then_parses Always (bracket_list_parses extent_parses) (λ words.
-    behind_parses (exact_word (codes "as")) (then_parses (Not OpenParen) (map_parses n) (λ map. behind_parses (exact_word (codes "from")) (then_parses Always string_parses (λ file. give_parses AtEnd (Load name schema words map file)) (anything _ _)))
-    (λ a ys v rest h after. behind_not OpenParen (Word (codes "from")) refl _ ys v rest h))) (anything _ _)) (anything _ _))) (anything _ _)
-body_parses n command.Set = then_parses Always name_parses (λ view. then_parses Always (bracket_list_parses count_parses) (λ index. behind_parses (exact_sign Dot) (then_parses (AfterLevel 6) path_parses
+body_parses version n command.Record = then_parses Always name_parses (λ name. then_parses Always (fields_parses n) (λ fields. give_parses AtEnd (Define name (Record fields))) (anything _ _)) (anything _ _)
+body_parses version n command.Mapping = then_parses Always name_parses (λ name. behind_parses (exact_sign Equals)
+    (then_parses (Not OpenParen) (map_parses version n) (λ map. give_parses AtEnd (Mapping name map)) (ended_after (Not OpenParen) (Mapping name) refl))) (anything _ _)
+body_parses version n command.View = then_parses (Not OpenParen) (new_parses version fixed_parses n) (λ new. give_parses AtEnd (View new)) (ended_after (Not OpenParen) View refl)
+body_parses version n command.Load = then_parses (Not OpenParen) (new_parses version extent_parses n)
+    (λ new. behind_parses (exact_word (codes "from")) (then_parses Always string_parses (λ file. give_parses AtEnd (Load new file)) (anything _ _)))
+    (λ a ys v rest h after. behind_not OpenParen (Word (codes "from")) refl _ ys v rest h)
+body_parses version n command.Set = then_parses Always name_parses (λ view. then_parses Always (bracket_list_parses count_parses) (λ index. behind_parses (exact_sign Dot) (then_parses (AfterLevel 6) path_parses
     (λ path. behind_parses (exact_sign Equals) (then_parses (AfterLevel 1) (expr_parses n) (λ value. give_parses AtEnd (Assign view index path value)) (ended_after (AfterLevel 1) (Assign view index path) (omega arith))))
     (λ a ys v rest h after. behind_after 6 (Signed Equals) (omega arith) _ ys v rest h))) (anything _ _)) (anything _ _)
-body_parses n command.Update = then_parses Always name_parses (λ view. then_parses AfterFilter (filter_parses n)
+body_parses version n command.Update = then_parses Always name_parses (λ view. then_parses AfterFilter (filter_parses n)
     (λ filter. behind_parses (exact_word (codes "set")) (then_parses (AfterList (AfterLevel 1)) (listed_parses (assignment_parses n) (λ us. omega arith)) (λ sets. give_parses AtEnd (Update view filter sets))
     (ended_after (AfterList (AfterLevel 1)) (Update view filter) (refl, omega arith))))
     (λ a ys v rest h after. (behind_starts (is_word (codes "where")) (Word (codes "set")) false refl _ ys v rest h, behind_after 1 (Word (codes "set")) (omega arith) _ ys v rest h))) (anything _ _)
-body_parses n command.Kernel = then_parses Always name_parses (λ view. then_parses Always kernel_parses (λ kernel. behind_parses (exact_word (codes "lanes")) (then_parses Always count_parses (λ lanes. give_parses AtEnd (Kernel view kernel lanes)) (anything _ _))) (anything _ _)) (anything _ _)
-body_parses n command.Reduce = then_parses Always name_parses (λ view. either_parses (is_word (codes "count"))
+body_parses version n command.Kernel = then_parses Always name_parses (λ view. then_parses Always kernel_parses (λ kernel. behind_parses (exact_word (codes "lanes")) (then_parses Always count_parses (λ lanes. give_parses AtEnd (Kernel view kernel lanes)) (anything _ _))) (anything _ _)) (anything _ _)
+body_parses version n command.Reduce = then_parses Always name_parses (λ view. either_parses (is_word (codes "count"))
     (behind_parses (exact_word (codes "count")) (behind_parses (exact_word (codes "where")) (then_parses (AfterLevel 1) (expr_parses n) (λ filter. give_parses AtEnd (Count view filter)) (ended_after (AfterLevel 1) (Count view) (omega arith)))))
     (then_parses Always (item_parses reduction_of (Word (codes "sum")) reduce.Sum refl) (λ kind. then_parses (AfterLevel 6) path_parses (λ path. give_parses AtEnd (Reduce view kind path)) (ended_after (AfterLevel 6) (Reduce view kind) (omega arith))) (anything _ _))
     (λ xs v rest h _. behind_starts (is_word (codes "count")) (Word (codes "count")) true refl _ xs v rest h)
     (λ xs v rest h _. joined_starts (is_word (codes "count")) false _ _ (item_starts (is_word (codes "count")) reduction_of false (apart (exact_word (codes "count")) reduction_of refl)) xs v rest h)) (anything _ _)
-body_parses n command.Copy = then_parses Always name_parses (λ source. behind_parses (exact_word (codes "to")) (then_parses Always name_parses (λ target. give_parses AtEnd (Copy source target)) (anything _ _))) (anything _ _)
-body_parses n command.Relayout = then_parses Always name_parses (λ view. behind_parses (exact_word (codes "as")) (then_parses (Not OpenParen) (map_parses n) (λ map. give_parses AtEnd (Relayout view map)) (ended_after (Not OpenParen) (Relayout view) refl))) (anything _ _)
-body_parses n command.Print = then_parses Always name_parses (λ view. give_parses AtEnd (Print view)) (anything _ _)
-body_parses n command.Counts = then_parses Always name_parses (λ view. give_parses AtEnd (Counts view)) (anything _ _)
-body_parses n command.Heat = then_parses Always name_parses (λ view. give_parses AtEnd (Heat view)) (anything _ _)
-body_parses n command.Layout = then_parses Always name_parses (λ view. give_parses AtEnd (Layout view)) (anything _ _)
-body_parses n command.Drop = then_parses Always name_parses (λ view. give_parses AtEnd (Drop view)) (anything _ _)
-body_parses n command.Bytes = then_parses Always name_parses (λ view. then_parses Always count_parses (λ blob. give_parses AtEnd (Bytes view blob)) (anything _ _)) (anything _ _)
+body_parses version n command.Copy = then_parses Always name_parses (λ source. behind_parses (exact_word (codes "to")) (then_parses Always name_parses (λ target. give_parses AtEnd (Copy source target)) (anything _ _))) (anything _ _)
+body_parses version n command.Relayout = then_parses Always name_parses (λ view. behind_parses (exact_word (codes "as")) (then_parses (Not OpenParen) (map_parses version n) (λ map. give_parses AtEnd (Relayout view map)) (ended_after (Not OpenParen) (Relayout view) refl))) (anything _ _)
+body_parses version n command.Print = then_parses Always name_parses (λ view. give_parses AtEnd (Print view)) (anything _ _)
+body_parses version n command.Counts = then_parses Always name_parses (λ view. give_parses AtEnd (Counts view)) (anything _ _)
+body_parses version n command.Heat = then_parses Always name_parses (λ view. give_parses AtEnd (Heat view)) (anything _ _)
+body_parses version n command.Layout = then_parses Always name_parses (λ view. give_parses AtEnd (Layout view)) (anything _ _)
+body_parses version n command.Drop = then_parses Always name_parses (λ view. give_parses AtEnd (Drop view)) (anything _ _)
+body_parses version n command.Bytes = then_parses Always name_parses (λ view. then_parses Always count_parses (λ blob. give_parses AtEnd (Bytes view blob)) (anything _ _)) (anything _ _)
 
 command_item : Parses (IsItem command_of) (item_at command_of) Always
 command_item = item_parses command_of (Word (codes "print")) command.Print refl
 
-command_parses : (n : ℕ) → Parses (IsCommand n) (command_at n) AtEnd
+command_parses : (version : Version) (n : ℕ) → Parses (IsCommand version n) (command_at version n) AtEnd
 unfolding command_at
-command_parses n = then_parses Always command_item (body_parses n) (anything _ _)
+command_parses version n = then_parses Always command_item (body_parses version n) (anything _ _)
 
-pub line_parses : (n : ℕ) → Parses (IsLine n) (line_at n) AtEnd
+pub line_parses : (version : Version) (n : ℕ) → Parses (IsLine version n) (line_at version n) AtEnd
 unfolding line_at
-line_parses n = ended_parses
+line_parses version n = ended_parses
     (said_otherwise {Fewer = AtEnd}
-    (either_parses any_token (command_parses n) (give_parses AtEnd Blank)
+    (either_parses any_token (command_parses version n) (give_parses AtEnd Blank)
     (λ xs v rest h _. joined_starts any_token true _ _ (item_starts any_token command_of true (λ token c e. refl)) xs v rest h)
     (λ xs v rest h after. rw (h.0, after) refl))
     (λ xs v h. elim h [ inl c ↦ inr c | inr b ↦ inl b ]) (λ xs v h. elim h [ inl b ↦ inr b | inr c ↦ inl c ]) (λ rest h. h))
@@ -140,26 +148,29 @@ assignment_wider n m le = joined_wider (same_wider _) (λ path. behind_wider _ (
 filter_wider : (n m : ℕ) → n ≤ m → Wider (IsFilter n) (IsFilter m)
 filter_wider n m le = either_wider (behind_wider _ (joined_wider (expr_wider n m le) (λ filter. same_wider _))) (same_wider _)
 
-body_wider : (n m : ℕ) → n ≤ m → (c : Command) → Wider (IsBody n c) (IsBody m c)
-body_wider n m le command.Record = joined_wider (same_wider _) (λ name. joined_wider (fields_wider n m le) (λ fields. same_wider _))
-body_wider n m le command.Mapping = joined_wider (same_wider _) (λ name. behind_wider _ (joined_wider (map_wider n m le) (λ map. same_wider _)))
-body_wider n m le command.View = joined_wider (same_wider _) (λ name. behind_wider _ (joined_wider (same_wider _) (λ schema. joined_wider (same_wider _) (λ words. behind_wider _ (joined_wider (map_wider n m le) (λ map. same_wider _))))))
-body_wider n m le command.Load = joined_wider (same_wider _) (λ name. behind_wider _ (joined_wider (same_wider _) (λ schema. joined_wider (same_wider _) (λ words. behind_wider _ (joined_wider (map_wider n m le) (λ map. same_wider _))))))
-body_wider n m le command.Set = joined_wider (same_wider _) (λ view. joined_wider (same_wider _) (λ index. behind_wider _ (joined_wider (same_wider _) (λ path. behind_wider _ (joined_wider (expr_wider n m le) (λ value. same_wider _))))))
-body_wider n m le command.Update = joined_wider (same_wider _) (λ view. joined_wider (filter_wider n m le) (λ filter. behind_wider _ (joined_wider (listed_wider (assignment_wider n m le)) (λ sets. same_wider _))))
-body_wider n m le command.Kernel = same_wider _
-body_wider n m le command.Reduce = joined_wider (same_wider _) (λ view. either_wider (behind_wider _ (behind_wider _ (joined_wider (expr_wider n m le) (λ filter. same_wider _)))) (same_wider _))
-body_wider n m le command.Copy = same_wider _
-body_wider n m le command.Relayout = joined_wider (same_wider _) (λ view. behind_wider _ (joined_wider (map_wider n m le) (λ map. same_wider _)))
-body_wider n m le command.Print = same_wider _
-body_wider n m le command.Counts = same_wider _
-body_wider n m le command.Heat = same_wider _
-body_wider n m le command.Layout = same_wider _
-body_wider n m le command.Drop = same_wider _
-body_wider n m le command.Bytes = same_wider _
+new_wider : (version : Version) {IsWord : List Token → ExtentWord → Type 0} (n m : ℕ) → n ≤ m → Wider (IsNew version IsWord n) (IsNew version IsWord m)
+new_wider version n m le = joined_wider (same_wider _) (λ name. behind_wider _ (joined_wider (same_wider _) (λ schema. joined_wider (same_wider _) (λ words. behind_wider _ (joined_wider (map_wider version n m le) (λ map. same_wider _))))))
 
-line_wider : (n m : ℕ) → n ≤ m → Wider (IsLine n) (IsLine m)
-line_wider n m le = either_wider (same_wider _) (joined_wider (same_wider _) (body_wider n m le))
+body_wider : (version : Version) (n m : ℕ) → n ≤ m → (c : Command) → Wider (IsBody version n c) (IsBody version m c)
+body_wider version n m le command.Record = joined_wider (same_wider _) (λ name. joined_wider (fields_wider n m le) (λ fields. same_wider _))
+body_wider version n m le command.Mapping = joined_wider (same_wider _) (λ name. behind_wider _ (joined_wider (map_wider version n m le) (λ map. same_wider _)))
+body_wider version n m le command.View = joined_wider (new_wider version n m le) (λ new. same_wider _)
+body_wider version n m le command.Load = joined_wider (new_wider version n m le) (λ new. same_wider _)
+body_wider version n m le command.Set = joined_wider (same_wider _) (λ view. joined_wider (same_wider _) (λ index. behind_wider _ (joined_wider (same_wider _) (λ path. behind_wider _ (joined_wider (expr_wider n m le) (λ value. same_wider _))))))
+body_wider version n m le command.Update = joined_wider (same_wider _) (λ view. joined_wider (filter_wider n m le) (λ filter. behind_wider _ (joined_wider (listed_wider (assignment_wider n m le)) (λ sets. same_wider _))))
+body_wider version n m le command.Kernel = same_wider _
+body_wider version n m le command.Reduce = joined_wider (same_wider _) (λ view. either_wider (behind_wider _ (behind_wider _ (joined_wider (expr_wider n m le) (λ filter. same_wider _)))) (same_wider _))
+body_wider version n m le command.Copy = same_wider _
+body_wider version n m le command.Relayout = joined_wider (same_wider _) (λ view. behind_wider _ (joined_wider (map_wider version n m le) (λ map. same_wider _)))
+body_wider version n m le command.Print = same_wider _
+body_wider version n m le command.Counts = same_wider _
+body_wider version n m le command.Heat = same_wider _
+body_wider version n m le command.Layout = same_wider _
+body_wider version n m le command.Drop = same_wider _
+body_wider version n m le command.Bytes = same_wider _
+
+line_wider : (version : Version) (n m : ℕ) → n ≤ m → Wider (IsLine version n) (IsLine version m)
+line_wider version n m le = either_wider (same_wider _) (joined_wider (same_wider _) (body_wider version n m le))
 
 assignment_alike : (n m : ℕ) → n ≤ m → Alike n (assignment_at n) (assignment_at m)
 unfolding assignment_at
@@ -169,32 +180,36 @@ filter_alike : (n m : ℕ) → n ≤ m → Alike n (filter_at n) (filter_at m)
 unfolding filter_at
 filter_alike n m le = either_alike n _ (behind_kept n _ (then_alike n (no_longer (expr_parses n)) (expr_alike n m le) (λ filter. same_alike n _))) (same_alike n (give_at None))
 
-body_alike : (n m : ℕ) → n ≤ m → (c : Command) → Alike n (body_at n c) (body_at m c)
+new_alike : (version : Version) {IsWord : List Token → ExtentWord → Type 0} {read : List Token → Result (ExtentWord × List Token) ℕ} → Parses IsWord read Always → (n m : ℕ) → n ≤ m
+    → Alike n (new_at version read n) (new_at version read m)
+unfolding new_at
+new_alike version p n m le = then_alike n (no_longer name_parses) (same_alike n _) (λ name. behind_kept n _ (then_alike n (no_longer name_parses) (same_alike n _) (λ schema. then_alike n (no_longer (bracket_list_parses p)) (same_alike n _)
+    (λ words. behind_kept n _ (then_alike n (no_longer (map_parses version n)) (map_alike version n m le) (λ map. same_alike n _))))))
+
+body_alike : (version : Version) (n m : ℕ) → n ≤ m → (c : Command) → Alike n (body_at version n c) (body_at version m c)
 unfolding body_at define_at mapping_at view_at load_at assign_at update_at reduce_at relayout_at
-body_alike n m le command.Record = then_alike n (no_longer name_parses) (same_alike n _) (λ name. then_alike n (no_longer (fields_parses n)) (fields_alike n m le) (λ fields. same_alike n _))
-body_alike n m le command.Mapping = then_alike n (no_longer name_parses) (same_alike n _) (λ name. behind_kept n _ (then_alike n (no_longer (map_parses n)) (map_alike n m le) (λ map. same_alike n _)))
-body_alike n m le command.View = then_alike n (no_longer name_parses) (same_alike n _) (λ name. behind_kept n _ (then_alike n (no_longer name_parses) (same_alike n _) (λ schema. then_alike n (no_longer (bracket_list_parses fixed_parses)) (same_alike n _)
-    (λ words. behind_kept n _ (then_alike n (no_longer (map_parses n)) (map_alike n m le) (λ map. same_alike n _))))))
-body_alike n m le command.Load = then_alike n (no_longer name_parses) (same_alike n _) (λ name. behind_kept n _ (then_alike n (no_longer name_parses) (same_alike n _) (λ schema. then_alike n (no_longer (bracket_list_parses extent_parses)) (same_alike n _)
-    (λ words. behind_kept n _ (then_alike n (no_longer (map_parses n)) (map_alike n m le) (λ map. same_alike n _))))))
-body_alike n m le command.Set = then_alike n (no_longer name_parses) (same_alike n _) (λ view. then_alike n (no_longer (bracket_list_parses count_parses)) (same_alike n _) (λ index. behind_kept n _ (then_alike n (no_longer path_parses) (same_alike n _)
+body_alike version n m le command.Record = then_alike n (no_longer name_parses) (same_alike n _) (λ name. then_alike n (no_longer (fields_parses n)) (fields_alike n m le) (λ fields. same_alike n _))
+body_alike version n m le command.Mapping = then_alike n (no_longer name_parses) (same_alike n _) (λ name. behind_kept n _ (then_alike n (no_longer (map_parses version n)) (map_alike version n m le) (λ map. same_alike n _)))
+body_alike version n m le command.View = then_alike n (no_longer (new_parses version fixed_parses n)) (new_alike version fixed_parses n m le) (λ new. same_alike n _)
+body_alike version n m le command.Load = then_alike n (no_longer (new_parses version extent_parses n)) (new_alike version extent_parses n m le) (λ new. same_alike n _)
+body_alike version n m le command.Set = then_alike n (no_longer name_parses) (same_alike n _) (λ view. then_alike n (no_longer (bracket_list_parses count_parses)) (same_alike n _) (λ index. behind_kept n _ (then_alike n (no_longer path_parses) (same_alike n _)
     (λ path. behind_kept n _ (then_alike n (no_longer (expr_parses n)) (expr_alike n m le) (λ value. same_alike n _))))))
-body_alike n m le command.Update = then_alike n (no_longer name_parses) (same_alike n _) (λ view. then_alike n (no_longer (filter_parses n)) (filter_alike n m le)
+body_alike version n m le command.Update = then_alike n (no_longer name_parses) (same_alike n _) (λ view. then_alike n (no_longer (filter_parses n)) (filter_alike n m le)
     (λ filter. behind_kept n _ (then_alike n (no_longer (listed_parses (assignment_parses n) (λ us. omega arith))) (listed_alike n (assignment_parses n) (λ us. omega arith) (assignment_alike n m le)) (λ sets. same_alike n _))))
-body_alike n m le command.Kernel = same_alike n _
-body_alike n m le command.Reduce = then_alike n (no_longer name_parses) (same_alike n _) (λ view. either_alike n _ (behind_kept n _ (behind_kept n _ (then_alike n (no_longer (expr_parses n)) (expr_alike n m le) (λ filter. same_alike n _)))) (same_alike n _))
-body_alike n m le command.Copy = same_alike n _
-body_alike n m le command.Relayout = then_alike n (no_longer name_parses) (same_alike n _) (λ view. behind_kept n _ (then_alike n (no_longer (map_parses n)) (map_alike n m le) (λ map. same_alike n _)))
-body_alike n m le command.Print = same_alike n _
-body_alike n m le command.Counts = same_alike n _
-body_alike n m le command.Heat = same_alike n _
-body_alike n m le command.Layout = same_alike n _
-body_alike n m le command.Drop = same_alike n _
-body_alike n m le command.Bytes = same_alike n _
+body_alike version n m le command.Kernel = same_alike n _
+body_alike version n m le command.Reduce = then_alike n (no_longer name_parses) (same_alike n _) (λ view. either_alike n _ (behind_kept n _ (behind_kept n _ (then_alike n (no_longer (expr_parses n)) (expr_alike n m le) (λ filter. same_alike n _)))) (same_alike n _))
+body_alike version n m le command.Copy = same_alike n _
+body_alike version n m le command.Relayout = then_alike n (no_longer name_parses) (same_alike n _) (λ view. behind_kept n _ (then_alike n (no_longer (map_parses version n)) (map_alike version n m le) (λ map. same_alike n _)))
+body_alike version n m le command.Print = same_alike n _
+body_alike version n m le command.Counts = same_alike n _
+body_alike version n m le command.Heat = same_alike n _
+body_alike version n m le command.Layout = same_alike n _
+body_alike version n m le command.Drop = same_alike n _
+body_alike version n m le command.Bytes = same_alike n _
 
-line_alike : (n m : ℕ) → n ≤ m → Alike n (line_at n) (line_at m)
+line_alike : (version : Version) (n m : ℕ) → n ≤ m → Alike n (line_at version n) (line_at version m)
 unfolding line_at command_at
-line_alike n m le = ended_alike n (either_alike n any_token (then_alike n (no_longer command_item) (same_alike n _) (body_alike n m le)) (same_alike n (give_at Blank)))
+line_alike version n m le = ended_alike n (either_alike n any_token (then_alike n (no_longer command_item) (same_alike n _) (body_alike version n m le)) (same_alike n (give_at Blank)))
 
-pub lines : Nests IsLine line_at AtEnd
-lines = record { parses = line_parses; last = refl; wider = line_wider; alike = line_alike }
+pub lines : (version : Version) → Nests (IsLine version) (line_at version) AtEnd
+lines version = record { parses = line_parses version; last = refl; wider = line_wider version; alike = line_alike version }

@@ -6,12 +6,13 @@ use Rattle.phrases.specs.Reading.{◌>>=◌, behind_at, either_at, give_at, item
 use Rattle.line_tokens.specs.declared.sign.Sign.TheVariants.{Colon, Dot, Equals}
 use Rattle.record_dim.specs.declared.dim.Dim.{Dim}
 use Rattle.record_dim.specs.declared.dim.Dim.TheVariants as dim
-use Rattle.record_dim.specs.Trees.{Fields, IsRecord, Record, Single, Array, Tree, tree_of}
+use Rattle.record_dim.specs.Trees.{IsRecord, Record, Single, Array, Tree, tree_of}
 use Rattle.line_grammar.specs.declared.line.Command.{Command}
 use Rattle.line_grammar.specs.declared.line.Command.TheVariants as command
 use Rattle.line_grammar.specs.declared.line.Line.{Line}
 use Rattle.line_grammar.specs.declared.line.Line.TheVariants as line
 use Rattle.line_grammar.specs.declared.token.Token.{Token}
+use Rattle.line_grammar.specs.declared.version.Version.{Version}
 use Rattle.line_grammar.specs.Sentences.{Sentence, sentence_of, Blank, Define, Mapping, View, Load, Assign, Update, Kernel, Reduce, Count, Copy, Relayout, Print, Counts, Heat, Layout, Drop, Bytes}
 use Rattle.line_grammar.specs.Tokens.{is_sign, is_word, name_of, count_of, string_of, reduction_of, command_of}
 use Rattle.line_phrases.specs.Exprs.{expr_at}
@@ -21,7 +22,7 @@ use Rattle.line_phrases.specs.Maps.{map_at}
 use Rattle.line_phrases.specs.Paths.{path_at}
 use Rattle.schema_lang.specs.Kernels.{kernel_at}
 use Rattle.schema_lang.specs.Updates.{assignment_at, filter_at}
-use Rattle.schema_lang.specs.Bodies.{any_token, assign_at, body_at, bytes_at, command_at, copy_at, define_at, kernel_line_at, line_at, load_at, mapping_at, reduce_at, relayout_at, update_at, view_at}
+use Rattle.schema_lang.specs.Bodies.{any_token, assign_at, body_at, bytes_at, command_at, copy_at, define_at, kernel_line_at, line_at, load_at, mapping_at, new_at, reduce_at, relayout_at, update_at, view_at}
 use Rattle.schema_lang.specs.Parsing.{IsWhole}
 
 -- the record that a line defines has fields
@@ -73,35 +74,33 @@ each_ended {read = read} each = record { all = λ tokens v rest e. of tokens v r
     of tokens v rest (Ok x) is e = of_rest v rest x.0 x.1 (each.all tokens x.0 x.1 is) e
     of tokens v rest (Err n) is e = absurd cc
 
-body_whole : (n : ℕ) (word : Command) → Each (body_at n word)
+body_whole : (version : Version) (n : ℕ) (word : Command) → Each (body_at version n word)
 unfolding body_at define_at mapping_at view_at load_at assign_at update_at kernel_line_at reduce_at copy_at relayout_at bytes_at
-body_whole n command.Record = each_then (item_at name_of) (λ name. each_then (fields_at n) (λ fields. each_give (Define name (Record fields)) tt))
-body_whole n command.Mapping = each_then (item_at name_of) (λ name. each_behind (is_sign Equals) (each_then (map_at n) (λ map. each_give (Mapping name map) tt)))
-body_whole n command.View = each_then (item_at name_of) (λ name. each_behind (is_sign Colon) (each_then (item_at name_of) (λ schema. each_then (bracket_list_at fixed_at) (λ words.
-    each_behind (is_word (codes "as")) (each_then (map_at n) (λ map. each_give (View name schema words map) tt))))))
-body_whole n command.Load = each_then (item_at name_of) (λ name. each_behind (is_sign Colon) (each_then (item_at name_of) (λ schema. each_then (bracket_list_at extent_at) (λ words.
-    each_behind (is_word (codes "as")) (each_then (map_at n) (λ map. each_behind (is_word (codes "from")) (each_then (item_at string_of) (λ file. each_give (Load name schema words map file) tt))))))))
-body_whole n command.Set = each_then (item_at name_of) (λ view. each_then (bracket_list_at (item_at count_of)) (λ index. each_behind (is_sign Dot) (each_then path_at (λ path.
+body_whole version n command.Record = each_then (item_at name_of) (λ name. each_then (fields_at n) (λ fields. each_give (Define name (Record fields)) tt))
+body_whole version n command.Mapping = each_then (item_at name_of) (λ name. each_behind (is_sign Equals) (each_then (map_at version n) (λ map. each_give (Mapping name map) tt)))
+body_whole version n command.View = each_then (new_at version fixed_at n) (λ new. each_give (View new) tt)
+body_whole version n command.Load = each_then (new_at version extent_at n) (λ new. each_behind (is_word (codes "from")) (each_then (item_at string_of) (λ file. each_give (Load new file) tt)))
+body_whole version n command.Set = each_then (item_at name_of) (λ view. each_then (bracket_list_at (item_at count_of)) (λ index. each_behind (is_sign Dot) (each_then path_at (λ path.
     each_behind (is_sign Equals) (each_then (expr_at n) (λ value. each_give (Assign view index path value) tt))))))
-body_whole n command.Update = each_then (item_at name_of) (λ view. each_then (filter_at n) (λ filter. each_behind (is_word (codes "set")) (each_then (listed_at (assignment_at n)) (λ sets.
+body_whole version n command.Update = each_then (item_at name_of) (λ view. each_then (filter_at n) (λ filter. each_behind (is_word (codes "set")) (each_then (listed_at (assignment_at n)) (λ sets.
     each_give (Update view filter sets) tt))))
-body_whole n command.Kernel = each_then (item_at name_of) (λ view. each_then kernel_at (λ kernel. each_behind (is_word (codes "lanes")) (each_then (item_at count_of) (λ lanes.
+body_whole version n command.Kernel = each_then (item_at name_of) (λ view. each_then kernel_at (λ kernel. each_behind (is_word (codes "lanes")) (each_then (item_at count_of) (λ lanes.
     each_give (Kernel view kernel lanes) tt))))
-body_whole n command.Reduce = each_then (item_at name_of) (λ view. each_either (is_word (codes "count"))
+body_whole version n command.Reduce = each_then (item_at name_of) (λ view. each_either (is_word (codes "count"))
     (each_behind (is_word (codes "count")) (each_behind (is_word (codes "where")) (each_then (expr_at n) (λ filter. each_give (Count view filter) tt))))
     (each_then (item_at reduction_of) (λ kind. each_then path_at (λ path. each_give (Reduce view kind path) tt))))
-body_whole n command.Copy = each_then (item_at name_of) (λ source. each_behind (is_word (codes "to")) (each_then (item_at name_of) (λ target. each_give (Copy source target) tt)))
-body_whole n command.Relayout = each_then (item_at name_of) (λ view. each_behind (is_word (codes "as")) (each_then (map_at n) (λ map. each_give (Relayout view map) tt)))
-body_whole n command.Print = each_then (item_at name_of) (λ view. each_give (Print view) tt)
-body_whole n command.Counts = each_then (item_at name_of) (λ view. each_give (Counts view) tt)
-body_whole n command.Heat = each_then (item_at name_of) (λ view. each_give (Heat view) tt)
-body_whole n command.Layout = each_then (item_at name_of) (λ view. each_give (Layout view) tt)
-body_whole n command.Drop = each_then (item_at name_of) (λ view. each_give (Drop view) tt)
-body_whole n command.Bytes = each_then (item_at name_of) (λ view. each_then (item_at count_of) (λ blob. each_give (Bytes view blob) tt))
+body_whole version n command.Copy = each_then (item_at name_of) (λ source. each_behind (is_word (codes "to")) (each_then (item_at name_of) (λ target. each_give (Copy source target) tt)))
+body_whole version n command.Relayout = each_then (item_at name_of) (λ view. each_behind (is_word (codes "as")) (each_then (map_at version n) (λ map. each_give (Relayout view map) tt)))
+body_whole version n command.Print = each_then (item_at name_of) (λ view. each_give (Print view) tt)
+body_whole version n command.Counts = each_then (item_at name_of) (λ view. each_give (Counts view) tt)
+body_whole version n command.Heat = each_then (item_at name_of) (λ view. each_give (Heat view) tt)
+body_whole version n command.Layout = each_then (item_at name_of) (λ view. each_give (Layout view) tt)
+body_whole version n command.Drop = each_then (item_at name_of) (λ view. each_give (Drop view) tt)
+body_whole version n command.Bytes = each_then (item_at name_of) (λ view. each_then (item_at count_of) (λ blob. each_give (Bytes view blob) tt))
 
-line_whole : (n : ℕ) → Each (line_at n)
+line_whole : (version : Version) (n : ℕ) → Each (line_at version n)
 unfolding line_at command_at
-line_whole n = each_ended (each_either any_token (each_then (item_at command_of) (body_whole n)) (each_give Blank tt))
+line_whole version n = each_ended (each_either any_token (each_then (item_at command_of) (body_whole version n)) (each_give Blank tt))
 
 record_whole : (held : Dim) → IsTreeOfFields (tree_of held) → IsRecord held
 record_whole (dim.Leaf kind) h = h
@@ -129,5 +128,5 @@ of_line (line.Drop view) h = tt
 of_line (line.Bytes view blob) h = tt
 
 -- a line that is read whole
-pub read_whole : (n : ℕ) (tokens rest : List Token) (found : Line) → line_at n tokens ≡ Ok (sentence_of found, rest) → IsWhole found
-read_whole n tokens rest found e = of_line found ((line_whole n).all tokens (sentence_of found) rest e)
+pub read_whole : (version : Version) (n : ℕ) (tokens rest : List Token) (found : Line) → line_at version n tokens ≡ Ok (sentence_of found, rest) → IsWhole found
+read_whole version n tokens rest found e = of_line found ((line_whole version n).all tokens (sentence_of found) rest e)

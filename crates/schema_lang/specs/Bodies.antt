@@ -1,35 +1,50 @@
--- How a line is read, by the word that it begins with.
-use Rattle.std.specs.Prelude.{ℕ, Bool, true, List, codes, Result}
+-- How a line is read, by the word that it begins with, in a version of the language.
+use Rattle.std.specs.Prelude.{ℕ, Bool, true, if◌then◌else◌, List, codes, Result}
 use Rattle.phrases.specs.Reading.{item_at, behind_at, then_at, give_at, either_at}
 use Rattle.phrases.specs.Ended.{ended_at}
 use Rattle.line_tokens.specs.declared.sign.Sign.TheVariants.{Colon, Dot, Equals}
 use Rattle.record_dim.specs.Trees.{Record}
+use Rattle.extents.specs.declared.words.ExtentWord.{ExtentWord}
+use Rattle.map_expr.specs.Terms.{term_of as map_of}
 use Rattle.line_grammar.specs.declared.line.Command.{Command}
 use Rattle.line_grammar.specs.declared.line.Command.TheVariants as command
 use Rattle.line_grammar.specs.declared.token.Token.{Token}
-use Rattle.line_grammar.specs.Sentences.{Sentence, Blank, Define, Mapping, View, Load, Assign, Update, Kernel, Reduce, Count, Copy, Relayout, Print, Counts, Heat, Layout, Drop, Bytes}
+use Rattle.line_grammar.specs.declared.version.Version.{Version}
+use Rattle.line_grammar.specs.Sentences.{New, Sentence, Blank, Define, Mapping, View, Load, Assign, Update, Kernel, Reduce, Count, Copy, Relayout, Print, Counts, Heat, Layout, Drop, Bytes}
 use Rattle.line_grammar.specs.Tokens.{is_sign, is_word, name_of, count_of, string_of, reduction_of, command_of}
 use Rattle.line_phrases.specs.Exprs.{expr_at}
 use Rattle.line_phrases.specs.Fields.{fields_at}
 use Rattle.line_phrases.specs.Lists.{bracket_list_at, extent_at, fixed_at, listed_at}
 use Rattle.line_phrases.specs.Maps.{map_at}
 use Rattle.line_phrases.specs.Paths.{path_at}
+use Rattle.schema_lang.specs.declared.bodies.New as bodies
 use Rattle.schema_lang.specs.Kernels.{kernel_at}
 use Rattle.schema_lang.specs.Updates.{assignment_at, filter_at}
 
 unfoldable pub define_at : ℕ → List Token → Result (Sentence × List Token) ℕ
 define_at n = then_at (item_at name_of) (λ name. then_at (fields_at n) (λ fields. give_at (Define name (Record fields))))
 
-unfoldable pub mapping_at : ℕ → List Token → Result (Sentence × List Token) ℕ
-mapping_at n = then_at (item_at name_of) (λ name. behind_at (is_sign Equals) (then_at (map_at n) (λ map. give_at (Mapping name map))))
+unfoldable pub mapping_at : Version → ℕ → List Token → Result (Sentence × List Token) ℕ
+mapping_at version n = then_at (item_at name_of) (λ name. behind_at (is_sign Equals) (then_at (map_at version n) (λ map. give_at (Mapping name map))))
 
-unfoldable pub view_at : ℕ → List Token → Result (Sentence × List Token) ℕ
-view_at n = then_at (item_at name_of) (λ name. behind_at (is_sign Colon) (then_at (item_at name_of) (λ schema. then_at (bracket_list_at fixed_at) (λ words.
-    behind_at (is_word (codes "as")) (then_at (map_at n) (λ map. give_at (View name schema words map)))))))
+-- what makes a view
+abbrev pub new_of : bodies.New → New
+new_of new = record { name = new.name; schema = new.schema; words = new.words; term = map_of new.expr }
 
-unfoldable pub load_at : ℕ → List Token → Result (Sentence × List Token) ℕ
-load_at n = then_at (item_at name_of) (λ name. behind_at (is_sign Colon) (then_at (item_at name_of) (λ schema. then_at (bracket_list_at extent_at) (λ words.
-    behind_at (is_word (codes "as")) (then_at (map_at n) (λ map. behind_at (is_word (codes "from")) (then_at (item_at string_of) (λ file. give_at (Load name schema words map file)))))))))
+-- an extent, which may be `?` in a load
+abbrev pub word_at : Bool → List Token → Result (ExtentWord × List Token) ℕ
+word_at is_loaded = if is_loaded then extent_at else fixed_at
+
+-- what makes a view, in which `read` reads an extent
+unfoldable pub new_at : Version → (List Token → Result (ExtentWord × List Token) ℕ) → ℕ → List Token → Result (New × List Token) ℕ
+new_at version read n = then_at (item_at name_of) (λ name. behind_at (is_sign Colon) (then_at (item_at name_of) (λ schema. then_at (bracket_list_at read) (λ words.
+    behind_at (is_word (codes "as")) (then_at (map_at version n) (λ map. give_at (record { name = name; schema = schema; words = words; term = map })))))))
+
+unfoldable pub view_at : Version → ℕ → List Token → Result (Sentence × List Token) ℕ
+view_at version n = then_at (new_at version fixed_at n) (λ new. give_at (View new))
+
+unfoldable pub load_at : Version → ℕ → List Token → Result (Sentence × List Token) ℕ
+load_at version n = then_at (new_at version extent_at n) (λ new. behind_at (is_word (codes "from")) (then_at (item_at string_of) (λ file. give_at (Load new file))))
 
 unfoldable pub assign_at : ℕ → List Token → Result (Sentence × List Token) ℕ
 assign_at n = then_at (item_at name_of) (λ view. then_at (bracket_list_at (item_at count_of))
@@ -50,38 +65,38 @@ reduce_at n = then_at (item_at name_of) (λ view. either_at (is_word (codes "cou
 unfoldable pub copy_at : List Token → Result (Sentence × List Token) ℕ
 copy_at = then_at (item_at name_of) (λ source. behind_at (is_word (codes "to")) (then_at (item_at name_of) (λ target. give_at (Copy source target))))
 
-unfoldable pub relayout_at : ℕ → List Token → Result (Sentence × List Token) ℕ
-relayout_at n = then_at (item_at name_of) (λ view. behind_at (is_word (codes "as")) (then_at (map_at n) (λ map. give_at (Relayout view map))))
+unfoldable pub relayout_at : Version → ℕ → List Token → Result (Sentence × List Token) ℕ
+relayout_at version n = then_at (item_at name_of) (λ view. behind_at (is_word (codes "as")) (then_at (map_at version n) (λ map. give_at (Relayout view map))))
 
 unfoldable pub bytes_at : List Token → Result (Sentence × List Token) ℕ
 bytes_at = then_at (item_at name_of) (λ view. then_at (item_at count_of) (λ blob. give_at (Bytes view blob)))
 
 -- what stands behind the word of a command
-unfoldable pub body_at : ℕ → Command → List Token → Result (Sentence × List Token) ℕ
-body_at n command.Record = define_at n
-body_at n command.Mapping = mapping_at n
-body_at n command.View = view_at n
-body_at n command.Load = load_at n
-body_at n command.Set = assign_at n
-body_at n command.Update = update_at n
-body_at n command.Kernel = kernel_line_at
-body_at n command.Reduce = reduce_at n
-body_at n command.Copy = copy_at
-body_at n command.Relayout = relayout_at n
-body_at n command.Print = then_at (item_at name_of) (λ view. give_at (Print view))
-body_at n command.Counts = then_at (item_at name_of) (λ view. give_at (Counts view))
-body_at n command.Heat = then_at (item_at name_of) (λ view. give_at (Heat view))
-body_at n command.Layout = then_at (item_at name_of) (λ view. give_at (Layout view))
-body_at n command.Drop = then_at (item_at name_of) (λ view. give_at (Drop view))
-body_at n command.Bytes = bytes_at
+unfoldable pub body_at : Version → ℕ → Command → List Token → Result (Sentence × List Token) ℕ
+body_at version n command.Record = define_at n
+body_at version n command.Mapping = mapping_at version n
+body_at version n command.View = view_at version n
+body_at version n command.Load = load_at version n
+body_at version n command.Set = assign_at n
+body_at version n command.Update = update_at n
+body_at version n command.Kernel = kernel_line_at
+body_at version n command.Reduce = reduce_at n
+body_at version n command.Copy = copy_at
+body_at version n command.Relayout = relayout_at version n
+body_at version n command.Print = then_at (item_at name_of) (λ view. give_at (Print view))
+body_at version n command.Counts = then_at (item_at name_of) (λ view. give_at (Counts view))
+body_at version n command.Heat = then_at (item_at name_of) (λ view. give_at (Heat view))
+body_at version n command.Layout = then_at (item_at name_of) (λ view. give_at (Layout view))
+body_at version n command.Drop = then_at (item_at name_of) (λ view. give_at (Drop view))
+body_at version n command.Bytes = bytes_at
 
-unfoldable pub command_at : ℕ → List Token → Result (Sentence × List Token) ℕ
-command_at n = then_at (item_at command_of) (body_at n)
+unfoldable pub command_at : Version → ℕ → List Token → Result (Sentence × List Token) ℕ
+command_at version n = then_at (item_at command_of) (body_at version n)
 
 -- any token
 abbrev pub any_token : Token → Bool
 any_token token = true
 
 -- a line in which brackets nest at most so deep, and nothing behind it
-unfoldable pub line_at : ℕ → List Token → Result (Sentence × List Token) ℕ
-line_at n = ended_at (either_at any_token (command_at n) (give_at Blank))
+unfoldable pub line_at : Version → ℕ → List Token → Result (Sentence × List Token) ℕ
+line_at version n = ended_at (either_at any_token (command_at version n) (give_at Blank))

@@ -1,4 +1,4 @@
--- The line that a text is, as a function of the text: what a run over texts is made of. `parse_line` says that it is the grammar's answer.
+-- The line that a text is in a version of the language, as a function of the text: what a run over texts is made of. `parse_line` says that it is the grammar's answer.
 use Rattle.std.specs.Prelude.{ℕ, zero, suc, ◌≡◌, ◌+◌, ◌-◌, ◌<◌, ◌≤◌, List, [], ◌∷◌, length, Some, None, Result, Ok, Err}
 use Rattle.line_tokens.specs.Next.{next_of}
 use Rattle.line_tokens.specs.Spots.{brackets_after}
@@ -9,6 +9,7 @@ use Rattle.line_grammar.specs.declared.line.Line.{Line}
 use Rattle.line_grammar.specs.Reads.{tokens_of, column_behind}
 use Rattle.line_grammar.specs.Sentences.{Sentence, sentence_of, deepest}
 use Rattle.line_grammar.specs.declared.token.Token as token
+use Rattle.line_grammar.specs.declared.version.Version.{Version}
 use Rattle.schema_lang.specs.Bodies.{line_at}
 use Rattle.schema_lang.specs.declared.fault.LineFault.{LineFault}
 use Rattle.schema_lang.specs.declared.fault.LineFault.TheVariants.{Syntax, TooDeep, NoMemory}
@@ -33,8 +34,8 @@ abbrev pub told : List Spot → Result (Sentence × List token.Token) ℕ → Re
 told spots (Ok read) = Ok read.0
 told spots (Err left) = Err (column_behind (length spots - left) spots)
 
-unfoldable pub line_of : List ℕ → Result Sentence ℕ
-line_of text = told (spots_in text) (line_at (length (tokens_of text (spots_in text))) (tokens_of text (spots_in text)))
+unfoldable pub line_of : Version → List ℕ → Result Sentence ℕ
+line_of version text = told (spots_in text) (line_at version (length (tokens_of text (spots_in text))) (tokens_of text (spots_in text)))
 
 -- the answer of a reader
 abbrev pub IsTold : Result Sentence ℕ → Result Line LineFault → Type 0

@@ -1,18 +1,19 @@
--- What a fault says of a text, and what an answer says where the text is a line.
+-- What a fault says of a text in a version of the language, and what an answer says where the text is a line.
 use Rattle.std.specs.Prelude.{ℕ, ◌≡◌, ◌<◌, List, Result, Ok, Err}
 use Rattle.record_dim.specs.Trees.{IsRecord}
 use Rattle.line_grammar.specs.declared.line.Line.{Line}
 use Rattle.line_grammar.specs.declared.line.Line.TheVariants as line
+use Rattle.line_grammar.specs.declared.version.Version.{Version}
 use Rattle.line_grammar.specs.Sentences.{Sentence, deepest, sentence_of}
 use Rattle.line_grammar.specs.Reads.{Reads, StopsAt}
 use Rattle.schema_lang.specs.declared.fault.LineFault.{LineFault}
 use Rattle.schema_lang.specs.declared.fault.LineFault.TheVariants.{Syntax, TooDeep, NoMemory}
 
 -- the text is no line and stops at the column, or it is one that is too deep; memory may run out at any time
-abbrev pub IsFault : List ℕ → LineFault → Type 0
-IsFault text (Syntax column) = StopsAt text column
-IsFault text TooDeep = (sentence : Sentence) × Reads text sentence × (32 < deepest sentence)
-IsFault text NoMemory = Unit {0}
+abbrev pub IsFault : Version → List ℕ → LineFault → Type 0
+IsFault version text (Syntax column) = StopsAt version text column
+IsFault version text TooDeep = (sentence : Sentence) × Reads version text sentence × (32 < deepest sentence)
+IsFault version text NoMemory = Unit {0}
 
 -- the answer for a text that is this line
 abbrev pub IsAnswer : Sentence → Result Line LineFault → Type 0

@@ -1,53 +1,57 @@
 ghost use Rattle.std.specs.Prelude.{◌≡◌, IfErr};
 ghost use Rattle.line_grammar.specs.Sentences.{sentence_of};
 ghost use Rattle.line_phrases.specs.Gives.{Gives, IsSyntax};
-ghost use Rattle.schema_lang.specs.Bodies.{assign_at, body_at, bytes_at, command_at, copy_at, define_at, kernel_line_at, load_at, mapping_at, reduce_at, relayout_at, update_at, view_at};
+ghost use Rattle.line_phrases.specs.Lists.{bracket_list_at};
+ghost use Rattle.schema_lang.specs.Bodies.{assign_at, body_at, bytes_at, command_at, copy_at, define_at, kernel_line_at, load_at, mapping_at, new_at, new_of, reduce_at, relayout_at, update_at, view_at, word_at};
 
 use crate::kernels::read_kernel;
 use crate::updates::{read_filter, read_sets};
-use line_grammar::{Command, Count, FileName, Line, ReduceKind};
+use line_grammar::{Command, Count, ExtentWords, FileName, Line, ReduceKind, Version};
 use line_phrases::{
     ReadError, Tokens, read_expr, read_extents, read_fields, read_fixed_extents, read_index,
     read_map, read_path,
 };
 use line_tokens::Sign;
+use map_expr::MapExpr;
 use record_dim::{Dim, Name};
 use std::alloc::Global;
 
-// A command, whose brackets nest at most `room` deep.
+// A command of a version of the language, whose brackets nest at most `room` deep.
 #[tactic(auto, unfolding(crate::specs::Bodies::command_at))]
 pub(crate) fn read_command(
     alloc: Global,
+    version: Version,
     room: usize,
     tokens: &mut Tokens,
 ) -> Result<Line, ReadError>
-    ensures { Gives (λ x. (sentence_of x, tokens.new)) result (command_at room tokens.old) }
+    ensures { Gives (λ x. (sentence_of x, tokens.new)) result (command_at version room tokens.old) }
 {
     let command = tokens.item::<Command>()?;
-    read_body(alloc, room, command, tokens)
+    read_body(alloc, version, room, command, tokens)
 }
 
 // What stands behind the word of a command.
 #[tactic(auto, unfolding(crate::specs::Bodies::body_at))]
 fn read_body(
     alloc: Global,
+    version: Version,
     room: usize,
     command: Command,
     tokens: &mut Tokens,
 ) -> Result<Line, ReadError>
-    ensures { Gives (λ x. (sentence_of x, tokens.new)) result (body_at room command tokens.old) }
+    ensures { Gives (λ x. (sentence_of x, tokens.new)) result (body_at version room command tokens.old) }
 {
     match command {
         Command::Record => read_define(alloc, room, tokens),
-        Command::Mapping => read_mapping(alloc, room, tokens),
-        Command::View => read_view(alloc, room, tokens),
-        Command::Load => read_load(alloc, room, tokens),
+        Command::Mapping => read_mapping(alloc, version, room, tokens),
+        Command::View => read_view(alloc, version, room, tokens),
+        Command::Load => read_load(alloc, version, room, tokens),
         Command::Set => read_assign(alloc, room, tokens),
         Command::Update => read_update(alloc, room, tokens),
         Command::Kernel => read_kernel_line(alloc, tokens),
         Command::Reduce => read_reduce(alloc, room, tokens),
         Command::Copy => read_copy(tokens),
-        Command::Relayout => read_relayout(alloc, room, tokens),
+        Command::Relayout => read_relayout(alloc, version, room, tokens),
         Command::Print => Ok(Line::Print(tokens.item::<Name>()?)),
         Command::Counts => Ok(Line::Counts(tokens.item::<Name>()?)),
         Command::Heat => Ok(Line::Heat(tokens.item::<Name>()?)),
@@ -70,25 +74,79 @@ fn read_define(alloc: Global, room: usize, tokens: &mut Tokens) -> Result<Line, 
 }
 
 #[tactic(auto, unfolding(crate::specs::Bodies::mapping_at))]
-fn read_mapping(alloc: Global, room: usize, tokens: &mut Tokens) -> Result<Line, ReadError>
-    ensures { Gives (λ x. (sentence_of x, tokens.new)) result (mapping_at room tokens.old) }
+fn read_mapping(
+    alloc: Global,
+    version: Version,
+    room: usize,
+    tokens: &mut Tokens,
+) -> Result<Line, ReadError>
+    ensures { Gives (λ x. (sentence_of x, tokens.new)) result (mapping_at version room tokens.old) }
 {
     let name = tokens.item::<Name>()?;
     tokens.sign(Sign::Equals)?;
-    let expr = read_map(alloc, room, tokens)?;
+    let expr = read_map(alloc, version, room, tokens)?;
     Ok(Line::Mapping { name, expr })
 }
 
-#[tactic(auto, unfolding(crate::specs::Bodies::view_at))]
-fn read_view(alloc: Global, room: usize, tokens: &mut Tokens) -> Result<Line, ReadError>
-    ensures { Gives (λ x. (sentence_of x, tokens.new)) result (view_at room tokens.old) }
+// What makes a view.
+#[derive(Drop)]
+pub(crate) struct New {
+    pub(crate) name: Name,
+    pub(crate) schema: Name,
+    pub(crate) words: ExtentWords,
+    pub(crate) expr: MapExpr,
+}
+
+// What makes a view. `?` may stand among its extents where `is_loaded`.
+#[tactic(auto, unfolding(crate::specs::Bodies::new_at))]
+fn read_new(
+    alloc: Global,
+    version: Version,
+    room: usize,
+    is_loaded: bool,
+    tokens: &mut Tokens,
+) -> Result<New, ReadError>
+    ensures { Gives (λ x. (new_of x, tokens.new)) result (new_at version (word_at is_loaded) room tokens.old) }
 {
     let name = tokens.item::<Name>()?;
     tokens.sign(Sign::Colon)?;
     let schema = tokens.item::<Name>()?;
-    let words = read_fixed_extents(alloc, tokens)?;
+    let words = read_words(alloc, is_loaded, tokens)?;
     tokens.word("as")?;
-    let expr = read_map(alloc, room, tokens)?;
+    let expr = read_map(alloc, version, room, tokens)?;
+    Ok(New {
+        name,
+        schema,
+        words,
+        expr,
+    })
+}
+
+fn read_words(alloc: Global, is_loaded: bool, tokens: &mut Tokens) -> Result<ExtentWords, ReadError>
+    ensures { Gives (λ x. (x, tokens.new)) result (bracket_list_at (word_at is_loaded) tokens.old) }
+{
+    if is_loaded {
+        read_extents(alloc, tokens)
+    } else {
+        read_fixed_extents(alloc, tokens)
+    }
+}
+
+#[tactic(auto, unfolding(crate::specs::Bodies::view_at))]
+fn read_view(
+    alloc: Global,
+    version: Version,
+    room: usize,
+    tokens: &mut Tokens,
+) -> Result<Line, ReadError>
+    ensures { Gives (λ x. (sentence_of x, tokens.new)) result (view_at version room tokens.old) }
+{
+    let New {
+        name,
+        schema,
+        words,
+        expr,
+    } = read_new(alloc, version, room, false, tokens)?;
     Ok(Line::View {
         name,
         schema,
@@ -98,15 +156,20 @@ fn read_view(alloc: Global, room: usize, tokens: &mut Tokens) -> Result<Line, Re
 }
 
 #[tactic(auto, unfolding(crate::specs::Bodies::load_at))]
-fn read_load(alloc: Global, room: usize, tokens: &mut Tokens) -> Result<Line, ReadError>
-    ensures { Gives (λ x. (sentence_of x, tokens.new)) result (load_at room tokens.old) }
+fn read_load(
+    alloc: Global,
+    version: Version,
+    room: usize,
+    tokens: &mut Tokens,
+) -> Result<Line, ReadError>
+    ensures { Gives (λ x. (sentence_of x, tokens.new)) result (load_at version room tokens.old) }
 {
-    let name = tokens.item::<Name>()?;
-    tokens.sign(Sign::Colon)?;
-    let schema = tokens.item::<Name>()?;
-    let words = read_extents(alloc, tokens)?;
-    tokens.word("as")?;
-    let expr = read_map(alloc, room, tokens)?;
+    let New {
+        name,
+        schema,
+        words,
+        expr,
+    } = read_new(alloc, version, room, true, tokens)?;
     tokens.word("from")?;
     let file = tokens.item::<FileName>()?;
     Ok(Line::Load {
@@ -190,12 +253,17 @@ fn read_copy(tokens: &mut Tokens) -> Result<Line, ReadError>
 }
 
 #[tactic(auto, unfolding(crate::specs::Bodies::relayout_at))]
-fn read_relayout(alloc: Global, room: usize, tokens: &mut Tokens) -> Result<Line, ReadError>
-    ensures { Gives (λ x. (sentence_of x, tokens.new)) result (relayout_at room tokens.old) }
+fn read_relayout(
+    alloc: Global,
+    version: Version,
+    room: usize,
+    tokens: &mut Tokens,
+) -> Result<Line, ReadError>
+    ensures { Gives (λ x. (sentence_of x, tokens.new)) result (relayout_at version room tokens.old) }
 {
     let view = tokens.item::<Name>()?;
     tokens.word("as")?;
-    let expr = read_map(alloc, room, tokens)?;
+    let expr = read_map(alloc, version, room, tokens)?;
     Ok(Line::Relayout { view, expr })
 }
 

@@ -7,7 +7,7 @@ use expr_lang::Expr;
 use line_grammar::{Line, SetText};
 
 /// The most that an expression of a line may be deep.
-const MOST_DEPTH: u64 = 32;
+const MAX_DEPTH: u64 = 32;
 
 // Whether no expression of the line is too deep.
 pub(crate) fn is_shallow(line: &Line) -> bool
@@ -33,7 +33,7 @@ pub(crate) fn is_shallow(line: &Line) -> bool
 fn is_low(value: &Expr) -> bool
     ensures { result ≡ nat_le (depth_of (term_of value.now)) 32 }
 {
-    value.depth() <= MOST_DEPTH
+    value.depth() <= MAX_DEPTH
 }
 
 #[tactic(auto, using(crate::proofs::Depths::low_first))]

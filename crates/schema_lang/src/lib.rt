@@ -10,8 +10,8 @@ mod token_list;
 mod updates;
 
 pub use fault::LineFault;
-pub use line::{line_law, parse_line};
+pub use line::{line_law, one_line_law, parse_line, parse_line_in};
 pub use line_grammar::{
-    ExtentWords, FileName, IndexWords, KernelText, Line, ReduceKind, SetList, SetText,
+    ExtentWords, FileName, IndexWords, KernelText, Line, ReduceKind, SetList, SetText, Version,
 };
 pub use line_writer::write_line;

@@ -1,4 +1,6 @@
-ghost use Rattle.std.specs.Prelude.{◌≡◌, ◌≤◌, [], length, IfOk, IfErr, MatchResult};
+ghost use Rattle.std.specs.Prelude.{ℕ, List, ◌≡◌, ◌≤◌, [], length, IfOk, IfErr, MatchResult};
+ghost use Rattle.line_grammar.specs.declared.version.Version.{Version};
+ghost use Rattle.line_grammar.specs.declared.version.Version.TheVariants.{One};
 ghost use Rattle.line_grammar.specs.Reads.{Reads, StopsAt};
 ghost use Rattle.line_grammar.specs.Sentences.{Sentence, deepest, sentence_of};
 ghost use Rattle.line_phrases.specs.Gives.{Gives};
@@ -10,31 +12,50 @@ use crate::LineFault;
 use crate::bodies::read_command;
 use crate::depth::is_shallow;
 use crate::token_list::{column_of, tokens_of};
-use line_grammar::{Line, Token};
+use line_grammar::{Line, Token, Version};
 use line_phrases::{ReadError, Tokens};
 use line_tokens::spots_of;
 use std::alloc::Global;
 
-/// The line that the text is. A fault is `Syntax` where it is none, and `TooDeep` where it is one with an expression more than
-/// 32 deep. The depth of a mapping is not looked at here.
+/// The line that the text is in the first version of the language. A fault is `Syntax` where it is none, and `TooDeep` where it
+/// is one with an expression more than 32 deep. The depth of a mapping is not looked at here.
 pub fn parse_line(alloc: Global, text: &[u8]) -> Result<Line, LineFault>
     requires { length text.now ≤ 4096 }
     // What is read is the line that the text is.
-    ensures found { IfOk result (λ line. Reads text.now (sentence_of line)) }
+    ensures found { IfOk result (λ line. Reads One text.now (sentence_of line)) }
     ensures whole { IfOk result IsWhole }
     ensures shallow { IfOk result (λ line. deepest (sentence_of line) ≤ 32) }
     // Which fault it is, and where it stands.
-    ensures fault { IfErr result (IsFault text.now) }
+    ensures fault { IfErr result (IsFault One text.now) }
     // A text that is a line is read as that line, unless it is too deep.
-    ensures only { (sentence : Sentence) → Reads text.now sentence → IsAnswer sentence result }
+    ensures only { (sentence : Sentence) → Reads One text.now sentence → IsAnswer sentence result }
     // It is what a function of the text tells, which is the grammar's answer (`line_law`).
-    ensures told { IsTold (line_of text.now) result }
+    ensures told { IsTold (line_of One text.now) result }
     // No text is two lines.
-    ensures one { (a b : Sentence) → Reads text.now a → Reads text.now b → a ≡ b }
+    ensures one { (a b : Sentence) → Reads One text.now a → Reads One text.now b → a ≡ b }
+{
+    parse_line_in(alloc, Version::One, text)
+}
+
+/// The line that the text is in this version of the language, with the faults of `parse_line`.
+pub fn parse_line_in(alloc: Global, version: Version, text: &[u8]) -> Result<Line, LineFault>
+    requires { length text.now ≤ 4096 }
+    // What is read is the line that the text is.
+    ensures found { IfOk result (λ line. Reads version text.now (sentence_of line)) }
+    ensures whole { IfOk result IsWhole }
+    ensures shallow { IfOk result (λ line. deepest (sentence_of line) ≤ 32) }
+    // Which fault it is, and where it stands.
+    ensures fault { IfErr result (IsFault version text.now) }
+    // A text that is a line is read as that line, unless it is too deep.
+    ensures only { (sentence : Sentence) → Reads version text.now sentence → IsAnswer sentence result }
+    // It is what a function of the text tells, which is the grammar's answer (`line_law`).
+    ensures told { IsTold (line_of version text.now) result }
+    // No text is two lines.
+    ensures one { (a b : Sentence) → Reads version text.now a → Reads version text.now b → a ≡ b }
 {
     let spots = spots_of(alloc, text)?;
     let tokens = tokens_of(alloc, text, spots.as_slice())?;
-    match read_line(alloc, &tokens) {
+    match read_line(alloc, version, &tokens) {
         Ok(line) => {
             if is_shallow(&line) {
                 Ok(line)
@@ -51,14 +72,14 @@ pub fn parse_line(alloc: Global, text: &[u8]) -> Result<Line, LineFault>
 
 // The line that has these tokens.
 #[tactic(auto, unfolding(crate::specs::Bodies::line_at))]
-fn read_line(alloc: Global, tokens: &[Token<'_>]) -> Result<Line, ReadError>
-    ensures { Gives (λ x. (sentence_of x, [])) result (line_at (length tokens.now) tokens.now) }
+fn read_line(alloc: Global, version: Version, tokens: &[Token<'_>]) -> Result<Line, ReadError>
+    ensures { Gives (λ x. (sentence_of x, [])) result (line_at version (length tokens.now) tokens.now) }
 {
     let mut left = Tokens::new(tokens);
     if tokens.is_empty() {
         return Ok(Line::Blank);
     }
-    let line = read_command(alloc, tokens.len(), &mut left)?;
+    let line = read_command(alloc, version, tokens.len(), &mut left)?;
     if left.len() > 0 {
         return Err(ReadError::Syntax(left.len()));
     }
@@ -66,6 +87,11 @@ fn read_line(alloc: Global, tokens: &[Token<'_>]) -> Result<Line, ReadError>
 }
 
 /// What `line_of` tells of a text is what the grammar says. It does nothing: its contract is the law.
-pub fn line_law(_text: &[u8])
-    ensures { MatchResult (line_of _text.now) (Reads _text.now) (StopsAt _text.now) }
+pub fn line_law(_version: Version, _text: &[u8])
+    ensures { MatchResult (line_of _version _text.now) (Reads _version _text.now) (StopsAt _version _text.now) }
+{}
+
+/// No text is two lines. It does nothing: its contract is the law.
+pub fn one_line_law()
+    ensures { (version : Version) (text : List ℕ) (a b : Sentence) → Reads version text a → Reads version text b → a ≡ b }
 {}

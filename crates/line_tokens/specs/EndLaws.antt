@@ -1,0 +1,71 @@
+-- Tokens as a writer puts them end no line.
+use Rattle.std.proofs.Common.{◌≡◌, ℕ, suc, true, false, Bool, List, [], ◌∷◌, ◌++◌, refl, sym, subst, ap, ◌∙◌, arith}
+use Rattle.std.specs.List.{AllPass}
+use Rattle.std.specs.Char.{is_ascii_digit}
+use Rattle.std.specs.Str.{byte}
+use Rattle.std.proofs.lemmas.Bool.{true≢false}
+use Rattle.line_tokens.specs.Bytes.{is_word_byte, is_text_byte}
+use Rattle.line_tokens.specs.Signs.{spelling}
+use Rattle.line_tokens.specs.Spots.{brackets_after}
+use Rattle.line_tokens.specs.Spelled.{Written, Spells, AreSpelled, spaced, joined}
+use Rattle.line_tokens.specs.declared.sign.Sign.{Sign}
+use Rattle.line_tokens.specs.declared.sign.Sign.TheVariants.{OpenBrace, CloseBrace, OpenBracket, CloseBracket, OpenParen, CloseParen, Colon, Comma, Dot, Equals, EqualEqual, NotEqual, LessThan, LessEqual, GreaterThan, GreaterEqual, Plus, Minus, Arrow, Star, Slash, Percent, Question}
+use Rattle.line_tokens.specs.declared.token.TokenKind.{TokenKind}
+use Rattle.line_tokens.specs.declared.token.TokenKind.TheVariants.{Word, Number, Text, Sign as SignKind}
+use Rattle.line_tokens.specs.Ends.{NoEnd}
+
+-- bytes behind others
+pub no_end_append : (xs ys : List ℕ) → NoEnd xs → NoEnd ys → NoEnd (xs ++ ys)
+no_end_append [] ys a b = b
+no_end_append (x ∷ xs) ys a b = (a.0, no_end_append xs ys a.1 b)
+
+-- bytes that pass a test which LF does not
+all_no_end : (test : ℕ → Bool) → test 10 ≡ false → (bytes : List ℕ) → AllPass test bytes → NoEnd bytes
+all_no_end test fails [] all = tt
+all_no_end test fails (b ∷ bytes) all =
+    let first : test b ≡ true = all 0 0 (omega arith) in
+    ((λ e. true≢false (sym first ∙ ap test e ∙ fails)), all_no_end test fails bytes (λ k d l. all (suc k) d (omega (arith, l))))
+
+quoted_no_end : (inside : List ℕ) → AllPass is_text_byte inside → NoEnd (byte "\"" ∷ (inside ++ byte "\"" ∷ []))
+quoted_no_end inside all = ((λ e. omega (arith, e)), no_end_append inside (byte "\"" ∷ []) (all_no_end is_text_byte refl inside all) ((λ e. omega (arith, e)), tt))
+
+sign_no_end : (sign : Sign) → NoEnd (spelling sign)
+sign_no_end OpenBrace = ((λ e. omega (arith, e)), tt)
+sign_no_end CloseBrace = ((λ e. omega (arith, e)), tt)
+sign_no_end OpenBracket = ((λ e. omega (arith, e)), tt)
+sign_no_end CloseBracket = ((λ e. omega (arith, e)), tt)
+sign_no_end OpenParen = ((λ e. omega (arith, e)), tt)
+sign_no_end CloseParen = ((λ e. omega (arith, e)), tt)
+sign_no_end Colon = ((λ e. omega (arith, e)), tt)
+sign_no_end Comma = ((λ e. omega (arith, e)), tt)
+sign_no_end Dot = ((λ e. omega (arith, e)), tt)
+sign_no_end Equals = ((λ e. omega (arith, e)), tt)
+sign_no_end EqualEqual = ((λ e. omega (arith, e)), ((λ e. omega (arith, e)), tt))
+sign_no_end NotEqual = ((λ e. omega (arith, e)), ((λ e. omega (arith, e)), tt))
+sign_no_end LessThan = ((λ e. omega (arith, e)), tt)
+sign_no_end LessEqual = ((λ e. omega (arith, e)), ((λ e. omega (arith, e)), tt))
+sign_no_end GreaterThan = ((λ e. omega (arith, e)), tt)
+sign_no_end GreaterEqual = ((λ e. omega (arith, e)), ((λ e. omega (arith, e)), tt))
+sign_no_end Plus = ((λ e. omega (arith, e)), tt)
+sign_no_end Minus = ((λ e. omega (arith, e)), tt)
+sign_no_end Arrow = ((λ e. omega (arith, e)), ((λ e. omega (arith, e)), tt))
+sign_no_end Star = ((λ e. omega (arith, e)), tt)
+sign_no_end Slash = ((λ e. omega (arith, e)), tt)
+sign_no_end Percent = ((λ e. omega (arith, e)), tt)
+sign_no_end Question = ((λ e. omega (arith, e)), tt)
+
+token_no_end : (kind : TokenKind) (bytes : List ℕ) → Spells kind bytes → NoEnd bytes
+token_no_end Word bytes h = all_no_end is_word_byte refl bytes h.1
+token_no_end (Number value) bytes h = all_no_end is_ascii_digit refl bytes h.1
+token_no_end Text bytes h = subst NoEnd (sym h.1) (quoted_no_end h.0 h.2)
+token_no_end (SignKind sign) bytes h = subst NoEnd (sym h) (sign_no_end sign)
+
+spaced_no_end : (brackets : ℕ) (tokens : List Written) → AreSpelled brackets tokens → NoEnd (spaced tokens)
+spaced_no_end brackets [] h = tt
+spaced_no_end brackets (token ∷ tokens) h =
+    ((λ e. omega (arith, e)), no_end_append token.bytes (spaced tokens) (token_no_end token.kind token.bytes h.0) (spaced_no_end (brackets_after token.kind brackets) tokens h.2))
+
+pub joined_no_end : (tokens : List Written) → AreSpelled 0 tokens → NoEnd (joined tokens)
+joined_no_end [] h = tt
+joined_no_end (token ∷ tokens) h =
+    no_end_append token.bytes (spaced tokens) (token_no_end token.kind token.bytes h.0) (spaced_no_end (brackets_after token.kind 0) tokens h.2)
