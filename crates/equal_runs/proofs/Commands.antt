@@ -20,6 +20,7 @@ use Rattle.expr_lang.specs.Terms.{Term}
 use Rattle.line_grammar.specs.Sentences.{Value, Assignment}
 use Rattle.line_grammar.specs.declared.line.KernelText.{KernelText}
 use Rattle.line_grammar.specs.declared.line.ReduceKind.{ReduceKind}
+use Rattle.views.specs.Tables.{Table, leaf_count_of, answer_of, after_stores}
 use Rattle.row_updates.specs.Rows.{Setting, updated_rows, counted}
 use Rattle.row_updates.specs.Logs.{value_log, count_log, rows_log}
 use Rattle.row_updates.specs.declared.fault.UpdateFault.{UpdateFault}
@@ -30,12 +31,11 @@ use Rattle.lane_kernels.specs.declared.fault.KernelFault.TheVariants as kernel_f
 use Rattle.lane_kernels.specs.declared.kernel.Kernel.{Kernel}
 use Rattle.lane_kernels.specs.Kernels as kernels
 use Rattle.lane_kernels.specs.Logs as kernel_logs
-use Rattle.worlds.specs.Worlds.{World, Table, found}
-use Rattle.worlds.specs.Accessed.{rewritten, leaf_count}
+use Rattle.worlds.specs.Worlds.{World, found}
 use Rattle.worlds.specs.OnView.{Done, stores, tells, done_to, with_table, on_view}
 use Rattle.worlds.specs.Outcomes.{Outcome, Goes, ◌>>=◌, LeftOf, Left, known, some_or, refused_if, refused_by, ok_or}
 use Rattle.worlds.specs.Names.{leaf_of, bound, bound_filter, bound_sets, each_once, leaves_of, text_of_leaf}
-use Rattle.worlds.specs.Values.{answer_in, storable, store_fault, value_on}
+use Rattle.worlds.specs.Values.{storable, store_fault, value_on}
 use Rattle.worlds.specs.Assign.{inside, assigned}
 use Rattle.worlds.specs.Update.{updated, update_fault, kind_fault}
 use Rattle.worlds.specs.Reduce.{reduction, reduced, column, counting}
@@ -57,7 +57,7 @@ abbrev under : Table → MapTerm → Tally → Table
 under table mapping tally = record table { mapping = mapping; tally = tally }
 
 -- the answers to a store in a table and in that table under another mapping
-answers_under : (table : Table) (mapping : MapTerm) (tally : Tally) (leaf : ℕ) (value : ℤ) → Answers is_narrow (answer_in table leaf value) (answer_in (under table mapping tally) leaf value)
+answers_under : (table : Table) (mapping : MapTerm) (tally : Tally) (leaf : ℕ) (value : ℤ) → Answers is_narrow (answer_of table leaf value) (answer_of (under table mapping tally) leaf value)
 answers_under table mapping tally leaf value =
     store_answers (kind_at (kinds_of table.fields) leaf) (hold_at (holds_by table.mapping table.fields) leaf) (hold_at (holds_by mapping table.fields) leaf) value
 
@@ -107,21 +107,21 @@ module _ (m o : Bool) (table : Table) (mapping : MapTerm) (tally : Tally) where
 
   module _ (test : Option (Term ℕ)) (settings : List Setting) where
     abbrev update_log : Table → List Access
-    update_log t = rows_log (answer_in t) test settings table.extents table.rows (length table.rows)
+    update_log t = rows_log (answer_of t) test settings table.extents table.rows (length table.rows)
 
     abbrev new_rows : Table → Result (List (List ℤ)) UpdateFault
-    new_rows t = updated_rows (answer_in t) test settings table.extents table.rows (length table.rows)
+    new_rows t = updated_rows (answer_of t) test settings table.extents table.rows (length table.rows)
 
     -- where both go, both have the same accesses
     log_is : (t : Table) (rows : List (List ℤ)) → new_rows t ≡ Ok rows → update_log t ≡ fit_rows test settings table.extents table.rows (length table.rows)
-    log_is t rows goes = rows_are (answer_in t) test settings table.extents table.rows (length table.rows) rows goes
+    log_is t rows goes = rows_are (answer_of t) test settings table.extents table.rows (length table.rows) rows goes
 
     updated_agree_of : Same m o (ok_or (update_fault table.fields) (new_rows table) >>= (λ rows. Goes (stores rows (update_log table))))
         (ok_or (update_fault table.fields) (new_rows (under table mapping tally)) >>= (λ rows. Goes (stores rows (update_log (under table mapping tally)))))
     updated_agree_of =
         bind m o (Given _ _) SameDone (ok_or (update_fault table.fields) (new_rows table)) (ok_or (update_fault table.fields) (new_rows (under table mapping tally))) _ _
         (ok_agree m o is_narrow_update (update_fault table.fields) _ _ (narrow_update table)
-        (rows_answers (answer_in table) (answer_in (under table mapping tally)) (answers_under table mapping tally) test settings table.extents table.rows (length table.rows)))
+        (rows_answers (answer_of table) (answer_of (under table mapping tally)) (answers_under table mapping tally) test settings table.extents table.rows (length table.rows)))
         (λ rows others given. go _ _
         (ap (λ (r : List (List ℤ)). stores r (update_log (under table mapping tally))) given.same
         ∙ ap (λ (log : List Access). stores rows log) (log_is (under table mapping tally) others given.second ∙ sym (log_is table rows given.first))))
@@ -138,10 +138,10 @@ module _ (m o : Bool) (table : Table) (mapping : MapTerm) (tally : Tally) where
   ran_agree text lanes = before m o SameDone (fit_kernel table.fields text lanes) _ _ ran where
     ran : (fit : Kernel) → Same m o (run table fit) (run (under table mapping tally) fit)
     ran fit =
-        bind m o Both SameDone (refused_by (run_fault table.fields) (kernels.kernel_fault (answer_in table) fit table.rows))
-        (refused_by (run_fault table.fields) (kernels.kernel_fault (answer_in (under table mapping tally)) fit table.rows)) _ _
+        bind m o Both SameDone (refused_by (run_fault table.fields) (kernels.kernel_fault (answer_of table) fit table.rows))
+        (refused_by (run_fault table.fields) (kernels.kernel_fault (answer_of (under table mapping tally)) fit table.rows)) _ _
         (by_agree m o is_narrow_kernel (run_fault table.fields) _ _ (narrow_run table)
-        (kernel_causes (answer_in table) (answer_in (under table mapping tally)) (answers_under table mapping tally) fit table.rows))
+        (kernel_causes (answer_of table) (answer_of (under table mapping tally)) (answers_under table mapping tally) fit table.rows))
         (λ done also p. go _ _ refl)
 
   pub reduction_agree : (kind : ReduceKind) (path : List PathStep) → Same m o (reduction table kind path) (reduction (under table mapping tally) kind path)
@@ -182,7 +182,7 @@ module _ (m o : Bool) (table : Table) (mapping : MapTerm) (tally : Tally) (same 
       → Agree m o AlikeDone (done_to table (command table)) (done_to (under table mapping tally) (command (under table mapping tally)))
   done_agree command agree =
       bind m o SameDone AlikeDone (command table) (command (under table mapping tally)) _ _ agree
-      (λ a b is. go _ _ (subst (λ (d : Done). AlikeDone (record { held = rewritten table a.rows a.log; text = a.text }) (record { held = rewritten (under table mapping tally) d.rows d.log; text = d.text }))
+      (λ a b is. go _ _ (subst (λ (d : Done). AlikeDone (record { held = after_stores table a.rows a.log; text = a.text }) (record { held = after_stores (under table mapping tally) d.rows d.log; text = d.text }))
       (sym is) (record { tables = rewritten_alike table mapping tally same a.rows a.log; text = refl })))
 
   -- rows that are copied into both
@@ -196,7 +196,7 @@ module _ (m o : Bool) (table : Table) (mapping : MapTerm) (tally : Tally) (same 
 
   -- each value is read once
   read_alike : AlikeTables (all_read table) (all_read (under table mapping tally))
-  read_alike = rewritten_alike table mapping tally same table.rows (all_reads (leaf_count table) (length table.rows))
+  read_alike = rewritten_alike table mapping tally same table.rows (all_reads (leaf_count_of table) (length table.rows))
 
 module _ (m o : Bool) (world other : World) (alike : AlikeWorlds world other) where
   -- worlds with alike tables under a name

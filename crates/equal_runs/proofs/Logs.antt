@@ -5,21 +5,20 @@ use Rattle.std.specs.Cmp.Lexicographic.{pointwise}
 use Rattle.std.proofs.lemmas.Bool.Decides.{nat_tests}
 use Rattle.layout_io.specs.Files.{File}
 use Rattle.extents.specs.Indices.{indices}
-use Rattle.extents.specs.declared.words.ExtentWord.{ExtentWord}
 use Rattle.record_dim.specs.Leaves.{leaves, texts_of}
 use Rattle.record_dim.specs.Trees.{Tree, Fields}
 use Rattle.map_expr.specs.Terms.{Term as MapTerm}
 use Rattle.places.specs.Layout.{Owner}
 use Rattle.piece_bits.specs.Tables.{zeros}
 use Rattle.piece_bits.specs.TableLaws.{zeros_shape}
-use Rattle.line_grammar.specs.Sentences.{Sentence}
+use Rattle.line_grammar.specs.Sentences.{Sentence, New}
 use Rattle.line_grammar.specs.Sentences as line
 use Rattle.instrument.specs.Counters.{LeafCounts, HeatCounts}
 use Rattle.instrument.specs.CounterTexts.{counts_text, heat_text}
 use Rattle.views.specs.Tallies.{Access, Tally, tallied, no_tally, all_reads, all_writes}
 use Rattle.views.specs.TallyLaws.{tallied-none, tallied-append}
-use Rattle.worlds.specs.Worlds.{World, Entry, Table, same_name, found, added, replaced, removed}
-use Rattle.worlds.specs.Accessed.{owners_of, leaf_count, rewritten}
+use Rattle.views.specs.Tables.{Table, owners_of, leaf_count_of, after_stores}
+use Rattle.worlds.specs.Worlds.{World, Entry, same_name, found, added, replaced, removed}
 use Rattle.worlds.specs.Copy.{copy, copied, with_rows, relayout, all_read, laid_anew}
 use Rattle.worlds.specs.Define.{define}
 use Rattle.worlds.specs.Load.{load, loaded_table, loaded, filled}
@@ -85,7 +84,7 @@ free_found fault (Some a) is = absurd (cc)
 
 -- the tally of a table is that of a list of accesses
 abbrev pub IsCounted : Table → List Access → Type 0
-IsCounted table log = table.tally ≡ tallied (owners_of table) (no_tally table.mapping (owners_of table) (leaf_count table)) log
+IsCounted table log = table.tally ≡ tallied (owners_of table) (no_tally table.mapping (owners_of table) (leaf_count_of table)) log
 
 abbrev pub AreCounted : List (Entry Table) → List (Entry (List Access)) → Type 0
 AreCounted views logs = Entries IsCounted views logs
@@ -98,18 +97,18 @@ pub counted_at : (name : List ℕ) (views : List (Entry Table)) (logs : List (En
 counted_at name views logs table all is = of_found (found name views) (found name logs) table (finds IsCounted name views logs all) is
 
 -- more accesses
-counted_more : (table : Table) (log : List Access) (rows : List (List ℤ)) (more : List Access) → IsCounted table log → IsCounted (rewritten table rows more) (log ++ more)
+counted_more : (table : Table) (log : List Access) (rows : List (List ℤ)) (more : List Access) → IsCounted table log → IsCounted (after_stores table rows more) (log ++ more)
 counted_more table log rows more is =
     let owners = owners_of table in
-    ap (λ (tally : Tally). tallied owners tally more) is ∙ tallied-append owners (no_tally table.mapping owners (leaf_count table)) log more
+    ap (λ (tally : Tally). tallied owners tally more) is ∙ tallied-append owners (no_tally table.mapping owners (leaf_count_of table)) log more
 
 logged_more : (name : List ℕ) (views : List (Entry Table)) (logs : List (Entry (List Access))) (table : Table) (rows : List (List ℤ)) (more : List Access) → AreCounted views logs → found name views ≡ Some table
-    → AreCounted (replaced name (rewritten table rows more) views) (logged name more logs)
+    → AreCounted (replaced name (after_stores table rows more) views) (logged name more logs)
 logged_more name views logs table rows more all is =
-    entries_replaced IsCounted name (rewritten table rows more) (log_in (found name logs) ++ more) views logs (counted_more table (log_in (found name logs)) rows more (counted_at name views logs table all is)) all
+    entries_replaced IsCounted name (after_stores table rows more) (log_in (found name logs) ++ more) views logs (counted_more table (log_in (found name logs)) rows more (counted_at name views logs table all is)) all
 
 -- zeros that are written to
-counted_zeros : (fields : Fields) (extents : List ℕ) (term : MapTerm) (rows : List (List ℤ)) (log : List Access) → IsCounted (rewritten (zeros_of fields extents term) rows log) log
+counted_zeros : (fields : Fields) (extents : List ℕ) (term : MapTerm) (rows : List (List ℤ)) (log : List Access) → IsCounted (after_stores (zeros_of fields extents term) rows log) log
 counted_zeros fields extents term rows log = refl
 
 length-zeros : (fields : Fields) (extents : List ℕ) (term : MapTerm) → length (zeros_of fields extents term).rows ≡ length (indices extents)
@@ -138,9 +137,10 @@ module _ (world : World) (logs : List (Entry (List Access))) (all : AreCounted w
       let three = went _ _ left two.then in
       quiet_keeps _ all left three.then
 
-  view_keeps : (name schema : List ℕ) (words : List ExtentWord) (term : MapTerm) → Keeps world (view world name schema words term) (λ w. added name [] logs)
+  view_keeps : (new : New) → Keeps world (view world new) (λ w. added new.name [] logs)
   unfolding view new_table
-  view_keeps name schema words term left is =
+  view_keeps new left is =
+      let name = new.name in
       let whole = went _ _ left is in
       let table = whole.given in
       let named = went _ _ table whole.first in
@@ -154,10 +154,10 @@ module _ (world : World) (logs : List (Entry (List Access))) (all : AreCounted w
       entries_added IsCounted name table [] world.views logs (subst (λ (t : Table). IsCounted t []) (sym zero) none) all in
       subst (λ (l : Left). AreCounted l.held.views (added name [] logs)) (same_goes _ left whole.then) counted
 
-  load_keeps : (name schema : List ℕ) (words : List ExtentWord) (term : MapTerm) (file : List ℕ) (files : List File) (unread : Bool)
-      → Keeps world (load world name schema words term file files unread) (λ w. added name (fills_of (found name w.views)) logs)
+  load_keeps : (new : New) (file : List ℕ) (files : List File) (unread : Bool) → Keeps world (load world new file files unread) (λ w. added new.name (fills_of (found new.name w.views)) logs)
   unfolding load loaded_table loaded
-  load_keeps name schema words term file files unread left is =
+  load_keeps new file files unread left is =
+      let name = new.name in
       let whole = went _ _ left is in
       let table = whole.given in
       let named = went _ _ table whole.first in
@@ -172,9 +172,9 @@ module _ (world : World) (logs : List (Entry (List Access))) (all : AreCounted w
       let extents = resolved.given in
       let zero : zeros.given ≡ zeros_of fields extents mapped = told_goes false (λ (t : Table). t ≡ zeros_of fields extents mapped) _ zeros.given (made_told false world.views fields extents mapped) zeros.first in
       let log = all_writes (length (leaves fields)) (length (indices extents)) in
-      let is_table : table ≡ rewritten (zeros_of fields extents mapped) rows.given log =
-      sym (same_goes _ table rows.then) ∙ ap (λ (t : Table). rewritten t rows.given (all_writes (leaf_count t) (length t.rows))) zero
-          ∙ ap (λ (n : ℕ). rewritten (zeros_of fields extents mapped) rows.given (all_writes (length (leaves fields)) n)) (length-zeros fields extents mapped) in
+      let is_table : table ≡ after_stores (zeros_of fields extents mapped) rows.given log =
+      sym (same_goes _ table rows.then) ∙ ap (λ (t : Table). after_stores t rows.given (all_writes (leaf_count_of t) (length t.rows))) zero
+          ∙ ap (λ (n : ℕ). after_stores (zeros_of fields extents mapped) rows.given (all_writes (length (leaves fields)) n)) (length-zeros fields extents mapped) in
       let there : found name (added name table world.views) ≡ Some table = found_added name table world.views (free_found _ (found name world.views) free_name.first) in
       let fills : fills_of (found name (added name table world.views)) ≡ log = ap fills_of there ∙ ap (λ (t : Table). fills_of (Some t)) is_table in
       let counted : AreCounted (added name table world.views) (added name log logs) =
@@ -190,7 +190,7 @@ module _ (world : World) (logs : List (Entry (List Access))) (all : AreCounted w
       let new = went _ _ left whole.then in
       let anew : new.given ≡ anew_of table.given whole.given =
       told_goes false (λ (t : Table). t ≡ anew_of table.given whole.given) _ new.given (anew_told false world.views table.given whole.given) new.first in
-      let log = all_writes (leaf_count table.given) (length table.given.rows) in
+      let log = all_writes (leaf_count_of table.given) (length table.given.rows) in
       let there : found name (replaced name new.given world.views) ≡ Some new.given = found_replaced name new.given table.given world.views (known_found _ _ table.given table.first) in
       let writes : writes_of (found name (replaced name new.given world.views)) ≡ log = ap writes_of there ∙ ap (λ (t : Table). writes_of (Some t)) anew in
       let one : IsCounted new.given log = subst (λ (t : Table). IsCounted t log) (sym anew) (counted_zeros table.given.fields table.given.extents whole.given table.given.rows log) in
@@ -207,7 +207,7 @@ module _ (world : World) (logs : List (Entry (List Access))) (all : AreCounted w
       let alike = went _ _ new.given new.first in
       let s = source.given in
       let s_is : found name world.views ≡ Some s = known_found _ _ s source.first in
-      let reads = all_reads (leaf_count s) (length s.rows) in
+      let reads = all_reads (leaf_count_of s) (length s.rows) in
       let read_views = replaced name (all_read s) world.views in
       let read_logs = logged name (reads_of (found name world.views)) logs in
       let read : AreCounted read_views read_logs =
@@ -215,7 +215,7 @@ module _ (world : World) (logs : List (Entry (List Access))) (all : AreCounted w
       let t_is : found target read_views ≡ Some old.given = known_found _ _ old.given old.first in
       let written : new.given ≡ with_written old.given s.rows =
       told_goes false (λ (t : Table). t ≡ with_written old.given s.rows) _ new.given (rows_told false old.given s.rows) alike.then in
-      let log = all_writes (leaf_count old.given) (length s.rows) in
+      let log = all_writes (leaf_count_of old.given) (length s.rows) in
       let there : found target (replaced target new.given read_views) ≡ Some new.given = found_replaced target new.given old.given read_views t_is in
       let writes : writes_of (found target (replaced target new.given read_views)) ≡ log = ap writes_of there ∙ ap (λ (t : Table). writes_of (Some t)) written in
       let counted : AreCounted (replaced target new.given read_views) (logged target log read_logs) =
@@ -238,7 +238,7 @@ module _ (world : World) (logs : List (Entry (List Access))) (all : AreCounted w
       let done = went _ _ new.given new.first in
       let t_is : found work.view world.views ≡ Some table.given = known_found _ _ table.given table.first in
       let log : done_log (known work.view world.views >>= work.does) ≡ done.given.log = ap (λ (x : Outcome Table). done_log (x >>= work.does)) table.first ∙ ap done_log done.first in
-      let counted : AreCounted (replaced work.view (rewritten table.given done.given.rows done.given.log) world.views) (logged work.view done.given.log logs) =
+      let counted : AreCounted (replaced work.view (after_stores table.given done.given.rows done.given.log) world.views) (logged work.view done.given.log logs) =
       logged_more work.view world.views logs table.given done.given.rows done.given.log all t_is in
       let held : AreCounted (replaced work.view new.given.held world.views) (logged work.view done.given.log logs) =
       subst (λ (x : LeftOf Table). AreCounted (replaced work.view x.held world.views) (logged work.view done.given.log logs)) (same_goes _ new.given done.then) counted in
@@ -250,8 +250,8 @@ module _ (world : World) (logs : List (Entry (List Access))) (all : AreCounted w
   unfolding step
   step_keeps files unread (line.Define name tree) = define_keeps name tree
   step_keeps files unread (line.Mapping name term) = mapping_keeps name term
-  step_keeps files unread (line.View name schema words term) = view_keeps name schema words term
-  step_keeps files unread (line.Load name schema words term file) = load_keeps name schema words term file files unread
+  step_keeps files unread (line.View new) = view_keeps new
+  step_keeps files unread (line.Load new file) = load_keeps new file files unread
   step_keeps files unread (line.Copy name target) = copy_keeps name target
   step_keeps files unread (line.Relayout name term) = relayout_keeps name term
   step_keeps files unread (line.Drop name) = drop_keeps name

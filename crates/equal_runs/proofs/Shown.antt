@@ -6,12 +6,13 @@ use Rattle.map_expr.specs.Terms.{Term}
 use Rattle.places.specs.Layout.{Owner}
 use Rattle.record_dim.specs.Leaves.{texts_of}
 use Rattle.line_grammar.specs.Sentences.{Sentence, Counts, Heat}
+use Rattle.line_grammar.specs.declared.version.Version.{Version}
 use Rattle.instrument.specs.Counters.{LeafCounts, HeatCounts}
 use Rattle.instrument.specs.CounterTexts.{counts_text, heat_text}
 use Rattle.views.specs.Entries.{AreEntries, AreCounts, AreHeat}
 use Rattle.views.specs.Tallies.{Access, Tally, tallied, no_tally}
-use Rattle.worlds.specs.Worlds.{World, Table, empty, found}
-use Rattle.worlds.specs.Accessed.{owners_of, leaf_count}
+use Rattle.views.specs.Tables.{Table, owners_of, leaf_count_of}
+use Rattle.worlds.specs.Worlds.{World, empty, found}
 use Rattle.worlds.specs.OnView.{on_view}
 use Rattle.worlds.specs.Outcomes.{Outcome, Goes, Left}
 use Rattle.worlds.specs.Show.{counts, heat}
@@ -38,17 +39,17 @@ prepend-append : (a b : List ℕ) (output : Output) → prepend a (prepend b out
 prepend-append a b output = ap (λ bytes. record { bytes = bytes; end = output.end }) (sym (append_assoc a b output.bytes))
 
 -- the run over the texts of such lines
-comes_on : (files : List File) (outcome : World → List ℕ → Bool → Outcome Left) → DoesLines files outcome → (unread : Option ℕ) (number : ℕ) (now last : SoFar) (lines : List Sentence)
-    → Comes files unread number now lines last → (texts more : List (List ℕ)) → AreLines texts lines
+comes_on : (version : Version) (files : List File) (outcome : World → List ℕ → Bool → Outcome Left) → DoesLines version files outcome → (unread : Option ℕ) (number : ℕ) (now last : SoFar) (lines : List Sentence)
+    → Comes files unread number now lines last → (texts more : List (List ℕ)) → AreLines version texts lines
     → prepend now.text (run_from outcome number now.world (texts ++ more) unread) ≡ prepend last.text (run_from outcome (number + length lines) last.world more unread)
-comes_on files outcome does unread number now last lines (there _ _) [] more are = refl
-comes_on files outcome does unread number now last lines (there _ _) (text ∷ texts) more are = absurd are
-comes_on files outcome does unread number now last lines (further _ _ line left rest _ goes comes) [] more are = absurd are
-comes_on files outcome does unread number now last lines (further _ _ line left rest _ goes comes) (text ∷ texts) more are =
+comes_on version files outcome does unread number now last lines (there _ _) [] more are = refl
+comes_on version files outcome does unread number now last lines (there _ _) (text ∷ texts) more are = absurd are
+comes_on version files outcome does unread number now last lines (further _ _ line left rest _ goes comes) [] more are = absurd are
+comes_on version files outcome does unread number now last lines (further _ _ line left rest _ goes comes) (text ∷ texts) more are =
     let place : number + length (line ∷ rest) ≡ number + 1 + length rest = omega arith in
     ap (λ (o : Outcome Left). prepend now.text (after number o (λ next. run_from outcome (number + 1) next (texts ++ more) unread))) (does now.world text line (fails_at unread number) are.0 ∙ goes)
     ∙ prepend-append now.text left.text (run_from outcome (number + 1) left.held (texts ++ more) unread)
-    ∙ comes_on files outcome does unread (number + 1) (one_more now line left) last rest comes texts more are.1
+    ∙ comes_on version files outcome does unread (number + 1) (one_more now line left) last rest comes texts more are.1
     ∙ ap (λ (n : ℕ). prepend last.text (run_from outcome n last.world more unread)) (sym place)
 
 -- a law of what is counted, as it is told
@@ -56,10 +57,10 @@ abbrev pub AreTold : Type 0
 AreTold = (term : Term) (layout : List (List Owner)) (leaves : ℕ) (log : List Access) → AreEntries layout leaves log (tallied layout (no_tally term layout leaves) log)
 
 module _ (told : AreTold) (files : List File) (unread : Option ℕ) (lines : List Sentence) (now : SoFar) (comes : Comes files unread 1 at_first lines now) (name : List ℕ) where
-  entries_at : (table : Table) → found name now.world.views ≡ Some table → AreEntries (owners_of table) (leaf_count table) (log_of now name) table.tally
+  entries_at : (table : Table) → found name now.world.views ≡ Some table → AreEntries (owners_of table) (leaf_count_of table) (log_of now name) table.tally
   entries_at table is =
-      subst (AreEntries (owners_of table) (leaf_count table) (log_of now name)) (sym (counted_at name now.world.views now.logs table (last_counted files unread lines now comes) is))
-      (told table.mapping (owners_of table) (leaf_count table) (log_of now name))
+      subst (AreEntries (owners_of table) (leaf_count_of table) (log_of now name)) (sym (counted_at name now.world.views now.logs table (last_counted files unread lines now comes) is))
+      (told table.mapping (owners_of table) (leaf_count_of table) (log_of now name))
 
   some_counts : {A : Type 0} (P : A → Type 0) (x : Option A) (a : A) → IfSome x P → x ≡ Some a → P a
   some_counts P (Some b) a all is = let same : b ≡ a = cc in subst P same all
@@ -78,7 +79,7 @@ module _ (told : AreTold) (files : List File) (unread : Option ℕ) (lines : Lis
         is = t_is;
         numbers = numbers.given;
         shown = ap (λ (l : Left). l.text) (sym (same_goes _ left new.then)) ∙ ap (λ l. l.text) (sym (same_goes _ new.given done.then)) ∙ ap (λ d. d.text) (sym (same_goes _ done.given numbers.then));
-        counted = some_counts (AreCounts (leaf_count table.given) (log_of now name)) table.given.tally.counts numbers.given (entries_at table.given t_is).counts (known_found _ _ numbers.given numbers.first);
+        counted = some_counts (AreCounts (leaf_count_of table.given) (log_of now name)) table.given.tally.counts numbers.given (entries_at table.given t_is).counts (known_found _ _ numbers.given numbers.first);
       }
 
   pub shows_heat : (fails : Bool) (left : Left) → step now.world (Heat name) files fails ≡ Goes left → ShowsHeat now name left.text
@@ -97,9 +98,9 @@ module _ (told : AreTold) (files : List File) (unread : Option ℕ) (lines : Lis
         counted = some_counts (AreHeat (owners_of table.given) (log_of now name)) table.given.tally.heat numbers.given (entries_at table.given t_is).heat (known_found _ _ numbers.given numbers.first);
       }
 
-pub shows_entries : AreTold → (files : List File) (outcome : World → List ℕ → Bool → Outcome Left) → DoesLines files outcome → ShowsEntries files outcome
-shows_entries told files outcome does = record {
-  runs = λ texts more lines unread now are comes. comes_on files outcome does unread 1 at_first now lines comes texts more are ∙ ap (λ (n : ℕ). prepend now.text (run_from outcome n now.world more unread)) (order (length lines));
+pub shows_entries : AreTold → (version : Version) (files : List File) (outcome : World → List ℕ → Bool → Outcome Left) → DoesLines version files outcome → ShowsEntries version files outcome
+shows_entries told version files outcome does = record {
+  runs = λ texts more lines unread now are comes. comes_on version files outcome does unread 1 at_first now lines comes texts more are ∙ ap (λ (n : ℕ). prepend now.text (run_from outcome n now.world more unread)) (order (length lines));
   counts = λ lines unread now name fails left comes is. shows_counts told files unread lines now comes name fails left is;
   heat = λ lines unread now name fails left comes is. shows_heat told files unread lines now comes name fails left is;
 } where

@@ -19,8 +19,8 @@ module _ (world other : World) (alike : AlikeWorlds world other) (term : MapTerm
   step_agree line.Blank plain = go _ _ (record { worlds = alike; text = refl })
   step_agree (line.Define name tree) plain = define_agree world other alike false false name tree
   step_agree (line.Mapping name old) plain = mapping_agree world other alike name old term
-  step_agree (line.View name schema words old) plain = new_agree world other alike schema old term name words
-  step_agree (line.Load name schema words old file) plain = load_agree world other alike schema old term name words file files unread
+  step_agree (line.View new) plain = new_agree world other alike new term
+  step_agree (line.Load new file) plain = load_agree world other alike new term file files unread
   step_agree (line.Assign name index path value) plain = view_agree false false world other alike name _ (λ table mapping tally same. assigned_agree false false table mapping tally index path value)
   step_agree (line.Update name filter sets) plain = view_agree false false world other alike name _ (λ table mapping tally same. updated_agree false false table mapping tally filter sets)
   step_agree (line.Kernel name text lanes) plain = view_agree false false world other alike name _ (λ table mapping tally same. ran_agree false false table mapping tally text lanes)

@@ -19,8 +19,8 @@ is_refused _ = true
 -- some name in the mapping expression of a line names no mapping, and the name before it, of a record or a view, is known
 abbrev pub misses_mapping : World → Sentence → Bool
 misses_mapping world (Mapping name term) = is_refused (nameless world.mappings term)
-misses_mapping world (View name schema words term) = is_some (found schema world.records) && is_refused (nameless world.mappings term)
-misses_mapping world (Load name schema words term file) = is_some (found schema world.records) && is_refused (nameless world.mappings term)
+misses_mapping world (View new) = is_some (found new.schema world.records) && is_refused (nameless world.mappings new.term)
+misses_mapping world (Load new file) = is_some (found new.schema world.records) && is_refused (nameless world.mappings new.term)
 misses_mapping world (Relayout view term) = is_some (found view world.views) && is_refused (nameless world.mappings term)
 misses_mapping world line = false
 

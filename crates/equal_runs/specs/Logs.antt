@@ -4,8 +4,8 @@ use Rattle.layout_io.specs.Files.{File}
 use Rattle.extents.specs.Indices.{indices}
 use Rattle.line_grammar.specs.Sentences.{Sentence, View, Load, Copy, Relayout, Drop}
 use Rattle.views.specs.Tallies.{Access, all_reads, all_writes}
-use Rattle.worlds.specs.Worlds.{World, Entry, Table, empty, found, added, replaced, removed}
-use Rattle.worlds.specs.Accessed.{leaf_count}
+use Rattle.views.specs.Tables.{Table, leaf_count_of}
+use Rattle.worlds.specs.Worlds.{World, Entry, empty, found, added, replaced, removed}
 use Rattle.worlds.specs.OnView.{Done, Work}
 use Rattle.worlds.specs.Outcomes.{Outcome, Goes, ◌>>=◌, Left, known}
 use Rattle.worlds.specs.Step.{step, work_of}
@@ -23,15 +23,15 @@ logged name more logs = replaced name (log_in (found name logs) ++ more) logs
 -- one read, and one write, of each value in the rows of a table, and one write of each value that a table has room for
 abbrev pub reads_of : Option Table → List Access
 reads_of None = []
-reads_of (Some table) = all_reads (leaf_count table) (length table.rows)
+reads_of (Some table) = all_reads (leaf_count_of table) (length table.rows)
 
 abbrev pub writes_of : Option Table → List Access
 writes_of None = []
-writes_of (Some table) = all_writes (leaf_count table) (length table.rows)
+writes_of (Some table) = all_writes (leaf_count_of table) (length table.rows)
 
 abbrev pub fills_of : Option Table → List Access
 fills_of None = []
-fills_of (Some table) = all_writes (leaf_count table) (length (indices table.extents))
+fills_of (Some table) = all_writes (leaf_count_of table) (length (indices table.extents))
 
 -- the accesses of what was done to a table
 abbrev pub done_log : Outcome Done → List Access
@@ -45,8 +45,8 @@ work_logs world (Some work) logs = logged work.view (done_log (known work.view w
 -- the accesses to each view after a line that takes one world to the next: a new view has none, that of a dataset has one write of each
 -- value, and one that is laid out anew begins with one write of each
 abbrev pub logs_after : World → Sentence → World → List (Entry (List Access)) → List (Entry (List Access))
-logs_after world (View name schema words term) next logs = added name [] logs
-logs_after world (Load name schema words term file) next logs = added name (fills_of (found name next.views)) logs
+logs_after world (View new) next logs = added new.name [] logs
+logs_after world (Load new file) next logs = added new.name (fills_of (found new.name next.views)) logs
 logs_after world (Copy name target) next logs = logged target (writes_of (found target next.views)) (logged name (reads_of (found name world.views)) logs)
 logs_after world (Relayout name term) next logs = replaced name (writes_of (found name next.views)) logs
 logs_after world (Drop name) next logs = removed name logs

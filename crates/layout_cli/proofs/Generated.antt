@@ -15,6 +15,7 @@ use Rattle.script_runs.specs.Answers.{Answers, IsRun, HasCause, HasSinkCause}
 use Rattle.script_runs.specs.declared.status.Status.{Status}
 use Rattle.script_runs.specs.declared.status.Status.TheVariants.{Done, CommandFault, Usage, SourceFault, SinkFault, NoMemory}
 use Rattle.generator.specs.Generated.{script_text, dataset_text, generated_lines, generated_files}
+use Rattle.line_grammar.specs.declared.version.Version.TheVariants.{One}
 use Rattle.layout_cli.specs.Steps.{step_text, step_line}
 use Rattle.layout_cli.specs.Run.{run, run_file, run_words, run_form, run_generated, script_name, gen_words, script_lines, faulted}
 use Rattle.layout_cli.proofs.ScriptLines.{script_lines_are}
@@ -51,13 +52,13 @@ run_used outcome (text ∷ lines) unread number world misused =
       of_outcome below (CannotRead name) misused = misused
 
 -- a line that reads the dataset, if a file
-text_reads : (dataset text : List ℕ) → ReadsDataset dataset text → (world : World) → IsReadable (step_text (generated_files dataset) world text false)
-text_reads dataset text reads world = refused_or (nat_lt 4096 (length text)) LineTooLong (of_read (line_of text) refl) where
-  of_read : (read : Result Sentence ℕ) → line_of text ≡ read → IsReadable (step_line (generated_files dataset) world read false)
+text_reads : (dataset text : List ℕ) → ReadsDataset dataset text → (world : World) → IsReadable (step_text One (generated_files dataset) world text false)
+text_reads dataset text reads world = refused_or (nat_lt 4096 (length text)) LineTooLong (of_read (line_of One text) refl) where
+  of_read : (read : Result Sentence ℕ) → line_of One text ≡ read → IsReadable (step_line (generated_files dataset) world read false)
   of_read (Err column) is = faults _
   of_read (Ok sentence) is = refused_or (nat_lt 32 (deepest sentence)) TooDeep (step_reads world sentence (generated_files dataset) dataset (reads sentence is))
 
-texts_read : (dataset : List ℕ) (lines : List (List ℕ)) → AllByRecursion (ReadsDataset dataset) lines → AllByRecursion (λ text. (world : World) → IsReadable (step_text (generated_files dataset) world text false)) lines
+texts_read : (dataset : List ℕ) (lines : List (List ℕ)) → AllByRecursion (ReadsDataset dataset) lines → AllByRecursion (λ text. (world : World) → IsReadable (step_text One (generated_files dataset) world text false)) lines
 texts_read dataset [] reads = tt
 texts_read dataset (text ∷ lines) reads = (text_reads dataset text reads.0, texts_read dataset lines reads.1)
 
@@ -68,19 +69,19 @@ generated_reads rows few unread = of_test (nat_lt 65536 (length (script_lines (s
   dataset : List ℕ
   dataset = dataset_text rows
 
-  reads : AllByRecursion (λ text. (world : World) → IsReadable (step_text (generated_files dataset) world text false)) (script_lines (script_text rows))
-  reads = subst (AllByRecursion (λ text. (world : World) → IsReadable (step_text (generated_files dataset) world text false))) (sym (script_lines_are rows few)) (texts_read dataset (generated_lines rows) (lines_read dataset rows))
+  reads : AllByRecursion (λ text. (world : World) → IsReadable (step_text One (generated_files dataset) world text false)) (script_lines (script_text rows))
+  reads = subst (AllByRecursion (λ text. (world : World) → IsReadable (step_text One (generated_files dataset) world text false))) (sym (script_lines_are rows few)) (texts_read dataset (generated_lines rows) (lines_read dataset rows))
 
-  of_test : (test : Bool) → IsUnread (if test then faulted 0 ScriptTooLong else run_from (step_text (generated_files dataset)) 1 empty (script_lines (script_text rows)) None).end → ⊥
+  of_test : (test : Bool) → IsUnread (if test then faulted 0 ScriptTooLong else run_from (step_text One (generated_files dataset)) 1 empty (script_lines (script_text rows)) None).end → ⊥
   of_test true unread = unread
-  of_test false unread = run_reads (step_text (generated_files dataset)) (script_lines (script_text rows)) reads 1 empty unread
+  of_test false unread = run_reads (step_text One (generated_files dataset)) (script_lines (script_text rows)) reads 1 empty unread
 
 form_used : (script : List ℕ) (files : List File) (unread : Option ℕ) → IsMisused (run_form script files unread).end → ⊥
 unfolding run_form
 form_used script files unread misused = of_test (nat_lt 65536 (length (script_lines script))) misused where
-  of_test : (test : Bool) → IsMisused (if test then faulted 0 ScriptTooLong else run_from (step_text files) 1 empty (script_lines script) unread).end → ⊥
+  of_test : (test : Bool) → IsMisused (if test then faulted 0 ScriptTooLong else run_from (step_text One files) 1 empty (script_lines script) unread).end → ⊥
   of_test true misused = misused
-  of_test false misused = run_used (step_text files) (script_lines script) unread 1 empty misused
+  of_test false misused = run_used (step_text One files) (script_lines script) unread 1 empty misused
 
 -- no read failed of a shelf that counts none
 unrisen : Rose 0 0 → ⊥

@@ -9,8 +9,9 @@ use Rattle.extents.specs.declared.words.ExtentWord.{ExtentWord}
 use Rattle.record_dim.specs.Trees.{Tree, Fields}
 use Rattle.map_expr.specs.Terms.{Term as MapTerm, Aos, Soa, Aosoa, BitAos, BitSoa, Split, Byteswap, Bytesplit, Change, Count, Heat, Named as NamedTerm}
 use Rattle.line_grammar.specs.Sentences as line
-use Rattle.line_grammar.specs.Sentences.{file_of as file_in}
-use Rattle.worlds.specs.Worlds.{World, Entry, Table, found}
+use Rattle.line_grammar.specs.Sentences.{New, file_of as file_in}
+use Rattle.views.specs.Tables.{Table, owners_of}
+use Rattle.worlds.specs.Worlds.{World, Entry, found}
 use Rattle.worlds.specs.declared.fault.CommandFault.{CommandFault}
 use Rattle.worlds.specs.Outcomes.{Outcome, Goes, Faults, ◌>>=◌, refused_if, refused_by, ok_or, some_or, known, free}
 use Rattle.worlds.specs.declared.fault.CommandFault.TheVariants.{BadMapping, BadKernel, TooBig, Taken, Unknown}
@@ -28,7 +29,6 @@ use Rattle.expr_lang.specs.Terms.{Term}
 use Rattle.record_dim.specs.Leaves.{kinds_of}
 use Rattle.map_any.specs.Mappings.{accepted, leaf_cells, most_slots}
 use Rattle.views.specs.Tallies.{granules_for}
-use Rattle.worlds.specs.Accessed.{owners_of}
 use Rattle.worlds.specs.Define.{define, fit}
 use Rattle.worlds.specs.Mapping.{mapping}
 use Rattle.worlds.specs.View.{view, new_table, named, Named}
@@ -120,22 +120,22 @@ room_reads views = tested _ _
 shaped_reads : (words : List ExtentWord) → IsReadable (shaped words)
 shaped_reads words = caused _ _
 
-named_reads : (world : World) (name schema : List ℕ) (words : List ExtentWord) (term : MapTerm) → IsReadable (named world name schema words term)
-named_reads world name schema words term =
-    next (free_reads name world.views) (λ new.
-    next (known_reads schema world.records) (λ fields.
-    next (nameless_reads world.mappings term) (λ whole.
+named_reads : (world : World) (new : New) → IsReadable (named world new)
+named_reads world new =
+    next (free_reads new.name world.views) (λ unused.
+    next (known_reads new.schema world.records) (λ fields.
+    next (nameless_reads world.mappings new.term) (λ whole.
     next (room_reads world.views) (λ space.
-    next (shaped_reads words) (λ ranked. goes _)))))
+    next (shaped_reads new.words) (λ ranked. goes _)))))
 
 resolved_reads : (words : List ExtentWord) (rows : Option ℕ) → IsReadable (resolved words rows)
 resolved_reads words rows = next (caused _ _) (λ fit. goes _)
 
-view_reads : (world : World) (name schema : List ℕ) (words : List ExtentWord) (term : MapTerm) → IsReadable (view world name schema words term)
+view_reads : (world : World) (new : New) → IsReadable (view world new)
 unfolding view new_table
-view_reads world name schema words term =
-    next (next (named_reads world name schema words term) (λ whole.
-    next (resolved_reads words None) (λ extents. made_reads world.views whole.fields extents whole.mapping))) (λ table. goes _)
+view_reads world new =
+    next (next (named_reads world new) (λ whole.
+    next (resolved_reads new.words None) (λ extents. made_reads world.views whole.fields extents whole.mapping))) (λ table. goes _)
 
 filled_reads : (table : Table) (records : List (List (List ℕ))) → IsReadable (filled table records)
 filled_reads table records = next (answered _ _) (λ rows. goes _)
@@ -151,11 +151,11 @@ loaded_reads views whole words dataset =
 read_reads : (files : List File) (name dataset : List ℕ) → file_of files name ≡ Some dataset → IsReadable (read files false name)
 read_reads files name dataset is = subst (λ (file : Option (List ℕ)). IsReadable (there name file)) (sym is) (goes dataset)
 
-load_reads : (world : World) (name schema : List ℕ) (words : List ExtentWord) (term : MapTerm) (file dataset : List ℕ) (files : List File) → file_of files file ≡ Some dataset → IsReadable (load world name schema words term file files false)
+load_reads : (world : World) (new : New) (file dataset : List ℕ) (files : List File) → file_of files file ≡ Some dataset → IsReadable (load world new file files false)
 unfolding load loaded_table
-load_reads world name schema words term file dataset files is =
-    next (next (named_reads world name schema words term) (λ whole.
-    next (read_reads files file dataset is) (λ bytes. loaded_reads world.views whole words bytes))) (λ table. goes _)
+load_reads world new file dataset files is =
+    next (next (named_reads world new) (λ whole.
+    next (read_reads files file dataset is) (λ bytes. loaded_reads world.views whole new.words bytes))) (λ table. goes _)
 
 leaf_reads : (fields : Fields) (path : List PathStep) → IsReadable (leaf_of fields path)
 leaf_reads fields path = given _ _
@@ -303,8 +303,8 @@ unfolding step
 step_reads world line.Blank files dataset is = goes _
 step_reads world (line.Define name tree) files dataset is = define_reads world name tree
 step_reads world (line.Mapping name term) files dataset is = mapping_reads world name term
-step_reads world (line.View name schema words term) files dataset is = view_reads world name schema words term
-step_reads world (line.Load name schema words term file) files dataset is = load_reads world name schema words term file dataset files is
+step_reads world (line.View new) files dataset is = view_reads world new
+step_reads world (line.Load new file) files dataset is = load_reads world new file dataset files is
 step_reads world (line.Assign name index path value) files dataset is = view_works world name _ (λ table. assigned_reads table index path value)
 step_reads world (line.Update name filter sets) files dataset is = view_works world name _ (λ table. updated_reads table filter sets)
 step_reads world (line.Reduce name kind path) files dataset is = view_works world name _ (λ table. reduction_reads table kind path)

@@ -7,6 +7,7 @@ use Rattle.layout_io.specs.Files.{File}
 use Rattle.line_grammar.specs.Sentences.{Sentence, deepest}
 use Rattle.line_grammar.specs.declared.line.Line.{Line}
 use Rattle.line_grammar.specs.declared.line.Line.TheVariants as line
+use Rattle.line_grammar.specs.declared.version.Version.{Version}
 use Rattle.schema_lang.specs.LineOf.{line_of}
 use Rattle.schema_lang.specs.Parsing.{IsWhole}
 use Rattle.script_runs.specs.Steps.{ending_of}
@@ -21,11 +22,11 @@ use Rattle.worlds.specs.declared.fault.CommandFault.TheVariants.{LineTooLong, To
 use Rattle.layout_cli.specs.Steps.{step_text, step_line, TellsFile}
 
 -- a text that is a line does what the line does
-pub text_steps : (files : List File) (world : World) (text : List ℕ) (sentence : Sentence) (unread : Bool) → length text ≤ 4096 → line_of text ≡ Ok sentence → deepest sentence ≤ 32 → step_text files world text unread ≡ step world sentence files unread
-text_steps files world text sentence unread short is shallow =
+pub text_steps : (version : Version) (files : List File) (world : World) (text : List ℕ) (sentence : Sentence) (unread : Bool) → length text ≤ 4096 → line_of version text ≡ Ok sentence → deepest sentence ≤ 32 → step_text version files world text unread ≡ step world sentence files unread
+text_steps version files world text sentence unread short is shallow =
     let within : ltb 4096 (length text) ≡ false = grind (arith, nat_tests) in
     let few : ltb 32 (deepest sentence) ≡ false = grind (arith, nat_tests) in
-    ap (λ (b : Bool). if b then Faults LineTooLong else step_line files world (line_of text) unread) within
+    ap (λ (b : Bool). if b then Faults LineTooLong else step_line files world (line_of version text) unread) within
     ∙ ap (λ (l : Result Sentence ℕ). step_line files world l unread) is
     ∙ ap (λ (b : Bool). if b then Faults TooDeep else step world sentence files unread) few
 

@@ -2,6 +2,7 @@
 ghost use Rattle.std.specs.Prelude.{List};
 ghost use Rattle.layout_io.specs.Files.{File};
 ghost use Rattle.equal_runs.specs.Entries.{ShowsEntries};
+ghost use Rattle.line_grammar.specs.declared.version.Version.TheVariants.{One};
 ghost use Rattle.layout_cli.specs.EqualScripts.{EqualScripts};
 ghost use Rattle.layout_cli.specs.Steps.{step_text};
 
@@ -18,7 +19,7 @@ pub fn equal_scripts()
 /// What a script writes at a `counts` or a `heat` are the accesses that its lines made until then: see `shown_entries`, for what the
 /// program does with the text of a line. It does nothing: its contract is the law.
 pub fn printed_entries()
-    ensures { (files : List File) → ShowsEntries files (step_text files) }
+    ensures { (files : List File) → ShowsEntries One files (step_text One files) }
 {
     shown_entries();
 }

@@ -13,7 +13,7 @@ ghost use Rattle.layout_cli.specs.Steps.{step_text, TellsFile};
 
 use layout_io::{Shelf, Sink};
 use record_dim::Text;
-use schema_lang::{FileName, Line, LineFault, parse_line};
+use schema_lang::{FileName, Line, LineFault, Version, parse_line_in};
 use script_runs::{LineEnd, Stepper};
 use session::{CommandFault, Session, StepFault};
 use std::alloc::{AllocError as NoMemory, Global};
@@ -27,13 +27,14 @@ const LINE_BYTES: usize = 4096;
 #[derive(Drop)]
 pub struct Running {
     pub alloc: Global,
+    pub version: Version,
     pub session: Session,
 }
 
 impl Stepper for Running {
     ghost stands = { λ running world. Stands running.session world };
 
-    ghost outcome = { step_text };
+    ghost outcome = { λ running. step_text running.version };
 
     fn step<H: Shelf, K: Sink, L: Ledger>(
         self,
@@ -42,9 +43,13 @@ impl Stepper for Running {
         sink: &mut K,
         steps: &mut Steps<L>,
     ) -> Result<Running, LineEnd> {
-        let alloc = self.alloc;
-        match do_line(alloc, self.session, text, shelf, sink, steps) {
-            Ok(session) => Ok(Running { alloc, session }),
+        let (alloc, version) = (self.alloc, self.version);
+        match do_line(alloc, version, self.session, text, shelf, sink, steps) {
+            Ok(session) => Ok(Running {
+                alloc,
+                version,
+                session,
+            }),
             Err(end) => Err(end),
         }
     }
@@ -53,6 +58,7 @@ impl Stepper for Running {
 // Does the line of this text.
 fn do_line<H: Shelf, K: Sink, L: Ledger>(
     alloc: Global,
+    version: Version,
     session: Session,
     text: &[u8],
     shelf: &mut H,
@@ -60,7 +66,7 @@ fn do_line<H: Shelf, K: Sink, L: Ledger>(
     steps: &mut Steps<L>,
 ) -> Result<Session, LineEnd>
     ensures step { (files : List File) (world : World) → H.files shelf.old ≡ Some files → Stands session world
-        → StepsTo ending_of Stands K.taken K.faults sink.old sink.new (step_text files world text.now)
+        → StepsTo ending_of Stands K.taken K.faults sink.old sink.new (step_text version files world text.now)
         (Rose (H.faults shelf.old) (H.faults shelf.new)) result }
     ensures files { H.files shelf.new ≡ H.files shelf.old }
     ensures cause { StepCause ending_of (H.files shelf.old) (H.faults shelf.old) (H.faults shelf.new)
@@ -69,7 +75,7 @@ fn do_line<H: Shelf, K: Sink, L: Ledger>(
     if text.len() > LINE_BYTES {
         return Err(LineEnd::Command(CommandFault::LineTooLong));
     }
-    match parse_line(alloc, text) {
+    match parse_line_in(alloc, version, text) {
         Ok(line) => do_command(alloc, session, &line, shelf, sink, steps),
         Err(fault) => match fault {
             LineFault::Syntax { column } => Err(LineEnd::Command(CommandFault::Syntax { column })),

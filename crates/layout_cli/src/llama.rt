@@ -10,6 +10,7 @@ use crate::lines::Running;
 use fault_lines::{write_fault, write_unread};
 use generator::{GeneratedShelf, gen_dataset, gen_number, gen_script};
 use layout_io::{Failed, ReadEnd, Shelf, Sink, read_all, write_all};
+use schema_lang::Version;
 use script_runs::{Status, ended, line_count, run_lines};
 use session::{CommandFault, Session};
 use std::alloc::Global;
@@ -146,6 +147,7 @@ fn run_counted<H: Shelf, K: Sink, L: Ledger>(
     }
     let running = Running {
         alloc,
+        version: Version::One,
         session: Session::new(alloc),
     };
     run_lines(running, lines, shelf, sink, &mut Steps::<L>::new(blank))

@@ -8,7 +8,7 @@ use Rattle.worlds.specs.Outcomes.{Outcome, Goes, Faults, LeftOf, ◌>>=◌, know
 use Rattle.worlds.specs.declared.fault.CommandFault.{CommandFault}
 use Rattle.worlds.specs.declared.fault.CommandFault.TheVariants.{Unknown}
 use Rattle.worlds.specs.declared.fault.UnknownName.TheVariants.{Name}
-use Rattle.command_checks.specs.Entries.{table_of, view_of}
+use Rattle.command_checks.specs.Entries.{view_of}
 use Rattle.command_checks.specs.Places.{IsAt}
 use Rattle.command_checks.specs.declared.entries.ViewEntry.{ViewEntry}
 use Rattle.session.specs.declared.session.Session.{Session}
@@ -47,12 +47,12 @@ pub tells_gives : {A : Type 0} (outcome : Outcome A) (refusal told : CommandFaul
 tells_gives outcome refusal told is tells = is ∙ ap (λ (f : CommandFault). Faults f) (sym tells)
 
 -- a view that is known by its place
-pub known_at : (name : List ℕ) (views : List ViewEntry) (place : ℕ) (entry : ViewEntry) → IsAt view_of name views place → entry ≡ get_or views place entry → known name (map view_of views) ≡ Goes (table_of entry.view)
+pub known_at : (name : List ℕ) (views : List ViewEntry) (place : ℕ) (entry : ViewEntry) → IsAt view_of name views place → entry ≡ get_or views place entry → known name (map view_of views) ≡ Goes entry.view
 known_at name views place entry at is = ap (some_or (Unknown (Name name))) (at.is entry) ∙ ap (λ (e : ViewEntry). Goes (view_of e).held) (sym is)
 
 -- the world with a view changed in its place
 pub table_changed : (session : Session) (name : List ℕ) (place : ℕ) (entry changed : ViewEntry) → IsAt view_of name session.views.items place → entry ≡ get_or session.views.items place entry → changed.name ≡ entry.name →
-    map view_of (slice_set session.views.items place changed) ≡ replaced name (table_of changed.view) (map view_of session.views.items)
+    map view_of (slice_set session.views.items place changed) ≡ replaced name changed.view (map view_of session.views.items)
 table_changed session name place entry changed at is same = sym (at.other entry changed (same ∙ ap (λ (e : ViewEntry). e.name) is))
 
 -- a test that is passed, and what comes behind it gives up

@@ -13,16 +13,15 @@ use Rattle.line_grammar.specs.Sentences.{Value}
 use Rattle.linearize.specs.Slots.{place_in}
 use Rattle.piece_bits.specs.Tables.{with_entry}
 use Rattle.record_dim.specs.declared.path.PathStep.{PathStep}
+use Rattle.views.specs.Tables.{Table, owners_of, after_log, after_stores}
 use Rattle.row_updates.specs.Logs.{value_log}
 use Rattle.views.specs.Tallies.{Access, Write, Tally}
 use Rattle.views.specs.TallyLaws.{tallied-append}
-use Rattle.worlds.specs.Accessed.{accessed, rewritten, owners_of}
 use Rattle.worlds.specs.Assign.{inside, assigned}
 use Rattle.worlds.specs.Names.{leaf_of, bound}
 use Rattle.worlds.specs.OnView.{done_to}
 use Rattle.worlds.specs.Outcomes.{Outcome, Goes, Faults, CannotRead, ◌>>=◌}
 use Rattle.worlds.specs.Values.{value_on, storable}
-use Rattle.worlds.specs.Worlds.{Table}
 use Rattle.worlds.specs.declared.fault.CommandFault.TheVariants.{BadIndex}
 use Rattle.session.specs.Changes.{set_row, left_with}
 
@@ -76,7 +75,7 @@ then_same (Faults fault) f g h k same = refl
 then_same (CannotRead name) f g h k same = refl
 
 -- a table that is read and then stored in
-read_stored : (table : Table) (rows : List (List ℤ)) (log more : List Access) → rewritten table rows (log ++ more) ≡ rewritten (accessed table log) rows more
+read_stored : (table : Table) (rows : List (List ℤ)) (log more : List Access) → after_stores table rows (log ++ more) ≡ after_stores (after_log table log) rows more
 read_stored table rows log more = ap (λ (tally : Tally). record table { rows = rows; tally = tally }) (sym (tallied-append (owners_of table) table.tally log more))
 
 -- the value of an expression goes into a leaf of the row of an index

@@ -4,8 +4,9 @@ use Rattle.std.proofs.lemmas.Bool.Decides.{nat_tests}
 use Rattle.std.specs.Prelude.{IsSomeAnd}
 use Rattle.extents.specs.declared.words.ExtentWord.{ExtentWord}
 use Rattle.layout_io.specs.Files.{File, file_of, IsMissing, HasFile}
+use Rattle.views.specs.Tables.{Table}
 use Rattle.worlds.specs.Outcomes.{Outcome, Goes, Faults, CannotRead, ◌>>=◌}
-use Rattle.worlds.specs.Worlds.{Entry, Table}
+use Rattle.worlds.specs.Worlds.{Entry}
 use Rattle.worlds.specs.Load.{read, loaded}
 use Rattle.worlds.specs.View.{Named}
 use Rattle.worlds.specs.declared.fault.CommandFault.TheVariants.{TooBig}

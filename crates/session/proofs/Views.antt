@@ -5,17 +5,16 @@ use Rattle.layout_io.specs.Writing.{Wrote, Stopped}
 use Rattle.instrument.specs.Counters.{LeafCounts, HeatCounts}
 use Rattle.instrument.specs.CounterTexts.{counts_text, heat_text, runs_text}
 use Rattle.record_dim.specs.Leaves.{texts_of}
-use Rattle.views.specs.Seen.{Seen}
+use Rattle.views.specs.Tables.{Table, owners_of}
 use Rattle.views.specs.Tallies.{Tally}
 use Rattle.views.specs.TallyLaws.{tallied-none}
-use Rattle.worlds.specs.Accessed.{owners_of}
 use Rattle.worlds.specs.Answers.{Did, Fronted, text_of}
 use Rattle.worlds.specs.OnView.{Done, tells, done_to, on_view, with_table}
 use Rattle.worlds.specs.Outcomes.{Outcome, Goes, Faults, CannotRead, LeftOf, Left, ◌>>=◌, known, shows}
 use Rattle.worlds.specs.Show.{counts, heat, layout, small, all_runs}
-use Rattle.worlds.specs.Worlds.{World, Entry, Table}
+use Rattle.worlds.specs.Worlds.{World, Entry}
 use Rattle.worlds.specs.declared.fault.CommandFault.TheVariants.{NotCounted}
-use Rattle.command_checks.specs.Entries.{table_of, view_of}
+use Rattle.command_checks.specs.Entries.{view_of}
 use Rattle.command_checks.specs.Places.{IsAt}
 use Rattle.command_checks.specs.declared.entries.ViewEntry.{ViewEntry}
 use Rattle.command_checks.specs.declared.fault.StepFault.{StepFault}
@@ -40,7 +39,7 @@ text_onward world name (Faults fault) = refl
 text_onward world name (CannotRead file) = refl
 
 -- a work that stops
-pub view_stops : {K : Type 0} (taken : K → Option (List ℕ)) (faults : K → ℕ) (old new : K) (world : World) (name : List ℕ) (view : Seen) (table : Table) (does : Table → Outcome Done) (fault : StepFault) (result : Result Session StepFault) →
+pub view_stops : {K : Type 0} (taken : K → Option (List ℕ)) (faults : K → ℕ) (old new : K) (world : World) (name : List ℕ) (view : Table) (table : Table) (does : Table → Outcome Done) (fault : StepFault) (result : Result Session StepFault) →
     result ≡ Err fault → known name world.views ≡ Goes table → Answers (IsLeft view) taken faults old new (done_to table (does table)) (Err fault) →
     Answers Stands taken faults old new (on_view world name does) result
 view_stops taken faults old new world name view table does (step.Command refusal) result is at refused =
@@ -58,13 +57,13 @@ view_stops taken faults old new world name view table does step.NoMemory result 
 pub view_done : {K : Type 0} (taken : K → Option (List ℕ)) (faults : K → ℕ) (old new : K) (session next : Session) (name : List ℕ) (place : ℕ) (entry changed : ViewEntry) (does : Table → Outcome Done) →
     IsAt view_of name session.views.items place → entry ≡ get_or session.views.items place entry → changed.name ≡ entry.name →
     Stands next (record (world_of session) { views = map view_of (slice_set session.views.items place changed) }) →
-    Did (IsLeft changed.view) taken faults old new (done_to (table_of entry.view) (does (table_of entry.view))) tt →
+    Did (IsLeft changed.view) taken faults old new (done_to entry.view (does entry.view)) tt →
     Did Stands taken faults old new (on_view (world_of session) name does) next
 view_done taken faults old new session next name place entry changed does at is same stands did =
     let left : List (Entry Table) → Left = λ views. record { held = record (world_of session) { views = views }; text = did.left.text } in
     record {
       left = left (map view_of (slice_set session.views.items place changed));
-      goes = on_known (world_of session) name (table_of entry.view) does (known_at name session.views.items place entry at is) ∙ ap (onward (world_of session) name) did.goes
+      goes = on_known (world_of session) name entry.view does (known_at name session.views.items place entry at is) ∙ ap (onward (world_of session) name) did.goes
           ∙ ap (λ (table : Table). Goes (record { held = with_table (world_of session) name table; text = did.left.text })) (sym did.stands)
           ∙ ap (λ (views : List (Entry Table)). Goes (left views)) (sym (table_changed session name place entry changed at is same));
       stands = stands;
@@ -72,12 +71,12 @@ view_done taken faults old new session next name place entry changed does at is 
     }
 
 -- a work that gives something, and writes it as a text
-pub then_wrote : {K : Type 0} (taken : K → Option (List ℕ)) (faults : K → ℕ) (old new : K) (view : Seen) (outcome : Outcome (LeftOf Table)) (text : List ℕ) →
-    outcome ≡ Goes (left_with (table_of view) text) → Wrote taken faults old new text → Did (IsLeft view) taken faults old new outcome tt
-then_wrote taken faults old new view outcome text goes wrote = record { left = left_with (table_of view) text; goes = goes; stands = refl; wrote = wrote }
+pub then_wrote : {K : Type 0} (taken : K → Option (List ℕ)) (faults : K → ℕ) (old new : K) (view : Table) (outcome : Outcome (LeftOf Table)) (text : List ℕ) →
+    outcome ≡ Goes (left_with view text) → Wrote taken faults old new text → Did (IsLeft view) taken faults old new outcome tt
+then_wrote taken faults old new view outcome text goes wrote = record { left = left_with view text; goes = goes; stands = refl; wrote = wrote }
 
 -- or breaks off as it writes it
-pub then_broke : {K : Type 0} (taken : K → Option (List ℕ)) (faults : K → ℕ) (old new : K) (view : Seen) (outcome : Outcome (LeftOf Table)) (left : LeftOf Table) (result : Result (Unit {0}) StepFault) →
+pub then_broke : {K : Type 0} (taken : K → Option (List ℕ)) (faults : K → ℕ) (old new : K) (view : Table) (outcome : Outcome (LeftOf Table)) (left : LeftOf Table) (result : Result (Unit {0}) StepFault) →
     result ≡ Err step.Sink → outcome ≡ Goes left → Stopped taken faults old new left.text → Answers (IsLeft view) taken faults old new outcome result
 then_broke taken faults old new view outcome left result is goes stopped = rw is (record { left = left; goes = goes; stopped = stopped })
 

@@ -5,9 +5,8 @@ use Rattle.piece_bits.specs.Tables.{with_entry}
 use Rattle.record_dim.specs.Trees.{Fields}
 use Rattle.map_expr.specs.Terms.{Term as MapTerm}
 use Rattle.map_expr.specs.Checks.{checked}
-use Rattle.views.specs.Seen.{Seen}
-use Rattle.command_checks.specs.Entries.{table_of}
-use Rattle.worlds.specs.Worlds.{World, Entry, Table, added}
+use Rattle.views.specs.Tables.{Table, answer_of, after_log, after_stores}
+use Rattle.worlds.specs.Worlds.{World, Entry, added}
 use Rattle.worlds.specs.Outcomes.{Outcome, Goes, ◌>>=◌, LeftOf, ok_or}
 use Rattle.worlds.specs.OnView.{Done, stores}
 use Rattle.csv_rows.specs.declared.fault.RowFault.{RowFault}
@@ -16,9 +15,8 @@ use Rattle.worlds.specs.Load.{row_fault}
 use Rattle.row_updates.specs.Rows.{Setting, updated_rows}
 use Rattle.row_updates.specs.Logs.{value_log, rows_log}
 use Rattle.views.specs.Tallies.{Write}
-use Rattle.worlds.specs.Accessed.{accessed, rewritten}
 use Rattle.worlds.specs.Update.{update_fault}
-use Rattle.worlds.specs.Values.{value_on, storable, answer_in}
+use Rattle.worlds.specs.Values.{value_on, storable}
 use Rattle.command_checks.specs.declared.fault.StepFault.{StepFault}
 use Rattle.command_checks.specs.declared.fault.StepFault.TheVariants as step
 use Rattle.worlds.specs.declared.fault.CommandFault.{CommandFault}
@@ -43,13 +41,13 @@ with_mapping world name term = record world { mappings = added name term world.m
 abbrev pub stored : Table → ℕ → ℕ → ℤ → Outcome Table
 stored table row leaf value = do
   fits ← storable table row leaf value
-  Goes (rewritten table (with_entry table.rows row leaf value) (Write row leaf ∷ []))
+  Goes (after_stores table (with_entry table.rows row leaf value) (Write row leaf ∷ []))
 
 -- the same of the value of an expression on a row
 abbrev pub set_row : Table → ℕ → List ℕ → ℕ → Term ℕ → Outcome Table
 set_row table row index leaf term = do
   number ← value_on row (slice_index_or table.rows row []) index term
-  stored (accessed table (value_log row (slice_index_or table.rows row []) index term)) row leaf number
+  stored (after_log table (value_log row (slice_index_or table.rows row []) index term)) row leaf number
 
 -- what a fault of a view is told as: this refusal, unless memory was wanting
 abbrev pub Tells : CommandFault → Result CommandFault StepFault → Type 0
@@ -64,8 +62,8 @@ TellsRow fields fault told = Tells (row_fault fields fault) told
 -- new values go into the rows that pass a filter
 abbrev pub rows_updated : Table → Option (Term ℕ) → List Setting → Outcome Done
 rows_updated table test settings = do
-  rows ← ok_or (update_fault table.fields) (updated_rows (answer_in table) test settings table.extents table.rows (length table.rows))
-  Goes (stores rows (rows_log (answer_in table) test settings table.extents table.rows (length table.rows)))
+  rows ← ok_or (update_fault table.fields) (updated_rows (answer_of table) test settings table.extents table.rows (length table.rows))
+  Goes (stores rows (rows_log (answer_of table) test settings table.extents table.rows (length table.rows)))
 
 -- the tables beside one another, that at one place read, and then that at a place as a copy of it
 abbrev pub copied_at : List (Entry Table) → ℕ → ℕ → Entry Table → Outcome (List (Entry Table))
@@ -93,5 +91,5 @@ abbrev pub left_with : Table → List ℕ → LeftOf Table
 left_with table text = record { held = table; text = text }
 
 -- the table of a view is the one that is left
-abbrev pub IsLeft : Seen → Unit {0} → Table → Type 0
-IsLeft view done table = table_of view ≡ table
+abbrev pub IsLeft : Table → Unit {0} → Table → Type 0
+IsLeft view done table = view ≡ table

@@ -6,7 +6,9 @@ use Rattle.record_dim.specs.Schemas.{schema_fields}
 use Rattle.map_expr.specs.Terms.{term_of}
 use Rattle.extents.specs.declared.words.ExtentWord.{ExtentWord}
 use Rattle.csv_rows.specs.Datasets.{records_of, rows_of}
-use Rattle.worlds.specs.Worlds.{Entry, Table}
+use Rattle.views.specs.Tables.{Table}
+use Rattle.worlds.specs.Worlds.{Entry}
+use Rattle.line_grammar.specs.Sentences as line
 use Rattle.worlds.specs.Outcomes.{Outcome, Goes, Faults, CannotRead, ◌>>=◌}
 use Rattle.worlds.specs.Tables.{resolved, made}
 use Rattle.worlds.specs.Load.{filled}
@@ -14,6 +16,11 @@ use Rattle.worlds.specs.View.{Named}
 use Rattle.command_checks.specs.declared.fault.StepFault.{StepFault}
 use Rattle.command_checks.specs.declared.fault.StepFault.TheVariants as fault
 use Rattle.session.specs.declared.view.Found.{Found}
+use Rattle.session.specs.declared.view.New.{New}
+
+-- what makes a view
+abbrev pub new_of : New → line.New
+new_of new = record { name = new.name; schema = new.schema; words = new.words.now; term = term_of new.expr.now }
 
 -- what the names of a new view stand for
 abbrev pub named_of : Found → Named

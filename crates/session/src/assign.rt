@@ -6,12 +6,11 @@ ghost use Rattle.extents.specs.Indices.{indices, IsInside};
 ghost use Rattle.linearize.specs.Slots.{place_in};
 ghost use Rattle.row_updates.specs.Rows.{IsOver};
 ghost use Rattle.row_updates.specs.Logs.{value_log};
-ghost use Rattle.views.specs.Seen.{leaf_count_of, after_log};
+ghost use Rattle.views.specs.Tables.{leaf_count_of, after_log};
 ghost use Rattle.worlds.specs.Assign.{assigned, inside};
 ghost use Rattle.worlds.specs.OnView.{done_to};
 ghost use Rattle.worlds.specs.Values.{value_on};
 ghost use Rattle.session.specs.Changes.{set_row, stored, left_with};
-ghost use Rattle.command_checks.specs.Entries.{table_of};
 ghost use Rattle.command_checks.specs.Gives.{Gives};
 
 use crate::work::Work;
@@ -60,8 +59,8 @@ fn assigned<L: Ledger>(
     value: &Expr,
     steps: &mut Steps<L>,
 ) -> Result<(), StepFault>
-    ensures { Gives (λ done. left_with (table_of view.new) []) result
-        (done_to (table_of view.old) (assigned (table_of view.old) index.now path.now (term_of value.now))) }
+    ensures { Gives (λ done. left_with view.new []) result
+        (done_to view.old (assigned view.old index.now path.now (term_of value.now))) }
 {
     let leaf = leaf_of(alloc, view, path)?;
     let value = bound(alloc, view, value)?;
@@ -115,11 +114,11 @@ fn set_row<L: Ledger>(
     value: &Bound,
     steps: &mut Steps<L>,
 ) -> Result<(), StepFault>
-    requires row_in { row < length view.old.table }
+    requires row_in { row < length view.old.rows }
     requires rank { length index.now ≡ length view.old.extents }
     requires leaf_in { leaf < leaf_count_of view.old }
     requires over { IsOver view.old value.now }
-    ensures { Gives (λ done. table_of view.new) result (set_row (table_of view.old) row index.now leaf (bound_term value.now)) }
+    ensures { Gives (λ done. view.new) result (set_row view.old row index.now leaf (bound_term value.now)) }
 {
     let value = row_value(view, row, index, value, steps)?;
     store(alloc, view, row, leaf, value, steps)?;
@@ -130,7 +129,7 @@ fn set_row<L: Ledger>(
 fn row_of(view: &View, index: &[u64]) -> u64
     requires { IsInside view.now.extents index.now }
     ensures row { result ≡ place_in (indices view.now.extents) index.now }
-    ensures below { result < length view.now.table }
+    ensures below { result < length view.now.rows }
 {
     view.extents().row_of(index)
 }
@@ -143,11 +142,11 @@ fn row_value<L: Ledger>(
     value: &Bound,
     steps: &mut Steps<L>,
 ) -> Result<i128, StepFault>
-    requires row_in { row < length view.old.table }
+    requires row_in { row < length view.old.rows }
     requires rank { length index.now ≡ length view.old.extents }
     requires over { IsOver view.old value.now }
-    ensures value { Gives (λ number. number) result (value_on row (slice_index_or view.old.table row []) index.now (bound_term value.now)) }
-    ensures read { view.new ≡ after_log view.old (value_log row (slice_index_or view.old.table row []) index.now (bound_term value.now)) }
+    ensures value { Gives (λ number. number) result (value_on row (slice_index_or view.old.rows row []) index.now (bound_term value.now)) }
+    ensures read { view.new ≡ after_log view.old (value_log row (slice_index_or view.old.rows row []) index.now (bound_term value.now)) }
 {
     match value_on(view, row, value, index, steps) {
         Ok(number) => Ok(number),
@@ -167,9 +166,9 @@ fn store<L: Ledger>(
     value: i128,
     steps: &mut Steps<L>,
 ) -> Result<(), StepFault>
-    requires row_in { row < length view.old.table }
+    requires row_in { row < length view.old.rows }
     requires leaf_in { leaf < leaf_count_of view.old }
-    ensures { Gives (λ done. table_of view.new) result (stored (table_of view.old) row leaf value) }
+    ensures { Gives (λ done. view.new) result (stored view.old row leaf value) }
 {
     match view.set(row, leaf, value, steps) {
         Ok(()) => Ok(()),

@@ -4,7 +4,6 @@ ghost use Rattle.lane_kernels.specs.Kernels.{IsKernelOf};
 ghost use Rattle.record_dim.specs.Schemas.{schema_fields};
 ghost use Rattle.worlds.specs.OnView.{done_to};
 ghost use Rattle.worlds.specs.Kernel.{kernel_run, number_text, run, run_fault};
-ghost use Rattle.command_checks.specs.Entries.{table_of};
 ghost use Rattle.command_checks.specs.Gives.{Gives};
 ghost use Rattle.session.specs.Changes.{Tells, left_with};
 
@@ -51,8 +50,8 @@ fn kernel_run<L: Ledger>(
     lanes: u32,
     steps: &mut Steps<L>,
 ) -> Result<Option<i64>, StepFault>
-    ensures { Gives (λ number. left_with (table_of view.new) (number_text number)) result
-        (done_to (table_of view.old) (kernel_run (table_of view.old) text.now lanes)) }
+    ensures { Gives (λ number. left_with view.new (number_text number)) result
+        (done_to view.old (kernel_run view.old text.now lanes)) }
 {
     let kernel = fit_kernel(alloc, view, text, lanes)?;
     let number = run(alloc, view, &kernel, steps)?;
@@ -67,8 +66,8 @@ fn run<L: Ledger>(
     steps: &mut Steps<L>,
 ) -> Result<Option<i64>, StepFault>
     requires { IsKernelOf view.old kernel.now }
-    ensures { Gives (λ number. left_with (table_of view.new) (number_text number)) result
-        (done_to (table_of view.old) (run (table_of view.old) kernel.now)) }
+    ensures { Gives (λ number. left_with view.new (number_text number)) result
+        (done_to view.old (run view.old kernel.now)) }
 {
     match run_plain(view, kernel, steps) {
         Ok(number) => Ok(number),
@@ -78,7 +77,7 @@ fn run<L: Ledger>(
 
 // The fault of a kernel, with the path text of its leaf.
 fn run_fault(alloc: Global, view: &View, fault: KernelFault) -> Result<CommandFault, StepFault>
-    ensures { Tells (run_fault (schema_fields view.now.schema) fault) result }
+    ensures { Tells (run_fault view.now.fields fault) result }
 {
     match fault {
         KernelFault::Empty => Ok(CommandFault::Empty),

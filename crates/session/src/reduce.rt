@@ -2,13 +2,12 @@
 ghost use Rattle.std.specs.Prelude.{◌≡◌, ◌<◌, ◌≤◌, ◌+◌, ◌-◌, ◌^◌, OnOk, pos, length, map, take};
 ghost use Rattle.std.specs.List.{range_with_len};
 ghost use Rattle.expr_lang.specs.Terms.{term_of};
-ghost use Rattle.views.specs.Seen.{leaf_count_of, after_log};
+ghost use Rattle.views.specs.Tables.{leaf_count_of, after_log};
 ghost use Rattle.views.specs.Tallies.{Read};
 ghost use Rattle.worlds.specs.OnView.{done_to};
 ghost use Rattle.worlds.specs.Outcomes.{Goes};
 ghost use Rattle.worlds.specs.Texts.{number_line};
 ghost use Rattle.worlds.specs.Reduce.{reduced, reduction, column, column_log, counting};
-ghost use Rattle.command_checks.specs.Entries.{table_of};
 ghost use Rattle.command_checks.specs.Gives.{Gives};
 ghost use Rattle.session.specs.Changes.{left_with};
 ghost use Rattle.session.specs.Columns.{combined, IsSmall};
@@ -80,8 +79,8 @@ fn reduction<L: Ledger>(
     path: &Path,
     steps: &mut Steps<L>,
 ) -> Result<i128, StepFault>
-    ensures { Gives (λ value. left_with (table_of view.new) (number_line value)) result
-        (done_to (table_of view.old) (reduction (table_of view.old) kind path.now)) }
+    ensures { Gives (λ value. left_with view.new (number_line value)) result
+        (done_to view.old (reduction view.old kind path.now)) }
 {
     let leaf = leaf_of(alloc, view, path)?;
     reduced(view, leaf, kind, steps)
@@ -95,8 +94,8 @@ fn counting<L: Ledger>(
     filter: &Expr,
     steps: &mut Steps<L>,
 ) -> Result<u64, StepFault>
-    ensures { Gives (λ rows. left_with (table_of view.new) (number_line (pos rows))) result
-        (done_to (table_of view.old) (counting (table_of view.old) (term_of filter.now))) }
+    ensures { Gives (λ rows. left_with view.new (number_line (pos rows))) result
+        (done_to view.old (counting view.old (term_of filter.now))) }
 {
     let filter = bound(alloc, view, filter)?;
     match count_where(view, &filter, steps) {
@@ -113,8 +112,8 @@ fn reduced<L: Ledger>(
     steps: &mut Steps<L>,
 ) -> Result<i128, StepFault>
     requires { leaf < leaf_count_of view.old }
-    ensures value { Gives (λ value. value) result (reduced kind (column leaf view.old.table)) }
-    ensures read { OnOk result (view.new ≡ after_log view.old (column_log leaf (length view.old.table))) }
+    ensures value { Gives (λ value. value) result (reduced kind (column leaf view.old.rows)) }
+    ensures read { OnOk result (view.new ≡ after_log view.old (column_log leaf (length view.old.rows))) }
 {
     match kind {
         ReduceKind::Sum => Ok(along(view, leaf, kind, 0, 0, steps)),
@@ -138,11 +137,11 @@ fn along<L: Ledger>(
     steps: &mut Steps<L>,
 ) -> i128
     requires leaf_in { leaf < leaf_count_of view.old }
-    requires start { start ≤ length view.old.table }
-    requires before { reduced kind (take start (column leaf view.old.table)) ≡ Goes value }
+    requires start { start ≤ length view.old.rows }
+    requires before { reduced kind (take start (column leaf view.old.rows)) ≡ Goes value }
     requires small { IsSmall start value }
-    ensures value { reduced kind (column leaf view.old.table) ≡ Goes result }
-    ensures read { view.new ≡ after_log view.old (map (λ row. Read row leaf) (range_with_len start (length view.old.table - start))) }
+    ensures value { reduced kind (column leaf view.old.rows) ≡ Goes result }
+    ensures read { view.new ≡ after_log view.old (map (λ row. Read row leaf) (range_with_len start (length view.old.rows - start))) }
 {
     let mut reached = value;
     for row in start..view.extents().count() {

@@ -12,6 +12,7 @@ use crate::kernel::RunKernel;
 use crate::reduce::{Count, Reduce};
 use crate::show::{Bytes, Counts, Heat, Layout, Print};
 use crate::update::Update;
+use crate::view::New;
 use crate::work::Work;
 use command_checks::{
     MappingEntry, MappingList, RecordEntry, RecordList, StepFault, ViewEntry, ViewList, known_view,
@@ -76,7 +77,17 @@ impl Session {
                 words,
                 expr,
                 file,
-            } => self.load(*name, *schema, words.as_slice(), expr, file, shelf, steps),
+            } => {
+                let (name, schema) = (*name, *schema);
+                let words = words.as_slice();
+                let new = New {
+                    name,
+                    schema,
+                    words,
+                    expr,
+                };
+                self.load(new, file, shelf, steps)
+            }
             _ => self.command(line, out, steps),
         }
     }
@@ -102,7 +113,16 @@ impl Session {
                 schema,
                 words,
                 expr,
-            } => self.view(*name, *schema, words.as_slice(), expr),
+            } => {
+                let (name, schema) = (*name, *schema);
+                let words = words.as_slice();
+                self.view(New {
+                    name,
+                    schema,
+                    words,
+                    expr,
+                })
+            }
             Line::Copy { source, target } => self.copy(*source, *target, steps),
             Line::Relayout { view, expr } => self.relayout(*view, expr, steps),
             Line::Drop(view) => self.drop_view(*view),

@@ -3,11 +3,10 @@ ghost use Rattle.std.specs.Prelude.{◌≡◌, ◌++◌, All, IfOk, OnOk};
 ghost use Rattle.blobs.specs.Bits.{bits_of};
 ghost use Rattle.instrument.specs.BlobTexts.{bytes_of, bytes_text};
 ghost use Rattle.instrument.specs.CounterTexts.{IsOwnerBelow};
-ghost use Rattle.views.specs.Seen.{leaf_count_of, seen_layout};
+ghost use Rattle.views.specs.Tables.{leaf_count_of, owners_of};
 ghost use Rattle.worlds.specs.OnView.{tells};
 ghost use Rattle.worlds.specs.Outcomes.{Goes};
 ghost use Rattle.worlds.specs.Show.{print, counts, heat, layout, small, all_runs, bytes, drop_view};
-ghost use Rattle.command_checks.specs.Entries.{table_of};
 ghost use Rattle.command_checks.specs.Gives.{Gives};
 
 use crate::session::Session;
@@ -146,7 +145,7 @@ impl Session {
 // The blob of this number, where there is one and the view is small.
 #[tactic(auto, unfolding(worlds::specs::Show::bytes))]
 fn shown(view: &View, blob: u32) -> Result<&Blob, StepFault>
-    ensures { Gives (λ blob. tells (table_of view.now) (bytes_text (bytes_of (bits_of blob.now)))) result (bytes (table_of view.now) blob) }
+    ensures { Gives (λ blob. tells view.now (bytes_text (bytes_of (bits_of blob.now)))) result (bytes view.now blob) }
 {
     let blob = blob as usize;
     if view.map().blob_count() <= blob {
@@ -158,7 +157,7 @@ fn shown(view: &View, blob: u32) -> Result<&Blob, StepFault>
 
 // That the blobs of a view are small enough to be shown.
 fn check_small(view: &View) -> Result<(), StepFault>
-    ensures { Gives (λ done. tt) result (small (table_of view.now)) }
+    ensures { Gives (λ done. tt) result (small view.now) }
 {
     if view.blob_bytes() > MOST_BYTES {
         return Err(StepFault::Command(CommandFault::TooBig));
@@ -168,8 +167,8 @@ fn check_small(view: &View) -> Result<(), StepFault>
 
 // The runs of all blobs of a small view, in order.
 fn all_runs(alloc: Global, view: &View) -> Result<RunList, NoMemory>
-    requires { small (table_of view.now) ≡ Goes tt }
-    ensures runs { IfOk result (λ runs. runs ≡ all_runs (seen_layout view.now)) }
+    requires { small view.now ≡ Goes tt }
+    ensures runs { IfOk result (λ runs. runs ≡ all_runs (owners_of view.now)) }
     ensures leaves { IfOk result (λ runs. All (λ run. IsOwnerBelow (leaf_count_of view.now) run.owner) runs) }
 {
     let map = view.map();

@@ -9,7 +9,6 @@ ghost use Rattle.row_updates.specs.Rows.{IsOver, IsSetOf, setting_of, filter_ter
 ghost use Rattle.worlds.specs.Names.{bound_filter, bound_set, bound_sets, each_once, leaves_of};
 ghost use Rattle.worlds.specs.OnView.{done_to};
 ghost use Rattle.worlds.specs.Update.{updated, update_fault};
-ghost use Rattle.command_checks.specs.Entries.{table_of};
 ghost use Rattle.command_checks.specs.Gives.{Gives};
 ghost use Rattle.session.specs.Changes.{Tells, rows_updated, left_with};
 
@@ -55,8 +54,8 @@ fn updated<L: Ledger>(
     sets: &[SetText],
     steps: &mut Steps<L>,
 ) -> Result<(), StepFault>
-    ensures { Gives (λ done. left_with (table_of view.new) []) result
-        (done_to (table_of view.old) (updated (table_of view.old) (option_map term_of filter.now) (map assignment_of sets.now))) }
+    ensures { Gives (λ done. left_with view.new []) result
+        (done_to view.old (updated view.old (option_map term_of filter.now) (map assignment_of sets.now))) }
 {
     let filter = bound_filter(alloc, view, filter)?;
     let sets = bound_sets(alloc, view, sets)?;
@@ -76,8 +75,8 @@ fn update_all<L: Ledger>(
     requires filter { IfSome filter (λ bound. IsOver view.old bound.now) }
     requires sets { All (IsSetOf view.old) sets.now }
     requires few { length sets.now ≤ 64 }
-    ensures { Gives (λ done. left_with (table_of view.new) []) result
-        (done_to (table_of view.old) (rows_updated (table_of view.old) (filter_term filter.entry) (map setting_of sets.now))) }
+    ensures { Gives (λ done. left_with view.new []) result
+        (done_to view.old (rows_updated view.old (filter_term filter.entry) (map setting_of sets.now))) }
 {
     match update_rows(view, filter, sets, steps) {
         Ok(()) => Ok(()),
@@ -91,7 +90,7 @@ fn bound_filter(
     filter: &Option<Expr>,
 ) -> Result<Option<Bound>, StepFault>
     ensures filter { Gives (λ filter. option_map bound_term filter) result
-        (bound_filter (schema_fields view.now.schema) (length view.now.extents) (option_map term_of filter.now)) }
+        (bound_filter view.now.fields (length view.now.extents) (option_map term_of filter.now)) }
     ensures over { IfOk result (λ filter. IfSome filter (IsOver view.now)) }
 {
     match filter {
@@ -106,7 +105,7 @@ fn bound_filter(
 // The leaves that are set, and their new values.
 fn bound_sets(alloc: Global, view: &View, sets: &[SetText]) -> Result<Vec<Assign>, StepFault>
     ensures sets { Gives (λ bound. map setting_of bound.items) result
-        (bound_sets (schema_fields view.now.schema) (length view.now.extents) (map assignment_of sets.now)) }
+        (bound_sets view.now.fields (length view.now.extents) (map assignment_of sets.now)) }
     ensures over { IfOk result (λ bound. All (IsSetOf view.now) bound.items) }
 {
     let mut bound = Vec::new(alloc);
@@ -118,7 +117,7 @@ fn bound_sets(alloc: Global, view: &View, sets: &[SetText]) -> Result<Vec<Assign
 }
 
 fn bound_set(alloc: Global, view: &View, set: &SetText) -> Result<Assign, StepFault>
-    ensures set { Gives setting_of result (bound_set (schema_fields view.now.schema) (length view.now.extents) (assignment_of set.now)) }
+    ensures set { Gives setting_of result (bound_set view.now.fields (length view.now.extents) (assignment_of set.now)) }
     ensures over { IfOk result (IsSetOf view.now) }
 {
     let leaf = leaf_of(alloc, view, &set.path)?;
@@ -129,7 +128,7 @@ fn bound_set(alloc: Global, view: &View, set: &SetText) -> Result<Assign, StepFa
 // That no leaf is set a second time.
 fn each_once(alloc: Global, view: &View, sets: &[Assign]) -> Result<(), StepFault>
     requires { All (IsSetOf view.now) sets.now }
-    ensures once { Gives (λ done. tt) result (each_once (schema_fields view.now.schema) [] (leaves_of (map setting_of sets.now))) }
+    ensures once { Gives (λ done. tt) result (each_once view.now.fields [] (leaves_of (map setting_of sets.now))) }
     ensures few { OnOk result (length sets.now ≤ 64) }
 {
     let _leaves = view.schema().leaf_count();
@@ -155,7 +154,7 @@ pub fn update_fault(
     view: &View,
     fault: UpdateFault,
 ) -> Result<CommandFault, StepFault>
-    ensures { Tells (update_fault (schema_fields view.now.schema) fault) result }
+    ensures { Tells (update_fault view.now.fields fault) result }
 {
     let row = fault.row;
     match fault.kind {

@@ -1,8 +1,7 @@
 // Commands that work on one view.
+ghost use Rattle.views.specs.Tables.{Table};
 ghost use Rattle.worlds.specs.OnView.{Done, done_to};
 ghost use Rattle.worlds.specs.Outcomes.{Outcome};
-ghost use Rattle.worlds.specs.Worlds.{Table};
-ghost use Rattle.command_checks.specs.Entries.{table_of};
 ghost use Rattle.session.specs.Answers.{Answers};
 ghost use Rattle.session.specs.Changes.{IsLeft};
 
@@ -27,5 +26,5 @@ pub(crate) trait Work {
         steps: &mut Steps<L>,
     ) -> Result<(), StepFault>
         ensures { Answers (IsLeft view.new) K.taken K.faults out.old out.new
-            (done_to (table_of view.old) (does self.now (table_of view.old))) result };
+            (done_to view.old (does self.now view.old)) result };
 }

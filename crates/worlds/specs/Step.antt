@@ -34,8 +34,8 @@ work_of _ = None
 abbrev pub command : World → line.Sentence → List File → Bool → Outcome Left
 command world (line.Define name tree) files unread = define world name tree
 command world (line.Mapping name term) files unread = mapping world name term
-command world (line.View name schema words term) files unread = view world name schema words term
-command world (line.Load name schema words term file) files unread = load world name schema words term file files unread
+command world (line.View new) files unread = view world new
+command world (line.Load new file) files unread = load world new file files unread
 command world (line.Copy name target) files unread = copy world name target
 command world (line.Relayout name term) files unread = relayout world name term
 command world (line.Drop name) files unread = drop_view world name

@@ -1,6 +1,5 @@
 use Rattle.std.proofs.Common.{rules}
 use Rattle.worlds.specs.Kernel.{number_text}
-use Rattle.command_checks.specs.Entries.{table_of}
 use Rattle.session.specs.Changes.{IsLeft, left_with}
 use Rattle.session.proofs.Exits.{gave_up}
 use Rattle.session.proofs.Views.{then_broke, then_wrote}
@@ -11,7 +10,7 @@ returns-in_err-number g c = gave_up (IsLeft c.kernel_run-number.new.view) g.K.Si
 
 pub returns-in_err-write_result : goal.returns-in_err-write_result
 returns-in_err-write_result g c =
-    then_broke g.K.Sink.taken g.K.Sink.faults c.args.out.now c.write_result.new.out c.kernel_run-number.new.view _ (left_with (table_of c.kernel_run-number.new.view) (number_text c.in_ok-number.number)) _ (search rules) c.in_ok-number.ensures c.in_err-write_result.ensures
+    then_broke g.K.Sink.taken g.K.Sink.faults c.args.out.now c.write_result.new.out c.kernel_run-number.new.view _ (left_with c.kernel_run-number.new.view (number_text c.in_ok-number.number)) _ (search rules) c.in_ok-number.ensures c.in_err-write_result.ensures
 
 pub returns : goal.returns
 returns g c =

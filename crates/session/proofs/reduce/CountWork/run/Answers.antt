@@ -1,6 +1,5 @@
 use Rattle.std.proofs.Common.{rules, pos}
 use Rattle.worlds.specs.Texts.{number_line}
-use Rattle.command_checks.specs.Entries.{table_of}
 use Rattle.session.specs.Changes.{IsLeft, left_with}
 use Rattle.session.proofs.Exits.{gave_up}
 use Rattle.session.proofs.Views.{then_broke, then_wrote}
@@ -11,7 +10,7 @@ returns-in_err-rows g c = gave_up (IsLeft c.counting-rows.new.view) g.K.Sink.tak
 
 pub returns-in_err-write_count : goal.returns-in_err-write_count
 returns-in_err-write_count g c =
-    then_broke g.K.Sink.taken g.K.Sink.faults c.args.out.now c.write_count.new.out c.counting-rows.new.view _ (left_with (table_of c.counting-rows.new.view) (number_line (pos c.in_ok-rows.rows))) _ (search rules) c.in_ok-rows.ensures c.in_err-write_count.ensures
+    then_broke g.K.Sink.taken g.K.Sink.faults c.args.out.now c.write_count.new.out c.counting-rows.new.view _ (left_with c.counting-rows.new.view (number_line (pos c.in_ok-rows.rows))) _ (search rules) c.in_ok-rows.ensures c.in_err-write_count.ensures
 
 pub returns : goal.returns
 returns g c =

@@ -2,7 +2,6 @@ use Rattle.std.proofs.Common.{rules, FitsSigned}
 use Rattle.std.specs.Int.{w128}
 use Rattle.std.proofs.lemmas.Int.{to_z-of_z}
 use Rattle.worlds.specs.Texts.{number_line}
-use Rattle.command_checks.specs.Entries.{table_of}
 use Rattle.session.specs.Changes.{IsLeft, left_with}
 use Rattle.session.proofs.Exits.{gave_up}
 use Rattle.session.proofs.Views.{then_broke, then_wrote}
@@ -14,7 +13,7 @@ returns-in_err-value g c = gave_up (IsLeft c.reduction-value.new.view) g.K.Sink.
 pub returns-in_err-write_number : goal.returns-in_err-write_number
 returns-in_err-write_number g c =
     let fits : FitsSigned w128 c.in_ok-value.value = search rules in
-    then_broke g.K.Sink.taken g.K.Sink.faults c.args.out.now c.write_number.new.out c.reduction-value.new.view _ (left_with (table_of c.reduction-value.new.view) (number_line c.in_ok-value.value)) _ (search rules) c.in_ok-value.ensures (rw (to_z-of_z w128 c.in_ok-value.value fits) at c.in_err-write_number.ensures)
+    then_broke g.K.Sink.taken g.K.Sink.faults c.args.out.now c.write_number.new.out c.reduction-value.new.view _ (left_with c.reduction-value.new.view (number_line c.in_ok-value.value)) _ (search rules) c.in_ok-value.ensures (rw (to_z-of_z w128 c.in_ok-value.value fits) at c.in_err-write_number.ensures)
 
 pub returns : goal.returns
 returns g c =

@@ -1,7 +1,8 @@
-use Rattle.std.proofs.Common.{◌∙◌, map, Ok, refl, sym, ap}
+use Rattle.std.proofs.Common.{◌∙◌, List, map, Ok, refl, sym, ap}
 use Rattle.std.specs.Prelude.{option_map}
 use Rattle.expr_lang.specs.Terms.{term_of as value_of}
-use Rattle.line_grammar.specs.Sentences.{sentence_of, assignment_of}
+use Rattle.line_grammar.specs.Sentences.{New, sentence_of, assignment_of}
+use Rattle.extents.specs.declared.words.ExtentWord.{ExtentWord}
 use Rattle.line_grammar.specs.declared.line.Line.{Line}
 use Rattle.map_expr.specs.Terms.{term_of}
 use Rattle.record_dim.specs.Trees.{tree_of}
@@ -36,8 +37,9 @@ returns-in-Mapping g c = λ files unread.
 
 pub returns-in-View : goal.returns-in-View
 returns-in-View g c = λ files unread.
-    quiet_by g.K.Sink.taken g.K.Sink.faults c.args.out.now _ (view (world_of c.args.self) c.in-View.name c.in-View.schema c.as_slice.result.now (term_of c.in-View.expr)) c.view.result
-    (ap (λ (line : Line). command (world_of c.args.self) (sentence_of line) files unread) c.in-View.is ∙ ap (λ words. view (world_of c.args.self) c.in-View.name c.in-View.schema words (term_of c.in-View.expr)) (sym c.as_slice.ensures)) c.view.ensures
+    let new_with : List ExtentWord → New = λ words. record { name = c.in-View.name; schema = c.in-View.schema; words = words; term = term_of c.in-View.expr } in
+    quiet_by g.K.Sink.taken g.K.Sink.faults c.args.out.now _ (view (world_of c.args.self) (new_with c.as_slice-words.result.now)) c.view.result
+    (ap (λ (line : Line). command (world_of c.args.self) (sentence_of line) files unread) c.in-View.is ∙ ap (λ words. view (world_of c.args.self) (new_with words)) (sym c.as_slice-words.ensures)) c.view.ensures
 
 pub returns-in-Copy : goal.returns-in-Copy
 returns-in-Copy g c = λ files unread.

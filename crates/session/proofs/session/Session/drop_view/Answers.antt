@@ -1,7 +1,8 @@
 use Rattle.std.proofs.Common.{ap, sym, ◌∙◌, map, List, []}
+use Rattle.views.specs.Tables.{Table}
 use Rattle.worlds.specs.Show.{drop_view}
 use Rattle.worlds.specs.Outcomes.{Goes, some_or}
-use Rattle.worlds.specs.Worlds.{Entry, Table}
+use Rattle.worlds.specs.Worlds.{Entry}
 use Rattle.worlds.specs.declared.fault.CommandFault.TheVariants.{Unknown}
 use Rattle.worlds.specs.declared.fault.UnknownName.TheVariants.{Name}
 use Rattle.command_checks.specs.Entries.{view_of}

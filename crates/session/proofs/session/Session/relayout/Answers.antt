@@ -1,8 +1,9 @@
 use Rattle.std.proofs.Common.{rules, ◌≡◌, ◌∙◌, List, [], Err, refl, sym, ap, subst}
 use Rattle.map_expr.specs.Terms.{term_of}
+use Rattle.views.specs.Tables.{Table}
 use Rattle.worlds.specs.Copy.{relayout, laid_anew}
 use Rattle.worlds.specs.Outcomes.{Outcome, Goes}
-use Rattle.worlds.specs.Worlds.{Entry, Table}
+use Rattle.worlds.specs.Worlds.{Entry}
 use Rattle.command_checks.specs.Entries.{view_of}
 use Rattle.command_checks.specs.Gives.{GivesUp}
 use Rattle.command_checks.specs.GivesLaws.{GivesUp-then, goes_then}

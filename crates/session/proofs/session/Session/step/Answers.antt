@@ -1,5 +1,6 @@
 use Rattle.std.proofs.Common.{◌≡◌, ◌∙◌, ℕ, List, Option, Bool, true, false, [], sym, ap, subst}
-use Rattle.line_grammar.specs.Sentences.{sentence_of, file_of}
+use Rattle.line_grammar.specs.Sentences.{New, sentence_of, file_of}
+use Rattle.extents.specs.declared.words.ExtentWord.{ExtentWord}
 use Rattle.line_grammar.specs.declared.line.Line.{Line}
 use Rattle.map_expr.specs.Terms.{term_of}
 use Rattle.worlds.specs.Answers.{StepsTo}
@@ -15,9 +16,10 @@ use Rattle.session.proofs.session.Session.step.Goals as goal
 
 pub returns-in-Load-clause-step : goal.returns-in-Load-clause-step
 returns-in-Load-clause-step g c = λ files told.
-    let load_of = λ (unread : Bool). load (world_of c.args.self) c.in-Load.name c.in-Load.schema c.as_slice.result.now (term_of c.in-Load.expr) c.in-Load.file files unread in
+    let new_with : List ExtentWord → New = λ words. record { name = c.in-Load.name; schema = c.in-Load.schema; words = words; term = term_of c.in-Load.expr } in
+    let load_of = λ (unread : Bool). load (world_of c.args.self) (new_with c.as_slice-words.result.now) c.in-Load.file files unread in
     let same : (unread : Bool) → step (world_of c.args.self) (sentence_of c.args.line.now) files unread ≡ load_of unread =
-    λ unread. step_is (world_of c.args.self) (sentence_of c.args.line.now) files unread ∙ ap (λ (line : Line). command (world_of c.args.self) (sentence_of line) files unread) c.in-Load.is ∙ ap (λ words. load (world_of c.args.self) c.in-Load.name c.in-Load.schema words (term_of c.in-Load.expr) c.in-Load.file files unread) (sym c.as_slice.ensures) in
+    λ unread. step_is (world_of c.args.self) (sentence_of c.args.line.now) files unread ∙ ap (λ (line : Line). command (world_of c.args.self) (sentence_of line) files unread) c.in-Load.is ∙ ap (λ words. load (world_of c.args.self) (new_with words) c.in-Load.file files unread) (sym c.as_slice-words.ensures) in
     let given = subst (λ (outcome : Outcome Left). ToldFor (g.H.Shelf.files c.args.shelf.now) outcome files) (same true) told in
     steps_same _ Stands g.K.Sink.taken g.K.Sink.faults c.args.out.now c.args.out.now _ load_of _ c.load.result same
     (subst (λ (file : Option (List ℕ)). StepsTo (ending_of file) Stands g.K.Sink.taken g.K.Sink.faults c.args.out.now c.args.out.now load_of _ c.load.result) (sym (ap (λ (line : Line). file_of (sentence_of line)) c.in-Load.is))
@@ -25,9 +27,10 @@ returns-in-Load-clause-step g c = λ files told.
 
 pub returns-in-Load-clause-unread : goal.returns-in-Load-clause-unread
 returns-in-Load-clause-unread g c =
-    unread_by _ c.in-Load.file (step (world_of c.args.self) (sentence_of c.args.line.now)) (load (world_of c.args.self) c.in-Load.name c.in-Load.schema c.as_slice.result.now (term_of c.in-Load.expr) c.in-Load.file) c.load.result
+    let new_with : List ExtentWord → New = λ words. record { name = c.in-Load.name; schema = c.in-Load.schema; words = words; term = term_of c.in-Load.expr } in
+    unread_by _ c.in-Load.file (step (world_of c.args.self) (sentence_of c.args.line.now)) (load (world_of c.args.self) (new_with c.as_slice-words.result.now) c.in-Load.file) c.load.result
     (ap (λ (line : Line). file_of (sentence_of line)) c.in-Load.is)
-    (λ files unread. step_is (world_of c.args.self) (sentence_of c.args.line.now) files unread ∙ ap (λ (line : Line). command (world_of c.args.self) (sentence_of line) files unread) c.in-Load.is ∙ ap (λ words. load (world_of c.args.self) c.in-Load.name c.in-Load.schema words (term_of c.in-Load.expr) c.in-Load.file files unread) (sym c.as_slice.ensures))
+    (λ files unread. step_is (world_of c.args.self) (sentence_of c.args.line.now) files unread ∙ ap (λ (line : Line). command (world_of c.args.self) (sentence_of line) files unread) c.in-Load.is ∙ ap (λ words. load (world_of c.args.self) (new_with words) c.in-Load.file files unread) (sym c.as_slice-words.ensures))
     c.load.ensures.unread
 
 pub returns-in-Load-clause-untaken : goal.returns-in-Load-clause-untaken

@@ -2,9 +2,8 @@ use Rattle.std.proofs.Common.{rules}
 use Rattle.instrument.specs.CounterTexts.{runs_text}
 use Rattle.record_dim.specs.Leaves.{texts_of}
 use Rattle.record_dim.specs.Schemas.{schema_fields}
-use Rattle.views.specs.Seen.{seen_layout}
+use Rattle.views.specs.Tables.{owners_of}
 use Rattle.worlds.specs.Show.{layout, all_runs}
-use Rattle.command_checks.specs.Entries.{table_of}
 use Rattle.command_checks.specs.GivesLaws.{GivesUp-then}
 use Rattle.command_checks.specs.declared.fault.StepFault.TheVariants as step
 use Rattle.session.specs.Changes.{IsLeft, left_with}
@@ -24,11 +23,11 @@ returns-in_err-runs g c = gave_up (IsLeft c.args.view.now) g.K.Sink.taken g.K.Si
 pub returns-in_err-write_runs : goal.returns-in_err-write_runs
 returns-in_err-write_runs g c =
     let view = c.args.view.now in
-    then_broke g.K.Sink.taken g.K.Sink.faults c.args.out.now c.write_runs.new.sink view _ (left_with (table_of view) (runs_text (texts_of (schema_fields view.schema)) (all_runs (seen_layout view)))) _ (search rules)
-    (layout_goes (table_of view) c.in_ok-check_small.ensures) (rw c.in_ok-runs.ensures.runs at c.in_err-write_runs.ensures)
+    then_broke g.K.Sink.taken g.K.Sink.faults c.args.out.now c.write_runs.new.sink view _ (left_with view (runs_text (texts_of view.fields) (all_runs (owners_of view)))) _ (search rules)
+    (layout_goes view c.in_ok-check_small.ensures) (rw c.in_ok-runs.ensures.runs at c.in_err-write_runs.ensures)
 
 pub returns : goal.returns
 returns g c =
     let view = c.args.view.now in
-    then_wrote g.K.Sink.taken g.K.Sink.faults c.args.out.now c.write_runs.new.sink view _ (runs_text (texts_of (schema_fields view.schema)) (all_runs (seen_layout view)))
-    (layout_goes (table_of view) c.in_ok-check_small.ensures) (rw c.in_ok-runs.ensures.runs at c.in_ok-write_runs.ensures)
+    then_wrote g.K.Sink.taken g.K.Sink.faults c.args.out.now c.write_runs.new.sink view _ (runs_text (texts_of view.fields) (all_runs (owners_of view)))
+    (layout_goes view c.in_ok-check_small.ensures) (rw c.in_ok-runs.ensures.runs at c.in_ok-write_runs.ensures)
