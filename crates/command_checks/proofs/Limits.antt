@@ -23,15 +23,15 @@ use Rattle.command_checks.specs.Entries.{view_of}
 use Rattle.command_checks.specs.declared.entries.ViewEntry.{ViewEntry}
 
 -- the table that a new view is
-pub table_new : (seen : Table) (fields : Fields) (extents : List ℕ) (term : MapTerm) → seen.fields ≡ fields → seen.extents ≡ extents → term_of seen.expr ≡ term
-    → seen.rows ≡ zeros (length (indices extents)) (length (leaves fields)) → seen.tally ≡ no_tally (term_of seen.expr) (owners_of seen) (leaf_count_of seen)
+pub table_new : (seen : Table) (fields : Fields) (extents : List ℕ) (term : MapTerm) → seen.fields ≡ fields → seen.extents ≡ extents → seen.mapping ≡ term
+    → seen.rows ≡ zeros (length (indices extents)) (length (leaves fields)) → seen.tally ≡ no_tally (seen.mapping) (owners_of seen) (leaf_count_of seen)
     → seen ≡ zeros_of fields extents term
 table_new seen fields extents term f e t z n =
     let tally : seen.tally ≡ no_tally term (layout_by term extents fields) (length (leaves fields)) =
     n ∙ ap (λ (w : MapTerm). no_tally w (layout_by w seen.extents seen.fields) (leaf_count_of seen)) t
     ∙ ap (λ (w : List ℕ). no_tally term (layout_by term w seen.fields) (leaf_count_of seen)) e
     ∙ ap (λ (w : Fields). no_tally term (layout_by term extents w) (length (leaves w))) f in
-    cc
+    λ i. record { fields = f i; extents = e i; mapping = t i; rows = z i; tally = tally i }
 
 slots_within : (a b : ℕ) → (a < b → ⊥) → nat_lt a b ≡ false
 slots_within a b within = grind (arith, nat_tests)

@@ -11,7 +11,6 @@ use Rattle.record_dim.specs.LeafTypes.{least_of, greatest_of, least_in, greatest
 use Rattle.record_dim.specs.declared.leaf_type.LeafType.{LeafType}
 use Rattle.record_dim.specs.Leaves.{leaves}
 use Rattle.record_dim.specs.Trees.{Fields}
-use Rattle.record_dim.specs.Schemas.{schema_fields}
 use Rattle.places.specs.Image.{entry}
 use Rattle.places.specs.declared.piece.Hold.{Hold}
 use Rattle.layout_copy.specs.Copies.{AreAlike, IsCopied, refusing, refused_at}
@@ -24,6 +23,7 @@ use Rattle.views.specs.Stores.{Answer, is_between, kind_at, store_answer}
 use Rattle.worlds.specs.Copy.{copy, copied, with_rows, all_read, laid_anew, narrow_fault}
 use Rattle.worlds.specs.Tables.{made, zeros_of}
 use Rattle.map_expr.specs.Terms.{Term as MapTerm}
+use Rattle.worlds.specs.declared.fault.CommandFault.{CommandFault}
 use Rattle.worlds.specs.declared.fault.CommandFault.TheVariants as refusal
 use Rattle.worlds.specs.declared.fault.CommandFault.TheVariants.{Unknown}
 use Rattle.worlds.specs.declared.fault.UnknownName.TheVariants.{Name}
@@ -36,7 +36,7 @@ use Rattle.command_checks.specs.Gives.{GivesUp}
 use Rattle.command_checks.specs.GivesLaws.{GivesUp-then, goes_then}
 use Rattle.command_checks.specs.declared.entries.ViewEntry.{ViewEntry}
 use Rattle.command_checks.specs.declared.fault.StepFault.{StepFault}
-use Rattle.session.specs.Changes.{copied_at, made_like, zeros_like, Tells, TellsCopy}
+use Rattle.session.specs.Changes.{copied_at, made_like, zeros_like, TellsCopy}
 use Rattle.session.proofs.Exits.{tells_gives}
 use Rattle.session.proofs.Named.{IsFirst, first_found, first_replaced, first_still}
 

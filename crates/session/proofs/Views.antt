@@ -10,7 +10,7 @@ use Rattle.views.specs.Tallies.{Tally}
 use Rattle.views.specs.TallyLaws.{tallied-none}
 use Rattle.worlds.specs.Answers.{Did, Fronted, text_of}
 use Rattle.worlds.specs.OnView.{Done, tells, done_to, on_view, with_table}
-use Rattle.worlds.specs.Outcomes.{Outcome, Goes, Faults, CannotRead, LeftOf, Left, ◌>>=◌, known, shows}
+use Rattle.worlds.specs.Outcomes.{Outcome, Goes, Faults, CannotRead, LeftOf, Left, ◌>>=◌, known, some_or, shows}
 use Rattle.worlds.specs.Show.{counts, heat, layout, small, all_runs}
 use Rattle.worlds.specs.Worlds.{World, Entry}
 use Rattle.worlds.specs.declared.fault.CommandFault.TheVariants.{NotCounted}
@@ -87,11 +87,15 @@ tells_left table text = ap (λ (tally : Tally). Goes (left_with (record table { 
 -- what is shown of a table
 pub counts_goes : (table : Table) (numbers : LeafCounts) → Some numbers ≡ table.tally.counts → done_to table (counts table) ≡ Goes (left_with table (counts_text (texts_of table.fields) numbers))
 unfolding counts
-counts_goes table numbers is = rw (← is) (tells_left table (counts_text (texts_of table.fields) numbers))
+counts_goes table numbers is =
+    ap (λ (x : Option LeafCounts). done_to table (some_or NotCounted x >>= (λ (n : LeafCounts). Goes (tells table (counts_text (texts_of table.fields) n))))) (sym is)
+    ∙ tells_left table (counts_text (texts_of table.fields) numbers)
 
 pub heat_goes : (table : Table) (numbers : HeatCounts) → Some numbers ≡ table.tally.heat → done_to table (heat table) ≡ Goes (left_with table (heat_text numbers))
 unfolding heat
-heat_goes table numbers is = rw (← is) (tells_left table (heat_text numbers))
+heat_goes table numbers is =
+    ap (λ (x : Option HeatCounts). done_to table (some_or NotCounted x >>= (λ (n : HeatCounts). Goes (tells table (heat_text n))))) (sym is)
+    ∙ tells_left table (heat_text numbers)
 
 pub layout_goes : (table : Table) → small table ≡ Goes tt → done_to table (layout table) ≡ Goes (left_with table (runs_text (texts_of table.fields) (all_runs (owners_of table))))
 unfolding layout

@@ -37,17 +37,17 @@ impl Session {
     /// Makes a view with the values of a dataset.
     pub(crate) fn load<H: Shelf, L: Ledger>(
         self,
-        new: New<'_>,
+        new: &New<'_>,
         file: &FileName,
         shelf: &mut H,
         steps: &mut Steps<L>,
     ) -> Result<Session, StepFault>
-        ensures loads { (files : List File) → ToldFor (H.files shelf.old) (load (world_of self) (new_of new.entry) file.now files true) files
-            → Loads file.now left_of (load (world_of self) (new_of new.entry) file.now files)
+        ensures loads { (files : List File) → ToldFor (H.files shelf.old) (load (world_of self) (new_of new.now) file.now files true) files
+            → Loads file.now left_of (load (world_of self) (new_of new.now) file.now files)
             (Rose (H.faults shelf.old) (H.faults shelf.new)) result }
         ensures files { H.files shelf.new ≡ H.files shelf.old }
         ensures cause { LoadCause (H.files shelf.old) (H.faults shelf.old) (H.faults shelf.new) result }
-        ensures unread { UnreadOnly (Some file.now) (load (world_of self) (new_of new.entry) file.now) result }
+        ensures unread { UnreadOnly (Some file.now) (load (world_of self) (new_of new.now) file.now) result }
     {
         let view = loaded_view(
             self.alloc,
@@ -72,17 +72,17 @@ fn loaded_view<H: Shelf, L: Ledger>(
     records: &[RecordEntry],
     mappings: &[MappingEntry],
     views: &[ViewEntry],
-    new: New<'_>,
+    new: &New<'_>,
     file: &FileName,
     shelf: &mut H,
     steps: &mut Steps<L>,
 ) -> Result<View, StepFault>
-    ensures loads { (files : List File) → ToldFor (H.files shelf.old) (loaded_table (world_in records.now mappings.now views.now) (new_of new.entry) file.now files true) files
-        → Loads file.now (λ view. view) (loaded_table (world_in records.now mappings.now views.now) (new_of new.entry) file.now files)
+    ensures loads { (files : List File) → ToldFor (H.files shelf.old) (loaded_table (world_in records.now mappings.now views.now) (new_of new.now) file.now files true) files
+        → Loads file.now (λ view. view) (loaded_table (world_in records.now mappings.now views.now) (new_of new.now) file.now files)
         (Rose (H.faults shelf.old) (H.faults shelf.new)) result }
     ensures files { H.files shelf.new ≡ H.files shelf.old }
     ensures cause { LoadCause (H.files shelf.old) (H.faults shelf.old) (H.faults shelf.new) result }
-    ensures unread { UnreadOnly (Some file.now) (loaded_table (world_in records.now mappings.now views.now) (new_of new.entry) file.now) result }
+    ensures unread { UnreadOnly (Some file.now) (loaded_table (world_in records.now mappings.now views.now) (new_of new.now) file.now) result }
 {
     let found = named(alloc, records, mappings, views, new)?;
     match read_all(alloc, shelf, file.as_str(), DATASET_BYTES) {

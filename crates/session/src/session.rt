@@ -86,7 +86,7 @@ impl Session {
                     words,
                     expr,
                 };
-                self.load(new, file, shelf, steps)
+                self.load(&new, file, shelf, steps)
             }
             _ => self.command(line, out, steps),
         }
@@ -116,7 +116,7 @@ impl Session {
             } => {
                 let (name, schema) = (*name, *schema);
                 let words = words.as_slice();
-                self.view(New {
+                self.view(&New {
                     name,
                     schema,
                     words,

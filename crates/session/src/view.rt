@@ -18,7 +18,7 @@ use std::alloc::Global;
 use views::View;
 
 /// What makes a view: its name, the name of its record, its extents and its mapping.
-#[derive(Clone, Copy)]
+#[derive(Drop)]
 pub struct New<'a> {
     pub name: Name,
     pub schema: Name,
@@ -42,8 +42,8 @@ impl Session {
 
     /// Makes a view of zeros.
     #[tactic(auto, unfolding(worlds::specs::View::view))]
-    pub(crate) fn view(self, new: New<'_>) -> Result<Session, StepFault>
-        ensures { Gives left_of result (view (world_of self) (new_of new.entry)) }
+    pub(crate) fn view(self, new: &New<'_>) -> Result<Session, StepFault>
+        ensures { Gives left_of result (view (world_of self) (new_of new.now)) }
     {
         let view = new_view(
             self.alloc,
@@ -71,12 +71,12 @@ pub fn named<'a>(
     records: &'a [RecordEntry],
     mappings: &[MappingEntry],
     views: &[ViewEntry],
-    new: New<'_>,
+    new: &New<'_>,
 ) -> Result<Found<'a>, StepFault>
-    ensures named { Gives named_of result (named (world_in records.now mappings.now views.now) (new_of new.entry)) }
+    ensures named { Gives named_of result (named (world_in records.now mappings.now views.now) (new_of new.now)) }
     ensures nameless { IfOk result (λ found. is_nameless (term_of found.expr) ≡ true) }
-    ensures shape { IfOk result (λ found. found.shape ≡ new.entry.words.now) }
-    ensures is_shape { OnOk result (IsShape new.entry.words.now) }
+    ensures shape { IfOk result (λ found. found.shape ≡ new.now.words.now) }
+    ensures is_shape { OnOk result (IsShape new.now.words.now) }
     ensures room { OnOk result (length views.now < 64) }
 {
     free_view(views, new.name)?;
@@ -98,9 +98,9 @@ fn new_view(
     records: &[RecordEntry],
     mappings: &[MappingEntry],
     views: &[ViewEntry],
-    new: New<'_>,
+    new: &New<'_>,
 ) -> Result<View, StepFault>
-    ensures { Gives (λ view. view) result (new_table (world_in records.now mappings.now views.now) (new_of new.entry)) }
+    ensures { Gives (λ view. view) result (new_table (world_in records.now mappings.now views.now) (new_of new.now)) }
 {
     let found = named(alloc, records, mappings, views, new)?;
     let extents = resolved(&found.shape, new.words, None)?;

@@ -22,6 +22,6 @@ pub returns-clause-leaves : goal.returns-clause-leaves
 returns-clause-leaves c =
     let view = c.args.view.now in
     let count : length (leaf_types_of view) ≡ length (leaves view.fields) = length-map (leaves view.fields) (λ leaf. leaf.kind) in
-    subst (λ (leaf_count : _). All (IsRunBelow leaf_count_of) c.loop-blob.runs) count
+    subst (λ (n : _). All (IsRunBelow n) c.loop-blob.runs) count
     (subst (All (IsRunBelow (length (leaf_types_of view)))) (sym c.loop-blob.invariant)
     (runs_below _ (owners_of view) _ _ _ (leaf_types_of view) _ c.laws_of.ensures.lawful c.laws_of.ensures.paired c.map-map.ensures.cells c.map-map.ensures.layout))

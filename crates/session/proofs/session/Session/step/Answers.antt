@@ -1,4 +1,6 @@
 use Rattle.std.proofs.Common.{◌≡◌, ◌∙◌, ℕ, List, Option, Bool, true, false, [], sym, ap, subst}
+use Rattle.layout_io.specs.Faults.{Rose}
+use Rattle.command_checks.specs.declared.fault.StepFault.{StepFault}
 use Rattle.line_grammar.specs.Sentences.{New, sentence_of, file_of}
 use Rattle.extents.specs.declared.words.ExtentWord.{ExtentWord}
 use Rattle.line_grammar.specs.declared.line.Line.{Line}
@@ -20,10 +22,11 @@ returns-in-Load-clause-step g c = λ files told.
     let load_of = λ (unread : Bool). load (world_of c.args.self) (new_with c.as_slice-words.result.now) c.in-Load.file files unread in
     let same : (unread : Bool) → step (world_of c.args.self) (sentence_of c.args.line.now) files unread ≡ load_of unread =
     λ unread. step_is (world_of c.args.self) (sentence_of c.args.line.now) files unread ∙ ap (λ (line : Line). command (world_of c.args.self) (sentence_of line) files unread) c.in-Load.is ∙ ap (λ words. load (world_of c.args.self) (new_with words) c.in-Load.file files unread) (sym c.as_slice-words.ensures) in
+    let rose = Rose (g.H.Shelf.faults c.args.shelf.now) (g.H.Shelf.faults c.load.new.shelf) in
     let given = subst (λ (outcome : Outcome Left). ToldFor (g.H.Shelf.files c.args.shelf.now) outcome files) (same true) told in
-    steps_same _ Stands g.K.Sink.taken g.K.Sink.faults c.args.out.now c.args.out.now _ load_of _ c.load.result same
-    (subst (λ (file : Option (List ℕ)). StepsTo (ending_of file) Stands g.K.Sink.taken g.K.Sink.faults c.args.out.now c.args.out.now load_of _ c.load.result) (sym (ap (λ (line : Line). file_of (sentence_of line)) c.in-Load.is))
-    (steps_load g.K.Sink.taken g.K.Sink.faults c.args.out.now c.in-Load.file load_of _ c.load.result (c.load.ensures.loads files given)))
+    steps_same (ending_of (file_of (sentence_of c.args.line.now))) Stands g.K.Sink.taken g.K.Sink.faults c.args.out.now c.args.out.now (step (world_of c.args.self) (sentence_of c.args.line.now) files) load_of rose c.load.result same
+    (subst (λ (file : Option (List ℕ)). StepsTo {F = StepFault} (ending_of file) Stands g.K.Sink.taken g.K.Sink.faults c.args.out.now c.args.out.now load_of rose c.load.result) (sym (ap (λ (line : Line). file_of (sentence_of line)) c.in-Load.is))
+    (steps_load g.K.Sink.taken g.K.Sink.faults c.args.out.now c.in-Load.file load_of rose c.load.result (c.load.ensures.loads files given)))
 
 pub returns-in-Load-clause-unread : goal.returns-in-Load-clause-unread
 returns-in-Load-clause-unread g c =

@@ -14,9 +14,9 @@ returns-in_default g c = refused g.K.Sink.taken g.K.Sink.faults c.args.out.now _
 pub returns-in_err-write_counts : goal.returns-in_err-write_counts
 returns-in_err-write_counts g c =
     let some : Some (leaf_counts c.in-Some.counts.now) ≡ c.args.view.now.tally.counts = rw c.in-Some.is at c.counts.ensures.value in
-    then_broke g.K.Sink.taken g.K.Sink.faults c.args.out.now c.write_counts.new.sink c.args.view.now _ (left_with c.args.view.now (counts_text (texts_of c.args.view.now.fields) (leaf_counts c.in-Some.counts.now))) _ (search rules) (counts_goes c.args.view.now _ some) c.in_err-write_counts.ensures
+    then_broke g.K.Sink.taken g.K.Sink.faults c.args.out.now c.write_counts.new.sink c.args.view.now _ (left_with c.args.view.now (counts_text (texts_of c.args.view.now.fields) (leaf_counts c.in-Some.counts.now))) _ (search rules) (counts_goes c.args.view.now _ some) (rw c.schema.ensures.value at c.in_err-write_counts.ensures)
 
 pub returns : goal.returns
 returns g c =
     let some : Some (leaf_counts c.in-Some.counts.now) ≡ c.args.view.now.tally.counts = rw c.in-Some.is at c.counts.ensures.value in
-    then_wrote g.K.Sink.taken g.K.Sink.faults c.args.out.now c.write_counts.new.sink c.args.view.now _ (counts_text (texts_of c.args.view.now.fields) (leaf_counts c.in-Some.counts.now)) (counts_goes c.args.view.now _ some) c.in_ok-write_counts.ensures
+    then_wrote g.K.Sink.taken g.K.Sink.faults c.args.out.now c.write_counts.new.sink c.args.view.now _ (counts_text (texts_of c.args.view.now.fields) (leaf_counts c.in-Some.counts.now)) (counts_goes c.args.view.now _ some) (rw c.schema.ensures.value at c.in_ok-write_counts.ensures)

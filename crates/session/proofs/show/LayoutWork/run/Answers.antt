@@ -24,10 +24,10 @@ pub returns-in_err-write_runs : goal.returns-in_err-write_runs
 returns-in_err-write_runs g c =
     let view = c.args.view.now in
     then_broke g.K.Sink.taken g.K.Sink.faults c.args.out.now c.write_runs.new.sink view _ (left_with view (runs_text (texts_of view.fields) (all_runs (owners_of view)))) _ (search rules)
-    (layout_goes view c.in_ok-check_small.ensures) (rw c.in_ok-runs.ensures.runs at c.in_err-write_runs.ensures)
+    (layout_goes view c.in_ok-check_small.ensures) (rw (c.schema.ensures.value, c.in_ok-runs.ensures.runs) at c.in_err-write_runs.ensures)
 
 pub returns : goal.returns
 returns g c =
     let view = c.args.view.now in
     then_wrote g.K.Sink.taken g.K.Sink.faults c.args.out.now c.write_runs.new.sink view _ (runs_text (texts_of view.fields) (all_runs (owners_of view)))
-    (layout_goes view c.in_ok-check_small.ensures) (rw c.in_ok-runs.ensures.runs at c.in_ok-write_runs.ensures)
+    (layout_goes view c.in_ok-check_small.ensures) (rw (c.schema.ensures.value, c.in_ok-runs.ensures.runs) at c.in_ok-write_runs.ensures)
