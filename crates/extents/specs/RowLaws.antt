@@ -57,9 +57,6 @@ pub record IsIndexSoFar (e : List ℕ) (row k : ℕ) (found : List ℕ) (left si
   pub inner : left < size
   pub leads : (tail : List ℕ) → slice_get (indices (drop k e)) left ≡ Some tail → slice_get (indices e) row ≡ Some (found ++ tail)
 
-pub IsIndexSoFar-none : (e : List ℕ) (row : ℕ) → row < length (indices e) → IsIndexSoFar e row 0 [] row (product e)
-IsIndexSoFar-none e row h = record { long = refl; block = refl; inner = omega (arith, length-indices e); leads = λ tail at. at }
-
 pub IsIndexSoFar-more : (e : List ℕ) (row k n : ℕ) (found : List ℕ) (left block : ℕ) → k < length e → n ≡ get_or e k 0 → IsIndexSoFar e row k found left block →
     (0 < n) × (0 < block / n) × IsIndexSoFar e row (k + 1) (found ++ left / (block / n) ∷ []) (left % (block / n)) (block / n)
 IsIndexSoFar-more e row k n found left block hk hn h =

@@ -1,19 +1,15 @@
 -- What the loop over full buffers keeps.
-use Rattle.std.proofs.Common.{◌≡◌, ℕ, List, [], ◌++◌, Option, refl, ap, subst, ◌∙◌, append_assoc}
-use Rattle.std.proofs.lemmas.List.{append-nil}
+use Rattle.std.proofs.Common.{◌≡◌, ℕ, List, [], ◌++◌, Option, ap, subst, ◌∙◌, append_assoc}
 use Rattle.layout_io.specs.Writing.{Wrote, Stopped}
 use Rattle.layout_io.specs.WritingLaws.{Stopped-front}
 use Rattle.layout_io.specs.Gathering.{Gathers}
-use Rattle.layout_io.specs.GatheringLaws.{Gathers-start, Gathers-append, Gathers-written}
+use Rattle.layout_io.specs.GatheringLaws.{Gathers-append, Gathers-written}
 
 -- a front of the piece is gathered behind what the buffer held at first, and the rest is to come
 pub record PutsFront {K : Type 0} (taken : K → Option (List ℕ)) (faults : K → ℕ) (first now : K) (start held piece rest : List ℕ) : Type 0 where
   pub done : List ℕ
   pub parts : done ++ rest ≡ piece
   pub gathers : Gathers taken faults first now held (start ++ done)
-
-pub PutsFront-none : {K : Type 0} (taken : K → Option (List ℕ)) (faults : K → ℕ) (first : K) (start piece : List ℕ) → PutsFront taken faults first first start start piece piece
-PutsFront-none taken faults first start piece = record { done = []; parts = refl; gathers = rw (append-nil start) (Gathers-start taken faults first start) }
 
 -- a full buffer was handed to the sink
 pub PutsFront-more : {K : Type 0} {taken : K → Option (List ℕ)} {faults : K → ℕ} {first mid : K} {start held piece rest : List ℕ} (new : K) (front back full : List ℕ) → front ++ back ≡ rest → full ≡ held ++ front

@@ -62,12 +62,6 @@ pub Writes-gathered : {K T E : Type 0} {taken : K → Option (List ℕ)} {faults
 Writes-gathered new (Ok value) gathers wrote = Wrote-gathered gathers wrote
 Writes-gathered new (Err error) gathers stop = Stopped-gathered gathers stop
 
--- more of a text, gathered from what the buffer held before
-pub Gathers-more : {K T E : Type 0} {taken : K → Option (List ℕ)} {faults : K → ℕ} {first now : K} {held text : List ℕ} (new : K) (result : Result T E) (kept more : List ℕ)
-    → Gathers taken faults first now held text → GathersOrStops taken faults now new result kept (held ++ more) → GathersOrStops taken faults first new result kept (text ++ more)
-Gathers-more new (Ok value) kept more gathers after = Gathers-trans (Gathers-append more gathers) after
-Gathers-more new (Err error) kept more gathers stop = Stopped-gathered (Gathers-append more gathers) stop
-
 -- what is left where a function gives up
 pub GathersOrStops-err : {K T E : Type 0} {taken : K → Option (List ℕ)} {faults : K → ℕ} {first now : K} {text : List ℕ} (result : Result T E) (held : List ℕ) → IsErr result
     → Stopped taken faults first now text → GathersOrStops taken faults first now result held text
@@ -124,11 +118,6 @@ pub Puts-loop_err : {K X T R S E F D : Type 0} {taken : K → Option (List ℕ)}
     → Puts {T = S} taken faults mid new kept held (Err error) (f (get_or xs i d)) → Puts taken faults old new was held result (flat_map f xs)
 Puts-loop_err {taken} {faults} {old} {new} {was} {held} result f xs i d small err before stop =
     subst (λ piece. Puts taken faults old new was held result piece) (flat_map_split f xs i d small) (Puts-second result (flat_map f (drop (i + 1) xs)) err before stop)
-
--- a piece, and then nothing: what the last call of a function puts, where its text is `joined`
-pub Puts-last : {K T E : Type 0} {taken : K → Option (List ℕ)} {faults : K → ℕ} {old new : K} {was held a : List ℕ} {result : Result T E} → Puts taken faults old new was held result a
-    → Puts taken faults old new was held result (a ++ [])
-Puts-last {taken} {faults} {old} {new} {was} {held} {a} {result} puts = rw (append-nil a) puts
 
 -- a loop that put f of all items
 pub Puts-loop_ok : {K X T E : Type 0} {taken : K → Option (List ℕ)} {faults : K → ℕ} {old new : K} {was held : List ℕ} {result : Result T E} (f : X → List ℕ) (xs : List X) (i : ℕ) → length xs ≤ i

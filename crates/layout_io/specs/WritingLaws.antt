@@ -1,5 +1,5 @@
 -- Laws of texts that are written one after another.
-use Rattle.std.specs.Prelude.{◌≡◌, ℕ, suc, ◌+◌, ◌<◌, ◌≤◌, List, [], ◌∷◌, ◌++◌, length, take, drop, Option, Some, None, Result, Ok, Err, IsOk, IsErr, flat_map, get_or}
+use Rattle.std.specs.Prelude.{◌≡◌, ℕ, suc, ◌+◌, ◌<◌, ◌≤◌, List, [], ◌∷◌, ◌++◌, length, take, drop, Option, Some, None, Result, Ok, Err, IsErr, flat_map, get_or}
 use Rattle.std.proofs.Common.{refl, sym, ap, subst, ◌∙◌, arith, length-append, append_assoc}
 use Rattle.std.proofs.lemmas.List.{append-nil, take-append-le, take_more, take-append-drop}
 use Rattle.std.proofs.lemmas.List.Concat.{flat_map-append}
@@ -75,12 +75,6 @@ pub Writes-last : {K T E : Type 0} {taken : K → Option (List ℕ)} {faults : K
 Writes-last new (Ok value) b first last = Wrote-append first last
 Writes-last new (Err error) b first last = Stopped-second first last
 
--- what is left where a function ends well
-pub Writes-ok : {K T E : Type 0} {taken : K → Option (List ℕ)} {faults : K → ℕ} {old new : K} {text : List ℕ} (result : Result T E) → IsOk result → Wrote taken faults old new text
-    → Writes taken faults old new result text
-Writes-ok (Ok value) ok wrote = wrote
-Writes-ok (Err error) ok wrote = absurd (cc)
-
 -- what is left where a function gives up
 pub Writes-err : {K T E : Type 0} {taken : K → Option (List ℕ)} {faults : K → ℕ} {old new : K} {text : List ℕ} (result : Result T E) → IsErr result → Stopped taken faults old new text
     → Writes taken faults old new result text
@@ -91,13 +85,3 @@ Writes-err (Err error) err stop = stop
 pub Stopped-flat_map : {K X : Type 0} {taken : K → Option (List ℕ)} {faults : K → ℕ} {first new : K} (f : X → List ℕ) (xs : List X) (i : ℕ) (d : X) → i < length xs
     → Stopped taken faults first new (flat_map f (take i xs) ++ f (get_or xs i d)) → Stopped taken faults first new (flat_map f xs)
 Stopped-flat_map f xs i d small stop = Stopped-front (flat_map f (drop (i + 1) xs)) _ (flat_map_split f xs i d small) stop
-
--- a loop that wrote f of the first items, and then stopped within f of the item at i; where the item has a name x of its own, `rw` by `x ≡ get_or xs i x` first
-pub Stopped-loop : {K X : Type 0} {taken : K → Option (List ℕ)} {faults : K → ℕ} {first mid new : K} (f : X → List ℕ) (xs : List X) (i : ℕ) (d : X) → i < length xs
-    → Wrote taken faults first mid (flat_map f (take i xs)) → Stopped taken faults mid new (f (get_or xs i d)) → Stopped taken faults first new (flat_map f xs)
-Stopped-loop f xs i d small before stop = Stopped-flat_map f xs i d small (Stopped-second before stop)
-
--- the same where the function then gives up
-pub Writes-loop_err : {K X T E : Type 0} {taken : K → Option (List ℕ)} {faults : K → ℕ} {first mid new : K} (result : Result T E) (f : X → List ℕ) (xs : List X) (i : ℕ) (d : X) → i < length xs
-    → IsErr result → Wrote taken faults first mid (flat_map f (take i xs)) → Stopped taken faults mid new (f (get_or xs i d)) → Writes taken faults first new result (flat_map f xs)
-Writes-loop_err result f xs i d small err before stop = Writes-err result err (Stopped-loop f xs i d small before stop)

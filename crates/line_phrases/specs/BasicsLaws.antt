@@ -1,6 +1,6 @@
 -- The tokens of phrases: the readers of one token, and which tokens may follow an expression.
 use Rattle.std.proofs.Common.{◌≡◌, ℕ, ◌<◌, Bool, true, false, if◌then◌else◌, inl, inr, List, [], ◌∷◌, ◌++◌, Option, Some, None, codes, bytes_eq, pos, refl, ap, sym, ◌∙◌, arith}
-use Rattle.phrases.specs.Phrases.{IsItem, Behind, IsNothing}
+use Rattle.phrases.specs.Phrases.{IsItem, Behind}
 use Rattle.phrases.specs.Reading.{starts, item_at}
 use Rattle.phrases.specs.ParsesLaws.{Always, Exact, Parses, item_parses, truth_cases}
 use Rattle.phrases.specs.MoreLaws.{behind_starts}
@@ -85,10 +85,6 @@ apart {test = test} exact value none token v e = elim (truth_cases (test token))
   | inl passes ↦ absurd (let bad = sym e ∙ ap value (exact.only token passes) ∙ none in cc)
   | inr falls ↦ falls
 ]
-
--- nothing stands between
-pub nothing_after : {A B : Type 0} (f : A → B) (After : List Token → Type 0) (a : A) (ys : List Token) (v : B) (rest : List Token) → IsNothing (f a) ys v → After rest → After (ys ++ rest)
-nothing_after f After a ys v rest h after = rw h.0 after
 
 -- the sign does not stand next
 abbrev pub Not : Sign → List Token → Type 0

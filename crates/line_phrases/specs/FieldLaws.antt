@@ -89,10 +89,6 @@ abbrev pub onto : List (List ℕ × Tree) → Fields → Fields
 onto [] rest = rest
 onto (field ∷ fields) rest = Field field.0 field.1 (onto fields rest)
 
-pub onto_last : (fields : List (List ℕ × Tree)) (field : List ℕ × Tree) (rest : Fields) → onto (fields ++ field ∷ []) rest ≡ onto fields (Field field.0 field.1 rest)
-onto_last [] field rest = refl
-onto_last (first ∷ fields) field rest = ap (Field first.0 first.1) (onto_last fields field rest)
-
 pub onto_end : (fields : List (List ℕ × Tree)) → onto fields End ≡ fields_of_list fields
 onto_end [] = refl
 onto_end (first ∷ fields) = ap (Field first.0 first.1) (onto_end fields)

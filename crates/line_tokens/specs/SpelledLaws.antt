@@ -1,5 +1,5 @@
 -- What is spelled is read back: a token that stands at the end or before a blank, and a whole line of tokens.
-use Rattle.std.proofs.Common.{◌≡◌, ℕ, zero, suc, ◌+◌, ◌-◌, Bool, true, false, List, [], ◌∷◌, ◌++◌, length, map, take, drop, slice_range, Option, Some, None, ◌≤◌, ◌⊎◌, inl, inr, refl, sym, ◌∙◌, ap, append_assoc, append-nil, add-zero, zero-add, length-append, ⊎_elim, arith}
+use Rattle.std.proofs.Common.{◌≡◌, ℕ, zero, suc, ◌+◌, ◌-◌, Bool, true, false, List, [], ◌∷◌, ◌++◌, length, map, take, drop, slice_range, Some, ◌≤◌, ◌⊎◌, inl, inr, refl, sym, ◌∙◌, ap, append_assoc, append-nil, add-zero, zero-add, length-append, ⊎_elim, arith}
 use Rattle.std.specs.Char.{is_ascii_digit}
 use Rattle.std.specs.List.{prefix_len, AllPass}
 use Rattle.std.proofs.lemmas.Bool.{both_ways, cases_Bool}
@@ -12,13 +12,12 @@ use Rattle.line_tokens.specs.Tokens.{Begins, start_of, IsToken}
 use Rattle.line_tokens.specs.Next.{next_of}
 use Rattle.line_tokens.specs.Spots.{brackets_after, Spots}
 use Rattle.line_tokens.specs.Spelled.{Written, Spells, HasRoom, AreSpelled, spaced, joined, places, AreTokensOf}
-use Rattle.line_tokens.specs.declared.spots.Spot.{Spot}
 use Rattle.line_tokens.specs.declared.token.Next.TheVariants.{End, Token}
 use Rattle.line_tokens.specs.declared.token.TokenKind.{TokenKind}
 use Rattle.line_tokens.specs.declared.token.TokenKind.TheVariants.{Word, Number, Text, Sign as SignKind}
 use Rattle.line_tokens.specs.NextTokenLaws.{end_exactly, token_exactly, token_sized}
 use Rattle.line_tokens.specs.DecimalLaws.{AllPass-take_prefix_len}
-use Rattle.line_tokens.specs.SpotLaws.{same_spots, spot_at, token_room}
+use Rattle.line_tokens.specs.SpotLaws.{token_room}
 use Rattle.line_tokens.specs.SignsLaws.{sign_longest, sign_spelled}
 use Rattle.line_tokens.specs.StringsLaws.{prefix_len-all, prefix_len-run}
 
@@ -209,32 +208,6 @@ next_spells text at brackets from end kind e =
     let len : end - from ≡ h.1 = omega arith in
     (rw len (token_spells kind h.1 (drop from text) brackets h.3), token_room kind h.1 (drop from text) brackets h.3)
 
-spell_step : (text : List ℕ) (at brackets f e : ℕ) (k : Option TokenKind) (rest : List Spot) (token : Written) (tokens : List Written) →
-    ((at brackets : ℕ) → Spots text at brackets rest → AreSpelled brackets tokens) →
-    Spots text at brackets (spot_at f e k ∷ rest) → k ≡ Some token.kind → slice_range text f e ≡ token.bytes → AreSpelled brackets (token ∷ tokens)
-spell_step text at brackets f e None rest token tokens behind h kind bytes = absurd cc
-spell_step text at brackets f e (Some own) rest token tokens behind h kind bytes =
-    let same : own ≡ token.kind = cc in
-    let spelled = rw (bytes, same) at (next_spells text at brackets f e own h.0) in
-    (spelled.0, spelled.1, behind e (brackets_after token.kind brackets) (rw same at h.1))
-
-spots_spell : (text : List ℕ) (at brackets : ℕ) (spots : List Spot) (tokens : List Written) → Spots text at brackets spots →
-    map (λ spot. spot.kind) spots ≡ map (λ token. Some token.kind) tokens →
-    map (λ spot. slice_range text spot.from spot.end) spots ≡ map (λ token. token.bytes) tokens → AreSpelled brackets tokens
-spots_spell text at brackets [] [] h kinds bytes = tt
-spots_spell text at brackets [] (token ∷ tokens) h kinds bytes = absurd cc
-spots_spell text at brackets (spot ∷ spots) [] h kinds bytes = absurd cc
-spots_spell text at brackets (spot ∷ spots) (token ∷ tokens) h kinds bytes =
-    let kinds' : map (λ s. s.kind) spots ≡ map (λ t. Some t.kind) tokens = cc in
-    let bytes' : map (λ s. slice_range text s.from s.end) spots ≡ map (λ t. t.bytes) tokens = cc in
-    let kind : spot.kind ≡ Some token.kind = cc in let own : slice_range text spot.from spot.end ≡ token.bytes = cc in
-    spell_step text at brackets spot.from spot.end spot.kind spots token tokens
-    (λ at' brackets' h'. spots_spell text at' brackets' spots tokens h' kinds' bytes') h kind own
-
--- the tokens of any text are spelled
-pub read_spelled : (text : List ℕ) (tokens : List Written) → AreTokensOf text tokens → AreSpelled 0 tokens
-read_spelled text tokens h = spots_spell text 0 0 h.spots tokens h.read h.kinds h.bytes
-
 kinds_placed : (at : ℕ) (tokens : List Written) → map (λ spot. spot.kind) (places at tokens) ≡ map (λ token. Some token.kind) tokens
 kinds_placed at [] = refl
 kinds_placed at (token ∷ tokens) = ap (λ xs. Some token.kind ∷ xs) (kinds_placed (at + length token.bytes + 1) tokens)
@@ -242,26 +215,3 @@ kinds_placed at (token ∷ tokens) = ap (λ xs. Some token.kind ∷ xs) (kinds_p
 -- spelled tokens, joined by spaces, are read back
 pub joined_read : (tokens : List Written) → AreSpelled 0 tokens → AreTokensOf (joined tokens) tokens
 joined_read tokens h = record { spots = places 0 tokens; read = joined_spots tokens h; kinds = kinds_placed 0 tokens; bytes = joined_bytes tokens }
-
-abbrev written : TokenKind → List ℕ → Written
-written kind bytes = record { kind = kind; bytes = bytes }
-
-same_written : (xs ys : List Written) → map (λ token. Some token.kind) xs ≡ map (λ token. Some token.kind) ys → map (λ token. token.bytes) xs ≡ map (λ token. token.bytes) ys → xs ≡ ys
-same_written [] [] kinds bytes = refl
-same_written [] (y ∷ ys) kinds bytes = absurd cc
-same_written (x ∷ xs) [] kinds bytes = absurd cc
-same_written (x ∷ xs) (y ∷ ys) kinds bytes =
-    let kind : x.kind ≡ y.kind = cc in let own : x.bytes ≡ y.bytes = cc in
-    let first : written x.kind x.bytes ≡ written y.kind y.bytes = rw (kind, own) in
-    let kinds' : map (λ token. Some token.kind) xs ≡ map (λ token. Some token.kind) ys = cc in
-    let bytes' : map (λ token. token.bytes) xs ≡ map (λ token. token.bytes) ys = cc in
-    let rest : xs ≡ ys = same_written xs ys kinds' bytes' in
-    ap (λ t. t ∷ xs) first ∙ ap (λ ts. y ∷ ts) rest
-
--- a text has one list of tokens at most
-pub same_tokens : (text : List ℕ) (xs ys : List Written) → AreTokensOf text xs → AreTokensOf text ys → xs ≡ ys
-same_tokens text xs ys h g =
-    let spots : h.spots ≡ g.spots = same_spots text 0 0 h.spots g.spots h.read g.read in
-    same_written xs ys
-    (sym h.kinds ∙ ap (λ s. map (λ spot. spot.kind) s) spots ∙ g.kinds)
-    (sym h.bytes ∙ ap (λ s. map (λ spot. slice_range text spot.from spot.end) s) spots ∙ g.bytes)

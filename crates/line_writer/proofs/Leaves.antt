@@ -33,10 +33,6 @@ IsGood (Binary op left right) = IsGood left × IsGood right
 abbrev Good : List Token → Value → Type 0
 Good xs value = IsGood value
 
--- a number that is read has one token
-one_number : (value : ℤ) (n : ℕ) → value ≡ pos n → number_tokens value ≡ Number value ∷ []
-one_number value n e = rw e
-
 number_is : (token : Token) (v : ℤ) → number_of token ≡ Some v → IsSpelled token → number_tokens v ≡ token ∷ []
 number_is (Number (pos value)) v h spelled = let e : pos value ≡ v = cc in rw (← e) refl
 number_is (Number (negsuc value)) v h spelled = absurd cc

@@ -1,10 +1,9 @@
 -- A line has its canonical tokens alone, or one with expressions or a kernel, and then its canonical tokens are kept.
-use Rattle.std.proofs.Common.{◌≡◌, ℕ, ◌⊎◌, List, [], ◌∷◌, ◌++◌, map, Some, None, codes, inl, inr, refl, sym, ap, ◌∙◌, append-nil, append_assoc}
+use Rattle.std.proofs.Common.{◌≡◌, ℕ, ◌⊎◌, List, [], ◌∷◌, ◌++◌, map, Some, None, codes, inl, inr, refl, sym, ap, ◌∙◌, append-nil}
 use Rattle.phrases.specs.Phrases.{Behind, Joined, IsNothing}
 use Rattle.line_tokens.specs.declared.sign.Sign.TheVariants.{OpenParen, CloseParen, Colon, Comma, Dot, Equals}
 use Rattle.record_dim.specs.Trees.{Record}
 use Rattle.extents.specs.declared.words.ExtentWord.{ExtentWord}
-use Rattle.map_expr.specs.Terms.{Term as MapTerm}
 use Rattle.line_grammar.specs.declared.token.Token.{Token}
 use Rattle.line_grammar.specs.declared.token.Token.TheVariants.{Word, Text, Sign}
 use Rattle.line_grammar.specs.declared.version.Version.{Version}
@@ -14,7 +13,7 @@ use Rattle.line_grammar.specs.declared.line.KernelWord.{KernelWord}
 use Rattle.line_grammar.specs.Sentences.{Assignment, Sentence, Blank, Define, Mapping, View, Load, Assign, Update, Kernel, Reduce, Count, Copy, Relayout, Print, Counts, Heat, Layout, Drop, Bytes}
 use Rattle.line_grammar.specs.Grammar.{Phrase, IsName, IsMore, IsListed, IsAssignment, IsFilter, IsKernel, IsNew, IsBody, IsLine}
 use Rattle.line_grammar.specs.Words.{reduction_word, command_word}
-use Rattle.line_writer.specs.Canonical.{count_token, bracket_list, extent_tokens, map_tokens, path_tokens, new_tokens, line_tokens}
+use Rattle.line_writer.specs.Canonical.{count_token, bracket_list, extent_tokens, path_tokens, new_tokens, line_tokens}
 use Rattle.line_writer.proofs.Gives.{Each, each_append, Gives, nothing_gives, behind_gives, joined_gives, either_gives, repeats_gives, gives_also}
 use Rattle.line_writer.proofs.Words.{name_gives, count_gives, string_gives, reduction_gives, command_gives, kernel_word_gives}
 use Rattle.line_writer.proofs.Phrases.{IsWritten, sound, path_gives, fields_give, map_gives, bracket_list_gives, fixed_gives, extent_gives}

@@ -1,5 +1,5 @@
 -- A phrase with nothing behind it.
-use Rattle.std.proofs.Common.{◌≡◌, ℕ, ◌≤◌, inl, inr, Option, Some, None, List, [], ◌∷◌, ◌++◌, length, Result, Ok, Err, refl, sym, ap, ◌∙◌, append-nil}
+use Rattle.std.proofs.Common.{◌≡◌, ℕ, inl, inr, None, List, [], ◌∷◌, Result, Ok, Err, refl, sym, ap, ◌∙◌, append-nil}
 use Rattle.phrases.specs.Reading.{◌>>=◌}
 use Rattle.phrases.specs.Ended.{ended, ended_at}
 use Rattle.phrases.specs.ParsesLaws.{head_of, Found, Stopped, Parses, bind_cases, ok_parts}

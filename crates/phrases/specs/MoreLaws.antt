@@ -1,7 +1,7 @@
 -- Lists of phrases, read one after another.
-use Rattle.std.proofs.Common.{◌≡◌, ℕ, ◌<◌, inl, inr, Bool, true, false, List, [], ◌∷◌, ◌++◌, length, Option, Some, Result, Ok, Err, refl, sym, ap, ◌∙◌, append_assoc, append-nil, arith}
+use Rattle.std.proofs.Common.{◌≡◌, ℕ, ◌<◌, inl, inr, Bool, true, false, List, [], ◌∷◌, ◌++◌, length, Option, Some, Result, Ok, Err, sym, ap, ◌∙◌, append_assoc, append-nil}
 use Rattle.phrases.specs.Phrases.{IsItem, Behind, Joined, IsNothing, Repeats}
-use Rattle.phrases.specs.Reading.{◌>>=◌, starts, past, steps_at, behind_at, then_at, give_at, more_at}
+use Rattle.phrases.specs.Reading.{◌>>=◌, starts, past, steps_at, behind_at, more_at}
 use Rattle.phrases.specs.ParsesLaws.{Parses, bind_cases, give_parses, ok_parts, then_parses}
 use Rattle.phrases.specs.RepeatedLaws.{Shrinks, Steps, shorter, steps_end, steps_parses, steps_stepped, steps_stop}
 

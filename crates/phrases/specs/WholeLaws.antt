@@ -1,7 +1,7 @@
 -- Reading all of the tokens: it gives their one value, or stops at the first token with which they begin no phrase.
 use Rattle.std.proofs.Common.{◌≡◌, ℕ, List, [], ◌∷◌, ◌++◌, Result, Ok, Err, refl, sym, ap, ◌∙◌, append_assoc, append-nil}
 use Rattle.phrases.specs.Column.{Bars}
-use Rattle.phrases.specs.ParsesLaws.{Parses, ok_parts}
+use Rattle.phrases.specs.ParsesLaws.{Parses}
 
 -- nothing follows
 abbrev pub AtEnd : {T : Type 0} → List T → Type 0
@@ -18,11 +18,6 @@ whole_found {Is = Is} p tokens v e =
 pub whole_full : {T A : Type 0} {Is : List T → A → Type 0} {read : List T → Result (A × List T) ℕ} {After : List T → Type 0} → Parses Is read After → After [] →
     (tokens : List T) (v : A) → Is tokens v → read tokens ≡ Ok (v, [])
 whole_full {read = read} p last tokens v h = ap read (sym (append-nil tokens)) ∙ p.full tokens v [] h last
-
--- and so it has one value
-pub one_value : {T A : Type 0} {Is : List T → A → Type 0} {read : List T → Result (A × List T) ℕ} {After : List T → Type 0} → Parses Is read After → After [] →
-    (tokens : List T) (v w : A) → Is tokens v → Is tokens w → v ≡ w
-one_value p last tokens v w h g = (ok_parts (sym (whole_full p last tokens v h) ∙ whole_full p last tokens w g)).0
 
 pub whole_bars : {T A : Type 0} {Is : List T → A → Type 0} {read : List T → Result (A × List T) ℕ} {After : List T → Type 0} → Parses Is read After → After [] →
     (front rest : List T) → ((token : T) (behind other : List T) → rest ≡ token ∷ behind → (n : ℕ) × (read (front ++ (token ∷ other)) ≡ Err n)) → Bars Is front rest

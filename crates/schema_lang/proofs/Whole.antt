@@ -3,7 +3,7 @@ use Rattle.std.proofs.Common.{◌≡◌, ℕ, Bool, true, false, if◌then◌els
 use Rattle.phrases.specs.Ended.{ended, ended_at}
 use Rattle.phrases.specs.ParsesLaws.{ok_parts}
 use Rattle.phrases.specs.Reading.{◌>>=◌, behind_at, either_at, give_at, item_at, past, starts, then_at}
-use Rattle.line_tokens.specs.declared.sign.Sign.TheVariants.{Colon, Dot, Equals}
+use Rattle.line_tokens.specs.declared.sign.Sign.TheVariants.{Dot, Equals}
 use Rattle.record_dim.specs.declared.dim.Dim.{Dim}
 use Rattle.record_dim.specs.declared.dim.Dim.TheVariants as dim
 use Rattle.record_dim.specs.Trees.{IsRecord, Record, Single, Array, Tree, tree_of}
