@@ -12,26 +12,26 @@ use Rattle.record_dim.specs.Schemas.{schema_fields}
 use Rattle.map_expr.specs.Terms.{Term as MapTerm, term_of}
 use Rattle.map_checks.specs.Mappings.{leaf_cells, layout_by, accepted, most_slots}
 use Rattle.piece_bits.specs.Tables.{zeros}
-use Rattle.views.specs.Seen.{Seen, seen_layout, leaf_count_of}
+use Rattle.views.specs.Tables.{Table, owners_of, leaf_count_of}
 use Rattle.views.specs.Tallies.{no_tally, granules_for}
 use Rattle.views.specs.Refusals.{IsOver}
-use Rattle.worlds.specs.Worlds.{Entry, Table}
+use Rattle.worlds.specs.Worlds.{Entry}
 use Rattle.worlds.specs.Outcomes.{Outcome, Goes, Faults, ◌>>=◌, refused_if}
 use Rattle.worlds.specs.Tables.{made, zeros_of, blob_bits, live_bits}
 use Rattle.worlds.specs.declared.fault.CommandFault.TheVariants as fault
-use Rattle.command_checks.specs.Entries.{table_of, view_of}
+use Rattle.command_checks.specs.Entries.{view_of}
 use Rattle.command_checks.specs.declared.entries.ViewEntry.{ViewEntry}
 
 -- the table that a new view is
-pub table_new : (seen : Seen) (fields : Fields) (extents : List ℕ) (term : MapTerm) → schema_fields seen.schema ≡ fields → seen.extents ≡ extents → term_of seen.expr ≡ term
-    → seen.table ≡ zeros (length (indices extents)) (length (leaves fields)) → seen.tally ≡ no_tally (term_of seen.expr) (seen_layout seen) (leaf_count_of seen)
-    → table_of seen ≡ zeros_of fields extents term
+pub table_new : (seen : Table) (fields : Fields) (extents : List ℕ) (term : MapTerm) → seen.fields ≡ fields → seen.extents ≡ extents → seen.mapping ≡ term
+    → seen.rows ≡ zeros (length (indices extents)) (length (leaves fields)) → seen.tally ≡ no_tally (seen.mapping) (owners_of seen) (leaf_count_of seen)
+    → seen ≡ zeros_of fields extents term
 table_new seen fields extents term f e t z n =
     let tally : seen.tally ≡ no_tally term (layout_by term extents fields) (length (leaves fields)) =
-    n ∙ ap (λ (w : MapTerm). no_tally w (layout_by w seen.extents (schema_fields seen.schema)) (leaf_count_of seen)) t
-    ∙ ap (λ (w : List ℕ). no_tally term (layout_by term w (schema_fields seen.schema)) (leaf_count_of seen)) e
+    n ∙ ap (λ (w : MapTerm). no_tally w (layout_by w seen.extents seen.fields) (leaf_count_of seen)) t
+    ∙ ap (λ (w : List ℕ). no_tally term (layout_by term w seen.fields) (leaf_count_of seen)) e
     ∙ ap (λ (w : Fields). no_tally term (layout_by term extents w) (length (leaves w))) f in
-    cc
+    λ i. record { fields = f i; extents = e i; mapping = t i; rows = z i; tally = tally i }
 
 slots_within : (a b : ℕ) → (a < b → ⊥) → nat_lt a b ≡ false
 slots_within a b within = grind (arith, nat_tests)

@@ -9,9 +9,8 @@ use Rattle.record_dim.specs.declared.leaf_type.LeafType.TheVariants.{Bool as Tru
 use Rattle.record_dim.specs.Trees.{Tree, Fields, Single, Record, Array, End, Field}
 use Rattle.record_dim.specs.LeafTypes.{kind_number}
 use Rattle.layout_copy.specs.Copies.{AreAlike}
-use Rattle.views.specs.Seen.{Seen}
+use Rattle.views.specs.Tables.{Table}
 use Rattle.worlds.specs.Copy.{same_tree, same_fields, are_alike}
-use Rattle.command_checks.specs.Entries.{table_of}
 
 -- a type by its number
 abbrev kind_by : ℕ → LeafType
@@ -79,16 +78,16 @@ mutual
   fields_self (Field name tree rest) = rw (text_self name, tree_self tree) (fields_self rest)
 
 -- views of one record over the same extents are alike, and no others
-pub alike : (source target : Seen) → AreAlike source target → are_alike (table_of source) (table_of target) ≡ true
+pub alike : (source target : Table) → AreAlike source target → are_alike source target ≡ true
 alike source target are =
-    let fields = (table_of target).fields in
+    let fields = target.fields in
     let extents = target.extents in
     rw (are.0, are.1, fields_self fields, text_self extents) refl
 
-pub not_alike : (source target : Seen) → (AreAlike source target → ⊥) → are_alike (table_of source) (table_of target) ≡ false
+pub not_alike : (source target : Table) → (AreAlike source target → ⊥) → are_alike source target ≡ false
 not_alike source target differ = ⊎_elim
-    (λ (e : are_alike (table_of source) (table_of target) ≡ true).
-    let parts = both (same_fields (table_of source).fields (table_of target).fields) (pointwise nat_eq source.extents target.extents) e in
-    absurd (differ (fields_are (table_of source).fields (table_of target).fields parts.0, same_text source.extents target.extents parts.1)))
-    (λ (e : are_alike (table_of source) (table_of target) ≡ false). e)
-    (cases_Bool (are_alike (table_of source) (table_of target)))
+    (λ (e : are_alike source target ≡ true).
+    let parts = both (same_fields source.fields target.fields) (pointwise nat_eq source.extents target.extents) e in
+    absurd (differ (fields_are source.fields target.fields parts.0, same_text source.extents target.extents parts.1)))
+    (λ (e : are_alike source target ≡ false). e)
+    (cases_Bool (are_alike source target))

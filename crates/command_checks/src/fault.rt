@@ -1,6 +1,7 @@
 ghost use Rattle.std.specs.Prelude.{◌≡◌};
-ghost use Rattle.command_checks.specs.declared.fault.StepFault.TheVariants.{NoMemory};
+ghost use Rattle.command_checks.specs.declared.fault.StepFault.TheVariants.{Command, NoMemory, Sink};
 
+use layout_io::Failed;
 use std::alloc::{AllocError, AllocFailed};
 use worlds::CommandFault;
 
@@ -29,5 +30,21 @@ impl<T: Drop> From<AllocFailed<T>> for StepFault {
 
     fn from(_error: AllocFailed<T>) -> StepFault {
         StepFault::NoMemory
+    }
+}
+
+impl From<Failed> for StepFault {
+    ghost from_gives = { λ _ fault. fault ≡ Sink };
+
+    fn from(_error: Failed) -> StepFault {
+        StepFault::Sink
+    }
+}
+
+impl From<CommandFault> for StepFault {
+    ghost from_gives = { λ refusal fault. fault ≡ Command refusal };
+
+    fn from(refusal: CommandFault) -> StepFault {
+        StepFault::Command(refusal)
     }
 }

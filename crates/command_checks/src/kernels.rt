@@ -2,7 +2,7 @@
 ghost use Rattle.std.specs.Prelude.{◌≡◌, ◌≤ℤ◌, ◌<ℤ◌, ◌^◌, ◌<◌, IfOk, OnOk, true, false, pos, neg_ℤ};
 ghost use Rattle.record_dim.specs.Schemas.{schema_fields};
 ghost use Rattle.lane_kernels.specs.Kernels.{IsConstant, IsFactor, IsKernelOf, IsNarrowLeaf};
-ghost use Rattle.views.specs.Seen.{leaf_count_of};
+ghost use Rattle.views.specs.Tables.{leaf_count_of};
 ghost use Rattle.worlds.specs.Kernel.{are_bounds, are_lanes, compare_of, fit_kernel, fit_leaf, fits, is_constant, is_factor, is_wide};
 ghost use Rattle.command_checks.specs.Gives.{Gives};
 
@@ -34,7 +34,7 @@ pub fn fit_kernel(
     text: &KernelText,
     lanes: u32,
 ) -> Result<Kernel, StepFault>
-    ensures fit { Gives (λ kernel. kernel) result (fit_kernel (schema_fields view.now.schema) text.now lanes) }
+    ensures fit { Gives (λ kernel. kernel) result (fit_kernel view.now.fields text.now lanes) }
     ensures able { IfOk result (IsKernelOf view.now) }
 {
     match text {
@@ -73,7 +73,7 @@ fn fit_axpy(
     y: &Path,
     lanes: u32,
 ) -> Result<Kernel, StepFault>
-    ensures fit { Gives (λ kernel. kernel) result (fit_kernel (schema_fields view.now.schema) (KernelText.Axpy a x.now y.now) lanes) }
+    ensures fit { Gives (λ kernel. kernel) result (fit_kernel view.now.fields (KernelText.Axpy a x.now y.now) lanes) }
     ensures able { IfOk result (IsKernelOf view.now) }
 {
     let x = leaf_of(alloc, view, x)?;
@@ -91,7 +91,7 @@ fn fit_leaf(
     lanes: u32,
     constants: bool,
 ) -> Result<usize, StepFault>
-    ensures leaf { Gives (λ leaf. leaf) result (fit_leaf (schema_fields view.now.schema) path.now lanes constants) }
+    ensures leaf { Gives (λ leaf. leaf) result (fit_leaf view.now.fields path.now lanes constants) }
     ensures narrow { IfOk result (IsNarrowLeaf view.now) }
     ensures constants { OnOk result (constants ≡ true) }
 {
@@ -133,7 +133,7 @@ fn are_lanes(lanes: u32) -> bool
 // Whether the type of a leaf has too many bits.
 fn is_wide(view: &View, leaf: usize) -> bool
     requires { leaf < leaf_count_of view.now }
-    ensures wide { result ≡ is_wide (schema_fields view.now.schema) leaf }
+    ensures wide { result ≡ is_wide view.now.fields leaf }
     ensures narrow { result ≡ false → IsNarrowLeaf view.now leaf }
 {
     view.schema().leaf_type(leaf).width() > MOST_BITS

@@ -4,7 +4,7 @@ ghost use Rattle.expr_lang.specs.Terms.{term_of};
 ghost use Rattle.expr_lang.specs.Bounds.{bound_term};
 ghost use Rattle.record_dim.specs.Schemas.{schema_fields};
 ghost use Rattle.row_updates.specs.Rows.{IsOver};
-ghost use Rattle.views.specs.Seen.{leaf_count_of};
+ghost use Rattle.views.specs.Tables.{leaf_count_of};
 ghost use Rattle.worlds.specs.Names.{leaf_of, bound, text_of_leaf};
 ghost use Rattle.command_checks.specs.Gives.{Gives};
 
@@ -17,7 +17,7 @@ use worlds::{CommandFault, UnknownName};
 
 /// The number of the leaf that has this path.
 pub fn leaf_of(alloc: Global, view: &View, path: &Path) -> Result<usize, StepFault>
-    ensures leaf { Gives (λ leaf. leaf) result (leaf_of (schema_fields view.now.schema) path.now) }
+    ensures leaf { Gives (λ leaf. leaf) result (leaf_of view.now.fields path.now) }
     ensures inside { IfOk result (λ leaf. leaf < leaf_count_of view.now) }
 {
     match view.schema().leaf_of(path) {
@@ -34,7 +34,7 @@ fn unknown_path(path: Path) -> StepFault
 
 /// The expression over the leaves of a view.
 pub fn bound(alloc: Global, view: &View, expr: &Expr) -> Result<Bound, StepFault>
-    ensures bound { Gives bound_term result (bound (schema_fields view.now.schema) (length view.now.extents) (term_of expr.now)) }
+    ensures bound { Gives bound_term result (bound view.now.fields (length view.now.extents) (term_of expr.now)) }
     ensures over { IfOk result (IsOver view.now) }
 {
     match bind(alloc, expr, view.schema(), view.extents().rank()) {
@@ -55,7 +55,7 @@ fn unknown_index(dimension: u32) -> StepFault
 
 /// The path text of a leaf; no text where there is no leaf of this number.
 pub fn leaf_text(alloc: Global, view: &View, leaf: usize) -> Result<Text, StepFault>
-    ensures text { IfOk result (λ text. text ≡ text_of_leaf (schema_fields view.now.schema) leaf) }
+    ensures text { IfOk result (λ text. text ≡ text_of_leaf view.now.fields leaf) }
     ensures starved { IfErr result (λ fault. fault ≡ StepFault.NoMemory) }
 {
     let schema = view.schema();

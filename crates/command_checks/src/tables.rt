@@ -6,7 +6,7 @@ ghost use Rattle.map_expr.specs.Terms.{term_of};
 ghost use Rattle.record_dim.specs.Schemas.{schema_fields};
 ghost use Rattle.worlds.specs.Tables.{room, shaped, resolved, made, zeros_of, live_bits};
 ghost use Rattle.command_checks.specs.Bases.{is_nameless, rows_for};
-ghost use Rattle.command_checks.specs.Entries.{view_of, table_of};
+ghost use Rattle.command_checks.specs.Entries.{view_of};
 ghost use Rattle.command_checks.specs.Gives.{Gives};
 
 use crate::entries::ViewEntry;
@@ -96,8 +96,8 @@ pub fn made(
     expr: &MapExpr,
 ) -> Result<View, StepFault>
     requires nameless { is_nameless (term_of expr.now) ≡ true }
-    ensures zeros { IfOk result (λ view. table_of view ≡ zeros_of (schema_fields schema.now) extents (term_of expr.now)) }
-    ensures made { Gives table_of result (made (map view_of views.now) (schema_fields schema.now) extents (term_of expr.now)) }
+    ensures zeros { IfOk result (λ view. view ≡ zeros_of (schema_fields schema.now) extents (term_of expr.now)) }
+    ensures made { Gives (λ view. view) result (made (map view_of views.now) (schema_fields schema.now) extents (term_of expr.now)) }
     ensures extents { IfOk result (λ view. view.extents ≡ extents) }
 {
     match View::new(alloc, schema, extents, expr) {

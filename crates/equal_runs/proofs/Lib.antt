@@ -11,3 +11,5 @@ pub mod Commands
 pub mod News
 pub mod Steps
 pub mod Runs
+pub mod Logs
+pub mod Shown

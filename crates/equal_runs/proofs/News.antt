@@ -5,6 +5,7 @@ use Rattle.extents.specs.declared.words.ExtentWord.{ExtentWord}
 use Rattle.layout_io.specs.Files.{File}
 use Rattle.record_dim.specs.Trees.{Tree, Fields}
 use Rattle.record_dim.specs.Leaves.{kinds_of, texts_of}
+use Rattle.line_grammar.specs.Sentences.{New}
 use Rattle.map_expr.specs.Terms.{Term as MapTerm}
 use Rattle.map_expr.specs.Checks.{checked}
 use Rattle.map_checks.specs.Mappings.{holds_by}
@@ -12,9 +13,9 @@ use Rattle.map_any.specs.AnyLaws.{holds_cells, length-leaf_cells}
 use Rattle.csv_rows.specs.Datasets.{records_of, rows_of, dataset_table}
 use Rattle.csv_rows.specs.declared.fault.RowFault.{RowFault}
 use Rattle.csv_rows.specs.declared.fault.RowFault.TheVariants as row_fault
-use Rattle.worlds.specs.Worlds.{World, Entry, Table, found}
+use Rattle.views.specs.Tables.{Table, leaf_count_of, after_stores}
+use Rattle.worlds.specs.Worlds.{World, Entry, found}
 use Rattle.views.specs.Tallies.{Tally, all_writes}
-use Rattle.worlds.specs.Accessed.{leaf_count, rewritten}
 use Rattle.worlds.specs.Outcomes.{Outcome, known, free, refused_if, ok_or}
 use Rattle.worlds.specs.Names.{nameless}
 use Rattle.worlds.specs.Tables.{room, shaped, resolved, made, zeros_of}
@@ -71,13 +72,13 @@ module _ (m o : Bool) where
       let names = texts_of table.fields in
       let kinds = kinds_of table.fields in
       let under : Table = record table { mapping = mapping; tally = tally } in
-      let log = all_writes (leaf_count table) (length table.rows) in
+      let log = all_writes (leaf_count_of table) (length table.rows) in
       bind m o (Given _ _) AlikeTables (ok_or (fault_of table.fields) (dataset_table names kinds (holds_by table.mapping table.fields) records))
       (ok_or (fault_of table.fields) (dataset_table names kinds (holds_by mapping table.fields) records)) _ _
       (ok_agree m o is_narrow_row (fault_of table.fields) _ _ (narrow_row table.fields)
       (dataset_answers names kinds (holds_by table.mapping table.fields) (holds_by mapping table.fields) records (paired table.mapping table.fields) (paired mapping table.fields)))
-      (λ rows others given. go _ _ (alike_both (rewritten table rows log) (rewritten under rows log) (rewritten_alike table mapping tally same rows log) _ _ refl
-      (ap (λ (r : List (List ℤ)). rewritten under r log) given.same)))
+      (λ rows others given. go _ _ (alike_both (after_stores table rows log) (after_stores under rows log) (rewritten_alike table mapping tally same rows log) _ _ refl
+      (ap (λ (r : List (List ℤ)). after_stores under r log) given.same)))
 
   loaded_agree : (views others : List (Entry Table)) (whole other : Named) (words : List ExtentWord) (bytes : List ℕ) → AlikeNamed whole other
       → Agree m o AlikeTables (loaded views whole words bytes) (loaded others other words bytes)
@@ -141,44 +142,44 @@ module _ (world other : World) (alike : AlikeWorlds world other) where
     views = entries_added AlikeTables name a b world.views other.views same alike.views;
   }
 
-  module _ (schema : List ℕ) (term changed : MapTerm) where
+  -- what makes a view, and the same under another mapping
+  module _ (new : New) (changed : MapTerm) where
+    abbrev under : New
+    under = record new { term = changed }
+
     abbrev missed : Bool
-    missed = is_some (found schema world.records) && is_refused (nameless world.mappings term)
+    missed = is_some (found new.schema world.records) && is_refused (nameless world.mappings new.term)
 
     abbrev missed_other : Bool
-    missed_other = is_some (found schema other.records) && is_refused (nameless other.mappings changed)
+    missed_other = is_some (found new.schema other.records) && is_refused (nameless other.mappings changed)
 
-    named_agree : (name : List ℕ) (words : List ExtentWord) → Agree missed missed_other AlikeNamed (named world name schema words term) (named other name schema words changed)
-    named_agree name words =
-        bind missed missed_other Both AlikeNamed (free name world.views) (free name other.views) _ _ (free_agree missed missed_other AlikeTables name world.views other.views alike.views) (λ new also p.
-        bind missed missed_other (At (λ (a b : Fields). b ≡ a) (found schema world.records) (found schema other.records)) AlikeNamed (known schema world.records) (known schema other.records) _ _
-        (known_agree missed missed_other (λ (a b : Fields). b ≡ a) schema world.records other.records alike.records) (λ fields others at.
-        bind missed missed_other Both AlikeNamed (nameless world.mappings term) (nameless other.mappings changed) _ _
-        (names_agree missed missed_other world.mappings other.mappings term changed (found_misses (found schema world.records) fields (nameless world.mappings term) at.first)
-        (found_misses (found schema other.records) others (nameless other.mappings changed) at.second))
+    named_agree : Agree missed missed_other AlikeNamed (named world new) (named other under)
+    named_agree =
+        bind missed missed_other Both AlikeNamed (free new.name world.views) (free new.name other.views) _ _ (free_agree missed missed_other AlikeTables new.name world.views other.views alike.views) (λ unused also p.
+        bind missed missed_other (At (λ (a b : Fields). b ≡ a) (found new.schema world.records) (found new.schema other.records)) AlikeNamed (known new.schema world.records) (known new.schema other.records) _ _
+        (known_agree missed missed_other (λ (a b : Fields). b ≡ a) new.schema world.records other.records alike.records) (λ fields others at.
+        bind missed missed_other Both AlikeNamed (nameless world.mappings new.term) (nameless other.mappings changed) _ _
+        (names_agree missed missed_other world.mappings other.mappings new.term changed (found_misses (found new.schema world.records) fields (nameless world.mappings new.term) at.first)
+        (found_misses (found new.schema other.records) others (nameless other.mappings changed) at.second))
         (λ whole whole_other q.
         bind missed missed_other Both AlikeNamed (room world.views) (room other.views) _ _ (room_agree missed missed_other) (λ space space_other r.
-        before missed missed_other AlikeNamed (shaped words) _ _ (λ ranked. go _ _ (record { fields = at.alike }))))))
+        before missed missed_other AlikeNamed (shaped new.words) _ _ (λ ranked. go _ _ (record { fields = at.alike }))))))
 
-    pub view_agree : (name : List ℕ) (words : List ExtentWord)
-        → Agree missed missed_other AlikeLefts
-        (view world name schema words term) (view other name schema words changed)
+    pub view_agree : Agree missed missed_other AlikeLefts (view world new) (view other under)
     unfolding view new_table
-    view_agree name words =
-        bind missed missed_other AlikeTables AlikeLefts (new_table world name schema words term) (new_table other name schema words changed) _ _
-        (bind missed missed_other AlikeNamed AlikeTables (named world name schema words term) (named other name schema words changed) _ _ (named_agree name words) (λ whole whole_other same.
-        before missed missed_other AlikeTables (resolved words None) _ _ (λ extents. made_agree missed missed_other world.views other.views whole whole_other extents same)))
-        (λ a b same. go _ _ (record { worlds = view_added name a b same; text = refl }))
+    view_agree =
+        bind missed missed_other AlikeTables AlikeLefts (new_table world new) (new_table other under) _ _
+        (bind missed missed_other AlikeNamed AlikeTables (named world new) (named other under) _ _ named_agree (λ whole whole_other same.
+        before missed missed_other AlikeTables (resolved new.words None) _ _ (λ extents. made_agree missed missed_other world.views other.views whole whole_other extents same)))
+        (λ a b same. go _ _ (record { worlds = view_added new.name a b same; text = refl }))
 
-    pub load_agree : (name : List ℕ) (words : List ExtentWord) (file : List ℕ) (files : List File) (unread : Bool)
-        → Agree missed missed_other AlikeLefts
-        (load world name schema words term file files unread) (load other name schema words changed file files unread)
+    pub load_agree : (file : List ℕ) (files : List File) (unread : Bool) → Agree missed missed_other AlikeLefts (load world new file files unread) (load other under file files unread)
     unfolding load loaded_table
-    load_agree name words file files unread =
-        bind missed missed_other AlikeTables AlikeLefts (loaded_table world name schema words term file files unread) (loaded_table other name schema words changed file files unread) _ _
-        (bind missed missed_other AlikeNamed AlikeTables (named world name schema words term) (named other name schema words changed) _ _ (named_agree name words) (λ whole whole_other same.
-        before missed missed_other AlikeTables (read files unread file) _ _ (λ bytes. loaded_agree missed missed_other world.views other.views whole whole_other words bytes same)))
-        (λ a b same. go _ _ (record { worlds = view_added name a b same; text = refl }))
+    load_agree file files unread =
+        bind missed missed_other AlikeTables AlikeLefts (loaded_table world new file files unread) (loaded_table other under file files unread) _ _
+        (bind missed missed_other AlikeNamed AlikeTables (named world new) (named other under) _ _ named_agree (λ whole whole_other same.
+        before missed missed_other AlikeTables (read files unread file) _ _ (λ bytes. loaded_agree missed missed_other world.views other.views whole whole_other new.words bytes same)))
+        (λ a b same. go _ _ (record { worlds = view_added new.name a b same; text = refl }))
 
   pub relayout_agree : (name : List ℕ) (term changed : MapTerm)
       → Agree (is_some (found name world.views) && is_refused (nameless world.mappings term)) (is_some (found name other.views) && is_refused (nameless other.mappings changed)) AlikeLefts

@@ -5,6 +5,7 @@ use Rattle.std.proofs.lemmas.Bool.{or_parts}
 use Rattle.layout_io.specs.Files.{File}
 use Rattle.map_expr.specs.Terms.{Term as MapTerm}
 use Rattle.line_grammar.specs.Sentences.{Sentence}
+use Rattle.line_grammar.specs.declared.version.Version.{Version}
 use Rattle.worlds.specs.Worlds.{World, empty}
 use Rattle.worlds.specs.Outcomes.{Outcome, Left}
 use Rattle.worlds.specs.Step.{step}
@@ -20,35 +21,35 @@ use Rattle.equal_runs.proofs.Tables.{AlikeWorlds, AlikeLefts}
 
 -- after outcomes that agree, and of which none ends by a fault of how tables lie, runs go on alike
 after_alike : (m o : Bool) (number : ℕ) (x y : Outcome Left) (ends others : World → Bool) (rest later : World → Output) → Agree m o AlikeLefts x y → ends_after m x ends ≡ false → ends_after o y others ≡ false
-    → ((a b : Left) → AlikeLefts a b → ends a.world ≡ false → others b.world ≡ false → rest a.world ≡ later b.world) → after number x rest ≡ after number y later
+    → ((a b : Left) → AlikeLefts a b → ends a.held ≡ false → others b.held ≡ false → rest a.held ≡ later b.held) → after number x rest ≡ after number y later
 after_alike m o number x y ends others rest later (go a b alike) holds also next =
-    ap (λ (text : List ℕ). prepend text (rest a.world)) (sym alike.text) ∙ ap (prepend b.text) (next a b alike holds also)
+    ap (λ (text : List ℕ). prepend text (rest a.held)) (sym alike.text) ∙ ap (prepend b.text) (next a b alike holds also)
 after_alike m o number x y ends others rest later (fault f) holds also next = refl
 after_alike m o number x y ends others rest later (not_read name) holds also next = refl
 after_alike m o number x y ends others rest later (first f z is) holds also next = absurd (cc)
 after_alike m o number x y ends others rest later (second z f is) holds also next = absurd (cc)
 
 -- texts that are lines, and other texts that are the same lines but for their mapping expressions
-data Pairs : List (List ℕ) → List Sentence → List (List ℕ) → List Sentence → Type 0 where
-  none : Pairs [] [] [] []
-  more : (text other : List ℕ) (line : Sentence) (term : MapTerm) (texts : List (List ℕ)) (lines : List Sentence) (other_texts : List (List ℕ)) (others : List Sentence) → IsLine text line
-      → IsLine other (with_term term line) → Pairs texts lines other_texts others → Pairs (text ∷ texts) (line ∷ lines) (other ∷ other_texts) (with_term term line ∷ others)
+data Pairs (version : Version) : List (List ℕ) → List Sentence → List (List ℕ) → List Sentence → Type 0 where
+  none : Pairs version [] [] [] []
+  more : (text other : List ℕ) (line : Sentence) (term : MapTerm) (texts : List (List ℕ)) (lines : List Sentence) (other_texts : List (List ℕ)) (others : List Sentence) → IsLine version text line
+      → IsLine version other (with_term term line) → Pairs version texts lines other_texts others → Pairs version (text ∷ texts) (line ∷ lines) (other ∷ other_texts) (with_term term line ∷ others)
 
-pairs_of : (texts other_texts : List (List ℕ)) (lines others : List Sentence) → AreLines texts lines → AreLines other_texts others → AgreeButTerms lines others → Pairs texts lines other_texts others
-pairs_of [] [] [] [] are also agree = none
-pairs_of (text ∷ texts) (other ∷ other_texts) (line ∷ lines) (changed ∷ others) are also agree =
-    subst (λ (s : Sentence). Pairs (text ∷ texts) (line ∷ lines) (other ∷ other_texts) (s ∷ others)) (sym agree.0.1)
-    (more text other line agree.0.0 texts lines other_texts others are.0 (subst (IsLine other) agree.0.1 also.0) (pairs_of texts other_texts lines others are.1 also.1 agree.1))
-pairs_of [] (other ∷ other_texts) [] (changed ∷ others) are also agree = absurd agree
-pairs_of (text ∷ texts) [] (line ∷ lines) [] are also agree = absurd agree
-pairs_of [] other_texts (line ∷ lines) others are also agree = absurd are
-pairs_of (text ∷ texts) other_texts [] others are also agree = absurd are
-pairs_of texts [] lines (changed ∷ others) are also agree = absurd also
-pairs_of texts (other ∷ other_texts) lines [] are also agree = absurd also
+pairs_of : (version : Version) (texts other_texts : List (List ℕ)) (lines others : List Sentence) → AreLines version texts lines → AreLines version other_texts others → AgreeButTerms lines others → Pairs version texts lines other_texts others
+pairs_of version [] [] [] [] are also agree = none
+pairs_of version (text ∷ texts) (other ∷ other_texts) (line ∷ lines) (changed ∷ others) are also agree =
+    subst (λ (s : Sentence). Pairs version (text ∷ texts) (line ∷ lines) (other ∷ other_texts) (s ∷ others)) (sym agree.0.1)
+    (more text other line agree.0.0 texts lines other_texts others are.0 (subst (IsLine version other) agree.0.1 also.0) (pairs_of version texts other_texts lines others are.1 also.1 agree.1))
+pairs_of version [] (other ∷ other_texts) [] (changed ∷ others) are also agree = absurd agree
+pairs_of version (text ∷ texts) [] (line ∷ lines) [] are also agree = absurd agree
+pairs_of version [] other_texts (line ∷ lines) others are also agree = absurd are
+pairs_of version (text ∷ texts) other_texts [] others are also agree = absurd are
+pairs_of version texts [] lines (changed ∷ others) are also agree = absurd also
+pairs_of version texts (other ∷ other_texts) lines [] are also agree = absurd also
 
-module _ (files : List File) (outcome : World → List ℕ → Bool → Outcome Left) (does : DoesLines files outcome) (unread : Option ℕ) where
+module _ (version : Version) (files : List File) (outcome : World → List ℕ → Bool → Outcome Left) (does : DoesLines version files outcome) (unread : Option ℕ) where
   runs_alike : (number : ℕ) (world other : World) → AlikeWorlds world other → (texts : List (List ℕ)) (lines : List Sentence) (other_texts : List (List ℕ)) (others : List Sentence)
-      → Pairs texts lines other_texts others → list_any shows_layout lines ≡ false → ends_by_layout files number world lines unread ≡ false
+      → Pairs version texts lines other_texts others → list_any shows_layout lines ≡ false → ends_by_layout files number world lines unread ≡ false
       → ends_by_layout files number other others unread ≡ false → run_from outcome number world texts unread ≡ run_from outcome number other other_texts unread
   runs_alike number world other alike texts lines other_texts others none plain holds also = refl
   runs_alike number world other alike texts lines other_texts others (more text changed line term ts ls us os is is_also rest) plain holds also =
@@ -59,10 +60,10 @@ module _ (files : List File) (outcome : World → List ℕ → Bool → Outcome 
       (λ next. ends_by_layout files (number + 1) next ls unread) (λ next. ends_by_layout files (number + 1) next os unread)
       (λ next. run_from outcome (number + 1) next ts unread) (λ next. run_from outcome (number + 1) next us unread)
       (step_agree world other alike term files b line parts.0) holds also
-      (λ a c same ends ends_also. runs_alike (number + 1) a.world c.world same.worlds ts ls us os rest parts.1 ends ends_also)
+      (λ a c same ends ends_also. runs_alike (number + 1) a.held c.held same.worlds ts ls us os rest parts.1 ends ends_also)
       ∙ sym (ap (λ (x : Outcome Left). after number x (λ next. run_from outcome (number + 1) next us unread)) (does other changed (with_term term line) b is_also))
 
-pub equal : (files : List File) (outcome : World → List ℕ → Bool → Outcome Left) → DoesLines files outcome → EqualRuns files outcome
-equal files outcome does texts other_texts lines others unread are also differ =
-    runs_alike files outcome does unread 1 empty empty (record { records = no_entries; mappings = no_entries; views = no_entries }) texts lines other_texts others
-    (pairs_of texts other_texts lines others are also differ.agree) differ.shown differ.holds differ.other_holds
+pub equal : (version : Version) (files : List File) (outcome : World → List ℕ → Bool → Outcome Left) → DoesLines version files outcome → EqualRuns version files outcome
+equal version files outcome does texts other_texts lines others unread are also differ =
+    runs_alike version files outcome does unread 1 empty empty (record { records = no_entries; mappings = no_entries; views = no_entries }) texts lines other_texts others
+    (pairs_of version texts other_texts lines others are also differ.agree) differ.shown differ.holds differ.other_holds

@@ -8,8 +8,8 @@ use Rattle.worlds.specs.Step.{step}
 use Rattle.equal_runs.specs.Lines.{with_term, shows_layout}
 use Rattle.equal_runs.specs.Endings.{misses_mapping}
 use Rattle.equal_runs.proofs.Agreeing.{Agree, go}
-use Rattle.equal_runs.proofs.Commands.{assign_agree, update_agree, reduce_agree, count_agree, kernel_agree, copy_agree, print_agree, counts_agree, drop_agree}
-use Rattle.equal_runs.proofs.News.{define_agree, mapping_agree, view_agree, load_agree, relayout_agree}
+use Rattle.equal_runs.proofs.Commands.{view_agree, assigned_agree, updated_agree, reduction_agree, counting_agree, ran_agree, copy_agree, print_agree, counts_agree, drop_agree}
+use Rattle.equal_runs.proofs.News.{define_agree, mapping_agree, view_agree as new_agree, load_agree, relayout_agree}
 use Rattle.equal_runs.proofs.Tables.{AlikeWorlds, AlikeLefts}
 
 module _ (world other : World) (alike : AlikeWorlds world other) (term : MapTerm) (files : List File) (unread : Bool) where
@@ -19,17 +19,17 @@ module _ (world other : World) (alike : AlikeWorlds world other) (term : MapTerm
   step_agree line.Blank plain = go _ _ (record { worlds = alike; text = refl })
   step_agree (line.Define name tree) plain = define_agree world other alike false false name tree
   step_agree (line.Mapping name old) plain = mapping_agree world other alike name old term
-  step_agree (line.View name schema words old) plain = view_agree world other alike schema old term name words
-  step_agree (line.Load name schema words old file) plain = load_agree world other alike schema old term name words file files unread
-  step_agree (line.Assign name index path value) plain = assign_agree false false world other alike name index path value
-  step_agree (line.Update name filter sets) plain = update_agree false false world other alike name filter sets
-  step_agree (line.Kernel name text lanes) plain = kernel_agree false false world other alike name text lanes
-  step_agree (line.Reduce name kind path) plain = reduce_agree false false world other alike name kind path
-  step_agree (line.Count name filter) plain = count_agree false false world other alike name filter
+  step_agree (line.View new) plain = new_agree world other alike new term
+  step_agree (line.Load new file) plain = load_agree world other alike new term file files unread
+  step_agree (line.Assign name index path value) plain = view_agree false false world other alike name _ (λ table mapping tally same. assigned_agree false false table mapping tally index path value)
+  step_agree (line.Update name filter sets) plain = view_agree false false world other alike name _ (λ table mapping tally same. updated_agree false false table mapping tally filter sets)
+  step_agree (line.Kernel name text lanes) plain = view_agree false false world other alike name _ (λ table mapping tally same. ran_agree false false table mapping tally text lanes)
+  step_agree (line.Reduce name kind path) plain = view_agree false false world other alike name _ (λ table mapping tally same. reduction_agree false false table mapping tally kind path)
+  step_agree (line.Count name filter) plain = view_agree false false world other alike name _ (λ table mapping tally same. counting_agree false false table mapping tally filter)
   step_agree (line.Copy name target) plain = copy_agree false false world other alike name target
   step_agree (line.Relayout name old) plain = relayout_agree world other alike name old term
-  step_agree (line.Print name) plain = print_agree false false world other alike name
-  step_agree (line.Counts name) plain = counts_agree false false world other alike name
+  step_agree (line.Print name) plain = view_agree false false world other alike name _ (λ table mapping tally same. print_agree false false table mapping tally)
+  step_agree (line.Counts name) plain = view_agree false false world other alike name _ (λ table mapping tally same. counts_agree false false table mapping tally same)
   step_agree (line.Drop name) plain = drop_agree false false world other alike name
   step_agree (line.Heat name) plain = absurd (cc)
   step_agree (line.Layout name) plain = absurd (cc)

@@ -9,11 +9,10 @@ use Rattle.views.specs.Tallies.{Access, Tally, all_writes, granules_for, no_tall
 use Rattle.layout_copy.specs.Copies.{refused_at}
 use Rattle.piece_bits.specs.Tables.{zeros}
 use Rattle.std.specs.Prelude.{ℤ, ◌+◌, ◌*◌, ◌^◌, nat_lt}
-use Rattle.worlds.specs.Worlds.{World, Entry, Table}
-use Rattle.worlds.specs.Accessed.{owners_of, leaf_count, rewritten}
+use Rattle.views.specs.Tables.{Table, owners_of, leaf_count_of, answer_of, after_stores}
+use Rattle.worlds.specs.Worlds.{World, Entry}
 use Rattle.worlds.specs.Outcomes.{Left, refused_by, refused_if, ok_or}
 use Rattle.worlds.specs.Tables.{made, zeros_of, blob_bits, live_bits}
-use Rattle.worlds.specs.Values.{answer_in}
 use Rattle.worlds.specs.Copy.{with_rows, laid_anew, narrow_fault}
 use Rattle.worlds.specs.declared.fault.CommandFault.TheVariants.{BadMapping, TooBig}
 use Rattle.equal_runs.proofs.Agreeing.{Told, goes, Any, Both, told_bind, told_if, told_ok, told_by}
@@ -34,7 +33,7 @@ pub record AlikeWorlds (world other : World) : Type 0 where
 
 -- what a command leaves: such worlds, and the same text
 pub record AlikeLefts (left other : Left) : Type 0 where
-  pub worlds : AlikeWorlds left.world other.world
+  pub worlds : AlikeWorlds left.held other.held
   pub text : other.text ≡ left.text
 
 -- what holds of a table under every mapping, with every tally that counts the same, holds of a table that is alike
@@ -51,7 +50,7 @@ alike_both first second alike table other is also = subst (AlikeTables table) (s
 
 -- after the same accesses, which made both rows these
 pub rewritten_alike : (table : Table) (mapping : MapTerm) (tally : Tally) → SameCounts table.tally.counts tally.counts
-    → (rows : List (List ℤ)) (log : List Access) → AlikeTables (rewritten table rows log) (rewritten (record table { mapping = mapping; tally = tally }) rows log)
+    → (rows : List (List ℤ)) (log : List Access) → AlikeTables (after_stores table rows log) (after_stores (record table { mapping = mapping; tally = tally }) rows log)
 rewritten_alike table mapping tally same rows log =
     record { fields = refl; extents = refl; rows = refl; counts = tallied_alike (owners_of table) (owners_of (record table { mapping = mapping })) table.tally tally log same }
 
@@ -66,12 +65,12 @@ zeros_alike fields others extents term changed is = record {
 
 -- with other rows, each value written once
 abbrev pub with_written : Table → List (List ℤ) → Table
-with_written table rows = rewritten table rows (all_writes (leaf_count table) (length rows))
+with_written table rows = after_stores table rows (all_writes (leaf_count_of table) (length rows))
 
 pub written_alike : (table other : Table) → AlikeTables table other → (rows : List (List ℤ)) → AlikeTables (with_written table rows) (with_written other rows)
 written_alike table other alike rows =
     of_mapping (λ (t : Table). AlikeTables (with_written table rows) (with_written t rows)) table other alike
-    (λ mapping tally same. rewritten_alike table mapping tally same rows (all_writes (leaf_count table) (length rows)))
+    (λ mapping tally same. rewritten_alike table mapping tally same rows (all_writes (leaf_count_of table) (length rows)))
 
 -- the same rows under a new mapping
 abbrev pub anew_of : Table → MapTerm → Table
@@ -100,7 +99,7 @@ module _ (m : Bool) where
   pub rows_told : (table : Table) (rows : List (List ℤ)) → Told m (λ (t : Table). t ≡ with_written table rows) (with_rows table rows)
   unfolding with_rows
   rows_told table rows =
-      told_bind m Any _ (refused_by (narrow_fault table.fields) (refused_at (answer_in table) 0 rows)) _ (told_by m (narrow_fault table.fields) _ (λ e. refl)) (λ held p. goes _ refl)
+      told_bind m Any _ (refused_by (narrow_fault table.fields) (refused_at (answer_of table) 0 rows)) _ (told_by m (narrow_fault table.fields) _ (λ e. refl)) (λ held p. goes _ refl)
 
   pub anew_told : (views : List (Entry Table)) (table : Table) (mapping : MapTerm) → Told m (λ (t : Table). t ≡ anew_of table mapping) (laid_anew views table mapping)
   unfolding laid_anew

@@ -19,8 +19,8 @@ is_refused _ = true
 -- some name in the mapping expression of a line names no mapping, and the name before it, of a record or a view, is known
 abbrev pub misses_mapping : World → Sentence → Bool
 misses_mapping world (Mapping name term) = is_refused (nameless world.mappings term)
-misses_mapping world (View name schema words term) = is_some (found schema world.records) && is_refused (nameless world.mappings term)
-misses_mapping world (Load name schema words term file) = is_some (found schema world.records) && is_refused (nameless world.mappings term)
+misses_mapping world (View new) = is_some (found new.schema world.records) && is_refused (nameless world.mappings new.term)
+misses_mapping world (Load new file) = is_some (found new.schema world.records) && is_refused (nameless world.mappings new.term)
 misses_mapping world (Relayout view term) = is_some (found view world.views) && is_refused (nameless world.mappings term)
 misses_mapping world line = false
 
@@ -35,7 +35,7 @@ is_of_layout misses _ = false
 
 -- what becomes of a run after the outcome of a line: such a fault ends it, or what comes later does
 abbrev pub ends_after : Bool → Outcome Left → (World → Bool) → Bool
-ends_after misses (Goes left) rest = rest left.world
+ends_after misses (Goes left) rest = rest left.held
 ends_after misses (Faults fault) rest = is_of_layout misses fault
 ends_after misses (CannotRead name) rest = false
 

@@ -3,6 +3,7 @@ use Rattle.std.specs.Prelude.{ℕ, ◌≡◌, Bool, false, List, Option}
 use Rattle.std.specs.List.{list_any}
 use Rattle.layout_io.specs.Files.{File}
 use Rattle.line_grammar.specs.Sentences.{Sentence}
+use Rattle.line_grammar.specs.declared.version.Version.{Version}
 use Rattle.worlds.specs.Worlds.{World, empty}
 use Rattle.worlds.specs.Outcomes.{Outcome, Left}
 use Rattle.worlds.specs.Step.{step}
@@ -10,9 +11,9 @@ use Rattle.script_runs.specs.Fold.{run_from}
 use Rattle.equal_runs.specs.Lines.{AgreeButTerms, shows_layout, IsLine, AreLines}
 use Rattle.equal_runs.specs.Endings.{ends_by_layout}
 
--- the outcome of a text that is a line is what the line does to a world
-abbrev pub DoesLines : List File → (World → List ℕ → Bool → Outcome Left) → Type 0
-DoesLines files outcome = (world : World) (text : List ℕ) (line : Sentence) (unread : Bool) → IsLine text line → outcome world text unread ≡ step world line files unread
+-- the outcome of a text that is a line in this version is what the line does to a world
+abbrev pub DoesLines : Version → List File → (World → List ℕ → Bool → Outcome Left) → Type 0
+DoesLines version files outcome = (world : World) (text : List ℕ) (line : Sentence) (unread : Bool) → IsLine version text line → outcome world text unread ≡ step world line files unread
 
 -- two scripts, line by line, that differ in their mapping expressions alone; neither shows how a table lies, and neither run ends with a
 -- fault of how tables lie
@@ -23,7 +24,7 @@ pub record DifferInTerms (files : List File) (unread : Option ℕ) (lines others
   pub other_holds : ends_by_layout files 1 empty others unread ≡ false
 
 -- the runs of two such scripts write the same bytes and end alike; `unread`: reading fails at this line, if at any
-abbrev pub EqualRuns : List File → (World → List ℕ → Bool → Outcome Left) → Type 0
-EqualRuns files outcome =
-    (texts other_texts : List (List ℕ)) (lines others : List Sentence) (unread : Option ℕ) → AreLines texts lines → AreLines other_texts others
+abbrev pub EqualRuns : Version → List File → (World → List ℕ → Bool → Outcome Left) → Type 0
+EqualRuns version files outcome =
+    (texts other_texts : List (List ℕ)) (lines others : List Sentence) (unread : Option ℕ) → AreLines version texts lines → AreLines version other_texts others
     → DifferInTerms files unread lines others → run_from outcome 1 empty texts unread ≡ run_from outcome 1 empty other_texts unread

@@ -1,3 +1,5 @@
 pub mod Lines
 pub mod Endings
 pub mod EqualRuns
+pub mod Logs
+pub mod Entries

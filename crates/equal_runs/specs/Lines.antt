@@ -2,13 +2,14 @@
 use Rattle.std.specs.Prelude.{ℕ, ◌≡◌, ◌≤◌, ⊤, Bool, true, false, List, [], ◌∷◌, length, Ok}
 use Rattle.map_expr.specs.Terms.{Term as MapTerm}
 use Rattle.line_grammar.specs.Sentences.{Sentence, Mapping, View, Load, Relayout, Heat, Layout, Bytes, deepest}
+use Rattle.line_grammar.specs.declared.version.Version.{Version}
 use Rattle.schema_lang.specs.LineOf.{line_of}
 
 -- the line with this mapping expression in place of its own, where it has one
 abbrev pub with_term : MapTerm → Sentence → Sentence
 with_term term (Mapping name old) = Mapping name term
-with_term term (View name schema words old) = View name schema words term
-with_term term (Load name schema words old file) = Load name schema words term file
+with_term term (View new) = View (record new { term = term })
+with_term term (Load new file) = Load (record new { term = term }) file
 with_term term (Relayout view old) = Relayout view term
 with_term term line = line
 
@@ -25,14 +26,14 @@ shows_layout (Layout view) = true
 shows_layout (Bytes view blob) = true
 shows_layout _ = false
 
--- the text is this line, and both are within the limits on lines
-pub record IsLine (text : List ℕ) (line : Sentence) : Type 0 where
-  pub parsed : line_of text ≡ Ok line
+-- in a version of the language, the text is this line, and both are within the limits on lines
+pub record IsLine (version : Version) (text : List ℕ) (line : Sentence) : Type 0 where
+  pub parsed : line_of version text ≡ Ok line
   pub short : length text ≤ 4096
   pub shallow : deepest line ≤ 32
 
 -- each of the texts is the line at its place
-abbrev pub AreLines : List (List ℕ) → List Sentence → Type 0
-AreLines [] [] = ⊤
-AreLines (text ∷ texts) (line ∷ lines) = IsLine text line × AreLines texts lines
-AreLines _ _ = ⊥
+abbrev pub AreLines : Version → List (List ℕ) → List Sentence → Type 0
+AreLines version [] [] = ⊤
+AreLines version (text ∷ texts) (line ∷ lines) = IsLine version text line × AreLines version texts lines
+AreLines version _ _ = ⊥

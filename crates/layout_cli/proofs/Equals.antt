@@ -4,6 +4,7 @@ use Rattle.std.specs.Prelude.{if◌then◌else◌, Result}
 use Rattle.std.proofs.lemmas.Bool.Decides.{nat_tests}
 use Rattle.layout_io.specs.Files.{File, file_of}
 use Rattle.line_grammar.specs.Sentences.{Sentence, deepest}
+use Rattle.line_grammar.specs.declared.version.Version.TheVariants.{One}
 use Rattle.schema_lang.specs.LineOf.{line_of}
 use Rattle.worlds.specs.Worlds.{World, empty}
 use Rattle.worlds.specs.Outcomes.{Outcome, Faults, Left}
@@ -16,11 +17,11 @@ use Rattle.layout_cli.specs.Run.{run_file, run_script, run_form, faulted, script
 use Rattle.layout_cli.specs.EqualScripts.{IsScript, EqualScripts}
 
 -- a text that is a line within the limits does what the line does
-text_does : (files : List File) → DoesLines files (step_text files)
+pub text_does : (files : List File) → DoesLines One files (step_text One files)
 text_does files world text line unread is =
     let short : ltb 4096 (length text) ≡ false = below 4096 (length text) is.short in
     let shallow : ltb 32 (deepest line) ≡ false = below 32 (deepest line) is.shallow in
-    ap (λ (b : Bool). if b then Faults LineTooLong else step_line files world (line_of text) unread) short
+    ap (λ (b : Bool). if b then Faults LineTooLong else step_line files world (line_of One text) unread) short
     ∙ ap (λ (read : Result Sentence ℕ). step_line files world read unread) is.parsed
     ∙ ap (λ (b : Bool). if b then Faults TooDeep else step world line files unread) shallow
   where
@@ -29,20 +30,20 @@ text_does files world text line unread is =
 
 -- a script within the limits is run line by line
 script_run : (files : List File) (name : List ℕ) (lines : List Sentence) (unread : Option ℕ) (is : IsScript files name lines) → fails_at unread 0 ≡ false
-    → run_file name files unread ≡ run_from (step_text files) 1 empty (script_lines is.script) unread
+    → run_file name files unread ≡ run_from (step_text One files) 1 empty (script_lines is.script) unread
 unfolding run_form
 script_run files name lines unread is reads =
     let short : ltb (2 ^ 20) (length is.script) ≡ false = below (2 ^ 20) (length is.script) is.short in
     let few : ltb 65536 (length (script_lines is.script)) ≡ false = below 65536 (length (script_lines is.script)) is.few in
     ap (λ (b : Bool). run_script name (if b then None else file_of files name) files unread) reads ∙ ap (λ file. run_script name file files unread) is.there
     ∙ ap (λ (b : Bool). if b then faulted 0 ScriptTooLong else run_form is.script files unread) short
-    ∙ ap (λ (b : Bool). if b then faulted 0 ScriptTooLong else run_from (step_text files) 1 empty (script_lines is.script) unread) few
+    ∙ ap (λ (b : Bool). if b then faulted 0 ScriptTooLong else run_from (step_text One files) 1 empty (script_lines is.script) unread) few
   where
     below : (limit n : ℕ) → n ≤ limit → ltb limit n ≡ false
     below limit n few = grind (arith, nat_tests)
 
-pub equal_scripts_from : ((files : List File) (outcome : World → List ℕ → Bool → Outcome Left) → DoesLines files outcome → EqualRuns files outcome) → (files : List File) → EqualScripts files
+pub equal_scripts_from : ((files : List File) (outcome : World → List ℕ → Bool → Outcome Left) → DoesLines One files outcome → EqualRuns One files outcome) → (files : List File) → EqualScripts files
 equal_scripts_from equal files name other lines others unread reads is also differ =
     script_run files name lines unread is reads
-    ∙ equal files (step_text files) (text_does files) (script_lines is.script) (script_lines also.script) lines others unread is.lines_are also.lines_are differ
+    ∙ equal files (step_text One files) (text_does files) (script_lines is.script) (script_lines also.script) lines others unread is.lines_are also.lines_are differ
     ∙ sym (script_run files other others unread also reads)

@@ -7,7 +7,7 @@ use Rattle.line_tokens.specs.Bytes.{is_hash}
 use Rattle.line_tokens.specs.Next.{token_at, placed}
 use Rattle.line_tokens.specs.declared.token.Next.TheVariants.{End}
 use Rattle.line_grammar.specs.Reads.{tokens_of}
-use Rattle.line_grammar.specs.Sentences.{Sentence, Load, Blank}
+use Rattle.line_grammar.specs.Sentences.{New, Sentence, Load, Blank}
 use Rattle.line_phrases.specs.Lists.{bracket_list_at, listed_at, rest_at, extent_at, fixed_at}
 use Rattle.line_phrases.specs.Maps.{map_at, form_or_name_at, form_at, aos_at}
 use Rattle.phrases.specs.Reading.{steps_at}
@@ -15,7 +15,8 @@ use Rattle.map_expr.specs.Terms.{Aos, Count}
 use Rattle.extents.specs.declared.words.ExtentWord.TheVariants.{Rows}
 use Rattle.extents.specs.declared.order.Order.TheVariants.{Row}
 use Rattle.places.specs.declared.forms.AosForm.TheVariants.{Packed}
-use Rattle.schema_lang.specs.Bodies.{line_at, command_at, body_at, load_at}
+use Rattle.schema_lang.specs.Bodies.{line_at, command_at, body_at, new_at, load_at}
+use Rattle.line_grammar.specs.declared.version.Version.TheVariants.{One}
 use Rattle.schema_lang.specs.LineOf.{line_of, told, spots_in, spots_within, spots_behind}
 use Rattle.generator.specs.Generated.{generated_lines, generated_files}
 use Rattle.layout_io.specs.Files.{file_of}
@@ -23,7 +24,7 @@ use Rattle.line_tokens.specs.declared.spots.Spot.{Spot}
 use Rattle.line_grammar.specs.declared.token.Token.{Token}
 use Rattle.layout_io.specs.Decimal.{digits_text}
 use Rattle.layout_cli.proofs.NoFile.{loads, ReadsNone, gives, stops, line_none}
-use Rattle.session.specs.Loads.{file_in}
+use Rattle.line_grammar.specs.Sentences.{file_of as file_in}
 
 abbrev sentence_in : Result Sentence ℕ → Sentence
 sentence_in (Ok sentence) = sentence
@@ -31,16 +32,18 @@ sentence_in (Err column) = Blank
 
 -- where the line reads a file, it is the dataset
 abbrev pub ReadsDataset : List ℕ → List ℕ → Type 0
-ReadsDataset dataset text = (sentence : Sentence) → line_of text ≡ Ok sentence → IfSome (file_in sentence) (λ file. file_of (generated_files dataset) file ≡ Some dataset)
+ReadsDataset dataset text = (sentence : Sentence) → line_of One text ≡ Ok sentence → IfSome (file_in sentence) (λ file. file_of (generated_files dataset) file ≡ Some dataset)
 
 -- the load
-load_line : line_of (codes "load A : P [?] as count(aos(packed, row)) from \"gen.csv\"") ≡ Ok (Load (codes "A") (codes "P") (Rows ∷ []) (Count (Aos Packed Row)) (codes "gen.csv"))
-unfolding line_of line_at command_at body_at load_at bracket_list_at listed_at rest_at steps_at extent_at fixed_at map_at form_or_name_at form_at aos_at
+abbrev gen_new : New
+gen_new = record { name = codes "A"; schema = codes "P"; words = Rows ∷ []; term = Count (Aos Packed Row) }
+
+load_line : line_of One (codes "load A : P [?] as count(aos(packed, row)) from \"gen.csv\"") ≡ Ok (Load gen_new (codes "gen.csv"))
+unfolding line_of line_at command_at body_at load_at new_at bracket_list_at listed_at rest_at steps_at extent_at fixed_at map_at form_or_name_at form_at aos_at
 load_line = refl
 
 load_reads : (dataset : List ℕ) → ReadsDataset dataset (codes "load A : P [?] as count(aos(packed, row)) from \"gen.csv\"")
 load_reads dataset sentence is =
-    let load = Load (codes "A") (codes "P") (Rows ∷ []) (Count (Aos Packed Row)) (codes "gen.csv") in
     let there : file_of (generated_files dataset) (codes "gen.csv") ≡ Some dataset = refl in
     subst (λ (s : Sentence). IfSome (file_in s) (λ file. file_of (generated_files dataset) file ≡ Some dataset)) (ap sentence_in (sym load_line ∙ is)) there
 
@@ -53,7 +56,7 @@ no_file : (dataset text : List ℕ) → loads (tokens_of text (spots_in text)) �
 unfolding line_of
 no_file dataset text other sentence is =
     let tokens = tokens_of text (spots_in text) in
-    let none : file_in sentence ≡ None = told_none (spots_in text) (line_at (length tokens) tokens) sentence (line_none (length tokens) tokens other) is in
+    let none : file_in sentence ≡ None = told_none (spots_in text) (line_at One (length tokens) tokens) sentence (line_none One (length tokens) tokens other) is in
     rw none tt
 
 -- a line that begins with `view`

@@ -15,6 +15,7 @@ use Rattle.script_runs.specs.Answers.{Answers, IsRun, HasCause, HasSinkCause}
 use Rattle.script_runs.specs.declared.status.Status.{Status}
 use Rattle.script_runs.specs.declared.status.Status.TheVariants.{Done, CommandFault, Usage, SourceFault, SinkFault, NoMemory}
 use Rattle.generator.specs.Generated.{script_text, dataset_text, generated_lines, generated_files}
+use Rattle.line_grammar.specs.declared.version.Version.TheVariants.{One}
 use Rattle.layout_cli.specs.Steps.{step_text, step_line}
 use Rattle.layout_cli.specs.Run.{run, run_file, run_words, run_form, run_generated, script_name, gen_words, script_lines, faulted}
 use Rattle.layout_cli.proofs.ScriptLines.{script_lines_are}
@@ -36,7 +37,7 @@ run_reads outcome [] reads number world unread = unread
 run_reads outcome (text ∷ lines) reads number world unread =
     of_outcome (λ next. run_reads outcome lines reads.1 (number + 1) next) (outcome world text false) (reads.0 world) unread where
       of_outcome : ((next : World) → IsUnread (run_from outcome (number + 1) next lines None).end → ⊥) → (o : Outcome Left) → IsReadable o → IsUnread (after number o (λ next. run_from outcome (number + 1) next lines None)).end → ⊥
-      of_outcome below (Goes _) (goes left) unread = below left.world unread
+      of_outcome below (Goes _) (goes left) unread = below left.held unread
       of_outcome below (Faults _) (faults fault) unread = unread
       of_outcome below (CannotRead _) is unread = elim is [ ]
 
@@ -46,18 +47,18 @@ run_used outcome [] unread number world misused = misused
 run_used outcome (text ∷ lines) unread number world misused =
     of_outcome (λ next. run_used outcome lines unread (number + 1) next) (outcome world text (fails_at unread number)) misused where
       of_outcome : ((next : World) → IsMisused (run_from outcome (number + 1) next lines unread).end → ⊥) → (o : Outcome Left) → IsMisused (after number o (λ next. run_from outcome (number + 1) next lines unread)).end → ⊥
-      of_outcome below (Goes left) misused = below left.world misused
+      of_outcome below (Goes left) misused = below left.held misused
       of_outcome below (Faults fault) misused = misused
       of_outcome below (CannotRead name) misused = misused
 
 -- a line that reads the dataset, if a file
-text_reads : (dataset text : List ℕ) → ReadsDataset dataset text → (world : World) → IsReadable (step_text (generated_files dataset) world text false)
-text_reads dataset text reads world = refused_or (nat_lt 4096 (length text)) LineTooLong (of_read (line_of text) refl) where
-  of_read : (read : Result Sentence ℕ) → line_of text ≡ read → IsReadable (step_line (generated_files dataset) world read false)
+text_reads : (dataset text : List ℕ) → ReadsDataset dataset text → (world : World) → IsReadable (step_text One (generated_files dataset) world text false)
+text_reads dataset text reads world = refused_or (nat_lt 4096 (length text)) LineTooLong (of_read (line_of One text) refl) where
+  of_read : (read : Result Sentence ℕ) → line_of One text ≡ read → IsReadable (step_line (generated_files dataset) world read false)
   of_read (Err column) is = faults _
   of_read (Ok sentence) is = refused_or (nat_lt 32 (deepest sentence)) TooDeep (step_reads world sentence (generated_files dataset) dataset (reads sentence is))
 
-texts_read : (dataset : List ℕ) (lines : List (List ℕ)) → AllByRecursion (ReadsDataset dataset) lines → AllByRecursion (λ text. (world : World) → IsReadable (step_text (generated_files dataset) world text false)) lines
+texts_read : (dataset : List ℕ) (lines : List (List ℕ)) → AllByRecursion (ReadsDataset dataset) lines → AllByRecursion (λ text. (world : World) → IsReadable (step_text One (generated_files dataset) world text false)) lines
 texts_read dataset [] reads = tt
 texts_read dataset (text ∷ lines) reads = (text_reads dataset text reads.0, texts_read dataset lines reads.1)
 
@@ -68,19 +69,19 @@ generated_reads rows few unread = of_test (nat_lt 65536 (length (script_lines (s
   dataset : List ℕ
   dataset = dataset_text rows
 
-  reads : AllByRecursion (λ text. (world : World) → IsReadable (step_text (generated_files dataset) world text false)) (script_lines (script_text rows))
-  reads = subst (AllByRecursion (λ text. (world : World) → IsReadable (step_text (generated_files dataset) world text false))) (sym (script_lines_are rows few)) (texts_read dataset (generated_lines rows) (lines_read dataset rows))
+  reads : AllByRecursion (λ text. (world : World) → IsReadable (step_text One (generated_files dataset) world text false)) (script_lines (script_text rows))
+  reads = subst (AllByRecursion (λ text. (world : World) → IsReadable (step_text One (generated_files dataset) world text false))) (sym (script_lines_are rows few)) (texts_read dataset (generated_lines rows) (lines_read dataset rows))
 
-  of_test : (test : Bool) → IsUnread (if test then faulted 0 ScriptTooLong else run_from (step_text (generated_files dataset)) 1 empty (script_lines (script_text rows)) None).end → ⊥
+  of_test : (test : Bool) → IsUnread (if test then faulted 0 ScriptTooLong else run_from (step_text One (generated_files dataset)) 1 empty (script_lines (script_text rows)) None).end → ⊥
   of_test true unread = unread
-  of_test false unread = run_reads (step_text (generated_files dataset)) (script_lines (script_text rows)) reads 1 empty unread
+  of_test false unread = run_reads (step_text One (generated_files dataset)) (script_lines (script_text rows)) reads 1 empty unread
 
 form_used : (script : List ℕ) (files : List File) (unread : Option ℕ) → IsMisused (run_form script files unread).end → ⊥
 unfolding run_form
 form_used script files unread misused = of_test (nat_lt 65536 (length (script_lines script))) misused where
-  of_test : (test : Bool) → IsMisused (if test then faulted 0 ScriptTooLong else run_from (step_text files) 1 empty (script_lines script) unread).end → ⊥
+  of_test : (test : Bool) → IsMisused (if test then faulted 0 ScriptTooLong else run_from (step_text One files) 1 empty (script_lines script) unread).end → ⊥
   of_test true misused = misused
-  of_test false misused = run_used (step_text files) (script_lines script) unread 1 empty misused
+  of_test false misused = run_used (step_text One files) (script_lines script) unread 1 empty misused
 
 -- no read failed of a shelf that counts none
 unrisen : Rose 0 0 → ⊥
@@ -111,10 +112,10 @@ pub generated_run : {K : Type 0} (taken : K → Option (List ℕ)) (old new : K)
 generated_run taken old new rows status few is = record { out = is.out; bytes = is.bytes; answer = generated_answer rows status is.out few is.answer }
 
 -- and its status is that of a run that reads nothing
-pub generated_cause : (rows : ℕ) (files : Option (List File)) (sink_old sink_new : ℕ) (status : Status) (out : List ℕ) → rows ≤ 65536 → Answers (λ unread. run_generated rows) ⊥ status out → HasCause files 0 0 sink_old sink_new status → HasSinkCause sink_old sink_new status
+pub generated_cause : (rows : ℕ) (files : Option (List File)) (sink_old sink_new : ℕ) (status : Status) (out : List ℕ) → rows ≤ 65536 → Answers (λ unread. run_generated rows) ⊥ status out → HasCause ⊥ files 0 0 sink_old sink_new status → HasSinkCause sink_old sink_new status
 generated_cause rows files sink_old sink_new Done out few answer cause = cause.1
 generated_cause rows files sink_old sink_new CommandFault out few answer cause = cause.1
-generated_cause rows files sink_old sink_new Usage out few answer cause = absurd (form_used _ _ None (misused_end (run_generated rows) out answer))
+generated_cause rows files sink_old sink_new Usage out few answer cause = absurd cause.0
 generated_cause rows files sink_old sink_new SourceFault out few answer cause = absurd (generated_reads rows few (unread_end (run_generated rows) out answer.0 answer.1))
 generated_cause rows files sink_old sink_new SinkFault out few answer cause = cause.1
 generated_cause rows files sink_old sink_new NoMemory out few answer cause = cause.1

@@ -9,7 +9,8 @@ use Rattle.line_grammar.specs.Tokens.{is_sign, is_word, name_of, count_of, reduc
 use Rattle.line_grammar.specs.declared.token.Token.{Token}
 use Rattle.line_grammar.specs.declared.line.Command.{Command}
 use Rattle.line_grammar.specs.declared.line.Command.TheVariants as command
-use Rattle.schema_lang.specs.Bodies.{line_at, command_at, body_at, define_at, mapping_at, view_at, assign_at, update_at, kernel_line_at, reduce_at, copy_at, relayout_at, bytes_at}
+use Rattle.line_grammar.specs.declared.version.Version.{Version}
+use Rattle.schema_lang.specs.Bodies.{line_at, command_at, body_at, define_at, mapping_at, new_at, view_at, assign_at, update_at, kernel_line_at, reduce_at, copy_at, relayout_at, bytes_at}
 use Rattle.line_tokens.specs.declared.sign.Sign.TheVariants.{Colon, Dot, Equals}
 use Rattle.line_phrases.specs.Exprs.{expr_at}
 use Rattle.line_phrases.specs.Fields.{fields_at}
@@ -18,7 +19,7 @@ use Rattle.line_phrases.specs.Maps.{map_at}
 use Rattle.line_phrases.specs.Paths.{path_at}
 use Rattle.schema_lang.specs.Kernels.{kernel_at}
 use Rattle.schema_lang.specs.Updates.{assignment_at, filter_at}
-use Rattle.session.specs.Loads.{file_in}
+use Rattle.line_grammar.specs.Sentences.{file_of as file_in}
 
 -- whether the first of these tokens is the word of a load
 abbrev pub is_load : Option Command → Bool
@@ -59,43 +60,37 @@ either test {read} {other} one two = record { reads = λ tokens. of_test (starts
   of_test true tokens = one.reads tokens
   of_test false tokens = two.reads tokens
 
-body_none : (n : ℕ) (c : Command) → is_load (Some c) ≡ false → NoneRead (body_at n c)
+body_none : (version : Version) (n : ℕ) (c : Command) → is_load (Some c) ≡ false → NoneRead (body_at version n c)
 unfolding body_at define_at mapping_at view_at assign_at update_at kernel_line_at reduce_at copy_at relayout_at bytes_at
-body_none n command.Record other = next (item_at name_of) (λ name. next (fields_at n) (λ fields. given _ refl))
-body_none n command.Mapping other = next (item_at name_of) (λ name. behind (is_sign Equals) (next (map_at n) (λ map. given _ refl)))
-body_none n command.View other =
-    next (item_at name_of) (λ name. behind (is_sign Colon) (next (item_at name_of) (λ schema. next (bracket_list_at fixed_at) (λ words.
-    behind (is_word (codes "as")) (next (map_at n) (λ map. given _ refl))))))
-body_none n command.Load other = absurd (cc)
-body_none n command.Set other =
+body_none version n command.Record other = next (item_at name_of) (λ name. next (fields_at n) (λ fields. given _ refl))
+body_none version n command.Mapping other = next (item_at name_of) (λ name. behind (is_sign Equals) (next (map_at version n) (λ map. given _ refl)))
+body_none version n command.View other = next (new_at version fixed_at n) (λ new. given _ refl)
+body_none version n command.Load other = absurd (cc)
+body_none version n command.Set other =
     next (item_at name_of) (λ name. next (bracket_list_at (item_at count_of)) (λ index. behind (is_sign Dot) (next path_at (λ path.
     behind (is_sign Equals) (next (expr_at n) (λ value. given _ refl))))))
-body_none n command.Update other =
+body_none version n command.Update other =
     next (item_at name_of) (λ name. next (filter_at n) (λ filter. behind (is_word (codes "set")) (next (listed_at (assignment_at n)) (λ sets. given _ refl))))
-body_none n command.Kernel other =
+body_none version n command.Kernel other =
     next (item_at name_of) (λ name. next kernel_at (λ kernel. behind (is_word (codes "lanes")) (next (item_at count_of) (λ lanes. given _ refl))))
-body_none n command.Reduce other = next (item_at name_of) (λ name. either (is_word (codes "count"))
+body_none version n command.Reduce other = next (item_at name_of) (λ name. either (is_word (codes "count"))
     (behind (is_word (codes "count")) (behind (is_word (codes "where")) (next (expr_at n) (λ filter. given _ refl))))
     (next (item_at reduction_of) (λ kind. next path_at (λ path. given _ refl))))
-body_none n command.Copy other = next (item_at name_of) (λ name. behind (is_word (codes "to")) (next (item_at name_of) (λ target. given _ refl)))
-body_none n command.Relayout other = next (item_at name_of) (λ name. behind (is_word (codes "as")) (next (map_at n) (λ map. given _ refl)))
-body_none n command.Print other = next (item_at name_of) (λ name. given _ refl)
-body_none n command.Counts other = next (item_at name_of) (λ name. given _ refl)
-body_none n command.Heat other = next (item_at name_of) (λ name. given _ refl)
-body_none n command.Layout other = next (item_at name_of) (λ name. given _ refl)
-body_none n command.Drop other = next (item_at name_of) (λ name. given _ refl)
-body_none n command.Bytes other = next (item_at name_of) (λ name. next (item_at count_of) (λ blob. given _ refl))
+body_none version n command.Copy other = next (item_at name_of) (λ name. behind (is_word (codes "to")) (next (item_at name_of) (λ target. given _ refl)))
+body_none version n command.Relayout other = next (item_at name_of) (λ name. behind (is_word (codes "as")) (next (map_at version n) (λ map. given _ refl)))
+body_none version n command.Bytes other = next (item_at name_of) (λ name. next (item_at count_of) (λ blob. given _ refl))
+body_none version n _ other = next (item_at name_of) (λ name. given _ refl)
 
 ended_none : (read : Result (Sentence × List Token) ℕ) → ReadsNone read → ReadsNone (read >>= λ x. ended x.0 x.1)
 ended_none (Ok x) (gives sentence [] none) = gives sentence [] none
 ended_none (Ok x) (gives sentence (token ∷ rest) none) = stops _
 ended_none (Err left) (stops _) = stops left
 
-command_none : (n : ℕ) (c : Option Command) (left : ℕ) (rest : List Token) → is_load c ≡ false → ReadsNone (item_or c left rest >>= λ x. body_at n x.0 x.1)
-command_none n None left rest other = stops left
-command_none n (Some c) left rest other = (body_none n c other).reads rest
+command_none : (version : Version) (n : ℕ) (c : Option Command) (left : ℕ) (rest : List Token) → is_load c ≡ false → ReadsNone (item_or c left rest >>= λ x. body_at version n x.0 x.1)
+command_none version n None left rest other = stops left
+command_none version n (Some c) left rest other = (body_none version n c other).reads rest
 
-pub line_none : (n : ℕ) (tokens : List Token) → loads tokens ≡ false → ReadsNone (line_at n tokens)
+pub line_none : (version : Version) (n : ℕ) (tokens : List Token) → loads tokens ≡ false → ReadsNone (line_at version n tokens)
 unfolding line_at command_at
-line_none n [] other = gives line.Blank [] refl
-line_none n (first ∷ rest) other = ended_none _ (command_none n (command_of first) (length (first ∷ rest)) rest other)
+line_none version n [] other = gives line.Blank [] refl
+line_none version n (first ∷ rest) other = ended_none _ (command_none version n (command_of first) (length (first ∷ rest)) rest other)

@@ -9,7 +9,9 @@ use Rattle.extents.specs.declared.words.ExtentWord.{ExtentWord}
 use Rattle.record_dim.specs.Trees.{Tree, Fields}
 use Rattle.map_expr.specs.Terms.{Term as MapTerm, Aos, Soa, Aosoa, BitAos, BitSoa, Split, Byteswap, Bytesplit, Change, Count, Heat, Named as NamedTerm}
 use Rattle.line_grammar.specs.Sentences as line
-use Rattle.worlds.specs.Worlds.{World, Entry, Table, found}
+use Rattle.line_grammar.specs.Sentences.{New, file_of as file_in}
+use Rattle.views.specs.Tables.{Table, owners_of}
+use Rattle.worlds.specs.Worlds.{World, Entry, found}
 use Rattle.worlds.specs.declared.fault.CommandFault.{CommandFault}
 use Rattle.worlds.specs.Outcomes.{Outcome, Goes, Faults, ◌>>=◌, refused_if, refused_by, ok_or, some_or, known, free}
 use Rattle.worlds.specs.declared.fault.CommandFault.TheVariants.{BadMapping, BadKernel, TooBig, Taken, Unknown}
@@ -27,22 +29,21 @@ use Rattle.expr_lang.specs.Terms.{Term}
 use Rattle.record_dim.specs.Leaves.{kinds_of}
 use Rattle.map_checks.specs.Mappings.{accepted, leaf_cells, most_slots}
 use Rattle.views.specs.Tallies.{granules_for}
-use Rattle.worlds.specs.Accessed.{owners_of}
 use Rattle.worlds.specs.Define.{define, fit}
 use Rattle.worlds.specs.Mapping.{mapping}
 use Rattle.worlds.specs.View.{view, new_table, named, Named}
 use Rattle.worlds.specs.Load.{load, loaded_table, loaded, filled, read, there}
-use Rattle.worlds.specs.Assign.{assign, assigned, with_table, inside}
-use Rattle.worlds.specs.Update.{update, updated}
-use Rattle.worlds.specs.Reduce.{reduce, count, reduction, reduced, counting, column}
+use Rattle.worlds.specs.OnView.{Done, with_table, on_view}
+use Rattle.worlds.specs.Assign.{assigned, inside}
+use Rattle.worlds.specs.Update.{updated}
+use Rattle.worlds.specs.Reduce.{reduction, reduced, counting, column}
 use Rattle.worlds.specs.Copy.{copy, relayout, with_rows, copied, laid_anew, all_read}
-use Rattle.worlds.specs.Kernel.{kernel, kernel_run, fit_kernel, fits, fit_leaf, run, is_wide, is_factor, is_constant, are_bounds, are_lanes}
-use Rattle.worlds.specs.Show.{print, counts, heat, layout, bytes, drop_view, shown, small}
+use Rattle.worlds.specs.Kernel.{kernel_run, fit_kernel, fits, fit_leaf, run, is_wide, is_factor, is_constant, are_bounds, are_lanes}
+use Rattle.worlds.specs.Show.{print, counts, heat, layout, bytes, drop_view, small}
 use Rattle.worlds.specs.Tables.{made, resolved, room, shaped, zeros_of, blob_bits, live_bits}
 use Rattle.worlds.specs.Names.{nameless, leaf_of, bound, bound_filter, bound_set, bound_sets, each_once, leaves_of}
 use Rattle.worlds.specs.Values.{value_on, storable}
 use Rattle.worlds.specs.Step.{step}
-use Rattle.session.specs.Loads.{file_in}
 
 -- it goes on or is refused, and is not that a file can't be read
 pub data IsReadable {A : Type 0} : Outcome A → Type 0 where
@@ -119,22 +120,22 @@ room_reads views = tested _ _
 shaped_reads : (words : List ExtentWord) → IsReadable (shaped words)
 shaped_reads words = caused _ _
 
-named_reads : (world : World) (name schema : List ℕ) (words : List ExtentWord) (term : MapTerm) → IsReadable (named world name schema words term)
-named_reads world name schema words term =
-    next (free_reads name world.views) (λ new.
-    next (known_reads schema world.records) (λ fields.
-    next (nameless_reads world.mappings term) (λ whole.
+named_reads : (world : World) (new : New) → IsReadable (named world new)
+named_reads world new =
+    next (free_reads new.name world.views) (λ unused.
+    next (known_reads new.schema world.records) (λ fields.
+    next (nameless_reads world.mappings new.term) (λ whole.
     next (room_reads world.views) (λ space.
-    next (shaped_reads words) (λ ranked. goes _)))))
+    next (shaped_reads new.words) (λ ranked. goes _)))))
 
 resolved_reads : (words : List ExtentWord) (rows : Option ℕ) → IsReadable (resolved words rows)
 resolved_reads words rows = next (caused _ _) (λ fit. goes _)
 
-view_reads : (world : World) (name schema : List ℕ) (words : List ExtentWord) (term : MapTerm) → IsReadable (view world name schema words term)
+view_reads : (world : World) (new : New) → IsReadable (view world new)
 unfolding view new_table
-view_reads world name schema words term =
-    next (next (named_reads world name schema words term) (λ whole.
-    next (resolved_reads words None) (λ extents. made_reads world.views whole.fields extents whole.mapping))) (λ table. goes _)
+view_reads world new =
+    next (next (named_reads world new) (λ whole.
+    next (resolved_reads new.words None) (λ extents. made_reads world.views whole.fields extents whole.mapping))) (λ table. goes _)
 
 filled_reads : (table : Table) (records : List (List (List ℕ))) → IsReadable (filled table records)
 filled_reads table records = next (answered _ _) (λ rows. goes _)
@@ -150,11 +151,11 @@ loaded_reads views whole words dataset =
 read_reads : (files : List File) (name dataset : List ℕ) → file_of files name ≡ Some dataset → IsReadable (read files false name)
 read_reads files name dataset is = subst (λ (file : Option (List ℕ)). IsReadable (there name file)) (sym is) (goes dataset)
 
-load_reads : (world : World) (name schema : List ℕ) (words : List ExtentWord) (term : MapTerm) (file dataset : List ℕ) (files : List File) → file_of files file ≡ Some dataset → IsReadable (load world name schema words term file files false)
+load_reads : (world : World) (new : New) (file dataset : List ℕ) (files : List File) → file_of files file ≡ Some dataset → IsReadable (load world new file files false)
 unfolding load loaded_table
-load_reads world name schema words term file dataset files is =
-    next (next (named_reads world name schema words term) (λ whole.
-    next (read_reads files file dataset is) (λ bytes. loaded_reads world.views whole words bytes))) (λ table. goes _)
+load_reads world new file dataset files is =
+    next (next (named_reads world new) (λ whole.
+    next (read_reads files file dataset is) (λ bytes. loaded_reads world.views whole new.words bytes))) (λ table. goes _)
 
 leaf_reads : (fields : Fields) (path : List PathStep) → IsReadable (leaf_of fields path)
 leaf_reads fields path = given _ _
@@ -185,10 +186,6 @@ updated_reads table filter sets =
     next (once_reads table.fields [] (leaves_of settings)) (λ once.
     next (answered _ _) (λ rows. goes _))))
 
-update_reads : (world : World) (name : List ℕ) (filter : Option Value) (sets : List line.Assignment) → IsReadable (update world name filter sets)
-unfolding update
-update_reads world name filter sets = next (known_reads name world.views) (λ table. next (updated_reads table filter sets) (λ new. goes _))
-
 reduced_reads : (kind : ReduceKind) (values : List ℤ) → IsReadable (reduced kind values)
 reduced_reads Sum values = goes _
 reduced_reads Min [] = faults _
@@ -196,17 +193,13 @@ reduced_reads Max [] = faults _
 reduced_reads Min (value ∷ values) = goes _
 reduced_reads Max (value ∷ values) = goes _
 
-reduce_reads : (world : World) (name : List ℕ) (kind : ReduceKind) (path : List PathStep) → IsReadable (reduce world name kind path)
-unfolding reduce reduction
-reduce_reads world name kind path =
-    next (known_reads name world.views) (λ table.
-    next (next (leaf_reads table.fields path) (λ leaf. next (reduced_reads kind (column leaf table.rows)) (λ number. goes _))) (λ done. goes _))
+reduction_reads : (table : Table) (kind : ReduceKind) (path : List PathStep) → IsReadable (reduction table kind path)
+unfolding reduction
+reduction_reads table kind path = next (leaf_reads table.fields path) (λ leaf. next (reduced_reads kind (column leaf table.rows)) (λ number. goes _))
 
-count_reads : (world : World) (name : List ℕ) (filter : Value) → IsReadable (count world name filter)
-unfolding count counting
-count_reads world name filter =
-    next (known_reads name world.views) (λ table.
-    next (next (bound_reads table.fields (length table.extents) filter) (λ term. next (answered _ _) (λ rows. goes _))) (λ done. goes _))
+counting_reads : (table : Table) (filter : Value) → IsReadable (counting table filter)
+unfolding counting
+counting_reads table filter = next (bound_reads table.fields (length table.extents) filter) (λ term. next (answered _ _) (λ rows. goes _))
 
 rows_reads : (table : Table) (rows : List (List ℤ)) → IsReadable (with_rows table rows)
 unfolding with_rows
@@ -249,15 +242,9 @@ fit_kernel_reads fields (text.CountWhere x op c) lanes = next (fit_leaf_reads fi
 run_reads : (table : Table) (kernel : Kernel) → IsReadable (run table kernel)
 run_reads table kernel = next (caused _ _) (λ done. goes _)
 
-kernel_reads : (world : World) (name : List ℕ) (kernel_text : KernelText) (lanes : ℕ) → IsReadable (kernel world name kernel_text lanes)
-unfolding kernel kernel_run
-kernel_reads world name kernel_text lanes =
-    next (known_reads name world.views) (λ table.
-    next (next (fit_kernel_reads table.fields kernel_text lanes) (λ fit. run_reads table fit)) (λ done. goes _))
-
-counts_reads : (world : World) (name : List ℕ) → IsReadable (counts world name)
-unfolding counts
-counts_reads world name = next (known_reads name world.views) (λ table. next (given _ _) (λ numbers. goes _))
+kernel_reads : (table : Table) (kernel_text : KernelText) (lanes : ℕ) → IsReadable (kernel_run table kernel_text lanes)
+unfolding kernel_run
+kernel_reads table kernel_text lanes = next (fit_kernel_reads table.fields kernel_text lanes) (λ fit. run_reads table fit)
 
 inside_reads : (extents index : List ℕ) → IsReadable (inside extents index)
 inside_reads extents index = tested _ _
@@ -268,25 +255,28 @@ value_reads row values index term = answered _ _
 store_reads : (table : Table) (row leaf : ℕ) (value : ℤ) → IsReadable (storable table row leaf value)
 store_reads table row leaf value = answered _ _
 
-print_reads : (world : World) (name : List ℕ) → IsReadable (print world name)
+print_reads : (table : Table) → IsReadable (print table)
 unfolding print
-print_reads world name = next (known_reads name world.views) (λ table. goes _)
+print_reads table = goes _
 
-heat_reads : (world : World) (name : List ℕ) → IsReadable (heat world name)
+counts_reads : (table : Table) → IsReadable (counts table)
+unfolding counts
+counts_reads table = next (given _ _) (λ numbers. goes _)
+
+heat_reads : (table : Table) → IsReadable (heat table)
 unfolding heat
-heat_reads world name = next (known_reads name world.views) (λ table. next (given _ _) (λ numbers. goes _))
+heat_reads table = next (given _ _) (λ numbers. goes _)
 
 small_reads : (table : Table) → IsReadable (small table)
 small_reads table = tested _ _
 
-layout_reads : (world : World) (name : List ℕ) → IsReadable (layout world name)
+layout_reads : (table : Table) → IsReadable (layout table)
 unfolding layout
-layout_reads world name = next (known_reads name world.views) (λ table. next (small_reads table) (λ few. goes _))
+layout_reads table = next (small_reads table) (λ few. goes _)
 
-bytes_reads : (world : World) (name : List ℕ) (blob : ℕ) → IsReadable (bytes world name blob)
-unfolding bytes shown
-bytes_reads world name blob =
-    next (known_reads name world.views) (λ table. next (next (tested _ _) (λ there. next (small_reads table) (λ few. goes _))) (λ text. goes _))
+bytes_reads : (table : Table) (blob : ℕ) → IsReadable (bytes table blob)
+unfolding bytes
+bytes_reads table blob = next (tested _ _) (λ there. next (small_reads table) (λ few. goes _))
 
 drop_reads : (world : World) (name : List ℕ) → IsReadable (drop_view world name)
 unfolding drop_view
@@ -302,9 +292,10 @@ assigned_reads table index path value =
     next (value_reads row (slice_index_or table.rows row []) index term) (λ number.
     next (store_reads table row leaf number) (λ fits. goes _)))))
 
-assign_reads : (world : World) (name index : List ℕ) (path : List PathStep) (value : Value) → IsReadable (assign world name index path value)
-unfolding assign
-assign_reads world name index path value = next (known_reads name world.views) (λ table. next (assigned_reads table index path value) (λ new. goes _))
+-- a command on a view
+view_works : (world : World) (name : List ℕ) (command : Table → Outcome Done) → ((table : Table) → IsReadable (command table)) → IsReadable (on_view world name command)
+unfolding on_view
+view_works world name command reads = next (known_reads name world.views) (λ table. next (next (reads table) (λ done. goes _)) (λ new. goes _))
 
 -- a line whose file, if it reads one, is there
 pub step_reads : (world : World) (sentence : line.Sentence) (files : List File) (dataset : List ℕ) → IfSome (file_in sentence) (λ file. file_of files file ≡ Some dataset) → IsReadable (step world sentence files false)
@@ -312,18 +303,18 @@ unfolding step
 step_reads world line.Blank files dataset is = goes _
 step_reads world (line.Define name tree) files dataset is = define_reads world name tree
 step_reads world (line.Mapping name term) files dataset is = mapping_reads world name term
-step_reads world (line.View name schema words term) files dataset is = view_reads world name schema words term
-step_reads world (line.Load name schema words term file) files dataset is = load_reads world name schema words term file dataset files is
-step_reads world (line.Assign name index path value) files dataset is = assign_reads world name index path value
-step_reads world (line.Update name filter sets) files dataset is = update_reads world name filter sets
-step_reads world (line.Reduce name kind path) files dataset is = reduce_reads world name kind path
-step_reads world (line.Count name filter) files dataset is = count_reads world name filter
-step_reads world (line.Kernel name kernel lanes) files dataset is = kernel_reads world name kernel lanes
+step_reads world (line.View new) files dataset is = view_reads world new
+step_reads world (line.Load new file) files dataset is = load_reads world new file dataset files is
+step_reads world (line.Assign name index path value) files dataset is = view_works world name _ (λ table. assigned_reads table index path value)
+step_reads world (line.Update name filter sets) files dataset is = view_works world name _ (λ table. updated_reads table filter sets)
+step_reads world (line.Reduce name kind path) files dataset is = view_works world name _ (λ table. reduction_reads table kind path)
+step_reads world (line.Count name filter) files dataset is = view_works world name _ (λ table. counting_reads table filter)
+step_reads world (line.Kernel name kernel lanes) files dataset is = view_works world name _ (λ table. kernel_reads table kernel lanes)
 step_reads world (line.Copy name target) files dataset is = copy_reads world name target
 step_reads world (line.Relayout name term) files dataset is = relayout_reads world name term
-step_reads world (line.Print name) files dataset is = print_reads world name
-step_reads world (line.Bytes name blob) files dataset is = bytes_reads world name blob
+step_reads world (line.Print name) files dataset is = view_works world name _ print_reads
+step_reads world (line.Bytes name blob) files dataset is = view_works world name _ (λ table. bytes_reads table blob)
 step_reads world (line.Drop name) files dataset is = drop_reads world name
-step_reads world (line.Counts name) files dataset is = counts_reads world name
-step_reads world (line.Heat name) files dataset is = heat_reads world name
-step_reads world (line.Layout name) files dataset is = layout_reads world name
+step_reads world (line.Counts name) files dataset is = view_works world name _ counts_reads
+step_reads world (line.Heat name) files dataset is = view_works world name _ heat_reads
+step_reads world (line.Layout name) files dataset is = view_works world name _ layout_reads

@@ -10,10 +10,11 @@ use Rattle.worlds.specs.Outcomes.{Outcome, Goes, Faults, CannotRead, Left}
 use Rattle.worlds.specs.FaultTexts.{fault_text}
 use Rattle.worlds.specs.declared.fault.CommandFault.TheVariants.{ScriptTooLong}
 use Rattle.script_runs.specs.Outcome.{Output, End, Unread, Gives, IsText}
-use Rattle.script_runs.specs.Answers.{Answers, IsRun, ended}
+use Rattle.script_runs.specs.Answers.{Answers, IsRun, HasCause, ended}
 use Rattle.script_runs.specs.Fold.{run_from, after, fails_at}
 use Rattle.script_runs.specs.declared.status.Status.{Status}
 use Rattle.script_runs.specs.declared.status.Status.TheVariants.{Done, CommandFault, Usage, SourceFault, SinkFault, NoMemory}
+use Rattle.line_grammar.specs.declared.version.Version.TheVariants.{One}
 use Rattle.layout_cli.specs.Steps.{step_text}
 use Rattle.layout_cli.specs.Run.{run_file, run_script, run_form, faulted, script_lines}
 
@@ -42,7 +43,7 @@ unread_later : (outcome : World → List ℕ → Bool → Outcome Left) (number 
 unread_later outcome number world [] unread line is = absurd (cc)
 unread_later outcome number world (text ∷ lines) unread line is = of_outcome (λ next. unread_later outcome (number + 1) next lines unread line) (outcome world text (fails_at unread number)) is where
   of_outcome : ((next : World) → (run_from outcome (number + 1) next lines unread).end ≡ Unread line → number + 1 ≤ line) → (o : Outcome Left) → (after number o (λ next. run_from outcome (number + 1) next lines unread)).end ≡ Unread line → number ≤ line
-  of_outcome below (Goes left) is = omega (arith, below left.world is)
+  of_outcome below (Goes left) is = omega (arith, below left.held is)
   of_outcome below (Faults fault) is = absurd (cc)
   of_outcome below (CannotRead name) is = let here : number ≡ line = ap line_in is in omega (arith, here)
 
@@ -50,9 +51,9 @@ unread_later outcome number world (text ∷ lines) unread line is = of_outcome (
 form_later : (script : List ℕ) (files : List File) (line : ℕ) (text : List ℕ) → Gives (run_form script files (Some line)) text (Unread line) → 1 ≤ line
 unfolding run_form
 form_later script files line text gives = of_test (ltb 65536 (length (script_lines script))) (ap (λ (o : Output). o.end) gives) where
-  of_test : (test : Bool) → (if test then faulted 0 ScriptTooLong else run_from (step_text files) 1 empty (script_lines script) (Some line)).end ≡ Unread line → 1 ≤ line
+  of_test : (test : Bool) → (if test then faulted 0 ScriptTooLong else run_from (step_text One files) 1 empty (script_lines script) (Some line)).end ≡ Unread line → 1 ≤ line
   of_test true is = absurd (cc)
-  of_test false is = unread_later (step_text files) 1 empty (script_lines script) (Some line) line is
+  of_test false is = unread_later (step_text One files) 1 empty (script_lines script) (Some line) line is
 
 -- the run goes on with a script that was read
 goes_on : (files : List File) (name script : List ℕ) (unread : Option ℕ) → file_of files name ≡ Some script → length script ≤ 2 ^ 20 → fails_at unread 0 ≡ false → run_file name files unread ≡ run_form script files unread
@@ -100,7 +101,7 @@ run_long {T} {E} taken faults old new script files read_failed written long writ
   over = grind (arith, nat_tests)
 
   is : run_form script files None ≡ faulted 0 ScriptTooLong
-  is = ap (λ (b : Bool). if b then faulted 0 ScriptTooLong else run_from (step_text files) 1 empty (script_lines script) None) over
+  is = ap (λ (b : Bool). if b then faulted 0 ScriptTooLong else run_from (step_text One files) 1 empty (script_lines script) None) over
 
   of_end : (w : Result T E) → Writes taken faults old new w (fault_text 0 ScriptTooLong) → IsRun taken old new (run_form script files) read_failed (ended w CommandFault)
   of_end (Ok done) wrote = record { out = fault_text 0 ScriptTooLong; bytes = wrote.bytes; answer = is }
@@ -111,14 +112,24 @@ run_long {T} {E} taken faults old new script files read_failed written long writ
   }
 
 -- any other script is run line by line
-pub run_short : {K : Type 0} (taken : K → Option (List ℕ)) (old new : K) (script : List ℕ) (files : List File) (read_failed : Type 0) (status : Status) → length (script_lines script) ≤ 65536 → IsRun taken old new (run_from (step_text files) 1 empty (script_lines script)) read_failed status → IsRun taken old new (run_form script files) read_failed status
+pub run_short : {K : Type 0} (taken : K → Option (List ℕ)) (old new : K) (script : List ℕ) (files : List File) (read_failed : Type 0) (status : Status) → length (script_lines script) ≤ 65536 → IsRun taken old new (run_from (step_text One files) 1 empty (script_lines script)) read_failed status → IsRun taken old new (run_form script files) read_failed status
 unfolding run_form
 run_short taken old new script files read_failed status short run =
     let within : ltb 65536 (length (script_lines script)) ≡ false = grind (arith, nat_tests) in
-    let lines : (unread : Option ℕ) → run_form script files unread ≡ run_from (step_text files) 1 empty (script_lines script) unread =
-    λ unread. ap (λ (b : Bool). if b then faulted 0 ScriptTooLong else run_from (step_text files) 1 empty (script_lines script) unread) within in
-    let same : IsSame (run_from (step_text files) 1 empty (script_lines script)) (run_form script files) = record {
+    let lines : (unread : Option ℕ) → run_form script files unread ≡ run_from (step_text One files) 1 empty (script_lines script) unread =
+    λ unread. ap (λ (b : Bool). if b then faulted 0 ScriptTooLong else run_from (step_text One files) 1 empty (script_lines script) unread) within in
+    let same : IsSame (run_from (step_text One files) 1 empty (script_lines script)) (run_form script files) = record {
       unfailed = lines None;
       failed = λ line text gives. lines (Some line);
     } in
-    record { out = run.out; bytes = run.bytes; answer = same_answer (run_from (step_text files) 1 empty (script_lines script)) (run_form script files) read_failed status run.out same run.answer }
+    record { out = run.out; bytes = run.bytes; answer = same_answer (run_from (step_text One files) 1 empty (script_lines script)) (run_form script files) read_failed status run.out same run.answer }
+
+-- what words of a form say of the counts
+pub cause_of_form : (misused : Type 0) (files : Option (List File)) (shelf_old shelf_new sink_old sink_new : ℕ) (status : Status) →
+    HasCause ⊥ files shelf_old shelf_new sink_old sink_new status → HasCause misused files shelf_old shelf_new sink_old sink_new status
+cause_of_form misused files shelf_old shelf_new sink_old sink_new Done cause = cause
+cause_of_form misused files shelf_old shelf_new sink_old sink_new CommandFault cause = cause
+cause_of_form misused files shelf_old shelf_new sink_old sink_new Usage cause = absurd cause.0
+cause_of_form misused files shelf_old shelf_new sink_old sink_new SourceFault cause = cause
+cause_of_form misused files shelf_old shelf_new sink_old sink_new SinkFault cause = cause
+cause_of_form misused files shelf_old shelf_new sink_old sink_new NoMemory cause = cause

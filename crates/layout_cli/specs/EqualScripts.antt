@@ -2,6 +2,7 @@
 use Rattle.std.specs.Prelude.{ℕ, ◌≡◌, ◌≤◌, ◌^◌, false, List, length, Option, Some}
 use Rattle.layout_io.specs.Files.{File, file_of}
 use Rattle.line_grammar.specs.Sentences.{Sentence}
+use Rattle.line_grammar.specs.declared.version.Version.TheVariants.{One}
 use Rattle.script_runs.specs.Fold.{fails_at}
 use Rattle.equal_runs.specs.Lines.{AreLines}
 use Rattle.equal_runs.specs.EqualRuns.{DifferInTerms}
@@ -13,7 +14,7 @@ pub record IsScript (files : List File) (name : List ℕ) (lines : List Sentence
   pub there : file_of files name ≡ Some script
   pub short : length script ≤ 2 ^ 20
   pub few : length (script_lines script) ≤ 65536
-  pub lines_are : AreLines (script_lines script) lines
+  pub lines_are : AreLines One (script_lines script) lines
 
 -- the runs of two such scripts write the same bytes and end alike; reading fails in a line, if at all
 abbrev pub EqualScripts : List File → Type 0

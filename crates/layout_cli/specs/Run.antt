@@ -1,9 +1,10 @@
 -- The run of the program on a list of words: what it writes and how it ends, over the files of its shelf.
-use Rattle.std.specs.Prelude.{ℕ, ◌^◌, List, ◌∷◌, [], length, Option, None, Some, codes, bytes_eq, nat_lt, if◌then◌else◌}
+use Rattle.std.specs.Prelude.{ℕ, ◌≡◌, ◌^◌, List, ◌∷◌, [], length, Option, None, Some, codes, bytes_eq, nat_lt, if◌then◌else◌}
 use Rattle.csv.specs.Reading.{strip_bom}
 use Rattle.layout_io.specs.Files.{File, file_of}
 use Rattle.generator.specs.Generated.{script_text, dataset_text, generated_files}
 use Rattle.generator.specs.Numbers.{number_of}
+use Rattle.line_grammar.specs.declared.version.Version.TheVariants.{One}
 use Rattle.worlds.specs.Worlds.{empty}
 use Rattle.worlds.specs.FaultTexts.{fault_text, unread_text}
 use Rattle.worlds.specs.declared.fault.CommandFault.{CommandFault}
@@ -26,6 +27,10 @@ abbrev pub gen_words : List (List ℕ) → Option ℕ
 gen_words (verb ∷ number ∷ []) = if bytes_eq verb (codes "gen") then number_of number else None
 gen_words words = None
 
+-- words of neither form
+abbrev pub IsMisuse : List (List ℕ) → Type 0
+IsMisuse words = (script_name words ≡ None) × (gen_words words ≡ None)
+
 -- what reading a file at a line gives
 abbrev pub read_at_line : List File → Option ℕ → ℕ → List ℕ → Option (List ℕ)
 read_at_line files unread line name = if fails_at unread line then None else file_of files name
@@ -42,11 +47,11 @@ unread_at line name = record { bytes = unread_text line name; end = Unread line 
 abbrev pub script_lines : List ℕ → List (List ℕ)
 script_lines script = lines_in (strip_bom script)
 
--- a script that was read, of at most 65,536 lines
+-- a script that was read, of at most 65,536 lines, in the version of the language that there is
 unfoldable pub run_form : List ℕ → List File → Option ℕ → Output
 run_form script files unread =
     if nat_lt 65536 (length (script_lines script)) then faulted 0 ScriptTooLong
-    else run_from (step_text files) 1 empty (script_lines script) unread
+    else run_from (step_text One files) 1 empty (script_lines script) unread
 
 -- a script of at most 2^20 bytes, or one that was not read
 abbrev pub run_script : List ℕ → Option (List ℕ) → List File → Option ℕ → Output

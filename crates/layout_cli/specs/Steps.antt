@@ -1,7 +1,8 @@
 -- What the text of a line does to a world.
-use Rattle.std.specs.Prelude.{ℕ, Bool, List, length, nat_lt, ◌≡◌, if◌then◌else◌, Option, Some, Result, Ok, Err}
+use Rattle.std.specs.Prelude.{ℕ, Bool, List, length, nat_lt, ◌≡◌, if◌then◌else◌, Result, Ok, Err}
 use Rattle.layout_io.specs.Files.{File}
 use Rattle.line_grammar.specs.Sentences.{Sentence, deepest}
+use Rattle.line_grammar.specs.declared.version.Version.{Version}
 use Rattle.schema_lang.specs.LineOf.{line_of}
 use Rattle.script_runs.specs.declared.fold.LineEnd.{LineEnd}
 use Rattle.script_runs.specs.declared.fold.LineEnd.TheVariants as end
@@ -15,13 +16,13 @@ abbrev pub step_line : List File → World → Result Sentence ℕ → Bool → 
 step_line files world (Err column) unread = Faults (Syntax column)
 step_line files world (Ok sentence) unread = if nat_lt 32 (deepest sentence) then Faults TooDeep else step world sentence files unread
 
--- the text of a line over these files, which has at most 4,096 bytes; `unread`: reading fails in this line
-abbrev pub step_text : List File → World → List ℕ → Bool → Outcome Left
-step_text files world text unread = if nat_lt 4096 (length text) then Faults LineTooLong else step_line files world (line_of text) unread
+-- the text of a line in a version of the language over these files, which has at most 4,096 bytes; `unread`: reading fails in this line
+abbrev pub step_text : Version → List File → World → List ℕ → Bool → Outcome Left
+step_text version files world text unread = if nat_lt 4096 (length text) then Faults LineTooLong else step_line files world (line_of version text) unread
 
 -- the end of a run at a line that could not read this file
-abbrev pub TellsFile : Option (List ℕ) → LineEnd → Type 0
-TellsFile file (end.Source told) = file ≡ Some told
+abbrev pub TellsFile : List ℕ → LineEnd → Type 0
+TellsFile file (end.Source told) = told ≡ file
 TellsFile file end.NoMemory = Unit {0}
 TellsFile file (end.Command fault) = ⊥
 TellsFile file end.Sink = ⊥

@@ -1,19 +1,19 @@
 // The lines of a script, done by a session.
-ghost use Rattle.std.specs.Prelude.{◌≡◌, IfOk, IsSome, List, Some};
+ghost use Rattle.std.specs.Prelude.{◌≡◌, IfOk, List, Some};
 ghost use Rattle.layout_io.specs.Faults.{Rose};
 ghost use Rattle.layout_io.specs.Files.{File};
 ghost use Rattle.line_grammar.specs.Sentences.{sentence_of};
 ghost use Rattle.schema_lang.specs.Parsing.{IsWhole};
-ghost use Rattle.script_runs.specs.Steps.{StepsTo, StepCause};
-ghost use Rattle.session.specs.Loads.{file_in};
+ghost use Rattle.script_runs.specs.Steps.{ending_of};
 ghost use Rattle.session.specs.Stands.{Stands};
+ghost use Rattle.worlds.specs.Answers.{StepsTo, StepCause};
 ghost use Rattle.worlds.specs.Step.{step};
 ghost use Rattle.worlds.specs.Worlds.{World};
 ghost use Rattle.layout_cli.specs.Steps.{step_text, TellsFile};
 
 use layout_io::{Shelf, Sink};
 use record_dim::Text;
-use schema_lang::{FileName, Line, LineFault, parse_line};
+use schema_lang::{FileName, Line, LineFault, Version, parse_line_in};
 use script_runs::{LineEnd, Stepper};
 use session::{CommandFault, Session, StepFault};
 use std::alloc::{AllocError as NoMemory, Global};
@@ -27,13 +27,14 @@ const LINE_BYTES: usize = 4096;
 #[derive(Drop)]
 pub struct Running {
     pub alloc: Global,
+    pub version: Version,
     pub session: Session,
 }
 
 impl Stepper for Running {
     ghost stands = { λ running world. Stands running.session world };
 
-    ghost outcome = { step_text };
+    ghost outcome = { λ running. step_text running.version };
 
     fn step<H: Shelf, K: Sink, L: Ledger>(
         self,
@@ -42,9 +43,13 @@ impl Stepper for Running {
         sink: &mut K,
         steps: &mut Steps<L>,
     ) -> Result<Running, LineEnd> {
-        let alloc = self.alloc;
-        match do_line(alloc, self.session, text, shelf, sink, steps) {
-            Ok(session) => Ok(Running { alloc, session }),
+        let (alloc, version) = (self.alloc, self.version);
+        match do_line(alloc, version, self.session, text, shelf, sink, steps) {
+            Ok(session) => Ok(Running {
+                alloc,
+                version,
+                session,
+            }),
             Err(end) => Err(end),
         }
     }
@@ -53,6 +58,7 @@ impl Stepper for Running {
 // Does the line of this text.
 fn do_line<H: Shelf, K: Sink, L: Ledger>(
     alloc: Global,
+    version: Version,
     session: Session,
     text: &[u8],
     shelf: &mut H,
@@ -60,16 +66,16 @@ fn do_line<H: Shelf, K: Sink, L: Ledger>(
     steps: &mut Steps<L>,
 ) -> Result<Session, LineEnd>
     ensures step { (files : List File) (world : World) → H.files shelf.old ≡ Some files → Stands session world
-        → StepsTo Stands K.taken K.faults sink.old sink.new (step_text files world text.now)
+        → StepsTo ending_of Stands K.taken K.faults sink.old sink.new (step_text version files world text.now)
         (Rose (H.faults shelf.old) (H.faults shelf.new)) result }
     ensures files { H.files shelf.new ≡ H.files shelf.old }
-    ensures cause { StepCause (H.files shelf.old) (H.faults shelf.old) (H.faults shelf.new)
+    ensures cause { StepCause ending_of (H.files shelf.old) (H.faults shelf.old) (H.faults shelf.new)
         (K.faults sink.old) (K.faults sink.new) result }
 {
     if text.len() > LINE_BYTES {
         return Err(LineEnd::Command(CommandFault::LineTooLong));
     }
-    match parse_line(alloc, text) {
+    match parse_line_in(alloc, version, text) {
         Ok(line) => do_command(alloc, session, &line, shelf, sink, steps),
         Err(fault) => match fault {
             LineFault::Syntax { column } => Err(LineEnd::Command(CommandFault::Syntax { column })),
@@ -91,17 +97,17 @@ fn do_command<H: Shelf, K: Sink, L: Ledger>(
 ) -> Result<Session, LineEnd>
     requires { IsWhole line.now }
     ensures step { (files : List File) (world : World) → H.files shelf.old ≡ Some files → Stands session world
-        → StepsTo Stands K.taken K.faults sink.old sink.new (step world (sentence_of line.now) files)
+        → StepsTo ending_of Stands K.taken K.faults sink.old sink.new (step world (sentence_of line.now) files)
         (Rose (H.faults shelf.old) (H.faults shelf.new)) result }
     ensures files { H.files shelf.new ≡ H.files shelf.old }
-    ensures cause { StepCause (H.files shelf.old) (H.faults shelf.old) (H.faults shelf.new)
+    ensures cause { StepCause ending_of (H.files shelf.old) (H.faults shelf.old) (H.faults shelf.new)
         (K.faults sink.old) (K.faults sink.new) result }
 {
     match session.step(line, shelf, sink, steps) {
         Ok(next) => Ok(next),
         Err(fault) => match fault {
             StepFault::Command(fault) => Err(LineEnd::Command(fault)),
-            StepFault::Source => Err(unread_end(alloc, line)),
+            StepFault::Source => Err(unread_end(alloc, line.file().unwrap())),
             StepFault::Sink => Err(LineEnd::Sink),
             StepFault::NoMemory => Err(LineEnd::NoMemory),
         },
@@ -109,17 +115,12 @@ fn do_command<H: Shelf, K: Sink, L: Ledger>(
 }
 
 // The end of the run at a line whose file was not read.
-#[tactic(auto, using(session::specs::LoadsLaws::no_file))]
-fn unread_end(alloc: Global, line: &Line) -> LineEnd
-    requires { IsSome (file_in (sentence_of line.now)) }
-    ensures { TellsFile (file_in (sentence_of line.now)) result }
+fn unread_end(alloc: Global, file: &FileName) -> LineEnd
+    ensures { TellsFile file.now result }
 {
-    match line {
-        Line::Load { file, .. } => match file_text(alloc, file) {
-            Ok(name) => LineEnd::Source(name),
-            Err(NoMemory) => LineEnd::NoMemory,
-        },
-        _ => unreachable!(),
+    match file_text(alloc, file) {
+        Ok(name) => LineEnd::Source(name),
+        Err(NoMemory) => LineEnd::NoMemory,
     }
 }
 

@@ -4,12 +4,13 @@ ghost use Rattle.layout_io.specs.Faults.{Rose};
 ghost use Rattle.layout_io.specs.Files.{File};
 ghost use Rattle.layout_io.specs.Writing.{Writes};
 ghost use Rattle.script_runs.specs.Answers.{IsRun, HasCause, HasSinkCause};
-ghost use Rattle.layout_cli.specs.Run.{run, run_file, run_generated, run_form, script_name, gen_words, usage_text};
+ghost use Rattle.layout_cli.specs.Run.{run, run_file, run_generated, run_form, script_name, gen_words, IsMisuse, usage_text};
 
 use crate::lines::Running;
 use fault_lines::{write_fault, write_unread};
 use generator::{GeneratedShelf, gen_dataset, gen_number, gen_script};
 use layout_io::{Failed, ReadEnd, Shelf, Sink, read_all, write_all};
+use schema_lang::Version;
 use script_runs::{Status, ended, line_count, run_lines};
 use session::{CommandFault, Session};
 use std::alloc::Global;
@@ -27,7 +28,8 @@ const SCRIPT_LINES: usize = 65_536;
 ///
 /// Where the shelf tells its files, or the words name no script, the bytes that the sink took are
 /// those of `run`, as the status says: all of them, or a prefix where a write failed or memory was
-/// wanting. Words that name no script ask the shelf nothing.
+/// wanting. Words that name no script ask the shelf nothing. `Usage` is exactly where the words are
+/// of neither form and no write failed.
 pub fn llama<H: Shelf, K: Sink>(
     alloc: Global,
     words: &[String],
@@ -38,13 +40,11 @@ pub fn llama<H: Shelf, K: Sink>(
         → (H.files shelf.old ≡ Some files) ⊎ (script_name (map string_bytes words.now) ≡ None)
         → IsRun K.taken sink.old sink.new (run (map string_bytes words.now) files)
         (Rose (H.faults shelf.old) (H.faults shelf.new)) result }
-    ensures cause { HasCause (H.files shelf.old) (H.faults shelf.old) (H.faults shelf.new)
+    ensures cause { HasCause (IsMisuse (map string_bytes words.now)) (H.files shelf.old) (H.faults shelf.old) (H.faults shelf.new)
         (K.faults sink.old) (K.faults sink.new) result }
     ensures untouched { script_name (map string_bytes words.now) ≡ None
         → (shelf.new ≡ shelf.old) × (result ≢ Status.SourceFault) }
-    ensures usage { script_name (map string_bytes words.now) ≡ None
-        → gen_words (map string_bytes words.now) ≡ None
-        → result ≡ Status.Usage ⊎ result ≡ Status.SinkFault }
+    ensures usage { IsMisuse (map string_bytes words.now) → result ≡ Status.Usage ⊎ result ≡ Status.SinkFault }
 {
     match script_name(words) {
         Some(name) => run_script(alloc, name, shelf, sink),
@@ -96,7 +96,7 @@ fn run_script<H: Shelf, K: Sink>(alloc: Global, name: &str, shelf: &mut H, sink:
     ensures run { (files : List File) → H.files shelf.old ≡ Some files
         → IsRun K.taken sink.old sink.new (run_file name.now files)
         (Rose (H.faults shelf.old) (H.faults shelf.new)) result }
-    ensures cause { HasCause (H.files shelf.old) (H.faults shelf.old) (H.faults shelf.new)
+    ensures cause { HasCause ⊥ (H.files shelf.old) (H.faults shelf.old) (H.faults shelf.new)
         (K.faults sink.old) (K.faults sink.new) result }
 {
     match read_all(alloc, shelf, name, SCRIPT_BYTES) {
@@ -115,7 +115,7 @@ fn run_form<H: Shelf, K: Sink>(alloc: Global, script: &[u8], shelf: &mut H, sink
     ensures run { (files : List File) → H.files shelf.old ≡ Some files
         → IsRun K.taken sink.old sink.new (run_form script.now files)
         (Rose (H.faults shelf.old) (H.faults shelf.new)) result }
-    ensures cause { HasCause (H.files shelf.old) (H.faults shelf.old) (H.faults shelf.new)
+    ensures cause { HasCause ⊥ (H.files shelf.old) (H.faults shelf.old) (H.faults shelf.new)
         (K.faults sink.old) (K.faults sink.new) result }
 {
     run_counted::<H, K, Brand>(alloc, script, shelf, sink, Blank::new(1))
@@ -135,7 +135,7 @@ fn run_counted<H: Shelf, K: Sink, L: Ledger>(
     ensures run { (files : List File) → H.files shelf.old ≡ Some files
         → IsRun K.taken sink.old sink.new (run_form script.now files)
         (Rose (H.faults shelf.old) (H.faults shelf.new)) result }
-    ensures cause { HasCause (H.files shelf.old) (H.faults shelf.old) (H.faults shelf.new)
+    ensures cause { HasCause ⊥ (H.files shelf.old) (H.faults shelf.old) (H.faults shelf.new)
         (K.faults sink.old) (K.faults sink.new) result }
 {
     let lines = without_mark(script);
@@ -147,6 +147,7 @@ fn run_counted<H: Shelf, K: Sink, L: Ledger>(
     }
     let running = Running {
         alloc,
+        version: Version::One,
         session: Session::new(alloc),
     };
     run_lines(running, lines, shelf, sink, &mut Steps::<L>::new(blank))

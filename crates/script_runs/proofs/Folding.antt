@@ -58,7 +58,7 @@ prepend-append a b output = ap (λ bytes. record { bytes = bytes; end = output.e
 -- one line more was done
 pub one_more : {S K : Type 0} (Stands : S → World → Type 0) (taken : K → Option (List ℕ)) (faults : K → ℕ) (old mid new : K) (outcome : World → List ℕ → Bool → Outcome Left) (run : Option ℕ → Output) (number : ℕ) (line : List ℕ) (lines : List (List ℕ)) (before next : S) → (so_far : SoFar (Stands before) taken faults old mid outcome run number (line ∷ lines)) → Did Stands taken faults mid new (outcome so_far.world line false) next → SoFar (Stands next) taken faults old new outcome run (number + 1) lines
 one_more Stands taken faults old mid new outcome run number line lines before next so_far did = record {
-  world = did.left.world;
+  world = did.left.held;
   written = so_far.written ++ did.left.text;
   stands = did.stands;
   wrote = Wrote-append so_far.wrote did.wrote;
@@ -67,7 +67,7 @@ one_more Stands taken faults old mid new outcome run number line lines before ne
         so_far.goes.on unread (still_ahead number unread ahead)
         ∙ ap (λ (b : Bool). prepend so_far.written (after number (outcome so_far.world line b) (λ w. run_from outcome (number + 1) w lines unread))) (not_here number unread ahead)
         ∙ ap (λ (o : Outcome Left). prepend so_far.written (after number o (λ w. run_from outcome (number + 1) w lines unread))) did.goes
-        ∙ prepend-append so_far.written did.left.text (run_from outcome (number + 1) did.left.world lines unread);
+        ∙ prepend-append so_far.written did.left.text (run_from outcome (number + 1) did.left.held lines unread);
   };
 }
 
@@ -119,7 +119,7 @@ at_unread taken faults old mid ready new outcome run read_failed number line lin
 pub at_break : {K : Type 0} {Stands : World → Type 0} (taken : K → Option (List ℕ)) (faults : K → ℕ) (old mid new : K) (outcome : World → List ℕ → Bool → Outcome Left) (run : Option ℕ → Output) (read_failed : Type 0) (number : ℕ) (line : List ℕ) (lines : List (List ℕ)) → (so_far : SoFar Stands taken faults old mid outcome run number (line ∷ lines)) → Broke taken faults mid new (outcome so_far.world line false) → IsRun taken old new run read_failed SinkFault
 at_break taken faults old mid new outcome run read_failed number line lines so_far broke =
     let is = run_at so_far (Goes broke.left) broke.goes in
-    let rest = (run_from outcome (number + 1) broke.left.world lines None).bytes in
+    let rest = (run_from outcome (number + 1) broke.left.held lines None).bytes in
     let whole : (so_far.written ++ broke.left.text) ++ rest ≡ (run None).bytes = append_assoc so_far.written broke.left.text rest ∙ sym (ap (λ (o : Output). o.bytes) is) in
     let stop = Stopped-front rest (run None).bytes whole (Stopped-second so_far.wrote broke.stopped) in
     record {
@@ -130,7 +130,7 @@ at_break taken faults old mid new outcome run read_failed number line lines so_f
 
 -- what stands behind the text of a line in the bytes of the run
 behind : (number : ℕ) (o : Outcome Left) (written : List ℕ) (rest : World → Output) → (more : List ℕ) × ((written ++ text_of o) ++ more ≡ (prepend written (after number o rest)).bytes)
-behind number (Goes left) written rest = ((rest left.world).bytes, append_assoc written left.text (rest left.world).bytes)
+behind number (Goes left) written rest = ((rest left.held).bytes, append_assoc written left.text (rest left.held).bytes)
 behind number (Faults fault) written rest = (fault_text number fault, append_assoc written [] (fault_text number fault))
 behind number (CannotRead name) written rest = (unread_text number name, append_assoc written [] (unread_text number name))
 

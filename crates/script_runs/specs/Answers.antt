@@ -22,14 +22,14 @@ pub record IsRun {K : Type 0} (taken : K → Option (List ℕ)) (old new : K) (r
   pub bytes : taken new ≡ with_bytes (taken old) out
   pub answer : Answers run read_failed status out
 
--- which counts of faults may have risen, by status
-abbrev pub HasCause : Option (List File) → ℕ → ℕ → ℕ → ℕ → Status → Type 0
-HasCause files shelf_old shelf_new sink_old sink_new Done = (shelf_new ≡ shelf_old) × (sink_new ≡ sink_old)
-HasCause files shelf_old shelf_new sink_old sink_new CommandFault = (shelf_new ≡ shelf_old) × (sink_new ≡ sink_old)
-HasCause files shelf_old shelf_new sink_old sink_new Usage = (shelf_new ≡ shelf_old) × (sink_new ≡ sink_old)
-HasCause files shelf_old shelf_new sink_old sink_new SourceFault = (Rose shelf_old shelf_new ⊎ IsSome files) × (shelf_old ≤ shelf_new) × (sink_new ≡ sink_old)
-HasCause files shelf_old shelf_new sink_old sink_new SinkFault = (shelf_old ≤ shelf_new) × Rose sink_old sink_new
-HasCause files shelf_old shelf_new sink_old sink_new NoMemory = (shelf_old ≤ shelf_new) × (sink_old ≤ sink_new)
+-- which counts of faults may have risen, by status; `misused` says that the words are of no form
+abbrev pub HasCause : Type 0 → Option (List File) → ℕ → ℕ → ℕ → ℕ → Status → Type 0
+HasCause misused files shelf_old shelf_new sink_old sink_new Done = (shelf_new ≡ shelf_old) × (sink_new ≡ sink_old)
+HasCause misused files shelf_old shelf_new sink_old sink_new CommandFault = (shelf_new ≡ shelf_old) × (sink_new ≡ sink_old)
+HasCause misused files shelf_old shelf_new sink_old sink_new Usage = misused × (shelf_new ≡ shelf_old) × (sink_new ≡ sink_old)
+HasCause misused files shelf_old shelf_new sink_old sink_new SourceFault = (Rose shelf_old shelf_new ⊎ IsSome files) × (shelf_old ≤ shelf_new) × (sink_new ≡ sink_old)
+HasCause misused files shelf_old shelf_new sink_old sink_new SinkFault = (shelf_old ≤ shelf_new) × Rose sink_old sink_new
+HasCause misused files shelf_old shelf_new sink_old sink_new NoMemory = (shelf_old ≤ shelf_new) × (sink_new ≡ sink_old)
 
 -- the same of a run that reads nothing
 abbrev pub HasSinkCause : ℕ → ℕ → Status → Type 0
@@ -38,7 +38,7 @@ HasSinkCause old new CommandFault = new ≡ old
 HasSinkCause old new Usage = ⊥
 HasSinkCause old new SourceFault = ⊥
 HasSinkCause old new SinkFault = Rose old new
-HasSinkCause old new NoMemory = old ≤ new
+HasSinkCause old new NoMemory = new ≡ old
 
 -- the exit status of the program
 abbrev pub exit_number : Status → ℕ

@@ -16,7 +16,7 @@ fails_at (Some other) line = other == line
 
 -- what becomes of a run after the outcome of a line
 abbrev pub after : ℕ → Outcome Left → (World → Output) → Output
-after line (Goes left) rest = prepend left.text (rest left.world)
+after line (Goes left) rest = prepend left.text (rest left.held)
 after line (Faults fault) rest = record { bytes = fault_text line fault; end = Faulted }
 after line (CannotRead name) rest = record { bytes = unread_text line name; end = Unread line }
 

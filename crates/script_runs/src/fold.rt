@@ -1,4 +1,4 @@
-ghost use Rattle.std.specs.Prelude.{◌≡◌, ◌<◌, ◌^◌, ℕ, List, Some, Bool, length};
+ghost use Rattle.std.specs.Prelude.{◌≡◌, ◌<◌, ◌^◌, ℕ, List, Some, Bool, IfOk, length};
 ghost use Rattle.layout_io.specs.Faults.{Rose};
 ghost use Rattle.layout_io.specs.Files.{File};
 ghost use Rattle.worlds.specs.Worlds.{World};
@@ -30,13 +30,14 @@ pub enum LineEnd {
 
 /// What does a script line by line.
 pub trait Stepper: Drop {
-    ghost use Rattle.script_runs.specs.Steps.{StepsTo, StepCause};
+    ghost use Rattle.worlds.specs.Answers.{StepsTo, StepCause};
+    ghost use Rattle.script_runs.specs.Steps.{ending_of};
 
     // The worlds that it stands for.
     ghost stands: { Self → World → Type 0 };
 
-    // What a line does to a world, over these files, and by whether reading fails in it.
-    ghost outcome: { List File → World → List ℕ → Bool → Outcome Left };
+    // What a line does to a world, over these files, and by whether reading fails in it: the same at each line.
+    ghost outcome: { Self → List File → World → List ℕ → Bool → Outcome Left };
 
     /// Does the line of this text.
     fn step<H: Shelf, K: Sink, L: Ledger>(
@@ -47,10 +48,11 @@ pub trait Stepper: Drop {
         steps: &mut Steps<L>,
     ) -> Result<Self, LineEnd>
         ensures step { (files : List File) (world : World) → H.files shelf.old ≡ Some files → stands self world
-            → StepsTo stands K.taken K.faults sink.old sink.new (outcome files world text.now)
+            → StepsTo ending_of stands K.taken K.faults sink.old sink.new (outcome self files world text.now)
             (Rose (H.faults shelf.old) (H.faults shelf.new)) result }
+        ensures same { IfOk result (λ next. outcome next ≡ outcome self) }
         ensures files { H.files shelf.new ≡ H.files shelf.old }
-        ensures cause { StepCause (H.files shelf.old) (H.faults shelf.old) (H.faults shelf.new)
+        ensures cause { StepCause ending_of (H.files shelf.old) (H.faults shelf.old) (H.faults shelf.new)
             (K.faults sink.old) (K.faults sink.new) result };
 }
 
@@ -64,9 +66,9 @@ pub fn run_lines<S: Stepper, H: Shelf, K: Sink, L: Ledger>(
 ) -> Status
     requires { length (lines_in script.now) < 2 ^ 64 }
     ensures run { (files : List File) (world : World) → H.files shelf.old ≡ Some files → S.stands first world
-        → IsRun K.taken sink.old sink.new (run_from (S.outcome files) 1 world (lines_in script.now))
+        → IsRun K.taken sink.old sink.new (run_from (S.outcome first files) 1 world (lines_in script.now))
         (Rose (H.faults shelf.old) (H.faults shelf.new)) result }
-    ensures cause { HasCause (H.files shelf.old) (H.faults shelf.old) (H.faults shelf.new)
+    ensures cause { HasCause ⊥ (H.files shelf.old) (H.faults shelf.old) (H.faults shelf.new)
         (K.faults sink.old) (K.faults sink.new) result }
 {
     let mut session = first;

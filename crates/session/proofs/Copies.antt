@@ -11,33 +11,32 @@ use Rattle.record_dim.specs.LeafTypes.{least_of, greatest_of, least_in, greatest
 use Rattle.record_dim.specs.declared.leaf_type.LeafType.{LeafType}
 use Rattle.record_dim.specs.Leaves.{leaves}
 use Rattle.record_dim.specs.Trees.{Fields}
-use Rattle.record_dim.specs.Schemas.{schema_fields}
 use Rattle.places.specs.Image.{entry}
 use Rattle.places.specs.declared.piece.Hold.{Hold}
 use Rattle.layout_copy.specs.Copies.{AreAlike, IsCopied, refusing, refused_at}
 use Rattle.layout_copy.specs.declared.fault.CopyFault.{CopyFault}
 use Rattle.layout_copy.specs.declared.fault.CopyFault.TheVariants as copy
-use Rattle.views.specs.Seen.{Seen, IsTable, leaf_count_of, leaf_types_of, seen_holds, answer_of, after_log}
+use Rattle.views.specs.Tables.{Table, IsTable, table_holds, leaf_count_of, leaf_types_of, answer_of, after_log}
 use Rattle.views.specs.Tallies.{Access, all_reads, all_writes, all_touches}
 use Rattle.views.specs.TallyLaws.{after_log-append}
 use Rattle.views.specs.Stores.{Answer, is_between, kind_at, store_answer}
 use Rattle.worlds.specs.Copy.{copy, copied, with_rows, all_read, laid_anew, narrow_fault}
 use Rattle.worlds.specs.Tables.{made, zeros_of}
-use Rattle.worlds.specs.Values.{answer_in}
 use Rattle.map_expr.specs.Terms.{Term as MapTerm}
+use Rattle.worlds.specs.declared.fault.CommandFault.{CommandFault}
 use Rattle.worlds.specs.declared.fault.CommandFault.TheVariants as refusal
 use Rattle.worlds.specs.declared.fault.CommandFault.TheVariants.{Unknown}
 use Rattle.worlds.specs.declared.fault.UnknownName.TheVariants.{Name}
 use Rattle.command_checks.specs.Places.{IsAt}
 use Rattle.worlds.specs.Outcomes.{Outcome, Goes, Faults, CannotRead, ◌>>=◌, quiet, known, some_or}
-use Rattle.worlds.specs.Worlds.{World, Entry, Table, replaced}
+use Rattle.worlds.specs.Worlds.{World, Entry, replaced}
 use Rattle.command_checks.specs.AlikeLaws.{alike, not_alike}
-use Rattle.command_checks.specs.Entries.{table_of, view_of}
+use Rattle.command_checks.specs.Entries.{view_of}
 use Rattle.command_checks.specs.Gives.{GivesUp}
 use Rattle.command_checks.specs.GivesLaws.{GivesUp-then, goes_then}
 use Rattle.command_checks.specs.declared.entries.ViewEntry.{ViewEntry}
 use Rattle.command_checks.specs.declared.fault.StepFault.{StepFault}
-use Rattle.session.specs.Changes.{copied_at, made_like, zeros_like, Tells, TellsCopy}
+use Rattle.session.specs.Changes.{copied_at, made_like, zeros_like, TellsCopy}
 use Rattle.session.proofs.Exits.{tells_gives}
 use Rattle.session.proofs.Named.{IsFirst, first_found, first_replaced, first_still}
 
@@ -119,81 +118,81 @@ rows_held answer row (values ∷ rows) all =
     let rest : refused_at answer (row + 1) rows ≡ None = rows_held answer (row + 1) rows (λ r k inside small. all (suc r) k (omega (arith, inside)) small) in
     rw (first, rest) refl
 
-own_values : (seen : Seen) → IsTable seen → refused_at (answer_of seen) 0 seen.table ≡ None
-own_values seen is = rows_held (answer_of seen) 0 seen.table (λ r k inside small.
-    let kinds : length (leaf_types_of seen) ≡ length (leaves (schema_fields seen.schema)) = length-map (leaves (schema_fields seen.schema)) (λ leaf. leaf.kind) in
+own_values : (seen : Table) → IsTable seen → refused_at (answer_of seen) 0 seen.rows ≡ None
+own_values seen is = rows_held (answer_of seen) 0 seen.rows (λ r k inside small.
+    let kinds : length (leaf_types_of seen) ≡ length (leaves seen.fields) = length-map (leaves seen.fields) (λ leaf. leaf.kind) in
     let leaf : k < length (leaf_types_of seen) = omega (arith, small, is.shape.leaf_count r inside, kinds) in
     let fits = is.fits r k inside leaf in
-    taken (kind_at (leaf_types_of seen) k) (hold_at (seen_holds seen) k) (entry seen.table r k) fits.declared fits.held)
+    taken (kind_at (leaf_types_of seen) k) (hold_at (table_holds seen) k) (entry seen.rows r k) fits.declared fits.held)
 
 -- the copy of a table to one that is alike
-copied_alike : (source target : Seen) → AreAlike source target → copied (table_of source) (table_of target) ≡ with_rows (table_of target) source.table
+copied_alike : (source target : Table) → AreAlike source target → copied source target ≡ with_rows target source.rows
 unfolding copied
 copied_alike source target are = rw (alike source target are) refl
 
 -- a copy onto itself reads each value and writes it
-touched_once : (leaf_count rows : ℕ) → all_reads leaf_count rows ++ all_writes leaf_count rows ≡ all_touches 1 1 leaf_count rows
-touched_once leaf_count rows =
-    ap (λ (log : List Access). log ++ all_writes leaf_count rows) (sym (append-nil (all_reads leaf_count rows)))
-    ∙ ap (λ (log : List Access). (all_reads leaf_count rows ++ []) ++ log) (sym (append-nil (all_writes leaf_count rows)))
+touched_once : (leaves_in rows : ℕ) → all_reads leaves_in rows ++ all_writes leaves_in rows ≡ all_touches 1 1 leaves_in rows
+touched_once leaves_in rows =
+    ap (λ (log : List Access). log ++ all_writes leaves_in rows) (sym (append-nil (all_reads leaves_in rows)))
+    ∙ ap (λ (log : List Access). (all_reads leaves_in rows ++ []) ++ log) (sym (append-nil (all_writes leaves_in rows)))
 
-pub copied_self : (seen now : Seen) → IsTable seen → now ≡ after_log seen (all_touches 1 1 (leaf_count_of seen) (length seen.table)) →
-    copied (table_of seen) (all_read (table_of seen)) ≡ Goes (table_of now)
+pub copied_self : (seen now : Table) → IsTable seen → now ≡ after_log seen (all_touches 1 1 (leaf_count_of seen) (length seen.rows)) →
+    copied seen (all_read seen) ≡ Goes now
 unfolding with_rows
 copied_self seen now is touched =
-    let reads = all_reads (leaf_count_of seen) (length seen.table) in
-    let writes = all_writes (leaf_count_of seen) (length seen.table) in
-    let read : Seen = after_log seen reads in
-    let held : refused_at (answer_in (table_of read)) 0 seen.table ≡ None = own_values seen is in
+    let reads = all_reads (leaf_count_of seen) (length seen.rows) in
+    let writes = all_writes (leaf_count_of seen) (length seen.rows) in
+    let read : Table = after_log seen reads in
+    let held : refused_at (answer_of read) 0 seen.rows ≡ None = own_values seen is in
     let both : after_log read writes ≡ now =
-    after_log-append seen reads writes ∙ ap (after_log seen) (touched_once (leaf_count_of seen) (length seen.table)) ∙ sym touched in
-    copied_alike seen read (refl, refl) ∙ rw held (ap (λ (s : Seen). Goes (table_of s)) both)
+    after_log-append seen reads writes ∙ ap (after_log seen) (touched_once (leaf_count_of seen) (length seen.rows)) ∙ sym touched in
+    copied_alike seen read (refl, refl) ∙ rw held (ap (λ (s : Table). Goes s) both)
 
 -- a table that is laid out anew is copied into the new one
-pub laid_copied : (views : List (Entry Table)) (term : MapTerm) (old fresh : Seen) → made views (schema_fields old.schema) old.extents term ≡ Goes (table_of fresh) →
-    table_of fresh ≡ zeros_of (schema_fields old.schema) old.extents term → laid_anew views (table_of old) term ≡ copied (table_of old) (table_of fresh)
+pub laid_copied : (views : List (Entry Table)) (term : MapTerm) (old fresh : Table) → made views old.fields old.extents term ≡ Goes fresh →
+    fresh ≡ zeros_of old.fields old.extents term → laid_anew views old term ≡ copied old fresh
 unfolding laid_anew
 laid_copied views term old fresh made_is zeros =
-    let fields : schema_fields fresh.schema ≡ schema_fields old.schema = ap (λ (t : Table). t.fields) zeros in
+    let fields : fresh.fields ≡ old.fields = ap (λ (t : Table). t.fields) zeros in
     let extents : fresh.extents ≡ old.extents = ap (λ (t : Table). t.extents) zeros in
     goes_then _ _ _ made_is ∙ sym (copied_alike old fresh (sym fields, sym extents))
 
 -- the same of a table at a place
-pub laid_at : (views : List ViewEntry) (place : ℕ) (entry : ViewEntry) (term : MapTerm) (fresh : Seen) → entry ≡ get_or views place entry →
-    made_like (map view_of views) (table_of (get_or views place entry).view) term ≡ Goes (table_of fresh) → table_of fresh ≡ zeros_like (table_of (get_or views place entry).view) term →
-    laid_anew (map view_of views) (table_of entry.view) term ≡ copied (table_of entry.view) (table_of fresh)
+pub laid_at : (views : List ViewEntry) (place : ℕ) (entry : ViewEntry) (term : MapTerm) (fresh : Table) → entry ≡ get_or views place entry →
+    made_like (map view_of views) ((get_or views place entry).view) term ≡ Goes fresh → fresh ≡ zeros_like ((get_or views place entry).view) term →
+    laid_anew (map view_of views) entry.view term ≡ copied entry.view fresh
 laid_at views place entry term fresh is made_is zeros =
-    let old = λ (e : ViewEntry). table_of e.view in
-    laid_copied (map view_of views) term entry.view fresh (subst (λ (e : ViewEntry). made_like (map view_of views) (old e) term ≡ Goes (table_of fresh)) (sym is) made_is)
-    (subst (λ (e : ViewEntry). table_of fresh ≡ zeros_like (old e) term) (sym is) zeros)
+    let old = λ (e : ViewEntry). e.view in
+    laid_copied (map view_of views) term entry.view fresh (subst (λ (e : ViewEntry). made_like (map view_of views) (old e) term ≡ Goes fresh) (sym is) made_is)
+    (subst (λ (e : ViewEntry). fresh ≡ zeros_like (old e) term) (sym is) zeros)
 
 -- what a copy answers is what the model's copy gives
-pub copied_goes : (source old new : Seen) → IsCopied source old new (Ok tt) → copied (table_of source) (table_of old) ≡ Goes (table_of new)
+pub copied_goes : (source old new : Table) → IsCopied source old new (Ok tt) → copied source old ≡ Goes new
 unfolding with_rows
 copied_goes source old new is =
-    let held : refused_at (answer_in (table_of old)) 0 source.table ≡ None = is.1 in
-    copied_alike source old is.0 ∙ rw held (ap (λ (seen : Seen). Goes (table_of seen)) (sym is.2))
+    let held : refused_at (answer_of old) 0 source.rows ≡ None = is.1 in
+    copied_alike source old is.0 ∙ rw held (ap (λ (seen : Table). Goes seen) (sym is.2))
 
-differs : (source old new : Seen) → IsCopied source old new (Err copy.Mismatch) → copied (table_of source) (table_of old) ≡ Faults refusal.Mismatch
+differs : (source old new : Table) → IsCopied source old new (Err copy.Mismatch) → copied source old ≡ Faults refusal.Mismatch
 unfolding copied
 differs source old new is = rw (not_alike source old is.0) refl
 
-is_narrow : (source old new : Seen) (row leaf : ℕ) → IsCopied source old new (Err (copy.Narrow row leaf)) →
-    copied (table_of source) (table_of old) ≡ Faults (narrow_fault (schema_fields old.schema) (record { row = row; leaf = leaf }))
+is_narrow : (source old new : Table) (row leaf : ℕ) → IsCopied source old new (Err (copy.Narrow row leaf)) →
+    copied source old ≡ Faults (narrow_fault old.fields (record { row = row; leaf = leaf }))
 unfolding with_rows
 is_narrow source old new row leaf is =
-    let not_held : refused_at (answer_in (table_of old)) 0 source.table ≡ Some (record { row = row; leaf = leaf }) = is.1 in
+    let not_held : refused_at (answer_of old) 0 source.rows ≡ Some (record { row = row; leaf = leaf }) = is.1 in
     copied_alike source old is.0 ∙ rw not_held refl
 
-pub copy_refused : (source old new : Seen) (bad : CopyFault) (told : StepFault) → IsCopied source old new (Err bad) → TellsCopy (schema_fields new.schema) bad told → GivesUp (copied (table_of source) (table_of old)) told
+pub copy_refused : (source old new : Table) (bad : CopyFault) (told : CommandFault) → IsCopied source old new (Err bad) → TellsCopy new.fields bad (Ok told) → copied source old ≡ Faults told
 copy_refused source old new copy.Mismatch told is tells = tells_gives _ refusal.Mismatch told (differs source old new is) tells
 copy_refused source old new (copy.Narrow row leaf) told is tells =
-    let same : schema_fields new.schema ≡ schema_fields old.schema = ap (λ (seen : Seen). schema_fields seen.schema) is.2 in
+    let same : new.fields ≡ old.fields = ap (λ (seen : Table). seen.fields) is.2 in
     tells_gives _ _ told (is_narrow source old new row leaf is)
-    (subst (λ (fields : Fields). Tells (narrow_fault fields (record { row = row; leaf = leaf })) told) same tells)
+    (subst (λ (fields : Fields). told ≡ narrow_fault fields (record { row = row; leaf = leaf })) same tells)
 
 -- a view that is known by its place
-pub known_place : (name : List ℕ) (views : List ViewEntry) (place : ℕ) (d : ViewEntry) → IsAt view_of name views place → known name (map view_of views) ≡ Goes (table_of (get_or views place d).view)
+pub known_place : (name : List ℕ) (views : List ViewEntry) (place : ℕ) (d : ViewEntry) → IsAt view_of name views place → known name (map view_of views) ≡ Goes ((get_or views place d).view)
 known_place name views place d at = ap (some_or (Unknown (Name name))) (at.is d)
 
 -- an entry that was read
@@ -213,8 +212,8 @@ module _ (tables : List (Entry Table)) (source target : ℕ) (d from to : Entry 
       ∙ ap (λ (t : Entry Table). copied from.held t.held >>= (λ new. Goes (slice_set (slice_set tables source (as_read from)) target (record { name = t.name; held = new })))) two
 
 -- a copy of a table onto itself, in its list
-pub kept_to : (views : List ViewEntry) (place : ℕ) (old : ViewEntry) (new : Seen) (d : ViewEntry) → place < length views → old ≡ get_or views place old →
-    copied (table_of old.view) (all_read (table_of old.view)) ≡ Goes (table_of new) →
+pub kept_to : (views : List ViewEntry) (place : ℕ) (old : ViewEntry) (new : Table) (d : ViewEntry) → place < length views → old ≡ get_or views place old →
+    copied old.view (all_read old.view) ≡ Goes new →
     copied_at (map view_of views) place place (view_of d) ≡ Goes (map view_of (slice_set views place (record { name = old.name; view = new })))
 kept_to views place old new d small is goes =
     let tables = map view_of views in
@@ -256,27 +255,27 @@ target_in views source target place entry old d changed are =
 
 -- a copy between them
 apart_is : (views : List ViewEntry) (source target place : ℕ) (entry old d : ViewEntry) → AreApart views source target place entry old →
-    copied_at (map view_of views) source target (view_of d) ≡ (copied (table_of entry.view) (table_of old.view) >>= (λ new. Goes (with_copy (map view_of views) source target (view_of d) (view_of entry) (view_of old) new)))
+    copied_at (map view_of views) source target (view_of d) ≡ (copied entry.view old.view >>= (λ new. Goes (with_copy (map view_of views) source target (view_of d) (view_of entry) (view_of old) new)))
 apart_is views source target place entry old d are =
     copied_in (map view_of views) source target (view_of d) (view_of entry) (view_of old) (source_in views source target place entry old d are)
     (target_in views source target place entry old d (as_read (view_of entry)) are)
 
-pub apart_not : (views : List ViewEntry) (source target place : ℕ) (entry old d : ViewEntry) (fault : StepFault) → AreApart views source target place entry old → GivesUp (copied (table_of entry.view) (table_of old.view)) fault →
+pub apart_not : (views : List ViewEntry) (source target place : ℕ) (entry old d : ViewEntry) (fault : StepFault) → AreApart views source target place entry old → GivesUp (copied entry.view old.view) fault →
     GivesUp (copied_at (map view_of views) source target (view_of d)) fault
 apart_not views source target place entry old d fault are gives =
     subst (λ (o : Outcome (List (Entry Table))). GivesUp o fault) (sym (apart_is views source target place entry old d are)) (GivesUp-then _ _ fault gives)
 
-pub apart_to : (views now : List ViewEntry) (source target place : ℕ) (entry old d : ViewEntry) (source_now target_now : Seen) → AreApart views source target place entry old →
-    source_now ≡ after_log entry.view (all_reads (leaf_count_of entry.view) (length entry.view.table)) →
+pub apart_to : (views now : List ViewEntry) (source target place : ℕ) (entry old d : ViewEntry) (source_now target_now : Table) → AreApart views source target place entry old →
+    source_now ≡ after_log entry.view (all_reads (leaf_count_of entry.view) (length entry.view.rows)) →
     now ≡ insert (slice_set (remove views target) place (record { name = entry.name; view = source_now })) target (record { name = old.name; view = target_now }) →
-    copied (table_of entry.view) (table_of old.view) ≡ Goes (table_of target_now) →
+    copied entry.view old.view ≡ Goes target_now →
     copied_at (map view_of views) source target (view_of d) ≡ Goes (map view_of now)
 apart_to views now source target place entry old d source_now target_now are read is goes =
     let tables = map view_of views in
     let from : ViewEntry = record { name = entry.name; view = source_now } in
     let to : ViewEntry = record { name = old.name; view = target_now } in
     let list : now ≡ slice_set (slice_set views source from) target to = is ∙ both_set views target source place from to are.inside are.apart are.before are.behind in
-    let seen : as_read (view_of entry) ≡ view_of from = ap (λ (s : Seen). record { name = entry.name; held = table_of s }) (sym read) in
+    let seen : as_read (view_of entry) ≡ view_of from = ap (λ (s : Table). record { name = entry.name; held = s }) (sym read) in
     apart_is views source target place entry old d are ∙ goes_then _ _ _ goes
     ∙ ap (λ (t : List (Entry Table)). Goes t)
     (ap (λ (e : Entry Table). slice_set (slice_set tables source e) target (view_of to)) seen

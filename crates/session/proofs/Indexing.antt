@@ -13,17 +13,17 @@ use Rattle.line_grammar.specs.Sentences.{Value}
 use Rattle.linearize.specs.Slots.{place_in}
 use Rattle.piece_bits.specs.Tables.{with_entry}
 use Rattle.record_dim.specs.declared.path.PathStep.{PathStep}
+use Rattle.views.specs.Tables.{Table, owners_of, after_log, after_stores}
 use Rattle.row_updates.specs.Logs.{value_log}
 use Rattle.views.specs.Tallies.{Access, Write, Tally}
 use Rattle.views.specs.TallyLaws.{tallied-append}
-use Rattle.worlds.specs.Accessed.{accessed, rewritten, owners_of}
 use Rattle.worlds.specs.Assign.{inside, assigned}
 use Rattle.worlds.specs.Names.{leaf_of, bound}
+use Rattle.worlds.specs.OnView.{done_to}
 use Rattle.worlds.specs.Outcomes.{Outcome, Goes, Faults, CannotRead, ◌>>=◌}
 use Rattle.worlds.specs.Values.{value_on, storable}
-use Rattle.worlds.specs.Worlds.{Table}
 use Rattle.worlds.specs.declared.fault.CommandFault.TheVariants.{BadIndex}
-use Rattle.session.specs.Changes.{set_row}
+use Rattle.session.specs.Changes.{set_row, left_with}
 
 same_list : (a b : List ℕ) → pointwise nat_eq a b ≡ true → a ≡ b
 same_list [] [] e = refl
@@ -69,22 +69,22 @@ pub other_rank : (extents index : List ℕ) (rank : ℕ) → rank ≡ length ext
 other_rank extents index rank is other inside = other (length_all_zip (λ i n. i < n) index extents inside ∙ sym is)
 
 -- outcomes that go on in the same way
-then_same : {A B : Type 0} (first : Outcome A) (f g : A → Outcome B) → ((x : A) → f x ≡ g x) → (first >>= f) ≡ (first >>= g)
-then_same (Goes x) f g same = same x
-then_same (Faults fault) f g same = refl
-then_same (CannotRead name) f g same = refl
+then_same : {A B C D : Type 0} (first : Outcome A) (f : A → Outcome B) (g : B → Outcome D) (h : A → Outcome C) (k : C → Outcome D) → ((x : A) → (f x >>= g) ≡ (h x >>= k)) → ((first >>= f) >>= g) ≡ ((first >>= h) >>= k)
+then_same (Goes x) f g h k same = same x
+then_same (Faults fault) f g h k same = refl
+then_same (CannotRead name) f g h k same = refl
 
 -- a table that is read and then stored in
-read_stored : (table : Table) (rows : List (List ℤ)) (log more : List Access) → rewritten table rows (log ++ more) ≡ rewritten (accessed table log) rows more
+read_stored : (table : Table) (rows : List (List ℤ)) (log more : List Access) → after_stores table rows (log ++ more) ≡ after_stores (after_log table log) rows more
 read_stored table rows log more = ap (λ (tally : Tally). record table { rows = rows; tally = tally }) (sym (tallied-append (owners_of table) table.tally log more))
 
--- the value of an expression in a leaf of the row of an index
+-- the value of an expression goes into a leaf of the row of an index
 pub assigned_is : (table : Table) (index : List ℕ) (path : List PathStep) (value : Value) (leaf : ℕ) (term : Term ℕ) →
     leaf_of table.fields path ≡ Goes leaf → bound table.fields (length table.extents) value ≡ Goes term → inside table.extents index ≡ Goes tt →
-    assigned table index path value ≡ set_row table (place_in (indices table.extents) index) index leaf term
+    done_to table (assigned table index path value) ≡ (set_row table (place_in (indices table.extents) index) index leaf term >>= (λ new. Goes (left_with new [])))
 unfolding assigned
 assigned_is table index path value leaf term a b c =
     let row = place_in (indices table.extents) index in
     let log = value_log row (get_or table.rows row []) index term in
-    rw (a, b, c) (then_same (value_on row (get_or table.rows row []) index term) _ _ (λ number.
-    then_same (storable table row leaf number) _ _ (λ fits. ap (λ (t : Table). Goes t) (read_stored table (with_entry table.rows row leaf number) log (Write row leaf ∷ [])))))
+    rw (a, b, c) (then_same (value_on row (get_or table.rows row []) index term) _ _ _ _ (λ number.
+    then_same (storable table row leaf number) _ _ _ _ (λ fits. ap (λ (t : Table). Goes (left_with t [])) (read_stored table (with_entry table.rows row leaf number) log (Write row leaf ∷ [])))))

@@ -1,4 +1,5 @@
 pub mod Exits
+pub mod Views
 pub mod Named
 pub mod Copies
 pub mod Indexing

@@ -4,7 +4,8 @@ use Rattle.std.specs.Prelude.{slice_set}
 use Rattle.std.proofs.lemmas.Bool.{cases_Bool}
 use Rattle.std.proofs.lemmas.List.{length-map}
 use Rattle.std.proofs.Math.ListN.{get_or-map}
-use Rattle.worlds.specs.Worlds.{Entry, Table, same_name, found, replaced}
+use Rattle.views.specs.Tables.{Table}
+use Rattle.worlds.specs.Worlds.{Entry, same_name, found, replaced}
 use Rattle.worlds.specs.Outcomes.{Faults, known}
 use Rattle.command_checks.specs.Entries.{view_of}
 use Rattle.command_checks.specs.Gives.{GivesUp}

@@ -10,7 +10,7 @@ use Rattle.places.specs.declared.piece.Hold.{Hold}
 use Rattle.record_dim.specs.declared.leaf_type.LeafType.{LeafType}
 use Rattle.record_dim.specs.declared.leaf_type.LeafType.TheVariants.{Bool as Truth, U8, U16, U32, U64, I8, I16, I32, I64}
 use Rattle.record_dim.specs.LeafTypes.{IsDeclared}
-use Rattle.views.specs.Seen.{Seen, after_log, after_read}
+use Rattle.views.specs.Tables.{Table, after_log, after_read}
 use Rattle.views.specs.Stores.{Fits}
 use Rattle.views.specs.Tallies.{Read}
 use Rattle.views.specs.TallyLaws.{after_log-append, after_log-none}
@@ -80,21 +80,21 @@ reduced_first kind [] leaf first some is = absurd (omega (arith, some))
 reduced_first kind (row ∷ rows) leaf first some is = reduced_one kind (get_or row leaf (pos 0)) ∙ ap (λ (v : ℤ). Goes v) (sym is)
 
 -- the reads of a leaf in rows, and one read more
-pub reads_more : (seen view : Seen) (leaf start row : ℕ) → start ≤ row → view ≡ after_log seen (map (λ r. Read r leaf) (range_with_len start (row - start))) →
+pub reads_more : (seen view : Table) (leaf start row : ℕ) → start ≤ row → view ≡ after_log seen (map (λ r. Read r leaf) (range_with_len start (row - start))) →
     after_read view row leaf ≡ after_log seen (map (λ r. Read r leaf) (range_with_len start (row + 1 - start)))
 reads_more seen view leaf start row past so_far =
     let log = map (λ r. Read r leaf) (range_with_len start (row - start)) in
     let one : row + 1 - start ≡ (row - start) + 1 = omega (arith, past) in
-    ap (λ (v : Seen). after_read v row leaf) so_far ∙ after_log-append seen log (Read row leaf ∷ [])
+    ap (λ (v : Table). after_read v row leaf) so_far ∙ after_log-append seen log (Read row leaf ∷ [])
     ∙ ap (after_log seen) (sym (ap (λ (n : ℕ). map (λ r. Read r leaf) (range_with_len start n)) one ∙ map-range_with_len_more (λ r. Read r leaf) start (row - start) row (omega (arith, past))))
 
-pub reads_none : (seen : Seen) (leaf start : ℕ) → seen ≡ after_log seen (map (λ r. Read r leaf) (range_with_len start (start - start)))
+pub reads_none : (seen : Table) (leaf start : ℕ) → seen ≡ after_log seen (map (λ r. Read r leaf) (range_with_len start (start - start)))
 reads_none seen leaf start =
     let none : start - start ≡ 0 = omega arith in
     sym (after_log-none seen) ∙ ap (λ (n : ℕ). after_log seen (map (λ r. Read r leaf) (range_with_len start n))) (sym none)
 
 -- the first row, and then the others
-pub reads_first : (seen : Seen) (leaf count : ℕ) → 0 < count → after_log (after_read seen 0 leaf) (map (λ row. Read row leaf) (range_with_len 1 (count - 1))) ≡ after_log seen (column_log leaf count)
+pub reads_first : (seen : Table) (leaf count : ℕ) → 0 < count → after_log (after_read seen 0 leaf) (map (λ row. Read row leaf) (range_with_len 1 (count - 1))) ≡ after_log seen (column_log leaf count)
 reads_first seen leaf zero some = absurd (omega (arith, some))
 reads_first seen leaf (suc count) some =
     let less : suc count - 1 ≡ count = omega arith in

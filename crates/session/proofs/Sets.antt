@@ -2,7 +2,7 @@
 use Rattle.std.proofs.Common.{◌≡◌, ℕ, suc, ◌+◌, ◌<◌, ◌≤◌, Bool, true, false, nat_eq, List, [], ◌∷◌, ◌++◌, length, get_or, take, drop, map, refl, sym, ap, subst, ◌∙◌, arith, add-one, ⊎_elim}
 use Rattle.std.specs.Prelude.{◌||◌, All}
 use Rattle.std.proofs.lemmas.List.Elements.{All-get_or}
-use Rattle.views.specs.Seen.{Seen, leaf_count_of}
+use Rattle.views.specs.Tables.{Table, leaf_count_of}
 use Rattle.std.specs.List.{list_any, IsDistinct}
 use Rattle.std.proofs.lemmas.Bool.{cases_Bool, false≢true}
 use Rattle.std.proofs.lemmas.Bool.Decides.{nat_tests}
@@ -131,7 +131,7 @@ once_few fields leaves place most over so_far inside =
     length-le_from_distinct_below leaves most distinct (λ q is. let found = found_at q leaves is in omega (arith, inside found.0 found.1, found.2))
 
 -- the leaves that are set are leaves
-pub leaves_below : (seen : Seen) (sets : List Assign) → All (IsSetOf seen) sets → (k : ℕ) → k < length (leaves_of (map setting_of sets)) → get_or (leaves_of (map setting_of sets)) k 0 < leaf_count_of seen
+pub leaves_below : (seen : Table) (sets : List Assign) → All (IsSetOf seen) sets → (k : ℕ) → k < length (leaves_of (map setting_of sets)) → get_or (leaves_of (map setting_of sets)) k 0 < leaf_count_of seen
 leaves_below seen [] all k small = absurd (omega (arith, small))
 leaves_below seen (set ∷ sets) all k small =
     let within : k < length (set ∷ sets) = rw (← leaves_long (set ∷ sets)) small in

@@ -4,47 +4,31 @@ use Rattle.layout_io.specs.Files.{File}
 use Rattle.layout_io.specs.WritingLaws.{Wrote-nil, with_bytes-nil}
 use Rattle.line_grammar.specs.Sentences.{Sentence}
 use Rattle.worlds.specs.Worlds.{World}
-use Rattle.worlds.specs.Answers.{text_of}
+use Rattle.worlds.specs.Answers.{text_of, StepsTo, StepCause}
 use Rattle.worlds.specs.Outcomes.{Outcome, CannotRead, Left}
 use Rattle.worlds.specs.Step.{step, command}
 use Rattle.command_checks.specs.Gives.{Gives}
 use Rattle.command_checks.specs.declared.fault.StepFault.{StepFault}
 use Rattle.command_checks.specs.declared.fault.StepFault.TheVariants as fault
-use Rattle.session.specs.Answers.{Answers, StepsTo, StepCause, TookNone}
+use Rattle.session.specs.Answers.{Answers, TookNone, ending_of}
 use Rattle.session.specs.Loads.{Loads, UnreadOnly}
-use Rattle.session.specs.Stands.{Stands, left_of}
+use Rattle.session.specs.Stands.{Stands, left_of, world_of}
 use Rattle.session.specs.declared.session.Session.{Session}
-use Rattle.session.proofs.Exits.{refused, starved}
+use Rattle.session.proofs.Exits.{refused, starved, answers_quiet}
 
 -- a line is done by its command
 pub step_is : (world : World) (sentence : Sentence) (files : List File) (unread : Bool) → step world sentence files unread ≡ command world sentence files unread
 unfolding step
 step_is world sentence files unread = refl
 
--- the same outcome, said otherwise
-pub steps_by : {K : Type 0} (taken : K → Option (List ℕ)) (faults : K → ℕ) (old new : K) (whole outcome : Bool → Outcome Left) (read_failed : Type 0) (result : Result Session StepFault) →
-    ((unread : Bool) → whole unread ≡ outcome unread) → StepsTo Stands taken faults old new outcome read_failed result → StepsTo Stands taken faults old new whole read_failed result
-steps_by taken faults old new whole outcome read_failed (Ok next) same did = record { left = did.left; goes = same false ∙ did.goes; stands = did.stands; wrote = did.wrote }
-steps_by taken faults old new whole outcome read_failed (Err (fault.Command refusal)) same refused = record { is = same false ∙ refused.is; wrote = refused.wrote }
-steps_by taken faults old new whole outcome read_failed (Err fault.Source) same unread = (
-  unread.0,
-  record {
-    is = same true ∙ unread.1.is;
-    cause = ⊎_elim (λ (failed : read_failed). inl failed) (λ (always : outcome false ≡ CannotRead unread.0). inr (same false ∙ always)) unread.1.cause;
-    wrote = unread.1.wrote;
-  },
-)
-steps_by taken faults old new whole outcome read_failed (Err fault.Sink) same broke = record { left = broke.left; goes = same false ∙ broke.goes; stopped = broke.stopped }
-steps_by taken faults old new whole outcome read_failed (Err fault.NoMemory) same fronted = rw (same false) fronted
-
--- a command that reads a file, and writes nothing
-pub steps_load : {K : Type 0} (taken : K → Option (List ℕ)) (faults : K → ℕ) (old : K) (outcome : Bool → Outcome Left) (read_failed : Type 0) (result : Result Session StepFault) →
-    Loads left_of outcome read_failed result → StepsTo Stands taken faults old old outcome read_failed result
-steps_load taken faults old outcome read_failed (Ok next) goes = record { left = left_of next; goes = goes; stands = refl; wrote = Wrote-nil taken faults old }
-steps_load taken faults old outcome read_failed (Err (fault.Command refusal)) is = refused taken faults old (outcome false) refusal is
-steps_load taken faults old outcome read_failed (Err fault.Source) unread = (unread.name, record { is = unread.is; cause = unread.cause; wrote = Wrote-nil taken faults old })
-steps_load taken faults old outcome read_failed (Err fault.Sink) loads = absurd loads
-steps_load taken faults old outcome read_failed (Err fault.NoMemory) loads = starved taken faults old (text_of (outcome false))
+-- a command that reads this file, and writes nothing
+pub steps_load : {K : Type 0} (taken : K → Option (List ℕ)) (faults : K → ℕ) (old : K) (name : List ℕ) (outcome : Bool → Outcome Left) (read_failed : Type 0) (result : Result Session StepFault) →
+    Loads name left_of outcome read_failed result → StepsTo (ending_of (Some name)) Stands taken faults old old outcome read_failed result
+steps_load taken faults old name outcome read_failed (Ok next) goes = record { left = left_of next; goes = goes; stands = refl; wrote = Wrote-nil taken faults old }
+steps_load taken faults old name outcome read_failed (Err (fault.Command refusal)) is = refused taken faults old (outcome false) refusal is
+steps_load taken faults old name outcome read_failed (Err fault.Source) unread = record { is = unread.is; cause = unread.cause; wrote = Wrote-nil taken faults old }
+steps_load taken faults old name outcome read_failed (Err fault.Sink) loads = absurd loads
+steps_load taken faults old name outcome read_failed (Err fault.NoMemory) loads = starved taken faults old (text_of (outcome false))
 
 -- the same outcomes of a line that reads this file, said otherwise
 pub unread_by : (file : Option (List ℕ)) (name : List ℕ) (whole outcome : List File → Bool → Outcome Left) (result : Result Session StepFault) →
@@ -55,15 +39,6 @@ unread_by file name whole outcome (Err fault.Source) is same unread = rw is (λ 
 unread_by file name whole outcome (Err fault.Sink) is same unread = tt
 unread_by file name whole outcome (Err fault.NoMemory) is same unread = tt
 
--- a command that writes nothing
-pub answers_quiet : {K : Type 0} (taken : K → Option (List ℕ)) (faults : K → ℕ) (old : K) (outcome : Outcome Left) (result : Result Session StepFault) →
-    Gives left_of result outcome → Answers Stands taken faults old old outcome result
-answers_quiet taken faults old outcome (Ok next) goes = record { left = left_of next; goes = goes; stands = refl; wrote = Wrote-nil taken faults old }
-answers_quiet taken faults old outcome (Err (fault.Command refusal)) is = refused taken faults old outcome refusal is
-answers_quiet taken faults old outcome (Err fault.Source) gives = absurd gives
-answers_quiet taken faults old outcome (Err fault.Sink) gives = absurd gives
-answers_quiet taken faults old outcome (Err fault.NoMemory) gives = starved taken faults old (text_of outcome)
-
 -- the same answers, the outcome said otherwise
 pub answers_by : {K : Type 0} (taken : K → Option (List ℕ)) (faults : K → ℕ) (old new : K) (whole outcome : Outcome Left) (result : Result Session StepFault) →
     whole ≡ outcome → Answers Stands taken faults old new outcome result → Answers Stands taken faults old new whole result
@@ -71,24 +46,24 @@ answers_by taken faults old new whole outcome result is answers = rw is answers
 
 pub quiet_by : {K : Type 0} (taken : K → Option (List ℕ)) (faults : K → ℕ) (old : K) (whole outcome : Outcome Left) (result : Result Session StepFault) →
     whole ≡ outcome → Gives left_of result outcome → Answers Stands taken faults old old whole result
-quiet_by taken faults old whole outcome result is gives = rw is (answers_quiet taken faults old outcome result gives)
+quiet_by taken faults old whole outcome result is gives = rw is (answers_quiet Stands world_of taken faults old outcome result (λ next. refl) gives)
 
 -- a line that reads no file
-pub steps_shown : {K : Type 0} (taken : K → Option (List ℕ)) (faults : K → ℕ) (old new : K) (world : World) (sentence : Sentence) (files : List File) (read_failed : Type 0) (result : Result Session StepFault) →
-    Answers Stands taken faults old new (command world sentence files false) result → StepsTo Stands taken faults old new (step world sentence files) read_failed result
-steps_shown taken faults old new world sentence files read_failed (Ok next) answers = rw (step_is world sentence files false) answers
-steps_shown taken faults old new world sentence files read_failed (Err (fault.Command refusal)) answers = rw (step_is world sentence files false) answers
-steps_shown taken faults old new world sentence files read_failed (Err fault.Source) answers = absurd answers
-steps_shown taken faults old new world sentence files read_failed (Err fault.Sink) answers = rw (step_is world sentence files false) answers
-steps_shown taken faults old new world sentence files read_failed (Err fault.NoMemory) answers = rw (step_is world sentence files false) answers
+pub steps_shown : {K : Type 0} (taken : K → Option (List ℕ)) (faults : K → ℕ) (old new : K) (world : World) (sentence : Sentence) (file : Option (List ℕ)) (files : List File) (read_failed : Type 0) (result : Result Session StepFault) →
+    Answers Stands taken faults old new (command world sentence files false) result → StepsTo (ending_of file) Stands taken faults old new (step world sentence files) read_failed result
+steps_shown taken faults old new world sentence file files read_failed (Ok next) answers = rw (step_is world sentence files false) answers
+steps_shown taken faults old new world sentence file files read_failed (Err (fault.Command refusal)) answers = rw (step_is world sentence files false) answers
+steps_shown taken faults old new world sentence file files read_failed (Err fault.Source) answers = absurd answers
+steps_shown taken faults old new world sentence file files read_failed (Err fault.Sink) answers = rw (step_is world sentence files false) answers
+steps_shown taken faults old new world sentence file files read_failed (Err fault.NoMemory) answers = rw (step_is world sentence files false) answers
 
-pub cause_shown : {K : Type 0} (taken : K → Option (List ℕ)) (faults : K → ℕ) (old new : K) (outcome : Outcome Left) (files : Option (List File)) (reads : ℕ) (result : Result Session StepFault) →
-    Answers Stands taken faults old new outcome result → StepCause files reads reads (faults old) (faults new) result
-cause_shown taken faults old new outcome files reads (Ok next) answers = (refl, answers.wrote.unfailed)
-cause_shown taken faults old new outcome files reads (Err (fault.Command refusal)) answers = (refl, answers.wrote.unfailed)
-cause_shown taken faults old new outcome files reads (Err fault.Source) answers = absurd answers
-cause_shown taken faults old new outcome files reads (Err fault.Sink) answers = (refl, answers.stopped.rose)
-cause_shown taken faults old new outcome files reads (Err fault.NoMemory) answers = (omega arith, answers.later)
+pub cause_shown : {K : Type 0} (taken : K → Option (List ℕ)) (faults : K → ℕ) (old new : K) (outcome : Outcome Left) (file : Option (List ℕ)) (files : Option (List File)) (reads : ℕ) (result : Result Session StepFault) →
+    Answers Stands taken faults old new outcome result → StepCause (ending_of file) files reads reads (faults old) (faults new) result
+cause_shown taken faults old new outcome file files reads (Ok next) answers = (refl, answers.wrote.unfailed)
+cause_shown taken faults old new outcome file files reads (Err (fault.Command refusal)) answers = (refl, answers.wrote.unfailed)
+cause_shown taken faults old new outcome file files reads (Err fault.Source) answers = absurd answers
+cause_shown taken faults old new outcome file files reads (Err fault.Sink) answers = (refl, answers.stopped.rose)
+cause_shown taken faults old new outcome file files reads (Err fault.NoMemory) answers = (omega arith, answers.unfailed)
 
 pub unread_shown : {K : Type 0} (taken : K → Option (List ℕ)) (faults : K → ℕ) (old new : K) (outcome : Outcome Left) (file : Option (List ℕ)) (whole : List File → Bool → Outcome Left) (result : Result Session StepFault) →
     Answers Stands taken faults old new outcome result → UnreadOnly file whole result

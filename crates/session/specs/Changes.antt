@@ -1,22 +1,22 @@
 -- The parts of commands.
-use Rattle.std.specs.Prelude.{◌≡◌, ℕ, ℤ, List, [], ◌∷◌, length, slice_index_or, slice_set, Option}
+use Rattle.std.specs.Prelude.{◌≡◌, ℕ, ℤ, List, [], ◌∷◌, length, slice_index_or, slice_set, Option, Result, Ok, Err}
 use Rattle.expr_lang.specs.Terms.{Term}
 use Rattle.piece_bits.specs.Tables.{with_entry}
 use Rattle.record_dim.specs.Trees.{Fields}
 use Rattle.map_expr.specs.Terms.{Term as MapTerm}
 use Rattle.map_expr.specs.Checks.{checked}
-use Rattle.worlds.specs.Worlds.{World, Entry, Table, added}
-use Rattle.worlds.specs.Outcomes.{Outcome, Goes, ◌>>=◌, ok_or}
+use Rattle.views.specs.Tables.{Table, answer_of, after_log, after_stores}
+use Rattle.worlds.specs.Worlds.{World, Entry, added}
+use Rattle.worlds.specs.Outcomes.{Outcome, Goes, ◌>>=◌, LeftOf, ok_or}
+use Rattle.worlds.specs.OnView.{Done, stores}
 use Rattle.csv_rows.specs.declared.fault.RowFault.{RowFault}
 use Rattle.csv_rows.specs.declared.fault.RowFault.TheVariants as rows
 use Rattle.worlds.specs.Load.{row_fault}
 use Rattle.row_updates.specs.Rows.{Setting, updated_rows}
 use Rattle.row_updates.specs.Logs.{value_log, rows_log}
 use Rattle.views.specs.Tallies.{Write}
-use Rattle.worlds.specs.Accessed.{accessed, rewritten}
-use Rattle.worlds.specs.Reduce.{Measured}
 use Rattle.worlds.specs.Update.{update_fault}
-use Rattle.worlds.specs.Values.{value_on, storable, answer_in}
+use Rattle.worlds.specs.Values.{value_on, storable}
 use Rattle.command_checks.specs.declared.fault.StepFault.{StepFault}
 use Rattle.command_checks.specs.declared.fault.StepFault.TheVariants as step
 use Rattle.worlds.specs.declared.fault.CommandFault.{CommandFault}
@@ -24,7 +24,6 @@ use Rattle.worlds.specs.declared.fault.CommandFault.TheVariants.{BadMapping, Mis
 use Rattle.layout_copy.specs.declared.fault.CopyFault.{CopyFault}
 use Rattle.layout_copy.specs.declared.fault.CopyFault.TheVariants as copy
 use Rattle.worlds.specs.Copy.{all_read, copied, narrow_fault}
-use Rattle.worlds.specs.Kernel.{Ran}
 use Rattle.worlds.specs.Tables.{made, zeros_of}
 
 -- an expression that can be a mapping, whatever its cells are
@@ -42,30 +41,29 @@ with_mapping world name term = record world { mappings = added name term world.m
 abbrev pub stored : Table → ℕ → ℕ → ℤ → Outcome Table
 stored table row leaf value = do
   fits ← storable table row leaf value
-  Goes (rewritten table (with_entry table.rows row leaf value) (Write row leaf ∷ []))
+  Goes (after_stores table (with_entry table.rows row leaf value) (Write row leaf ∷ []))
 
 -- the same of the value of an expression on a row
 abbrev pub set_row : Table → ℕ → List ℕ → ℕ → Term ℕ → Outcome Table
 set_row table row index leaf term = do
   number ← value_on row (slice_index_or table.rows row []) index term
-  stored (accessed table (value_log row (slice_index_or table.rows row []) index term)) row leaf number
+  stored (after_log table (value_log row (slice_index_or table.rows row []) index term)) row leaf number
 
--- this refusal, or want of memory
-abbrev pub Tells : CommandFault → StepFault → Type 0
-Tells refusal (step.Command told) = told ≡ refusal
-Tells refusal step.NoMemory = Unit {0}
-Tells refusal _ = ⊥
+-- what a fault of a view is told as: this refusal, unless memory was wanting
+abbrev pub Tells : CommandFault → Result CommandFault StepFault → Type 0
+Tells refusal (Ok told) = told ≡ refusal
+Tells refusal (Err fault) = fault ≡ step.NoMemory
 
 -- the fault of a dataset, or want of memory
-abbrev pub TellsRow : Fields → RowFault → StepFault → Type 0
-TellsRow fields rows.NoMemory told = told ≡ step.NoMemory
+abbrev pub TellsRow : Fields → RowFault → Result CommandFault StepFault → Type 0
+TellsRow fields rows.NoMemory told = told ≡ Err step.NoMemory
 TellsRow fields fault told = Tells (row_fault fields fault) told
 
--- the table with new values in the rows that pass a filter
-abbrev pub rows_updated : Table → Option (Term ℕ) → List Setting → Outcome Table
+-- new values go into the rows that pass a filter
+abbrev pub rows_updated : Table → Option (Term ℕ) → List Setting → Outcome Done
 rows_updated table test settings = do
-  rows ← ok_or (update_fault table.fields) (updated_rows (answer_in table) test settings table.extents table.rows (length table.rows))
-  Goes (rewritten table rows (rows_log (answer_in table) test settings table.extents table.rows (length table.rows)))
+  rows ← ok_or (update_fault table.fields) (updated_rows (answer_of table) test settings table.extents table.rows (length table.rows))
+  Goes (stores rows (rows_log (answer_of table) test settings table.extents table.rows (length table.rows)))
 
 -- the tables beside one another, that at one place read, and then that at a place as a copy of it
 abbrev pub copied_at : List (Entry Table) → ℕ → ℕ → Entry Table → Outcome (List (Entry Table))
@@ -83,15 +81,15 @@ zeros_like table term = zeros_of table.fields table.extents term
 abbrev pub made_like : List (Entry Table) → Table → MapTerm → Outcome Table
 made_like views table term = made views table.fields table.extents term
 
--- the fault of a copy, or want of memory
-abbrev pub TellsCopy : Fields → CopyFault → StepFault → Type 0
+-- the fault of a copy
+abbrev pub TellsCopy : Fields → CopyFault → Result CommandFault StepFault → Type 0
 TellsCopy fields copy.Mismatch told = Tells Mismatch told
 TellsCopy fields (copy.Narrow row leaf) told = Tells (narrow_fault fields (record { row = row; leaf = leaf })) told
 
--- what a kernel leaves: a table and a number
-abbrev pub ran_to : Table → Option ℤ → Ran
-ran_to table number = record { table = table; number = number }
+-- a table that is left, and a text
+abbrev pub left_with : Table → List ℕ → LeftOf Table
+left_with table text = record { held = table; text = text }
 
--- what a reduction leaves: a table and a number
-abbrev pub measured : Table → ℤ → Measured
-measured table number = record { table = table; number = number }
+-- the table of a view is the one that is left
+abbrev pub IsLeft : Table → Unit {0} → Table → Type 0
+IsLeft view done table = view ≡ table

@@ -1,13 +1,14 @@
 -- What the answer to a load says of its outcome, and of what was read.
-use Rattle.std.specs.Prelude.{ℕ, ◌≡◌, ◌≤◌, ◌⊎◌, Bool, true, false, List, length, Option, Some, None, IsSome, IsSomeAnd, IfSome, Result, Ok, Err}
+use Rattle.std.specs.Prelude.{ℕ, ◌≡◌, ◌≤◌, ◌⊎◌, Bool, true, false, List, length, Option, Some, None, IsSome, IsSomeAnd, Result, Ok, Err}
 use Rattle.layout_io.specs.Faults.{Rose}
 use Rattle.layout_io.specs.Files.{File}
 use Rattle.record_dim.specs.Schemas.{schema_fields}
 use Rattle.map_expr.specs.Terms.{term_of}
 use Rattle.extents.specs.declared.words.ExtentWord.{ExtentWord}
 use Rattle.csv_rows.specs.Datasets.{records_of, rows_of}
-use Rattle.line_grammar.specs.Sentences.{Sentence, Load}
-use Rattle.worlds.specs.Worlds.{Entry, Table}
+use Rattle.views.specs.Tables.{Table}
+use Rattle.worlds.specs.Worlds.{Entry}
+use Rattle.line_grammar.specs.Sentences as line
 use Rattle.worlds.specs.Outcomes.{Outcome, Goes, Faults, CannotRead, ◌>>=◌}
 use Rattle.worlds.specs.Tables.{resolved, made}
 use Rattle.worlds.specs.Load.{filled}
@@ -15,6 +16,11 @@ use Rattle.worlds.specs.View.{Named}
 use Rattle.command_checks.specs.declared.fault.StepFault.{StepFault}
 use Rattle.command_checks.specs.declared.fault.StepFault.TheVariants as fault
 use Rattle.session.specs.declared.view.Found.{Found}
+use Rattle.session.specs.declared.view.New.{New}
+
+-- what makes a view
+abbrev pub new_of : New → line.New
+new_of new = record { name = new.name; schema = new.schema; words = new.words.now; term = term_of new.expr.now }
 
 -- what the names of a new view stand for
 abbrev pub named_of : Found → Named
@@ -28,18 +34,17 @@ filled_table views whole words bytes = do
   filled zeros (records_of bytes)
 
 -- where reading fails the outcome is that this file can't be read; a read failed, or it is the outcome in any case
-pub record IsUnread {A : Type 0} (outcome : Bool → Outcome A) (read_failed : Type 0) : Type 0 where
-  pub name : List ℕ
+pub record IsUnread {A : Type 0} (name : List ℕ) (outcome : Bool → Outcome A) (read_failed : Type 0) : Type 0 where
   pub is : outcome true ≡ CannotRead name
   pub cause : read_failed ⊎ (outcome false ≡ CannotRead name)
 
--- what an answer, seen by `view`, says of the outcome, which is given by whether reading fails
-abbrev pub Loads : {A B : Type 0} → (A → B) → (Bool → Outcome B) → Type 0 → Result A StepFault → Type 0
-Loads view outcome read_failed (Ok x) = outcome false ≡ Goes (view x)
-Loads view outcome read_failed (Err (fault.Command refusal)) = outcome false ≡ Faults refusal
-Loads view outcome read_failed (Err fault.Source) = IsUnread outcome read_failed
-Loads view outcome read_failed (Err fault.Sink) = ⊥
-Loads view outcome read_failed (Err fault.NoMemory) = Unit {0}
+-- what an answer, seen by `view`, says of the outcome of a load of this file, which is given by whether reading fails
+abbrev pub Loads : {A B : Type 0} → List ℕ → (A → B) → (Bool → Outcome B) → Type 0 → Result A StepFault → Type 0
+Loads name view outcome read_failed (Ok x) = outcome false ≡ Goes (view x)
+Loads name view outcome read_failed (Err (fault.Command refusal)) = outcome false ≡ Faults refusal
+Loads name view outcome read_failed (Err fault.Source) = IsUnread name outcome read_failed
+Loads name view outcome read_failed (Err fault.Sink) = ⊥
+Loads name view outcome read_failed (Err fault.NoMemory) = Unit {0}
 
 -- whether the count of the shelf may have risen
 abbrev pub LoadCause : {A : Type 0} → Option (List File) → ℕ → ℕ → Result A StepFault → Type 0
@@ -54,11 +59,8 @@ abbrev pub UnreadOnly : {A B : Type 0} → Option (List ℕ) → (List File → 
 UnreadOnly file outcome (Err fault.Source) = IsSomeAnd file (λ name. (files : List File) → outcome files true ≡ CannotRead name)
 UnreadOnly file outcome _ = Unit {0}
 
--- the file that a line reads
-abbrev pub file_in : Sentence → Option (List ℕ)
-file_in (Load name schema words term file) = Some file
-file_in sentence = None
-
--- to a line that reads a file exactly these files are told; to any other line all files are alike
-abbrev pub ToldFor : Option (List File) → Sentence → List File → Type 0
-ToldFor told sentence files = IfSome (file_in sentence) (λ file. told ≡ Some files)
+-- exactly these files are told where a file is read, so where the outcome is that it can't be read if reading fails; any other outcome is
+-- the same whatever files there are
+abbrev pub ToldFor : {A : Type 0} → Option (List File) → Outcome A → List File → Type 0
+ToldFor told (CannotRead name) files = told ≡ Some files
+ToldFor told _ files = Unit {0}

@@ -21,4 +21,4 @@ Stands session world = world_of session ≡ world
 
 -- what a command leaves that writes nothing
 abbrev pub left_of : Session → Left
-left_of session = record { world = world_of session; text = [] }
+left_of session = record { held = world_of session; text = [] }

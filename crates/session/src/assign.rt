@@ -6,19 +6,20 @@ ghost use Rattle.extents.specs.Indices.{indices, IsInside};
 ghost use Rattle.linearize.specs.Slots.{place_in};
 ghost use Rattle.row_updates.specs.Rows.{IsOver};
 ghost use Rattle.row_updates.specs.Logs.{value_log};
-ghost use Rattle.views.specs.Seen.{leaf_count_of, after_log};
-ghost use Rattle.worlds.specs.Assign.{assign, assigned, inside};
+ghost use Rattle.views.specs.Tables.{leaf_count_of, after_log};
+ghost use Rattle.worlds.specs.Assign.{assigned, inside};
+ghost use Rattle.worlds.specs.OnView.{done_to};
 ghost use Rattle.worlds.specs.Values.{value_on};
-ghost use Rattle.session.specs.Changes.{set_row, stored};
-ghost use Rattle.command_checks.specs.Entries.{table_of};
+ghost use Rattle.session.specs.Changes.{set_row, stored, left_with};
 ghost use Rattle.command_checks.specs.Gives.{Gives};
 
-use crate::session::Session;
+use crate::work::Work;
 use arrayvec::ArrayVec;
-use command_checks::{StepFault, bound, known_view, leaf_of, leaf_text};
+use command_checks::{StepFault, bound, leaf_of, leaf_text};
 use expr_lang::{Bound, EvalFault, Expr};
 use extents::Extents;
-use record_dim::{Name, Path};
+use layout_io::Sink;
+use record_dim::Path;
 use row_updates::value_on;
 use std::alloc::Global;
 use std::sync::ledger::Ledger;
@@ -26,25 +27,25 @@ use steps::Steps;
 use views::{StoreFault, View};
 use worlds::CommandFault;
 
-impl Session {
-    ghost use Rattle.session.specs.Stands.{left_of, world_of};
+/// Stores the value of an expression in one row.
+#[derive(Drop)]
+pub(crate) struct Assign<'a> {
+    pub index: &'a [u32],
+    pub path: &'a Path,
+    pub value: &'a Expr,
+}
 
-    /// Stores a value in one row of a view.
-    #[tactic(auto, unfolding(worlds::specs::Assign::assign))]
-    pub(crate) fn assign<L: Ledger>(
-        mut self,
-        name: Name,
-        index: &[u32],
-        path: &Path,
-        value: &Expr,
+impl Work for Assign<'_> {
+    ghost does = { λ this table. assigned table this.index.now this.path.now (term_of this.value.now) };
+
+    fn run<K: Sink, L: Ledger>(
+        &self,
+        alloc: Global,
+        view: &mut View,
+        _out: &mut K,
         steps: &mut Steps<L>,
-    ) -> Result<Session, StepFault>
-        ensures { Gives left_of result (assign (world_of self) name index.now path.now (term_of value.now)) }
-    {
-        let place = known_view(self.views.as_slice(), name)?;
-        let view = &mut self.views[place].view;
-        assigned(self.alloc, view, index, path, value, steps)?;
-        Ok(self)
+    ) -> Result<(), StepFault> {
+        assigned(alloc, view, self.index, self.path, self.value, steps)
     }
 }
 
@@ -58,7 +59,8 @@ fn assigned<L: Ledger>(
     value: &Expr,
     steps: &mut Steps<L>,
 ) -> Result<(), StepFault>
-    ensures { Gives (λ done. table_of view.new) result (assigned (table_of view.old) index.now path.now (term_of value.now)) }
+    ensures { Gives (λ done. left_with view.new []) result
+        (done_to view.old (assigned view.old index.now path.now (term_of value.now))) }
 {
     let leaf = leaf_of(alloc, view, path)?;
     let value = bound(alloc, view, value)?;
@@ -112,11 +114,11 @@ fn set_row<L: Ledger>(
     value: &Bound,
     steps: &mut Steps<L>,
 ) -> Result<(), StepFault>
-    requires row_in { row < length view.old.table }
+    requires row_in { row < length view.old.rows }
     requires rank { length index.now ≡ length view.old.extents }
     requires leaf_in { leaf < leaf_count_of view.old }
     requires over { IsOver view.old value.now }
-    ensures { Gives (λ done. table_of view.new) result (set_row (table_of view.old) row index.now leaf (bound_term value.now)) }
+    ensures { Gives (λ done. view.new) result (set_row view.old row index.now leaf (bound_term value.now)) }
 {
     let value = row_value(view, row, index, value, steps)?;
     store(alloc, view, row, leaf, value, steps)?;
@@ -127,7 +129,7 @@ fn set_row<L: Ledger>(
 fn row_of(view: &View, index: &[u64]) -> u64
     requires { IsInside view.now.extents index.now }
     ensures row { result ≡ place_in (indices view.now.extents) index.now }
-    ensures below { result < length view.now.table }
+    ensures below { result < length view.now.rows }
 {
     view.extents().row_of(index)
 }
@@ -140,11 +142,11 @@ fn row_value<L: Ledger>(
     value: &Bound,
     steps: &mut Steps<L>,
 ) -> Result<i128, StepFault>
-    requires row_in { row < length view.old.table }
+    requires row_in { row < length view.old.rows }
     requires rank { length index.now ≡ length view.old.extents }
     requires over { IsOver view.old value.now }
-    ensures value { Gives (λ number. number) result (value_on row (slice_index_or view.old.table row []) index.now (bound_term value.now)) }
-    ensures read { view.new ≡ after_log view.old (value_log row (slice_index_or view.old.table row []) index.now (bound_term value.now)) }
+    ensures value { Gives (λ number. number) result (value_on row (slice_index_or view.old.rows row []) index.now (bound_term value.now)) }
+    ensures read { view.new ≡ after_log view.old (value_log row (slice_index_or view.old.rows row []) index.now (bound_term value.now)) }
 {
     match value_on(view, row, value, index, steps) {
         Ok(number) => Ok(number),
@@ -164,9 +166,9 @@ fn store<L: Ledger>(
     value: i128,
     steps: &mut Steps<L>,
 ) -> Result<(), StepFault>
-    requires row_in { row < length view.old.table }
+    requires row_in { row < length view.old.rows }
     requires leaf_in { leaf < leaf_count_of view.old }
-    ensures { Gives (λ done. table_of view.new) result (stored (table_of view.old) row leaf value) }
+    ensures { Gives (λ done. view.new) result (stored view.old row leaf value) }
 {
     match view.set(row, leaf, value, steps) {
         Ok(()) => Ok(()),

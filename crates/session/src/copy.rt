@@ -1,11 +1,11 @@
 // `copy V to W`.
 ghost use Rattle.std.specs.Prelude.{◌≡◌, ◌+◌, ◌<◌, OnOk, length, map};
-ghost use Rattle.views.specs.Seen.{leaf_count_of, after_log};
+ghost use Rattle.views.specs.Tables.{leaf_count_of, after_log};
 ghost use Rattle.views.specs.Tallies.{all_reads};
 ghost use Rattle.record_dim.specs.Schemas.{schema_fields};
 ghost use Rattle.worlds.specs.Copy.{copy, copied, all_read};
 ghost use Rattle.worlds.specs.Outcomes.{Goes};
-ghost use Rattle.command_checks.specs.Entries.{table_of, view_of};
+ghost use Rattle.command_checks.specs.Entries.{view_of};
 ghost use Rattle.command_checks.specs.Gives.{Gives};
 ghost use Rattle.command_checks.specs.declared.entries.ViewEntry.{ViewEntry};
 ghost use Rattle.session.specs.Changes.{copied_at, TellsCopy};
@@ -91,7 +91,7 @@ fn place_without(place: usize, gone: usize) -> usize
 
 // A copy of a view onto itself, which has all of its own values.
 fn keep(view: &mut View)
-    ensures { copied (table_of view.old) (all_read (table_of view.old)) ≡ Goes (table_of view.new) }
+    ensures { copied view.old (all_read view.old) ≡ Goes view.new }
 {
     let _table = view.schema();
     copy_self(view);
@@ -104,24 +104,24 @@ pub fn copy_into<L: Ledger>(
     target: &mut View,
     steps: &mut Steps<L>,
 ) -> Result<(), StepFault>
-    ensures copied { Gives (λ done. table_of target.new) result (copied (table_of source.old) (table_of target.old)) }
-    ensures read { OnOk result (source.new ≡ after_log source.old (all_reads (leaf_count_of source.old) (length source.old.table))) }
+    ensures copied { Gives (λ done. target.new) result (copied source.old target.old) }
+    ensures read { OnOk result (source.new ≡ after_log source.old (all_reads (leaf_count_of source.old) (length source.old.rows))) }
 {
     match layout_copy::copy(source, target, steps) {
         Ok(()) => Ok(()),
-        Err(fault) => Err(copy_fault(alloc, target, fault)),
+        Err(fault) => Err(copy_fault(alloc, target, fault)?.into()),
     }
 }
 
 // The fault of a copy, with the path text of its leaf.
-fn copy_fault(alloc: Global, target: &View, fault: CopyFault) -> StepFault
-    ensures { TellsCopy (schema_fields target.now.schema) fault result }
+fn copy_fault(alloc: Global, target: &View, fault: CopyFault) -> Result<CommandFault, StepFault>
+    ensures { TellsCopy target.now.fields fault result }
 {
     match fault {
-        CopyFault::Mismatch => StepFault::Command(CommandFault::Mismatch),
-        CopyFault::Narrow { row, leaf } => match leaf_text(alloc, target, leaf) {
-            Ok(leaf) => StepFault::Command(CommandFault::Narrow { row, leaf }),
-            Err(fault) => fault,
-        },
+        CopyFault::Mismatch => Ok(CommandFault::Mismatch),
+        CopyFault::Narrow { row, leaf } => {
+            let leaf = leaf_text(alloc, target, leaf)?;
+            Ok(CommandFault::Narrow { row, leaf })
+        }
     }
 }

@@ -1,49 +1,43 @@
 // `kernel V .. lanes N`.
-ghost use Rattle.std.specs.Prelude.{◌≡◌};
 ghost use Rattle.layout_io.specs.Writing.{Writes};
 ghost use Rattle.lane_kernels.specs.Kernels.{IsKernelOf};
 ghost use Rattle.record_dim.specs.Schemas.{schema_fields};
-ghost use Rattle.worlds.specs.Kernel.{kernel, kernel_run, number_text, run, run_fault};
-ghost use Rattle.command_checks.specs.Entries.{table_of};
+ghost use Rattle.worlds.specs.OnView.{done_to};
+ghost use Rattle.worlds.specs.Kernel.{kernel_run, number_text, run, run_fault};
 ghost use Rattle.command_checks.specs.Gives.{Gives};
-ghost use Rattle.session.specs.Changes.{Tells, ran_to};
+ghost use Rattle.session.specs.Changes.{Tells, left_with};
 
 use crate::numbers::write_number;
-use crate::session::Session;
-use command_checks::{StepFault, fit_kernel, known_view, leaf_text};
+use crate::work::Work;
+use command_checks::{StepFault, fit_kernel, leaf_text};
 use lane_kernels::{Kernel, KernelFault, run_plain};
 use layout_io::{Failed, Sink};
 use line_grammar::KernelText;
-use record_dim::Name;
 use std::alloc::Global;
 use std::sync::ledger::Ledger;
 use steps::Steps;
 use views::View;
 use worlds::CommandFault;
 
-impl Session {
-    ghost use Rattle.session.specs.Stands.{Stands, world_of};
-    ghost use Rattle.session.specs.Answers.{Answers};
+/// Runs a kernel over the rows, and writes the number that it gives, if it gives one.
+#[derive(Drop)]
+pub(crate) struct RunKernel<'a> {
+    pub kernel: &'a KernelText,
+    pub lanes: u32,
+}
 
-    /// Runs a kernel over the rows of a view, and writes the number that it gives, if it gives one.
-    #[tactic(auto, unfolding(worlds::specs::Kernel::kernel))]
-    pub(crate) fn kernel<K: Sink, L: Ledger>(
-        mut self,
-        name: Name,
-        text: &KernelText,
-        lanes: u32,
+impl Work for RunKernel<'_> {
+    ghost does = { λ this table. kernel_run table this.kernel.now this.lanes };
+
+    fn run<K: Sink, L: Ledger>(
+        &self,
+        alloc: Global,
+        view: &mut View,
         out: &mut K,
         steps: &mut Steps<L>,
-    ) -> Result<Session, StepFault>
-        ensures { Answers Stands K.taken K.faults out.old out.new (kernel (world_of self) name text.now lanes) result }
-    {
-        let place = known_view(self.views.as_slice(), name)?;
-        let view = &mut self.views[place].view;
-        let number = kernel_run(self.alloc, view, text, lanes, steps)?;
-        match write_result(number, out) {
-            Ok(()) => Ok(self),
-            Err(_) => Err(StepFault::Sink),
-        }
+    ) -> Result<(), StepFault> {
+        let number = kernel_run(alloc, view, self.kernel, self.lanes, steps)?;
+        Ok(write_result(number, out)?)
     }
 }
 
@@ -56,7 +50,8 @@ fn kernel_run<L: Ledger>(
     lanes: u32,
     steps: &mut Steps<L>,
 ) -> Result<Option<i64>, StepFault>
-    ensures { Gives (ran_to (table_of view.new)) result (kernel_run (table_of view.old) text.now lanes) }
+    ensures { Gives (λ number. left_with view.new (number_text number)) result
+        (done_to view.old (kernel_run view.old text.now lanes)) }
 {
     let kernel = fit_kernel(alloc, view, text, lanes)?;
     let number = run(alloc, view, &kernel, steps)?;
@@ -71,28 +66,29 @@ fn run<L: Ledger>(
     steps: &mut Steps<L>,
 ) -> Result<Option<i64>, StepFault>
     requires { IsKernelOf view.old kernel.now }
-    ensures { Gives (ran_to (table_of view.new)) result (run (table_of view.old) kernel.now) }
+    ensures { Gives (λ number. left_with view.new (number_text number)) result
+        (done_to view.old (run view.old kernel.now)) }
 {
     match run_plain(view, kernel, steps) {
         Ok(number) => Ok(number),
-        Err(fault) => Err(run_fault(alloc, view, fault)),
+        Err(fault) => Err(run_fault(alloc, view, fault)?.into()),
     }
 }
 
 // The fault of a kernel, with the path text of its leaf.
-fn run_fault(alloc: Global, view: &View, fault: KernelFault) -> StepFault
-    ensures { Tells (run_fault (schema_fields view.now.schema) fault) result }
+fn run_fault(alloc: Global, view: &View, fault: KernelFault) -> Result<CommandFault, StepFault>
+    ensures { Tells (run_fault view.now.fields fault) result }
 {
     match fault {
-        KernelFault::Empty => StepFault::Command(CommandFault::Empty),
-        KernelFault::Range { row, leaf } => match leaf_text(alloc, view, leaf) {
-            Ok(leaf) => StepFault::Command(CommandFault::Range { row, leaf }),
-            Err(fault) => fault,
-        },
-        KernelFault::Narrow { row, leaf } => match leaf_text(alloc, view, leaf) {
-            Ok(leaf) => StepFault::Command(CommandFault::Narrow { row, leaf }),
-            Err(fault) => fault,
-        },
+        KernelFault::Empty => Ok(CommandFault::Empty),
+        KernelFault::Range { row, leaf } => {
+            let leaf = leaf_text(alloc, view, leaf)?;
+            Ok(CommandFault::Range { row, leaf })
+        }
+        KernelFault::Narrow { row, leaf } => {
+            let leaf = leaf_text(alloc, view, leaf)?;
+            Ok(CommandFault::Narrow { row, leaf })
+        }
     }
 }
 

@@ -13,6 +13,7 @@ mod session;
 mod show;
 mod update;
 mod view;
+mod work;
 
 pub use command_checks::{
     MappingEntry, MappingList, RecordEntry, RecordList, StepFault, ViewEntry, ViewList,

@@ -10,20 +10,18 @@ ghost use Rattle.csv_rows.specs.Datasets.{records_of, rows_of};
 ghost use Rattle.worlds.specs.Load.{load, loaded_table, filled};
 ghost use Rattle.worlds.specs.Tables.{resolved};
 ghost use Rattle.command_checks.specs.Bases.{is_nameless};
-ghost use Rattle.command_checks.specs.Entries.{table_of, view_of};
+ghost use Rattle.command_checks.specs.Entries.{view_of};
 ghost use Rattle.command_checks.specs.Gives.{Gives};
 ghost use Rattle.session.specs.Changes.{TellsRow};
-ghost use Rattle.session.specs.Loads.{named_of, filled_table, Loads, LoadCause, UnreadOnly};
+ghost use Rattle.session.specs.Loads.{named_of, new_of, filled_table, Loads, LoadCause, UnreadOnly, ToldFor};
 
 use crate::session::Session;
-use crate::view::{Found, named};
+use crate::view::{Found, New, named};
 use command_checks::{MappingEntry, RecordEntry, StepFault, ViewEntry, leaf_text, made, resolved};
 use csv_rows::{RowFault, count_rows, load_rows};
 use extents::{ExtentWord, Extents, Shape};
 use layout_io::{ReadEnd, Shelf, read_all};
 use line_grammar::FileName;
-use map_expr::MapExpr;
-use record_dim::Name;
 use std::alloc::Global;
 use std::sync::ledger::Ledger;
 use steps::Steps;
@@ -39,35 +37,29 @@ impl Session {
     /// Makes a view with the values of a dataset.
     pub(crate) fn load<H: Shelf, L: Ledger>(
         self,
-        name: Name,
-        schema: Name,
-        words: &[ExtentWord],
-        expr: &MapExpr,
+        new: &New<'_>,
         file: &FileName,
         shelf: &mut H,
         steps: &mut Steps<L>,
     ) -> Result<Session, StepFault>
-        ensures loads { (files : List File) → H.files shelf.old ≡ Some files
-            → Loads left_of (load (world_of self) name schema words.now (term_of expr.now) file.now files)
+        ensures loads { (files : List File) → ToldFor (H.files shelf.old) (load (world_of self) (new_of new.now) file.now files true) files
+            → Loads file.now left_of (load (world_of self) (new_of new.now) file.now files)
             (Rose (H.faults shelf.old) (H.faults shelf.new)) result }
         ensures files { H.files shelf.new ≡ H.files shelf.old }
         ensures cause { LoadCause (H.files shelf.old) (H.faults shelf.old) (H.faults shelf.new) result }
-        ensures unread { UnreadOnly (Some file.now) (load (world_of self) name schema words.now (term_of expr.now) file.now) result }
+        ensures unread { UnreadOnly (Some file.now) (load (world_of self) (new_of new.now) file.now) result }
     {
         let view = loaded_view(
             self.alloc,
             self.records.as_slice(),
             self.mappings.as_slice(),
             self.views.as_slice(),
-            name,
-            schema,
-            words,
-            expr,
+            new,
             file,
             shelf,
             steps,
         )?;
-        let next = self.with_view(name, view)?;
+        let next = self.with_view(new.name, view)?;
         Ok(next)
     }
 }
@@ -80,24 +72,21 @@ fn loaded_view<H: Shelf, L: Ledger>(
     records: &[RecordEntry],
     mappings: &[MappingEntry],
     views: &[ViewEntry],
-    name: Name,
-    schema: Name,
-    words: &[ExtentWord],
-    expr: &MapExpr,
+    new: &New<'_>,
     file: &FileName,
     shelf: &mut H,
     steps: &mut Steps<L>,
 ) -> Result<View, StepFault>
-    ensures loads { (files : List File) → H.files shelf.old ≡ Some files
-        → Loads table_of (loaded_table (world_in records.now mappings.now views.now) name schema words.now (term_of expr.now) file.now files)
+    ensures loads { (files : List File) → ToldFor (H.files shelf.old) (loaded_table (world_in records.now mappings.now views.now) (new_of new.now) file.now files true) files
+        → Loads file.now (λ view. view) (loaded_table (world_in records.now mappings.now views.now) (new_of new.now) file.now files)
         (Rose (H.faults shelf.old) (H.faults shelf.new)) result }
     ensures files { H.files shelf.new ≡ H.files shelf.old }
     ensures cause { LoadCause (H.files shelf.old) (H.faults shelf.old) (H.faults shelf.new) result }
-    ensures unread { UnreadOnly (Some file.now) (loaded_table (world_in records.now mappings.now views.now) name schema words.now (term_of expr.now) file.now) result }
+    ensures unread { UnreadOnly (Some file.now) (loaded_table (world_in records.now mappings.now views.now) (new_of new.now) file.now) result }
 {
-    let found = named(alloc, records, mappings, views, name, schema, words, expr)?;
+    let found = named(alloc, records, mappings, views, new)?;
     match read_all(alloc, shelf, file.as_str(), DATASET_BYTES) {
-        Ok(bytes) => filled_view(alloc, views, &found, words, bytes.as_slice(), steps),
+        Ok(bytes) => filled_view(alloc, views, &found, new.words, bytes.as_slice(), steps),
         Err(end) => match end {
             ReadEnd::Failed => Err(StepFault::Source),
             ReadEnd::TooLong => Err(StepFault::Command(CommandFault::TooBig)),
@@ -119,7 +108,7 @@ fn filled_view<L: Ledger>(
     requires shape { found.now.shape ≡ words.now }
     requires is_shape { IsShape words.now }
     requires few { length views.now < 64 }
-    ensures { Gives table_of result (filled_table (map view_of views.now) (named_of found.now) words.now bytes.now) }
+    ensures { Gives (λ view. view) result (filled_table (map view_of views.now) (named_of found.now) words.now bytes.now) }
 {
     let extents = dataset_extents(alloc, &found.shape, words, bytes)?;
     let mut view = made(alloc, views, found.schema, extents, &found.expr)?;
@@ -154,44 +143,44 @@ fn fill<L: Ledger>(
     bytes: &[u8],
     steps: &mut Steps<L>,
 ) -> Result<(), StepFault>
-    requires { length view.old.table ≡ length (rows_of (records_of bytes.now)) }
-    ensures { Gives (λ done. table_of view.new) result (filled (table_of view.old) (records_of bytes.now)) }
+    requires { length view.old.rows ≡ length (rows_of (records_of bytes.now)) }
+    ensures { Gives (λ done. view.new) result (filled view.old (records_of bytes.now)) }
 {
     match load_rows(alloc, bytes, view, steps) {
         Ok(()) => Ok(()),
-        Err(fault) => Err(row_fault(alloc, view, fault)),
+        Err(fault) => Err(row_fault(alloc, view, fault)?.into()),
     }
 }
 
 // The fault of a dataset, with the path text of its leaf.
-fn row_fault(alloc: Global, view: &View, fault: RowFault) -> StepFault
-    ensures { TellsRow (schema_fields view.now.schema) fault result }
+fn row_fault(alloc: Global, view: &View, fault: RowFault) -> Result<CommandFault, StepFault>
+    ensures { TellsRow view.now.fields fault result }
 {
     match fault {
-        RowFault::MissingColumn { leaf } => match leaf_text(alloc, view, leaf) {
-            Ok(leaf) => StepFault::Command(CommandFault::MissingColumn { leaf }),
-            Err(fault) => fault,
-        },
-        RowFault::ColumnTwice { leaf } => match leaf_text(alloc, view, leaf) {
-            Ok(leaf) => StepFault::Command(CommandFault::ColumnTwice { leaf }),
-            Err(fault) => fault,
-        },
-        RowFault::ShortRow { row, leaf } => match leaf_text(alloc, view, leaf) {
-            Ok(leaf) => StepFault::Command(CommandFault::ShortRow { row, leaf }),
-            Err(fault) => fault,
-        },
-        RowFault::Number { row, leaf } => match leaf_text(alloc, view, leaf) {
-            Ok(leaf) => StepFault::Command(CommandFault::Number { row, leaf }),
-            Err(fault) => fault,
-        },
-        RowFault::Range { row, leaf } => match leaf_text(alloc, view, leaf) {
-            Ok(leaf) => StepFault::Command(CommandFault::Range { row, leaf }),
-            Err(fault) => fault,
-        },
-        RowFault::Narrow { row, leaf } => match leaf_text(alloc, view, leaf) {
-            Ok(leaf) => StepFault::Command(CommandFault::Narrow { row, leaf }),
-            Err(fault) => fault,
-        },
-        RowFault::NoMemory => StepFault::NoMemory,
+        RowFault::MissingColumn { leaf } => {
+            let leaf = leaf_text(alloc, view, leaf)?;
+            Ok(CommandFault::MissingColumn { leaf })
+        }
+        RowFault::ColumnTwice { leaf } => {
+            let leaf = leaf_text(alloc, view, leaf)?;
+            Ok(CommandFault::ColumnTwice { leaf })
+        }
+        RowFault::ShortRow { row, leaf } => {
+            let leaf = leaf_text(alloc, view, leaf)?;
+            Ok(CommandFault::ShortRow { row, leaf })
+        }
+        RowFault::Number { row, leaf } => {
+            let leaf = leaf_text(alloc, view, leaf)?;
+            Ok(CommandFault::Number { row, leaf })
+        }
+        RowFault::Range { row, leaf } => {
+            let leaf = leaf_text(alloc, view, leaf)?;
+            Ok(CommandFault::Range { row, leaf })
+        }
+        RowFault::Narrow { row, leaf } => {
+            let leaf = leaf_text(alloc, view, leaf)?;
+            Ok(CommandFault::Narrow { row, leaf })
+        }
+        RowFault::NoMemory => Err(StepFault::NoMemory),
     }
 }

@@ -2,23 +2,24 @@
 ghost use Rattle.std.specs.Prelude.{◌≡◌, ◌<◌, ◌≤◌, ◌+◌, ◌-◌, ◌^◌, OnOk, pos, length, map, take};
 ghost use Rattle.std.specs.List.{range_with_len};
 ghost use Rattle.expr_lang.specs.Terms.{term_of};
-ghost use Rattle.views.specs.Seen.{leaf_count_of, after_log};
+ghost use Rattle.views.specs.Tables.{leaf_count_of, after_log};
 ghost use Rattle.views.specs.Tallies.{Read};
+ghost use Rattle.worlds.specs.OnView.{done_to};
 ghost use Rattle.worlds.specs.Outcomes.{Goes};
-ghost use Rattle.worlds.specs.Reduce.{reduce, reduced, reduction, column, column_log, count, counting};
-ghost use Rattle.command_checks.specs.Entries.{table_of};
+ghost use Rattle.worlds.specs.Texts.{number_line};
+ghost use Rattle.worlds.specs.Reduce.{reduced, reduction, column, column_log, counting};
 ghost use Rattle.command_checks.specs.Gives.{Gives};
-ghost use Rattle.session.specs.Changes.{measured};
+ghost use Rattle.session.specs.Changes.{left_with};
 ghost use Rattle.session.specs.Columns.{combined, IsSmall};
 
 use crate::numbers::{write_count, write_number};
-use crate::session::Session;
 use crate::update::update_fault;
-use command_checks::{StepFault, bound, known_view, leaf_of};
+use crate::work::Work;
+use command_checks::{StepFault, bound, leaf_of};
 use expr_lang::Expr;
 use layout_io::Sink;
 use line_grammar::ReduceKind;
-use record_dim::{Name, Path};
+use record_dim::Path;
 use row_updates::count_where;
 use std::alloc::Global;
 use std::sync::ledger::Ledger;
@@ -26,47 +27,46 @@ use steps::Steps;
 use views::View;
 use worlds::CommandFault;
 
-impl Session {
-    ghost use Rattle.session.specs.Stands.{Stands, world_of};
-    ghost use Rattle.session.specs.Answers.{Answers};
+/// Writes the number of rows where an expression is not 0.
+#[derive(Drop)]
+pub(crate) struct Count<'a> {
+    pub filter: &'a Expr,
+}
 
-    /// Writes the number of rows where an expression is not 0.
-    #[tactic(auto, unfolding(worlds::specs::Reduce::count))]
-    pub(crate) fn count<K: Sink, L: Ledger>(
-        mut self,
-        name: Name,
-        filter: &Expr,
+impl Work for Count<'_> {
+    ghost does = { λ this table. counting table (term_of this.filter.now) };
+
+    fn run<K: Sink, L: Ledger>(
+        &self,
+        alloc: Global,
+        view: &mut View,
         out: &mut K,
         steps: &mut Steps<L>,
-    ) -> Result<Session, StepFault>
-        ensures { Answers Stands K.taken K.faults out.old out.new (count (world_of self) name (term_of filter.now)) result }
-    {
-        let place = known_view(self.views.as_slice(), name)?;
-        let rows = counting(self.alloc, &mut self.views[place].view, filter, steps)?;
-        match write_count(rows, out) {
-            Ok(()) => Ok(self),
-            Err(_) => Err(StepFault::Sink),
-        }
+    ) -> Result<(), StepFault> {
+        let rows = counting(alloc, view, self.filter, steps)?;
+        Ok(write_count(rows, out)?)
     }
+}
 
-    /// Writes the sum, the least or the greatest of the values of a leaf.
-    #[tactic(auto, unfolding(worlds::specs::Reduce::reduce))]
-    pub(crate) fn reduce<K: Sink, L: Ledger>(
-        mut self,
-        name: Name,
-        kind: ReduceKind,
-        path: &Path,
+/// Writes the sum, the least or the greatest of the values of a leaf.
+#[derive(Drop)]
+pub(crate) struct Reduce<'a> {
+    pub kind: ReduceKind,
+    pub path: &'a Path,
+}
+
+impl Work for Reduce<'_> {
+    ghost does = { λ this table. reduction table this.kind this.path.now };
+
+    fn run<K: Sink, L: Ledger>(
+        &self,
+        alloc: Global,
+        view: &mut View,
         out: &mut K,
         steps: &mut Steps<L>,
-    ) -> Result<Session, StepFault>
-        ensures { Answers Stands K.taken K.faults out.old out.new (reduce (world_of self) name kind path.now) result }
-    {
-        let place = known_view(self.views.as_slice(), name)?;
-        let value = reduction(self.alloc, &mut self.views[place].view, kind, path, steps)?;
-        match write_number(value, out) {
-            Ok(()) => Ok(self),
-            Err(_) => Err(StepFault::Sink),
-        }
+    ) -> Result<(), StepFault> {
+        let value = reduction(alloc, view, self.kind, self.path, steps)?;
+        Ok(write_number(value, out)?)
     }
 }
 
@@ -79,7 +79,8 @@ fn reduction<L: Ledger>(
     path: &Path,
     steps: &mut Steps<L>,
 ) -> Result<i128, StepFault>
-    ensures { Gives (measured (table_of view.new)) result (reduction (table_of view.old) kind path.now) }
+    ensures { Gives (λ value. left_with view.new (number_line value)) result
+        (done_to view.old (reduction view.old kind path.now)) }
 {
     let leaf = leaf_of(alloc, view, path)?;
     reduced(view, leaf, kind, steps)
@@ -93,12 +94,13 @@ fn counting<L: Ledger>(
     filter: &Expr,
     steps: &mut Steps<L>,
 ) -> Result<u64, StepFault>
-    ensures { Gives (λ rows. measured (table_of view.new) (pos rows)) result (counting (table_of view.old) (term_of filter.now)) }
+    ensures { Gives (λ rows. left_with view.new (number_line (pos rows))) result
+        (done_to view.old (counting view.old (term_of filter.now))) }
 {
     let filter = bound(alloc, view, filter)?;
     match count_where(view, &filter, steps) {
         Ok(rows) => Ok(rows),
-        Err(fault) => Err(update_fault(alloc, view, fault)),
+        Err(fault) => Err(update_fault(alloc, view, fault)?.into()),
     }
 }
 
@@ -110,8 +112,8 @@ fn reduced<L: Ledger>(
     steps: &mut Steps<L>,
 ) -> Result<i128, StepFault>
     requires { leaf < leaf_count_of view.old }
-    ensures value { Gives (λ value. value) result (reduced kind (column leaf view.old.table)) }
-    ensures read { OnOk result (view.new ≡ after_log view.old (column_log leaf (length view.old.table))) }
+    ensures value { Gives (λ value. value) result (reduced kind (column leaf view.old.rows)) }
+    ensures read { OnOk result (view.new ≡ after_log view.old (column_log leaf (length view.old.rows))) }
 {
     match kind {
         ReduceKind::Sum => Ok(along(view, leaf, kind, 0, 0, steps)),
@@ -135,11 +137,11 @@ fn along<L: Ledger>(
     steps: &mut Steps<L>,
 ) -> i128
     requires leaf_in { leaf < leaf_count_of view.old }
-    requires start { start ≤ length view.old.table }
-    requires before { reduced kind (take start (column leaf view.old.table)) ≡ Goes value }
+    requires start { start ≤ length view.old.rows }
+    requires before { reduced kind (take start (column leaf view.old.rows)) ≡ Goes value }
     requires small { IsSmall start value }
-    ensures value { reduced kind (column leaf view.old.table) ≡ Goes result }
-    ensures read { view.new ≡ after_log view.old (map (λ row. Read row leaf) (range_with_len start (length view.old.table - start))) }
+    ensures value { reduced kind (column leaf view.old.rows) ≡ Goes result }
+    ensures read { view.new ≡ after_log view.old (map (λ row. Read row leaf) (range_with_len start (length view.old.rows - start))) }
 {
     let mut reached = value;
     for row in start..view.extents().count() {

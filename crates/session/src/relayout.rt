@@ -3,7 +3,7 @@ ghost use Rattle.std.specs.Prelude.{◌≡◌, ◌<◌, IfOk, length, map, slice
 ghost use Rattle.map_expr.specs.Terms.{term_of};
 ghost use Rattle.worlds.specs.Copy.{copied, relayout};
 ghost use Rattle.command_checks.specs.Bases.{is_nameless};
-ghost use Rattle.command_checks.specs.Entries.{table_of, view_of};
+ghost use Rattle.command_checks.specs.Entries.{view_of};
 ghost use Rattle.command_checks.specs.Gives.{Gives};
 ghost use Rattle.command_checks.specs.declared.entries.ViewEntry.{ViewEntry};
 ghost use Rattle.session.specs.Changes.{made_like, zeros_like};
@@ -46,7 +46,7 @@ fn laid_over<L: Ledger>(
     mut fresh: View,
     steps: &mut Steps<L>,
 ) -> Result<(), StepFault>
-    ensures { Gives (λ done. table_of view.new) result (copied (table_of view.old) (table_of fresh)) }
+    ensures { Gives (λ done. view.new) result (copied view.old fresh) }
 {
     match copy_into(alloc, view, &mut fresh, steps) {
         Ok(()) => {
@@ -66,9 +66,9 @@ fn zeros_beside(
 ) -> Result<View, StepFault>
     requires place { place < length views.now }
     requires nameless { is_nameless (term_of expr.now) ≡ true }
-    ensures made { (d : ViewEntry) → Gives table_of result
-        (made_like (map view_of views.now) (table_of (slice_index_or views.now place d).view) (term_of expr.now)) }
-    ensures zeros { (d : ViewEntry) → IfOk result (λ view. table_of view ≡ zeros_like (table_of (slice_index_or views.now place d).view) (term_of expr.now)) }
+    ensures made { (d : ViewEntry) → Gives (λ view. view) result
+        (made_like (map view_of views.now) (slice_index_or views.now place d).view (term_of expr.now)) }
+    ensures zeros { (d : ViewEntry) → IfOk result (λ view. view ≡ zeros_like (slice_index_or views.now place d).view (term_of expr.now)) }
 {
     let old = &views[place].view;
     made(alloc, views, old.schema(), old.extents(), expr)

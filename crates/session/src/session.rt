@@ -1,13 +1,25 @@
-ghost use Rattle.std.specs.Prelude.{◌≡◌, Bool, List, None};
+ghost use Rattle.std.specs.Prelude.{◌≡◌, Bool, true, List, None};
 ghost use Rattle.layout_io.specs.Faults.{Rose};
 ghost use Rattle.layout_io.specs.Files.{File};
-ghost use Rattle.line_grammar.specs.Sentences.{sentence_of};
+ghost use Rattle.line_grammar.specs.Sentences.{sentence_of, file_of};
+ghost use Rattle.worlds.specs.Answers.{StepsTo, StepCause};
+ghost use Rattle.worlds.specs.OnView.{on_view};
 ghost use Rattle.worlds.specs.Step.{step, command};
 ghost use Rattle.worlds.specs.Worlds.{empty};
 
-use command_checks::{MappingList, RecordList, StepFault, ViewList};
+use crate::assign::Assign;
+use crate::kernel::RunKernel;
+use crate::reduce::{Count, Reduce};
+use crate::show::{Bytes, Counts, Heat, Layout, Print};
+use crate::update::Update;
+use crate::view::New;
+use crate::work::Work;
+use command_checks::{
+    MappingEntry, MappingList, RecordEntry, RecordList, StepFault, ViewEntry, ViewList, known_view,
+};
 use layout_io::{Shelf, Sink};
 use line_grammar::Line;
+use record_dim::Name;
 use std::alloc::Global;
 use std::sync::ledger::Ledger;
 use steps::Steps;
@@ -23,8 +35,8 @@ pub struct Session {
 
 impl Session {
     ghost use Rattle.session.specs.Stands.{Stands, world_of};
-    ghost use Rattle.session.specs.Answers.{Answers, StepsTo, StepCause, TookNone, IsFit};
-    ghost use Rattle.session.specs.Loads.{UnreadOnly, ToldFor, file_in};
+    ghost use Rattle.session.specs.Answers.{Answers, TookNone, IsFit, ending_of};
+    ghost use Rattle.session.specs.Loads.{UnreadOnly, ToldFor};
 
     /// A session that holds nothing.
     pub fn new(alloc: Global) -> Session
@@ -38,7 +50,7 @@ impl Session {
         }
     }
 
-    /// Does one line of a script: the answer is that of the model where the shelf tells its files, or the line reads none. `Source` comes
+    /// Does one line of a script: the answer is that of the model where the shelf tells its files, or the line comes to read none. `Source` comes
     /// only of a line that reads a file, and whose outcome is that this file can't be read where reading fails. On every refusal the session
     /// is gone.
     #[tactic(auto, using(crate::specs::LoadsLaws::no_file))]
@@ -50,12 +62,12 @@ impl Session {
         steps: &mut Steps<L>,
     ) -> Result<Session, StepFault>
         requires { IsFit line.now }
-        ensures step { (files : List File) → ToldFor (H.files shelf.old) (sentence_of line.now) files
-            → StepsTo Stands K.taken K.faults out.old out.new (step (world_of self) (sentence_of line.now) files)
+        ensures step { (files : List File) → ToldFor (H.files shelf.old) (step (world_of self) (sentence_of line.now) files true) files
+            → StepsTo (ending_of (file_of (sentence_of line.now))) Stands K.taken K.faults out.old out.new (step (world_of self) (sentence_of line.now) files)
             (Rose (H.faults shelf.old) (H.faults shelf.new)) result }
         ensures files { H.files shelf.new ≡ H.files shelf.old }
-        ensures cause { StepCause (H.files shelf.old) (H.faults shelf.old) (H.faults shelf.new) (K.faults out.old) (K.faults out.new) result }
-        ensures unread { UnreadOnly (file_in (sentence_of line.now)) (step (world_of self) (sentence_of line.now)) result }
+        ensures cause { StepCause (ending_of (file_of (sentence_of line.now))) (H.files shelf.old) (H.faults shelf.old) (H.faults shelf.new) (K.faults out.old) (K.faults out.new) result }
+        ensures unread { UnreadOnly (file_of (sentence_of line.now)) (step (world_of self) (sentence_of line.now)) result }
         ensures untaken { TookNone K.taken out.old out.new result }
     {
         match line {
@@ -65,7 +77,17 @@ impl Session {
                 words,
                 expr,
                 file,
-            } => self.load(*name, *schema, words.as_slice(), expr, file, shelf, steps),
+            } => {
+                let (name, schema) = (*name, *schema);
+                let words = words.as_slice();
+                let new = New {
+                    name,
+                    schema,
+                    words,
+                    expr,
+                };
+                self.load(&new, file, shelf, steps)
+            }
             _ => self.command(line, out, steps),
         }
     }
@@ -78,7 +100,7 @@ impl Session {
         steps: &mut Steps<L>,
     ) -> Result<Session, StepFault>
         requires fit { IsFit line.now }
-        requires no_file { file_in (sentence_of line.now) ≡ None }
+        requires no_file { file_of (sentence_of line.now) ≡ None }
         ensures { (files : List File) (unread : Bool) → Answers Stands K.taken K.faults out.old out.new
             (command (world_of self) (sentence_of line.now) files unread) result }
     {
@@ -91,35 +113,83 @@ impl Session {
                 schema,
                 words,
                 expr,
-            } => self.view(*name, *schema, words.as_slice(), expr),
+            } => {
+                let (name, schema) = (*name, *schema);
+                let words = words.as_slice();
+                self.view(&New {
+                    name,
+                    schema,
+                    words,
+                    expr,
+                })
+            }
+            Line::Copy { source, target } => self.copy(*source, *target, steps),
+            Line::Relayout { view, expr } => self.relayout(*view, expr, steps),
+            Line::Drop(view) => self.drop_view(*view),
             Line::Assign {
                 view,
                 index,
                 path,
                 value,
-            } => self.assign(*view, index.as_slice(), path, value, steps),
+            } => {
+                let index = index.as_slice();
+                self.on_view(*view, &Assign { index, path, value }, out, steps)
+            }
             Line::Update { view, filter, sets } => {
-                self.update(*view, filter, sets.as_slice(), steps)
+                let sets = sets.as_slice();
+                self.on_view(*view, &Update { filter, sets }, out, steps)
             }
             Line::Kernel {
                 view,
                 kernel,
                 lanes,
-            } => self.kernel(*view, kernel, *lanes, out, steps),
-            Line::Copy { source, target } => self.copy(*source, *target, steps),
-            Line::Relayout { view, expr } => self.relayout(*view, expr, steps),
-            Line::Reduce { view, kind, path } => self.reduce(*view, *kind, path, out, steps),
-            Line::Count { view, filter } => self.count(*view, filter, out, steps),
-            Line::Print(view) => self.print(*view, out, steps),
-            Line::Drop(view) => self.drop_view(*view),
-            Line::Counts(view) => self.counts(*view, out),
-            Line::Heat(view) => self.heat(*view, out),
-            Line::Layout(view) => self.layout(*view, out),
-            Line::Bytes { view, blob } => self.bytes(*view, *blob, out),
+            } => {
+                let lanes = *lanes;
+                self.on_view(*view, &RunKernel { kernel, lanes }, out, steps)
+            }
+            Line::Reduce { view, kind, path } => {
+                let kind = *kind;
+                self.on_view(*view, &Reduce { kind, path }, out, steps)
+            }
+            Line::Count { view, filter } => self.on_view(*view, &Count { filter }, out, steps),
+            Line::Print(view) => self.on_view(*view, &Print, out, steps),
+            Line::Counts(view) => self.on_view(*view, &Counts, out, steps),
+            Line::Heat(view) => self.on_view(*view, &Heat, out, steps),
+            Line::Layout(view) => self.on_view(*view, &Layout, out, steps),
+            Line::Bytes { view, blob } => {
+                self.on_view(*view, &Bytes { blob: *blob }, out, steps)
+            }
             Line::Load { .. } => unreachable!(),
         }
     }
+
+    // Does what works on the view of a name.
+    #[tactic(auto, unfolding(worlds::specs::OnView::on_view))]
+    fn on_view<W: Work, K: Sink, L: Ledger>(
+        mut self,
+        name: Name,
+        work: &W,
+        out: &mut K,
+        steps: &mut Steps<L>,
+    ) -> Result<Session, StepFault>
+        ensures { Answers Stands K.taken K.faults out.old out.new (on_view (world_of self) name (W.does work.now)) result }
+    {
+        let place = known_view(self.views.as_slice(), name)?;
+        let view = &mut self.views[place].view;
+        work.run(self.alloc, view, out, steps)?;
+        Ok(self)
+    }
 }
 
-#[cfg(test)]
-mod tests;
+// Every field of a session and of its entries stands here: each live view is kept as a view, and in no other form.
+fn every_field(session: &Session) {
+    let Session {
+        alloc: _,
+        records,
+        mappings,
+        views,
+    } = session;
+    for RecordEntry { name: _, schema: _ } in records {}
+    for MappingEntry { name: _, expr: _ } in mappings {}
+    for ViewEntry { name: _, view: _ } in views {}
+}

@@ -3,13 +3,14 @@ ghost use Rattle.std.specs.Prelude.{◌≡◌, ◌++◌, All, IfOk, OnOk};
 ghost use Rattle.blobs.specs.Bits.{bits_of};
 ghost use Rattle.instrument.specs.BlobTexts.{bytes_of, bytes_text};
 ghost use Rattle.places.specs.Runs.{IsOwnerBelow};
-ghost use Rattle.views.specs.Seen.{leaf_count_of, seen_layout};
+ghost use Rattle.views.specs.Tables.{leaf_count_of, owners_of};
+ghost use Rattle.worlds.specs.OnView.{tells};
 ghost use Rattle.worlds.specs.Outcomes.{Goes};
-ghost use Rattle.worlds.specs.Show.{print, counts, heat, layout, small, all_runs, bytes, shown, drop_view};
-ghost use Rattle.command_checks.specs.Entries.{table_of};
+ghost use Rattle.worlds.specs.Show.{print, counts, heat, layout, small, all_runs, bytes, drop_view};
 ghost use Rattle.command_checks.specs.Gives.{Gives};
 
 use crate::session::Session;
+use crate::work::Work;
 use blobs::Blob;
 use command_checks::{StepFault, known_view};
 use csv_rows::print_rows;
@@ -26,90 +27,109 @@ use worlds::CommandFault;
 /// The most bytes of a view whose blobs are shown.
 const MOST_BYTES: u64 = 65_536;
 
-impl Session {
-    ghost use Rattle.session.specs.Stands.{Stands, left_of, world_of};
-    ghost use Rattle.session.specs.Answers.{Answers};
+/// Writes the table.
+#[derive(Drop)]
+pub(crate) struct Print;
 
-    /// Writes the table of a view.
-    #[tactic(auto, unfolding(worlds::specs::Show::print))]
-    pub(crate) fn print<K: Sink, L: Ledger>(
-        mut self,
-        name: Name,
+impl Work for Print {
+    ghost does = { λ this table. print table };
+
+    fn run<K: Sink, L: Ledger>(
+        &self,
+        _alloc: Global,
+        view: &mut View,
         out: &mut K,
         steps: &mut Steps<L>,
-    ) -> Result<Session, StepFault>
-        ensures { Answers Stands K.taken K.faults out.old out.new (print (world_of self) name) result }
-    {
-        let place = known_view(self.views.as_slice(), name)?;
-        match print_rows(&mut self.views[place].view, out, steps) {
-            Ok(()) => Ok(self),
-            Err(_) => Err(StepFault::Sink),
-        }
+    ) -> Result<(), StepFault> {
+        Ok(print_rows(view, out, steps)?)
     }
+}
 
-    /// Writes how often each leaf of a view was read and was written.
-    #[tactic(auto, unfolding(worlds::specs::Show::counts))]
-    pub(crate) fn counts<K: Sink>(self, name: Name, out: &mut K) -> Result<Session, StepFault>
-        ensures { Answers Stands K.taken K.faults out.old out.new (counts (world_of self) name) result }
-    {
-        let place = known_view(self.views.as_slice(), name)?;
-        let view = &self.views[place].view;
+/// Writes how often each leaf was read and written.
+#[derive(Drop)]
+pub(crate) struct Counts;
+
+impl Work for Counts {
+    ghost does = { λ this table. counts table };
+
+    fn run<K: Sink, L: Ledger>(
+        &self,
+        _alloc: Global,
+        view: &mut View,
+        out: &mut K,
+        _steps: &mut Steps<L>,
+    ) -> Result<(), StepFault> {
         let Some(counts) = view.counts() else {
             return Err(StepFault::Command(CommandFault::NotCounted));
         };
-        match write_counts(counts, view.schema(), out) {
-            Ok(()) => Ok(self),
-            Err(_) => Err(StepFault::Sink),
-        }
+        Ok(write_counts(counts, view.schema(), out)?)
     }
+}
 
-    /// Writes how often each granule of the blobs of a view was accessed.
-    #[tactic(auto, unfolding(worlds::specs::Show::heat))]
-    pub(crate) fn heat<K: Sink>(self, name: Name, out: &mut K) -> Result<Session, StepFault>
-        ensures { Answers Stands K.taken K.faults out.old out.new (heat (world_of self) name) result }
-    {
-        let place = known_view(self.views.as_slice(), name)?;
-        let Some(heat) = self.views[place].view.heat() else {
+/// Writes how often each granule of the blobs was accessed.
+#[derive(Drop)]
+pub(crate) struct Heat;
+
+impl Work for Heat {
+    ghost does = { λ this table. heat table };
+
+    fn run<K: Sink, L: Ledger>(
+        &self,
+        _alloc: Global,
+        view: &mut View,
+        out: &mut K,
+        _steps: &mut Steps<L>,
+    ) -> Result<(), StepFault> {
+        let Some(heat) = view.heat() else {
             return Err(StepFault::Command(CommandFault::NotCounted));
         };
-        match write_heat(heat, out) {
-            Ok(()) => Ok(self),
-            Err(_) => Err(StepFault::Sink),
-        }
+        Ok(write_heat(heat, out)?)
     }
+}
 
-    /// Writes whose the bits of the blobs of a view are.
-    #[tactic(auto, unfolding(worlds::specs::Show::layout))]
-    pub(crate) fn layout<K: Sink>(self, name: Name, out: &mut K) -> Result<Session, StepFault>
-        ensures { Answers Stands K.taken K.faults out.old out.new (layout (world_of self) name) result }
-    {
-        let place = known_view(self.views.as_slice(), name)?;
-        let view = &self.views[place].view;
-        check_small(view)?;
-        let runs = all_runs(self.alloc, view)?;
-        match write_runs(&runs, view.schema(), out) {
-            Ok(()) => Ok(self),
-            Err(_) => Err(StepFault::Sink),
-        }
-    }
+/// Writes whose the bits of the blobs are.
+#[derive(Drop)]
+pub(crate) struct Layout;
 
-    /// Writes the bytes of a blob of a view.
-    #[tactic(auto, unfolding(worlds::specs::Show::bytes))]
-    pub(crate) fn bytes<K: Sink>(
-        self,
-        name: Name,
-        blob: u32,
+impl Work for Layout {
+    ghost does = { λ this table. layout table };
+
+    fn run<K: Sink, L: Ledger>(
+        &self,
+        alloc: Global,
+        view: &mut View,
         out: &mut K,
-    ) -> Result<Session, StepFault>
-        ensures { Answers Stands K.taken K.faults out.old out.new (bytes (world_of self) name blob) result }
-    {
-        let place = known_view(self.views.as_slice(), name)?;
-        let blob = shown(&self.views[place].view, blob)?;
-        match write_bytes(blob, out) {
-            Ok(()) => Ok(self),
-            Err(_) => Err(StepFault::Sink),
-        }
+        _steps: &mut Steps<L>,
+    ) -> Result<(), StepFault> {
+        check_small(view)?;
+        let runs = all_runs(alloc, view)?;
+        Ok(write_runs(&runs, view.schema(), out)?)
     }
+}
+
+/// Writes the bytes of a blob.
+#[derive(Drop)]
+pub(crate) struct Bytes {
+    pub blob: u32,
+}
+
+impl Work for Bytes {
+    ghost does = { λ this table. bytes table this.blob };
+
+    fn run<K: Sink, L: Ledger>(
+        &self,
+        _alloc: Global,
+        view: &mut View,
+        out: &mut K,
+        _steps: &mut Steps<L>,
+    ) -> Result<(), StepFault> {
+        let blob = shown(view, self.blob)?;
+        Ok(write_bytes(blob, out)?)
+    }
+}
+
+impl Session {
+    ghost use Rattle.session.specs.Stands.{left_of, world_of};
 
     /// Lets a view go. Its name is free then.
     #[tactic(auto, unfolding(worlds::specs::Show::drop_view))]
@@ -123,9 +143,9 @@ impl Session {
 }
 
 // The blob of this number, where there is one and the view is small.
-#[tactic(auto, unfolding(worlds::specs::Show::shown))]
+#[tactic(auto, unfolding(worlds::specs::Show::bytes))]
 fn shown(view: &View, blob: u32) -> Result<&Blob, StepFault>
-    ensures { Gives (λ blob. bytes_text (bytes_of (bits_of blob.now))) result (shown (table_of view.now) blob) }
+    ensures { Gives (λ blob. tells view.now (bytes_text (bytes_of (bits_of blob.now)))) result (bytes view.now blob) }
 {
     let blob = blob as usize;
     if view.map().blob_count() <= blob {
@@ -137,7 +157,7 @@ fn shown(view: &View, blob: u32) -> Result<&Blob, StepFault>
 
 // That the blobs of a view are small enough to be shown.
 fn check_small(view: &View) -> Result<(), StepFault>
-    ensures { Gives (λ done. tt) result (small (table_of view.now)) }
+    ensures { Gives (λ done. tt) result (small view.now) }
 {
     if view.blob_bytes() > MOST_BYTES {
         return Err(StepFault::Command(CommandFault::TooBig));
@@ -147,8 +167,8 @@ fn check_small(view: &View) -> Result<(), StepFault>
 
 // The runs of all blobs of a small view, in order.
 fn all_runs(alloc: Global, view: &View) -> Result<RunList, NoMemory>
-    requires { small (table_of view.now) ≡ Goes tt }
-    ensures runs { IfOk result (λ runs. runs ≡ all_runs (seen_layout view.now)) }
+    requires { small view.now ≡ Goes tt }
+    ensures runs { IfOk result (λ runs. runs ≡ all_runs (owners_of view.now)) }
     ensures leaves { IfOk result (λ runs. All (λ run. IsOwnerBelow (leaf_count_of view.now) run.owner) runs) }
 {
     let map = view.map();

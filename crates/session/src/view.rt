@@ -4,7 +4,6 @@ ghost use Rattle.extents.specs.Shapes.{IsShape};
 ghost use Rattle.map_expr.specs.Terms.{term_of};
 ghost use Rattle.worlds.specs.View.{named, new_table, view, with_view};
 ghost use Rattle.command_checks.specs.Bases.{is_nameless};
-ghost use Rattle.command_checks.specs.Entries.{table_of};
 ghost use Rattle.command_checks.specs.Gives.{Gives};
 
 use crate::session::Session;
@@ -18,6 +17,15 @@ use record_dim::{Name, Schema};
 use std::alloc::Global;
 use views::View;
 
+/// What makes a view: its name, the name of its record, its extents and its mapping.
+#[derive(Drop)]
+pub struct New<'a> {
+    pub name: Name,
+    pub schema: Name,
+    pub words: &'a [ExtentWord],
+    pub expr: &'a MapExpr,
+}
+
 /// What the names of a new view stand for, and its shape.
 #[derive(Drop)]
 pub struct Found<'a> {
@@ -26,36 +34,30 @@ pub struct Found<'a> {
     pub shape: Shape,
 }
 
+ghost use Rattle.session.specs.Stands.{world_in};
+ghost use Rattle.session.specs.Loads.{named_of, new_of};
+
 impl Session {
     ghost use Rattle.session.specs.Stands.{Stands, left_of, world_of};
 
     /// Makes a view of zeros.
     #[tactic(auto, unfolding(worlds::specs::View::view))]
-    pub(crate) fn view(
-        self,
-        name: Name,
-        schema: Name,
-        words: &[ExtentWord],
-        expr: &MapExpr,
-    ) -> Result<Session, StepFault>
-        ensures { Gives left_of result (view (world_of self) name schema words.now (term_of expr.now)) }
+    pub(crate) fn view(self, new: &New<'_>) -> Result<Session, StepFault>
+        ensures { Gives left_of result (view (world_of self) (new_of new.now)) }
     {
         let view = new_view(
             self.alloc,
             self.records.as_slice(),
             self.mappings.as_slice(),
             self.views.as_slice(),
-            name,
-            schema,
-            words,
-            expr,
+            new,
         )?;
-        self.with_view(name, view)
+        self.with_view(new.name, view)
     }
 
     /// One view more.
     pub(crate) fn with_view(mut self, name: Name, view: View) -> Result<Session, StepFault>
-        ensures added { IfOk result (λ next. Stands next (with_view (world_of self) name (table_of view))) }
+        ensures added { IfOk result (λ next. Stands next (with_view (world_of self) name view)) }
         ensures starved { IfErr result (λ fault. fault ≡ StepFault.NoMemory) }
     {
         self.views.push(ViewEntry { name, view })?;
@@ -63,31 +65,25 @@ impl Session {
     }
 }
 
-ghost use Rattle.session.specs.Stands.{world_in};
-ghost use Rattle.session.specs.Loads.{named_of};
-
 /// What the names of a new view stand for, and its shape: the tests that need no file.
 pub fn named<'a>(
     alloc: Global,
     records: &'a [RecordEntry],
     mappings: &[MappingEntry],
     views: &[ViewEntry],
-    name: Name,
-    schema: Name,
-    words: &[ExtentWord],
-    expr: &MapExpr,
+    new: &New<'_>,
 ) -> Result<Found<'a>, StepFault>
-    ensures named { Gives named_of result (named (world_in records.now mappings.now views.now) name schema words.now (term_of expr.now)) }
+    ensures named { Gives named_of result (named (world_in records.now mappings.now views.now) (new_of new.now)) }
     ensures nameless { IfOk result (λ found. is_nameless (term_of found.expr) ≡ true) }
-    ensures shape { IfOk result (λ found. found.shape ≡ words.now) }
-    ensures is_shape { OnOk result (IsShape words.now) }
+    ensures shape { IfOk result (λ found. found.shape ≡ new.now.words.now) }
+    ensures is_shape { OnOk result (IsShape new.now.words.now) }
     ensures room { OnOk result (length views.now < 64) }
 {
-    free_view(views, name)?;
-    let schema = schema_of(records, schema)?;
-    let expr = nameless(alloc, mappings, expr)?;
+    free_view(views, new.name)?;
+    let schema = schema_of(records, new.schema)?;
+    let expr = nameless(alloc, mappings, new.expr)?;
     has_room(views)?;
-    let shape = shaped(words)?;
+    let shape = shaped(new.words)?;
     Ok(Found {
         schema,
         expr,
@@ -102,14 +98,11 @@ fn new_view(
     records: &[RecordEntry],
     mappings: &[MappingEntry],
     views: &[ViewEntry],
-    name: Name,
-    schema: Name,
-    words: &[ExtentWord],
-    expr: &MapExpr,
+    new: &New<'_>,
 ) -> Result<View, StepFault>
-    ensures { Gives table_of result (new_table (world_in records.now mappings.now views.now) name schema words.now (term_of expr.now)) }
+    ensures { Gives (λ view. view) result (new_table (world_in records.now mappings.now views.now) (new_of new.now)) }
 {
-    let found = named(alloc, records, mappings, views, name, schema, words, expr)?;
-    let extents = resolved(&found.shape, words, None)?;
+    let found = named(alloc, records, mappings, views, new)?;
+    let extents = resolved(&found.shape, new.words, None)?;
     made(alloc, views, found.schema, extents, &found.expr)
 }

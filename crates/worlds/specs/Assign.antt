@@ -9,23 +9,19 @@ use Rattle.piece_bits.specs.Tables.{with_entry}
 use Rattle.record_dim.specs.declared.path.PathStep.{PathStep}
 use Rattle.row_updates.specs.Logs.{value_log}
 use Rattle.views.specs.Tallies.{Write}
-use Rattle.views.specs.Tables.{Table, after_stores}
-use Rattle.worlds.specs.Worlds.{World, replaced}
-use Rattle.worlds.specs.Outcomes.{Outcome, Goes, ◌>>=◌, Left, quiet, known, refused_if}
+use Rattle.views.specs.Tables.{Table}
+use Rattle.worlds.specs.OnView.{Done, stores}
+use Rattle.worlds.specs.Outcomes.{Outcome, Goes, ◌>>=◌, refused_if}
 use Rattle.worlds.specs.Names.{leaf_of, bound}
 use Rattle.worlds.specs.Values.{value_on, storable}
 use Rattle.worlds.specs.declared.fault.CommandFault.TheVariants.{BadIndex}
-
--- the world with this table under the name of another
-abbrev pub with_table : World → List ℕ → Table → World
-with_table world name table = record world { views = replaced name table world.views }
 
 -- the index is one of those inside the extents
 abbrev pub inside : List ℕ → List ℕ → Outcome (Unit {0})
 inside extents index = refused_if (not (list_any (λ other. pointwise nat_eq other index) (indices extents))) BadIndex
 
--- the table with the value of an expression in a leaf of the row of an index
-unfoldable pub assigned : Table → List ℕ → List PathStep → Value → Outcome Table
+-- the value of an expression goes into a leaf of the row of an index
+unfoldable pub assigned : Table → List ℕ → List PathStep → Value → Outcome Done
 assigned table index path value = do
   leaf ← leaf_of table.fields path
   term ← bound table.fields (length table.extents) value
@@ -33,10 +29,4 @@ assigned table index path value = do
   let row = place_in (indices table.extents) index
   number ← value_on row (slice_index_or table.rows row []) index term
   kept ← storable table row leaf number
-  Goes (after_stores table (with_entry table.rows row leaf kept) (value_log row (slice_index_or table.rows row []) index term ++ Write row leaf ∷ []))
-
-unfoldable pub assign : World → List ℕ → List ℕ → List PathStep → Value → Outcome Left
-assign world name index path value = do
-  table ← known name world.views
-  new ← assigned table index path value
-  quiet (with_table world name new)
+  Goes (stores (with_entry table.rows row leaf kept) (value_log row (slice_index_or table.rows row []) index term ++ Write row leaf ∷ []))

@@ -12,7 +12,7 @@ use Rattle.worlds.specs.Worlds.{World, Entry}
 use Rattle.worlds.specs.Outcomes.{Outcome, Goes, ◌>>=◌, Left, quiet, known, refused_if, refused_by}
 use Rattle.worlds.specs.Names.{nameless, text_of_leaf}
 use Rattle.worlds.specs.Tables.{made}
-use Rattle.worlds.specs.Assign.{with_table}
+use Rattle.worlds.specs.OnView.{with_table}
 use Rattle.worlds.specs.declared.fault.CommandFault.{CommandFault}
 use Rattle.worlds.specs.declared.fault.CommandFault.TheVariants.{Mismatch, Narrow}
 

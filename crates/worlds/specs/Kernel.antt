@@ -18,12 +18,11 @@ use Rattle.lane_kernels.specs.declared.kernel.Kernel.{Kernel}
 use Rattle.lane_kernels.specs.declared.kernel.Kernel.TheVariants.{Axpy, Clamp, Sum, Least, Greatest, CountWhere}
 use Rattle.lane_kernels.specs.Kernels as kernels
 use Rattle.lane_kernels.specs.Logs.{rows_log}
-use Rattle.views.specs.Tables.{Table, after_stores, answer_of, kept_of}
-use Rattle.worlds.specs.Worlds.{World}
-use Rattle.worlds.specs.Outcomes.{Outcome, Goes, ◌>>=◌, Left, shows, known, refused_if, refused_by}
+use Rattle.views.specs.Tables.{Table, answer_of, kept_of}
+use Rattle.worlds.specs.OnView.{Done}
+use Rattle.worlds.specs.Outcomes.{Outcome, Goes, ◌>>=◌, refused_if, refused_by}
 use Rattle.worlds.specs.Names.{leaf_of, text_of_leaf}
 use Rattle.worlds.specs.Texts.{number_line}
-use Rattle.worlds.specs.Assign.{with_table}
 use Rattle.worlds.specs.declared.fault.BadKernel.TheVariants.{Lanes, Wide, Constant}
 use Rattle.worlds.specs.declared.fault.CommandFault.{CommandFault}
 use Rattle.worlds.specs.declared.fault.CommandFault.TheVariants.{BadKernel, Empty, Range, Narrow}
@@ -98,31 +97,22 @@ run_fault fields kernel_fault.Empty = Empty
 run_fault fields (kernel_fault.Range row leaf) = Range row (text_of_leaf fields leaf)
 run_fault fields (kernel_fault.Narrow row leaf) = Narrow row (text_of_leaf fields leaf)
 
--- what a kernel leaves: a table, and a number where it gives one
-pub record Ran : Type 0 where
-  pub table : Table
-  pub number : Option ℤ
-
-abbrev pub run : Table → Kernel → Outcome Ran
-run table kernel = do
-  done ← refused_by (run_fault table.fields) (kernels.kernel_fault (answer_of table) kernel table.rows)
-  Goes (record {
-    table = after_stores table (kernels.run_rows (kept_of table) kernel (length table.rows) table.rows) (rows_log kernel (length table.rows));
-    number = kernels.number_of kernel table.rows;
-  })
-
-unfoldable pub kernel_run : Table → KernelText → ℕ → Outcome Ran
-kernel_run table text lanes = do
-  fit ← fit_kernel table.fields text lanes
-  run table fit
-
 -- the number as a line, where there is one
 abbrev pub number_text : Option ℤ → List ℕ
 number_text None = []
 number_text (Some number) = number_line number
 
-unfoldable pub kernel : World → List ℕ → KernelText → ℕ → Outcome Left
-kernel world name text lanes = do
-  table ← known name world.views
-  done ← kernel_run table text lanes
-  shows (with_table world name done.table) (number_text done.number)
+-- what a kernel that can run does
+abbrev pub run : Table → Kernel → Outcome Done
+run table kernel = do
+  done ← refused_by (run_fault table.fields) (kernels.kernel_fault (answer_of table) kernel table.rows)
+  Goes (record {
+    rows = kernels.run_rows (kept_of table) kernel (length table.rows) table.rows;
+    log = rows_log kernel (length table.rows);
+    text = number_text (kernels.number_of kernel table.rows);
+  })
+
+unfoldable pub kernel_run : Table → KernelText → ℕ → Outcome Done
+kernel_run table text lanes = do
+  fit ← fit_kernel table.fields text lanes
+  run table fit

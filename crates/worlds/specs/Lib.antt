@@ -1,6 +1,8 @@
 pub mod Worlds
 pub mod Outcomes
 pub mod Answers
+pub mod AnswersLaws
+pub mod OnView
 pub mod Names
 pub mod Values
 pub mod Tables

@@ -3,7 +3,7 @@ use Rattle.std.specs.Prelude.{ℕ, ◌^◌, Bool, List, length, Option, Some, No
 use Rattle.extents.specs.declared.words.ExtentWord.{ExtentWord}
 use Rattle.layout_io.specs.Files.{File, file_of}
 use Rattle.record_dim.specs.Trees.{Fields}
-use Rattle.map_expr.specs.Terms.{Term as MapTerm}
+use Rattle.line_grammar.specs.Sentences.{New}
 use Rattle.csv_rows.specs.Datasets.{records_of, rows_of}
 use Rattle.csv_rows.specs.Loads.{dataset_of}
 use Rattle.csv_rows.specs.declared.fault.RowFault.{RowFault}
@@ -52,13 +52,13 @@ loaded views whole words bytes = do
   filled zeros (records_of bytes)
 
 -- the table of a dataset in a file
-unfoldable pub loaded_table : World → List ℕ → List ℕ → List ExtentWord → MapTerm → List ℕ → List File → Bool → Outcome Table
-loaded_table world name schema words term file files unread = do
-  whole ← named world name schema words term
+unfoldable pub loaded_table : World → New → List ℕ → List File → Bool → Outcome Table
+loaded_table world new file files unread = do
+  whole ← named world new
   bytes ← read files unread file
-  loaded world.views whole words bytes
+  loaded world.views whole new.words bytes
 
-unfoldable pub load : World → List ℕ → List ℕ → List ExtentWord → MapTerm → List ℕ → List File → Bool → Outcome Left
-load world name schema words term file files unread = do
-  table ← loaded_table world name schema words term file files unread
-  quiet (with_view world name table)
+unfoldable pub load : World → New → List ℕ → List File → Bool → Outcome Left
+load world new file files unread = do
+  table ← loaded_table world new file files unread
+  quiet (with_view world new.name table)

@@ -18,18 +18,21 @@ abbrev pub ◌>>=◌ : {A B : Type 0} → Outcome A → (A → Outcome B) → Ou
 (Faults fault) >>= next = Faults fault
 (CannotRead name) >>= next = CannotRead name
 
--- what a command leaves: a world, and the text that it writes
-pub record Left : Type 0 where
-  pub world : World
+-- what a command leaves, a world or one table, and the text that it writes
+pub record LeftOf (A : Type 0) : Type 0 where
+  pub held : A
   pub text : List ℕ
+
+abbrev pub Left : Type 0
+Left = LeftOf World
 
 -- a command that writes nothing
 abbrev pub quiet : World → Outcome Left
-quiet world = Goes (record { world = world; text = [] })
+quiet world = Goes (record { held = world; text = [] })
 
 -- a command that changes nothing
 abbrev pub shows : World → List ℕ → Outcome Left
-shows world text = Goes (record { world = world; text = text })
+shows world text = Goes (record { held = world; text = text })
 
 -- refused where the test holds
 abbrev pub refused_if : Bool → CommandFault → Outcome (Unit {0})

@@ -6,10 +6,9 @@ use Rattle.line_grammar.specs.Sentences.{Value}
 use Rattle.line_grammar.specs.declared.line.ReduceKind.{ReduceKind}
 use Rattle.line_grammar.specs.declared.line.ReduceKind.TheVariants.{Sum, Min, Max}
 use Rattle.record_dim.specs.declared.path.PathStep.{PathStep}
-use Rattle.views.specs.Tables.{Table, after_log}
-use Rattle.worlds.specs.Worlds.{World}
-use Rattle.worlds.specs.Assign.{with_table}
-use Rattle.worlds.specs.Outcomes.{Outcome, Goes, Faults, ◌>>=◌, Left, shows, known, ok_or}
+use Rattle.views.specs.Tables.{Table}
+use Rattle.worlds.specs.OnView.{Done}
+use Rattle.worlds.specs.Outcomes.{Outcome, Goes, Faults, ◌>>=◌, ok_or}
 use Rattle.worlds.specs.Names.{leaf_of, bound}
 use Rattle.row_updates.specs.Rows.{counted}
 use Rattle.row_updates.specs.Logs.{count_log}
@@ -33,33 +32,16 @@ column leaf rows = map (λ row. slice_index_or row leaf (pos 0)) rows
 abbrev pub column_log : ℕ → ℕ → List Access
 column_log leaf rows = map (λ row. Read row leaf) (range_with_len 0 rows)
 
--- a number, and the table after the accesses that gave it
-pub record Measured : Type 0 where
-  pub table : Table
-  pub number : ℤ
-
 -- one number of the values of a leaf
-unfoldable pub reduction : Table → ReduceKind → List PathStep → Outcome Measured
+unfoldable pub reduction : Table → ReduceKind → List PathStep → Outcome Done
 reduction table kind path = do
   leaf ← leaf_of table.fields path
   number ← reduced kind (column leaf table.rows)
-  Goes (record { table = after_log table (column_log leaf (length table.rows)); number = number })
-
-unfoldable pub reduce : World → List ℕ → ReduceKind → List PathStep → Outcome Left
-reduce world name kind path = do
-  table ← known name world.views
-  done ← reduction table kind path
-  shows (with_table world name done.table) (number_line done.number)
+  Goes (record { rows = table.rows; log = column_log leaf (length table.rows); text = number_line number })
 
 -- in how many rows the filter is not 0
-unfoldable pub counting : Table → Value → Outcome Measured
+unfoldable pub counting : Table → Value → Outcome Done
 counting table filter = do
   term ← bound table.fields (length table.extents) filter
   rows ← ok_or (update_fault table.fields) (counted term table.extents table.rows)
-  Goes (record { table = after_log table (count_log term table.extents table.rows (length table.rows)); number = pos rows })
-
-unfoldable pub count : World → List ℕ → Value → Outcome Left
-count world name filter = do
-  table ← known name world.views
-  done ← counting table filter
-  shows (with_table world name done.table) (number_line done.number)
+  Goes (record { rows = table.rows; log = count_log term table.extents table.rows (length table.rows); text = number_line (pos rows) })

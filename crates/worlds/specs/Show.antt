@@ -8,31 +8,28 @@ use Rattle.record_dim.specs.Leaves.{texts_of}
 use Rattle.map_any.specs.Runs.{runs_of}
 use Rattle.instrument.specs.BlobTexts.{bytes_of, bytes_text}
 use Rattle.instrument.specs.CounterTexts.{counts_text, heat_text, runs_text}
-use Rattle.views.specs.Tables.{Table, owners_of}
+use Rattle.views.specs.Tables.{Table, owners_of, leaf_count_of}
 use Rattle.worlds.specs.Worlds.{World, removed}
-use Rattle.worlds.specs.Assign.{with_table}
-use Rattle.worlds.specs.Copy.{all_read}
-use Rattle.worlds.specs.Outcomes.{Outcome, Goes, ◌>>=◌, Left, shows, quiet, known, some_or, refused_if}
+use Rattle.worlds.specs.OnView.{Done, tells}
+use Rattle.worlds.specs.Outcomes.{Outcome, Goes, ◌>>=◌, Left, quiet, known, some_or, refused_if}
 use Rattle.worlds.specs.Tables.{blob_bits}
 use Rattle.csv_rows.specs.Texts.{print_text}
+use Rattle.views.specs.Tallies.{all_reads}
 use Rattle.worlds.specs.declared.fault.CommandFault.TheVariants.{BadIndex, NotCounted, TooBig}
 
-unfoldable pub print : World → List ℕ → Outcome Left
-print world name = do
-  table ← known name world.views
-  shows (with_table world name (all_read table)) (print_text (texts_of table.fields) table.rows)
+-- each value is read once
+unfoldable pub print : Table → Outcome Done
+print table = Goes (record { rows = table.rows; log = all_reads (leaf_count_of table) (length table.rows); text = print_text (texts_of table.fields) table.rows })
 
-unfoldable pub counts : World → List ℕ → Outcome Left
-counts world name = do
-  table ← known name world.views
+unfoldable pub counts : Table → Outcome Done
+counts table = do
   numbers ← some_or NotCounted table.tally.counts
-  shows world (counts_text (texts_of table.fields) numbers)
+  Goes (tells table (counts_text (texts_of table.fields) numbers))
 
-unfoldable pub heat : World → List ℕ → Outcome Left
-heat world name = do
-  table ← known name world.views
+unfoldable pub heat : Table → Outcome Done
+heat table = do
   numbers ← some_or NotCounted table.tally.heat
-  shows world (heat_text numbers)
+  Goes (tells table (heat_text numbers))
 
 -- all blobs together have at most 65,536 bytes
 abbrev pub small : Table → Outcome (Unit {0})
@@ -42,28 +39,21 @@ small table = refused_if (nat_lt (8 * 65536) (blob_bits table)) TooBig
 abbrev pub all_runs : List (List Owner) → List Run
 all_runs owners = flat_map (runs_of owners) (range_with_len 0 (length owners))
 
-unfoldable pub layout : World → List ℕ → Outcome Left
-layout world name = do
-  table ← known name world.views
+unfoldable pub layout : Table → Outcome Done
+layout table = do
   few ← small table
-  shows world (runs_text (texts_of table.fields) (all_runs (owners_of table)))
+  Goes (tells table (runs_text (texts_of table.fields) (all_runs (owners_of table))))
 
 -- the image of the table, blob by blob, each a list of bits
 abbrev pub image_of : Table → List (List ℕ)
 image_of table = image (owners_of table) table.rows
 
--- the bytes of a blob as text
-unfoldable pub shown : Table → ℕ → Outcome (List ℕ)
-shown table blob = do
+-- the bytes of a blob
+unfoldable pub bytes : Table → ℕ → Outcome Done
+bytes table blob = do
   there ← refused_if (nat_le (length (image_of table)) blob) BadIndex
   few ← small table
-  Goes (bytes_text (bytes_of (slice_index_or (image_of table) blob [])))
-
-unfoldable pub bytes : World → List ℕ → ℕ → Outcome Left
-bytes world name blob = do
-  table ← known name world.views
-  text ← shown table blob
-  shows world text
+  Goes (tells table (bytes_text (bytes_of (slice_index_or (image_of table) blob []))))
 
 unfoldable pub drop_view : World → List ℕ → Outcome Left
 drop_view world name = do

@@ -7,11 +7,10 @@ use Rattle.row_updates.specs.Logs.{rows_log}
 use Rattle.row_updates.specs.declared.fault.UpdateFault.{UpdateFault}
 use Rattle.row_updates.specs.declared.fault.UpdateKind.{UpdateKind}
 use Rattle.row_updates.specs.declared.fault.UpdateKind.TheVariants as kind
-use Rattle.views.specs.Tables.{Table, after_stores, answer_of, kept_of}
-use Rattle.worlds.specs.Worlds.{World}
-use Rattle.worlds.specs.Outcomes.{Outcome, Goes, ◌>>=◌, Left, quiet, known, ok_or}
+use Rattle.views.specs.Tables.{Table, answer_of, kept_of}
+use Rattle.worlds.specs.OnView.{Done, stores}
+use Rattle.worlds.specs.Outcomes.{Outcome, Goes, ◌>>=◌, ok_or}
 use Rattle.worlds.specs.Names.{text_of_leaf, bound_filter, bound_sets, each_once, leaves_of}
-use Rattle.worlds.specs.Assign.{with_table}
 use Rattle.worlds.specs.declared.fault.CommandFault.{CommandFault}
 use Rattle.worlds.specs.declared.fault.CommandFault.TheVariants.{Range, Narrow, Overflow, DivideByZero}
 
@@ -25,17 +24,11 @@ kind_fault fields row (kind.Narrow leaf) = Narrow row (text_of_leaf fields leaf)
 abbrev pub update_fault : Fields → UpdateFault → CommandFault
 update_fault fields fault = kind_fault fields fault.row fault.kind
 
--- the table with new values in the rows that pass a filter
-unfoldable pub updated : Table → Option Value → List Assignment → Outcome Table
+-- new values go into the rows that pass a filter
+unfoldable pub updated : Table → Option Value → List Assignment → Outcome Done
 updated table filter sets = do
   test ← bound_filter table.fields (length table.extents) filter
   settings ← bound_sets table.fields (length table.extents) sets
   once ← each_once table.fields [] (leaves_of settings)
   rows ← ok_or (update_fault table.fields) (updated_rows (answer_of table) (kept_of table) test settings table.extents table.rows (length table.rows))
-  Goes (after_stores table rows (rows_log (answer_of table) test settings table.extents table.rows (length table.rows)))
-
-unfoldable pub update : World → List ℕ → Option Value → List Assignment → Outcome Left
-update world name filter sets = do
-  table ← known name world.views
-  new ← updated table filter sets
-  quiet (with_table world name new)
+  Goes (stores rows (rows_log (answer_of table) test settings table.extents table.rows (length table.rows)))

@@ -1,8 +1,8 @@
 -- `view V : P [..] as ..` makes a table of zeros.
 use Rattle.std.specs.Prelude.{ℕ, List, None}
-use Rattle.extents.specs.declared.words.ExtentWord.{ExtentWord}
 use Rattle.record_dim.specs.Trees.{Fields}
 use Rattle.map_expr.specs.Terms.{Term as MapTerm}
+use Rattle.line_grammar.specs.Sentences.{New}
 use Rattle.views.specs.Tables.{Table}
 use Rattle.worlds.specs.Worlds.{World, added}
 use Rattle.worlds.specs.Outcomes.{Outcome, Goes, ◌>>=◌, Left, quiet, free, known}
@@ -19,23 +19,23 @@ pub record Named : Type 0 where
   pub mapping : MapTerm
 
 -- the tests of a new view that need no file
-abbrev pub named : World → List ℕ → List ℕ → List ExtentWord → MapTerm → Outcome Named
-named world name schema words term = do
-  new ← free name world.views
-  fields ← known schema world.records
-  whole ← nameless world.mappings term
+abbrev pub named : World → New → Outcome Named
+named world new = do
+  unused ← free new.name world.views
+  fields ← known new.schema world.records
+  whole ← nameless world.mappings new.term
   space ← room world.views
-  ranked ← shaped words
+  ranked ← shaped new.words
   Goes (record { fields = fields; mapping = whole })
 
 -- the table that a view begins as
-unfoldable pub new_table : World → List ℕ → List ℕ → List ExtentWord → MapTerm → Outcome Table
-new_table world name schema words term = do
-  whole ← named world name schema words term
-  extents ← resolved words None
+unfoldable pub new_table : World → New → Outcome Table
+new_table world new = do
+  whole ← named world new
+  extents ← resolved new.words None
   made world.views whole.fields extents whole.mapping
 
-unfoldable pub view : World → List ℕ → List ℕ → List ExtentWord → MapTerm → Outcome Left
-view world name schema words term = do
-  table ← new_table world name schema words term
-  quiet (with_view world name table)
+unfoldable pub view : World → New → Outcome Left
+view world new = do
+  table ← new_table world new
+  quiet (with_view world new.name table)

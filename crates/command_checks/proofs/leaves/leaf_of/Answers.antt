@@ -16,7 +16,7 @@ returns-in-Some-clause-leaf c =
 
 pub returns-in-Some-clause-inside : goal.returns-in-Some-clause-inside
 returns-in-Some-clause-inside c =
-    let fields = schema_fields c.args.view.now.schema in
+    let fields = c.args.view.now.fields in
     let there = rw c.schema.ensures.value at c.in-Some.ensures.some in
     let within : c.in-Some.leaf < length (paths_of fields) = slice_get_within (paths_of fields) c.in-Some.leaf c.args.path.now there in
     rw length-map at within

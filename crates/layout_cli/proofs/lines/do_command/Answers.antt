@@ -1,37 +1,34 @@
-use Rattle.std.proofs.Common.{ap, sym}
-use Rattle.line_grammar.specs.Sentences.{sentence_of}
-use Rattle.session.specs.Loads.{file_in}
+use Rattle.std.proofs.Common.{true, ap, sym}
+use Rattle.line_grammar.specs.Sentences.{sentence_of, file_of}
 use Rattle.session.specs.LoadsLaws.{told_any}
 use Rattle.session.specs.Stands.{world_of}
 use Rattle.worlds.specs.Step.{step}
-use Rattle.worlds.specs.Worlds.{World}
-use Rattle.layout_cli.proofs.Texts.{told_unread, reads_one, unread_cause}
+use Rattle.layout_cli.proofs.Texts.{told_unread, reads_one, unread_cause, file_is}
 use Rattle.layout_cli.proofs.lines.do_command.Goals as goal
 
 pub returns-in-Command-clause-step : goal.returns-in-Command-clause-step
 returns-in-Command-clause-step g c = λ files world told stands.
     let steps = rw c.in-Command.is at c.in-Err.ensures.step in
-    rw (← stands) (steps files (told_any _ (sentence_of c.args.line.now) files told))
+    rw (← stands) (steps files (told_any _ (step (world_of c.args.session) (sentence_of c.args.line.now) files true) files told))
 
 pub returns-in-Sink-clause-step : goal.returns-in-Sink-clause-step
 returns-in-Sink-clause-step g c = λ files world told stands.
     let steps = rw c.in-Sink.is at c.in-Err.ensures.step in
-    rw (← stands) (steps files (told_any _ (sentence_of c.args.line.now) files told))
+    rw (← stands) (steps files (told_any _ (step (world_of c.args.session) (sentence_of c.args.line.now) files true) files told))
 
 pub returns-in-NoMemory-clause-step : goal.returns-in-NoMemory-clause-step
 returns-in-NoMemory-clause-step g c = λ files world told stands.
     let steps = rw c.in-NoMemory.is at c.in-Err.ensures.step in
-    rw (← stands) (steps files (told_any _ (sentence_of c.args.line.now) files told))
+    rw (← stands) (steps files (told_any _ (step (world_of c.args.session) (sentence_of c.args.line.now) files true) files told))
 
 pub returns-in-Source-clause-step : goal.returns-in-Source-clause-step
 returns-in-Source-clause-step g c = λ files world told stands.
-    let unread = rw c.in-Source.is at c.in-Err.ensures.step in
-    let only = rw c.in-Source.is at c.in-Err.ensures.unread in
-    told_unread g.K.Sink.taken g.K.Sink.faults _ _ files (world_of c.args.session) (sentence_of c.args.line.now) _ _ _ (λ unread. ap (λ (w : World). step w (sentence_of c.args.line.now) files unread) (sym stands)) c.unread_end.ensures only
-    (unread files (told_any _ (sentence_of c.args.line.now) files told))
+    let steps = rw c.in-Source.is at c.in-Err.ensures.step in
+    rw (← stands) (told_unread g.K.Sink.taken g.K.Sink.faults _ _ _ (file_of (sentence_of c.args.line.now)) _ _ _ (file_is _ _ _ c.file.ensures c.unwrap.ensures) c.unread_end.ensures
+    (steps files (told_any _ (step (world_of c.args.session) (sentence_of c.args.line.now) files true) files told)))
 
 pub returns-in-Source-clause-cause : goal.returns-in-Source-clause-cause
 returns-in-Source-clause-cause g c = unread_cause _ _ _ _ _ _ _ c.unread_end.ensures (rw c.in-Source.is at c.in-Err.ensures.cause)
 
-pub unread_end-requires : goal.unread_end-requires
-unread_end-requires g c = reads_one (file_in (sentence_of c.args.line.now)) _ (rw c.in-Source.is at c.in-Err.ensures.unread)
+pub unwrap-requires : goal.unwrap-requires
+unwrap-requires g c = ?

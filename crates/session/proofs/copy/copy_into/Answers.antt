@@ -1,8 +1,13 @@
+use Rattle.std.proofs.Common.{rules, ◌≡◌}
+use Rattle.command_checks.specs.declared.fault.StepFault.TheVariants as step
 use Rattle.session.proofs.Copies.{copied_goes, copy_refused}
 use Rattle.session.proofs.copy.copy_into.Goals as goal
 
 pub returns-in-Ok-clause-copied : goal.returns-in-Ok-clause-copied
 returns-in-Ok-clause-copied g c = copied_goes c.args.source.now c.args.target.now c.copy.new.target c.in-Ok.ensures.copied
 
-pub returns-in-Err-clause-copied : goal.returns-in-Err-clause-copied
-returns-in-Err-clause-copied g c = copy_refused c.args.source.now c.args.target.now c.copy.new.target c.in-Err.fault c.copy_fault.result c.in-Err.ensures.copied c.copy_fault.ensures
+pub returns-in_ok-copy_fault-in-Err-clause-copied : goal.returns-in_ok-copy_fault-in-Err-clause-copied
+returns-in_ok-copy_fault-in-Err-clause-copied g c =
+    let told = c.in_ok-copy_fault-in-Err.field-0 in
+    let is : c.into.result ≡ step.Command told = search rules in
+    rw is (copy_refused c.args.source.now c.args.target.now c.copy.new.target c.in-Err.fault told c.in-Err.ensures.copied c.in_ok-copy_fault-in-Err.ensures)

@@ -27,9 +27,9 @@ pub loop-row-preserved : goal.loop-row-preserved
 loop-row-preserved g c =
     let view = c.args.view.now in
     let fits : FitsSigned w128 c.combined-reached.result = search rules in
-    let rows : length (indices c.extents.result) ≡ length view.table = ap (λ (e : List ℕ). length (indices e)) c.extents.ensures.value ∙ sym c.extents.ensures.table.rows in
-    let inside : c.loop-row.row < length view.table = omega arith in
-    let so_far : reduced c.args.kind (take c.loop-row.row (column c.args.leaf view.table)) ≡ Goes c.loop-row.reached = cc (c.loop-row.reached-is, c.loop-row.invariant.so_far) in
+    let rows : length (indices c.extents.result) ≡ length view.rows = ap (λ (e : List ℕ). length (indices e)) c.extents.ensures.value ∙ sym c.extents.ensures.table.rows in
+    let inside : c.loop-row.row < length view.rows = omega arith in
+    let so_far : reduced c.args.kind (take c.loop-row.row (column c.args.leaf view.rows)) ≡ Goes c.loop-row.reached = cc (c.loop-row.reached-is, c.loop-row.invariant.so_far) in
     let next = rw c.loop-row.invariant.read at c.get-next.ensures.value in
     let fits_next : FitsSigned w128 c.get-next.result = search rules in
     let plain = to_z-of_z w128 c.get-next.result fits_next in
@@ -38,5 +38,5 @@ loop-row-preserved g c =
       past = omega (arith, c.loop-row.invariant.past);
       read = c.get-next.ensures.same ∙ reads_more view c.loop-row.view c.args.leaf c.args.start c.loop-row.row c.loop-row.invariant.past c.loop-row.invariant.read;
       small = c.combined-reached.ensures.small;
-      so_far = reduced_more c.args.kind view.table c.args.leaf c.loop-row.row c.loop-row.reached c.get-next.result inside next so_far ∙ ap (λ (v : ℤ). Goes v) (sym gives);
+      so_far = reduced_more c.args.kind view.rows c.args.leaf c.loop-row.row c.loop-row.reached c.get-next.result inside next so_far ∙ ap (λ (v : ℤ). Goes v) (sym gives);
     })

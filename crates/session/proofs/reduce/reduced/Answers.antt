@@ -9,12 +9,12 @@ pub along-requires-in-Min : goal.along-requires-in-Min
 along-requires-in-Min g c =
     let view = c.args.view.now in
     let fits : FitsSigned w128 c.get-first.result = search rules in
-    let rows : length (indices c.extents.result) ≡ length view.table = ap (λ (e : List ℕ). length (indices e)) c.extents.ensures.value ∙ sym c.extents.ensures.table.rows in
-    let some : 0 < length view.table = omega arith in
+    let rows : length (indices c.extents.result) ≡ length view.rows = ap (λ (e : List ℕ). length (indices e)) c.extents.ensures.value ∙ sym c.extents.ensures.table.rows in
+    let some : 0 < length view.rows = omega arith in
     rw (to_z-of_z w128 c.get-first.result fits, c.get-first.ensures.same) (record {
       leaf_in = c.requires;
       start = some;
-      before = reduced_first c.args.kind view.table c.args.leaf c.get-first.result some c.get-first.ensures.value;
+      before = reduced_first c.args.kind view.rows c.args.leaf c.get-first.result some c.get-first.ensures.value;
       small = fits_small _ _ c.get-first.result c.get-first.ensures.fits;
     })
 
@@ -22,9 +22,9 @@ pub returns-else-count-eq0 : goal.returns-else-count-eq0
 returns-else-count-eq0 g c =
     let view = c.args.view.now in
     let fits : FitsSigned w128 c.along-in-Min.result = search rules in
-    let rows : length (indices c.extents.result) ≡ length view.table = ap (λ (e : List ℕ). length (indices e)) c.extents.ensures.value ∙ sym c.extents.ensures.table.rows in
-    let some : 0 < length view.table = omega arith in
+    let rows : length (indices c.extents.result) ≡ length view.rows = ap (λ (e : List ℕ). length (indices e)) c.extents.ensures.value ∙ sym c.extents.ensures.table.rows in
+    let some : 0 < length view.rows = omega arith in
     rw (to_z-of_z w128 c.along-in-Min.result fits) (record {
       value = rw c.get-first.ensures.same at c.along-in-Min.ensures.value;
-      read = (rw c.get-first.ensures.same at c.along-in-Min.ensures.read) ∙ reads_first view c.args.leaf (length view.table) some;
+      read = (rw c.get-first.ensures.same at c.along-in-Min.ensures.read) ∙ reads_first view c.args.leaf (length view.rows) some;
     })

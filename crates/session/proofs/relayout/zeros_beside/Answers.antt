@@ -2,13 +2,12 @@ use Rattle.std.proofs.Common.{◌≡◌, subst}
 use Rattle.std.specs.Prelude.{IfOk}
 use Rattle.std.proofs.lemmas.List.{get_or_default}
 use Rattle.map_expr.specs.Terms.{term_of}
-use Rattle.command_checks.specs.Entries.{table_of}
 use Rattle.command_checks.specs.declared.entries.ViewEntry.{ViewEntry}
 use Rattle.session.specs.Changes.{zeros_like}
 use Rattle.session.proofs.relayout.zeros_beside.Goals as goal
 
 pub returns-clause-zeros : goal.returns-clause-zeros
 returns-clause-zeros c = λ d.
-    subst (λ (e : ViewEntry). IfOk c.made.result (λ view. table_of view ≡ zeros_like (table_of e.view) (term_of c.args.expr.now)))
+    subst (λ (e : ViewEntry). IfOk c.made.result (λ view. view ≡ zeros_like e.view (term_of c.args.expr.now)))
     (get_or_default c.args.views.now c.args.place c.index-views-place.result d c.requires.place)
     (rw (c.schema.ensures.value, c.extents.ensures.value) at c.made.ensures.zeros)

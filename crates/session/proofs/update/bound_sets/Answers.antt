@@ -17,13 +17,13 @@ returns-in_err-set-clause-sets c =
     let place = c.loop-set.set-index in
     let one = c.set-item.result in
     let gives = rw c.set-item.is at c.in_err-set.ensures.set in
-    rw is (subst (λ (xs : List Assignment). GivesUp (bound_sets (schema_fields c.args.view.now.schema) (length c.args.view.now.extents) xs) c.in_err-set.field-0.0)
+    rw is (subst (λ (xs : List Assignment). GivesUp (bound_sets c.args.view.now.fields (length c.args.view.now.extents) xs) c.in_err-set.field-0.0)
     (map_at assignment_of sets place one c.loop-set-test.true)
-    (sets_stop (schema_fields c.args.view.now.schema) (length c.args.view.now.extents) (map assignment_of (take place sets)) (map setting_of c.loop-set.bound.items) (assignment_of (get_or sets place one)) (map assignment_of (drop (suc place) sets)) c.in_err-set.field-0.0 c.loop-set.invariant.sets gives))
+    (sets_stop c.args.view.now.fields (length c.args.view.now.extents) (map assignment_of (take place sets)) (map setting_of c.loop-set.bound.items) (assignment_of (get_or sets place one)) (map assignment_of (drop (suc place) sets)) c.in_err-set.field-0.0 c.loop-set.invariant.sets gives))
 
 pub loop-set-preserved : goal.loop-set-preserved
 loop-set-preserved c =
-    let fields = schema_fields c.args.view.now.schema in
+    let fields = c.args.view.now.fields in
     let rank = length c.args.view.now.extents in
     let sets = c.args.sets.now in
     let place = c.loop-set.set-index in

@@ -1,7 +1,7 @@
 use Rattle.std.proofs.Common.{arith, ◌<◌, ◌∙◌, ◌≤◌, ℕ, length, map, refl, ap}
 use Rattle.record_dim.specs.Schemas.{schema_fields}
 use Rattle.row_updates.specs.Rows.{setting_of}
-use Rattle.views.specs.Seen.{leaf_count_of}
+use Rattle.views.specs.Tables.{leaf_count_of}
 use Rattle.worlds.specs.Names.{leaves_of, text_of_leaf}
 use Rattle.worlds.specs.Outcomes.{Faults}
 use Rattle.worlds.specs.declared.fault.CommandFault.TheVariants.{Twice}
@@ -9,7 +9,7 @@ use Rattle.session.proofs.Sets.{once_none, once_more, once_stop, once_all, once_
 use Rattle.session.proofs.update.each_once.Goals as goal
 
 pub loop-place-init : goal.loop-place-init
-loop-place-init c = once_none (schema_fields c.args.view.now.schema) (leaves_of (map setting_of c.args.sets.now))
+loop-place-init c = once_none c.args.view.now.fields (leaves_of (map setting_of c.args.sets.now))
 
 pub returns-then-is_set-clause-once : goal.returns-then-is_set-clause-once
 returns-then-is_set-clause-once c =
@@ -18,8 +18,8 @@ returns-then-is_set-clause-once c =
     let small : c.loop-place.place < length (leaves_of (map setting_of sets)) = rw leaves_long c.loop-place-test.true in
     let again = test_at sets _ c.loop-place.place one _ c.loop-place-test.true c.index-sets-place.is refl c.is_set.ensures ∙ c.if-is_set.true in
     let text = c.in_ok-leaf.ensures.text in
-    rw text (once_stop (schema_fields c.args.view.now.schema) (leaves_of (map setting_of sets)) c.loop-place.place small again c.loop-place.invariant
-    ∙ ap (λ (leaf : ℕ). Faults (Twice (text_of_leaf (schema_fields c.args.view.now.schema) leaf))) (leaf_at sets c.loop-place.place one c.loop-place-test.true c.index-sets-place.is))
+    rw text (once_stop c.args.view.now.fields (leaves_of (map setting_of sets)) c.loop-place.place small again c.loop-place.invariant
+    ∙ ap (λ (leaf : ℕ). Faults (Twice (text_of_leaf c.args.view.now.fields leaf))) (leaf_at sets c.loop-place.place one c.loop-place-test.true c.index-sets-place.is))
 
 pub loop-place-preserved : goal.loop-place-preserved
 loop-place-preserved c =
@@ -27,17 +27,17 @@ loop-place-preserved c =
     let one = c.index-sets-place.result in
     let small : c.loop-place.place < length (leaves_of (map setting_of sets)) = rw leaves_long c.loop-place-test.true in
     let fresh = test_at sets _ c.loop-place.place one _ c.loop-place-test.true c.index-sets-place.is refl c.is_set.ensures ∙ c.if-is_set.false in
-    once_more (schema_fields c.args.view.now.schema) (leaves_of (map setting_of sets)) c.loop-place.place small fresh c.loop-place.invariant
+    once_more c.args.view.now.fields (leaves_of (map setting_of sets)) c.loop-place.place small fresh c.loop-place.invariant
 
 pub returns-clause-once : goal.returns-clause-once
 returns-clause-once c =
     let over : length (leaves_of (map setting_of c.args.sets.now)) ≤ c.loop-place.place = rw leaves_long (omega arith) in
-    once_all (schema_fields c.args.view.now.schema) (leaves_of (map setting_of c.args.sets.now)) c.loop-place.place over c.loop-place.invariant
+    once_all c.args.view.now.fields (leaves_of (map setting_of c.args.sets.now)) c.loop-place.place over c.loop-place.invariant
 
 pub returns-clause-few : goal.returns-clause-few
 returns-clause-few c =
     let leaves = leaves_of (map setting_of c.args.sets.now) in
     let over : length leaves ≤ c.loop-place.place = rw leaves_long (omega arith) in
     let most : leaf_count_of c.args.view.now ≤ 64 = rw (c.leaf_count-leaves.ensures.value, c.schema.ensures.value) at c.leaf_count-leaves.ensures.few in
-    let few = once_few (schema_fields c.args.view.now.schema) leaves c.loop-place.place (leaf_count_of c.args.view.now) over c.loop-place.invariant (leaves_below c.args.view.now c.args.sets.now c.requires) in
+    let few = once_few c.args.view.now.fields leaves c.loop-place.place (leaf_count_of c.args.view.now) over c.loop-place.invariant (leaves_below c.args.view.now c.args.sets.now c.requires) in
     omega (arith, few, leaves_long c.args.sets.now, most)

@@ -6,4 +6,4 @@ use Rattle.session.proofs.Sets.{IsOnce}
 use Rattle.session.proofs.update.each_once.Given as goal
 
 abbrev pub invariant-loop-place : goal.invariant-loop-place
-invariant-loop-place l = IsOnce (schema_fields l.view.schema) (leaves_of (map setting_of l.sets)) l.place
+invariant-loop-place l = IsOnce l.view.fields (leaves_of (map setting_of l.sets)) l.place

@@ -1,26 +1,29 @@
-use Rattle.std.proofs.Common.{◌∙◌, map, Ok, sym, ap}
+use Rattle.std.proofs.Common.{◌∙◌, List, map, Ok, refl, sym, ap}
 use Rattle.std.specs.Prelude.{option_map}
 use Rattle.expr_lang.specs.Terms.{term_of as value_of}
-use Rattle.line_grammar.specs.Sentences.{sentence_of, assignment_of}
+use Rattle.line_grammar.specs.Sentences.{New, sentence_of, assignment_of}
+use Rattle.extents.specs.declared.words.ExtentWord.{ExtentWord}
 use Rattle.line_grammar.specs.declared.line.Line.{Line}
 use Rattle.map_expr.specs.Terms.{term_of}
 use Rattle.record_dim.specs.Trees.{tree_of}
-use Rattle.worlds.specs.Assign.{assign}
+use Rattle.worlds.specs.Assign.{assigned}
 use Rattle.worlds.specs.Copy.{copy, relayout}
 use Rattle.worlds.specs.Define.{define}
-use Rattle.worlds.specs.Kernel.{kernel}
+use Rattle.worlds.specs.Kernel.{kernel_run}
 use Rattle.worlds.specs.Mapping.{mapping}
-use Rattle.worlds.specs.Reduce.{reduce, count}
+use Rattle.worlds.specs.OnView.{on_view}
+use Rattle.worlds.specs.Reduce.{reduction, counting}
 use Rattle.worlds.specs.Show.{print, counts, heat, layout, bytes, drop_view}
 use Rattle.worlds.specs.Step.{command}
-use Rattle.worlds.specs.Update.{update}
+use Rattle.worlds.specs.Update.{updated}
 use Rattle.worlds.specs.View.{view}
-use Rattle.session.specs.Stands.{world_of}
-use Rattle.session.proofs.Steps.{answers_by, answers_quiet, quiet_by}
+use Rattle.session.specs.Stands.{Stands, world_of}
+use Rattle.session.proofs.Exits.{answers_quiet}
+use Rattle.session.proofs.Steps.{answers_by, quiet_by}
 use Rattle.session.proofs.session.Session.command.Goals as goal
 
 pub returns-in-Blank : goal.returns-in-Blank
-returns-in-Blank g c = λ files unread. answers_quiet g.K.Sink.taken g.K.Sink.faults c.args.out.now _ (Ok c.args.self) (ap (λ (line : Line). command (world_of c.args.self) (sentence_of line) files unread) c.in-Blank.is)
+returns-in-Blank g c = λ files unread. answers_quiet Stands world_of g.K.Sink.taken g.K.Sink.faults c.args.out.now _ (Ok c.args.self) (λ next. refl) (ap (λ (line : Line). command (world_of c.args.self) (sentence_of line) files unread) c.in-Blank.is)
 
 pub returns-in-Define : goal.returns-in-Define
 returns-in-Define g c = λ files unread.
@@ -34,23 +37,9 @@ returns-in-Mapping g c = λ files unread.
 
 pub returns-in-View : goal.returns-in-View
 returns-in-View g c = λ files unread.
-    quiet_by g.K.Sink.taken g.K.Sink.faults c.args.out.now _ (view (world_of c.args.self) c.in-View.name c.in-View.schema c.as_slice.result.now (term_of c.in-View.expr)) c.view.result
-    (ap (λ (line : Line). command (world_of c.args.self) (sentence_of line) files unread) c.in-View.is ∙ ap (λ words. view (world_of c.args.self) c.in-View.name c.in-View.schema words (term_of c.in-View.expr)) (sym c.as_slice.ensures)) c.view.ensures
-
-pub returns-in-Assign : goal.returns-in-Assign
-returns-in-Assign g c = λ files unread.
-    quiet_by g.K.Sink.taken g.K.Sink.faults c.args.out.now _ (assign (world_of c.args.self) c.in-Assign.view c.as_slice-in-Assign.result.now c.in-Assign.path (value_of c.in-Assign.value)) c.assign.result
-    (ap (λ (line : Line). command (world_of c.args.self) (sentence_of line) files unread) c.in-Assign.is ∙ ap (λ words. assign (world_of c.args.self) c.in-Assign.view words c.in-Assign.path (value_of c.in-Assign.value)) (sym c.as_slice-in-Assign.ensures)) c.assign.ensures
-
-pub returns-in-Update : goal.returns-in-Update
-returns-in-Update g c = λ files unread.
-    quiet_by g.K.Sink.taken g.K.Sink.faults c.args.out.now _ (update (world_of c.args.self) c.in-Update.view (option_map value_of c.in-Update.filter) (map assignment_of c.as_slice-in-Update.result.now)) c.update.result
-    (ap (λ (line : Line). command (world_of c.args.self) (sentence_of line) files unread) c.in-Update.is ∙ ap (λ words. update (world_of c.args.self) c.in-Update.view (option_map value_of c.in-Update.filter) (map assignment_of words)) (sym c.as_slice-in-Update.ensures)) c.update.ensures
-
-pub returns-in-Kernel : goal.returns-in-Kernel
-returns-in-Kernel g c = λ files unread.
-    answers_by g.K.Sink.taken g.K.Sink.faults c.args.out.now c.kernel.new.out _ (kernel (world_of c.args.self) c.in-Kernel.view c.in-Kernel.kernel c.in-Kernel.lanes) c.kernel.result
-    (ap (λ (line : Line). command (world_of c.args.self) (sentence_of line) files unread) c.in-Kernel.is) c.kernel.ensures
+    let new_with : List ExtentWord → New = λ words. record { name = c.in-View.name; schema = c.in-View.schema; words = words; term = term_of c.in-View.expr } in
+    quiet_by g.K.Sink.taken g.K.Sink.faults c.args.out.now _ (view (world_of c.args.self) (new_with c.as_slice-words.result.now)) c.view.result
+    (ap (λ (line : Line). command (world_of c.args.self) (sentence_of line) files unread) c.in-View.is ∙ ap (λ words. view (world_of c.args.self) (new_with words)) (sym c.as_slice-words.ensures)) c.view.ensures
 
 pub returns-in-Copy : goal.returns-in-Copy
 returns-in-Copy g c = λ files unread.
@@ -62,42 +51,57 @@ returns-in-Relayout g c = λ files unread.
     quiet_by g.K.Sink.taken g.K.Sink.faults c.args.out.now _ (relayout (world_of c.args.self) c.in-Relayout.view (term_of c.in-Relayout.expr)) c.relayout.result
     (ap (λ (line : Line). command (world_of c.args.self) (sentence_of line) files unread) c.in-Relayout.is) c.relayout.ensures
 
-pub returns-in-Reduce : goal.returns-in-Reduce
-returns-in-Reduce g c = λ files unread.
-    answers_by g.K.Sink.taken g.K.Sink.faults c.args.out.now c.reduce.new.out _ (reduce (world_of c.args.self) c.in-Reduce.view c.in-Reduce.kind c.in-Reduce.path) c.reduce.result
-    (ap (λ (line : Line). command (world_of c.args.self) (sentence_of line) files unread) c.in-Reduce.is) c.reduce.ensures
-
-pub returns-in-Count : goal.returns-in-Count
-returns-in-Count g c = λ files unread.
-    answers_by g.K.Sink.taken g.K.Sink.faults c.args.out.now c.count.new.out _ (count (world_of c.args.self) c.in-Count.view (value_of c.in-Count.filter)) c.count.result
-    (ap (λ (line : Line). command (world_of c.args.self) (sentence_of line) files unread) c.in-Count.is) c.count.ensures
-
-pub returns-in-Print : goal.returns-in-Print
-returns-in-Print g c = λ files unread.
-    answers_by g.K.Sink.taken g.K.Sink.faults c.args.out.now c.print.new.out _ (print (world_of c.args.self) c.in-Print.view) c.print.result
-    (ap (λ (line : Line). command (world_of c.args.self) (sentence_of line) files unread) c.in-Print.is) c.print.ensures
-
 pub returns-in-Drop : goal.returns-in-Drop
 returns-in-Drop g c = λ files unread.
     quiet_by g.K.Sink.taken g.K.Sink.faults c.args.out.now _ (drop_view (world_of c.args.self) c.in-Drop.view) c.drop_view.result
     (ap (λ (line : Line). command (world_of c.args.self) (sentence_of line) files unread) c.in-Drop.is) c.drop_view.ensures
 
-pub returns-in-Bytes : goal.returns-in-Bytes
-returns-in-Bytes g c = λ files unread.
-    answers_by g.K.Sink.taken g.K.Sink.faults c.args.out.now c.bytes.new.out _ (bytes (world_of c.args.self) c.in-Bytes.view c.in-Bytes.blob) c.bytes.result
-    (ap (λ (line : Line). command (world_of c.args.self) (sentence_of line) files unread) c.in-Bytes.is) c.bytes.ensures
+pub returns-in-Assign : goal.returns-in-Assign
+returns-in-Assign g c = λ files unread.
+    answers_by g.K.Sink.taken g.K.Sink.faults c.args.out.now c.on_view.new.out _ (on_view (world_of c.args.self) c.in-Assign.view (λ table. assigned table c.as_slice-index.result.now c.in-Assign.path (value_of c.in-Assign.value))) c.on_view.result
+    (ap (λ (line : Line). command (world_of c.args.self) (sentence_of line) files unread) c.in-Assign.is ∙ ap (λ words. on_view (world_of c.args.self) c.in-Assign.view (λ table. assigned table words c.in-Assign.path (value_of c.in-Assign.value))) (sym c.as_slice-index.ensures)) c.on_view.ensures
+
+pub returns-in-Update : goal.returns-in-Update
+returns-in-Update g c = λ files unread.
+    answers_by g.K.Sink.taken g.K.Sink.faults c.args.out.now c.on_view-in-Update.new.out _ (on_view (world_of c.args.self) c.in-Update.view (λ table. updated table (option_map value_of c.in-Update.filter) (map assignment_of c.as_slice-sets.result.now))) c.on_view-in-Update.result
+    (ap (λ (line : Line). command (world_of c.args.self) (sentence_of line) files unread) c.in-Update.is ∙ ap (λ words. on_view (world_of c.args.self) c.in-Update.view (λ table. updated table (option_map value_of c.in-Update.filter) (map assignment_of words))) (sym c.as_slice-sets.ensures)) c.on_view-in-Update.ensures
+
+pub returns-in-Kernel : goal.returns-in-Kernel
+returns-in-Kernel g c = λ files unread.
+    answers_by g.K.Sink.taken g.K.Sink.faults c.args.out.now c.on_view-in-Kernel.new.out _ (on_view (world_of c.args.self) c.in-Kernel.view (λ table. kernel_run table c.in-Kernel.kernel c.in-Kernel.lanes)) c.on_view-in-Kernel.result
+    (ap (λ (line : Line). command (world_of c.args.self) (sentence_of line) files unread) c.in-Kernel.is) c.on_view-in-Kernel.ensures
+
+pub returns-in-Reduce : goal.returns-in-Reduce
+returns-in-Reduce g c = λ files unread.
+    answers_by g.K.Sink.taken g.K.Sink.faults c.args.out.now c.on_view-in-Reduce.new.out _ (on_view (world_of c.args.self) c.in-Reduce.view (λ table. reduction table c.in-Reduce.kind c.in-Reduce.path)) c.on_view-in-Reduce.result
+    (ap (λ (line : Line). command (world_of c.args.self) (sentence_of line) files unread) c.in-Reduce.is) c.on_view-in-Reduce.ensures
+
+pub returns-in-Count : goal.returns-in-Count
+returns-in-Count g c = λ files unread.
+    answers_by g.K.Sink.taken g.K.Sink.faults c.args.out.now c.on_view-in-Count.new.out _ (on_view (world_of c.args.self) c.in-Count.view (λ table. counting table (value_of c.in-Count.filter))) c.on_view-in-Count.result
+    (ap (λ (line : Line). command (world_of c.args.self) (sentence_of line) files unread) c.in-Count.is) c.on_view-in-Count.ensures
+
+pub returns-in-Print : goal.returns-in-Print
+returns-in-Print g c = λ files unread.
+    answers_by g.K.Sink.taken g.K.Sink.faults c.args.out.now c.on_view-in-Print.new.out _ (on_view (world_of c.args.self) c.in-Print.view (print)) c.on_view-in-Print.result
+    (ap (λ (line : Line). command (world_of c.args.self) (sentence_of line) files unread) c.in-Print.is) c.on_view-in-Print.ensures
 
 pub returns-in-Counts : goal.returns-in-Counts
 returns-in-Counts g c = λ files unread.
-    answers_by g.K.Sink.taken g.K.Sink.faults c.args.out.now c.counts.new.out _ (counts (world_of c.args.self) c.in-Counts.view) c.counts.result
-    (ap (λ (line : Line). command (world_of c.args.self) (sentence_of line) files unread) c.in-Counts.is) c.counts.ensures
+    answers_by g.K.Sink.taken g.K.Sink.faults c.args.out.now c.on_view-in-Counts.new.out _ (on_view (world_of c.args.self) c.in-Counts.view (counts)) c.on_view-in-Counts.result
+    (ap (λ (line : Line). command (world_of c.args.self) (sentence_of line) files unread) c.in-Counts.is) c.on_view-in-Counts.ensures
 
 pub returns-in-Heat : goal.returns-in-Heat
 returns-in-Heat g c = λ files unread.
-    answers_by g.K.Sink.taken g.K.Sink.faults c.args.out.now c.heat.new.out _ (heat (world_of c.args.self) c.in-Heat.view) c.heat.result
-    (ap (λ (line : Line). command (world_of c.args.self) (sentence_of line) files unread) c.in-Heat.is) c.heat.ensures
+    answers_by g.K.Sink.taken g.K.Sink.faults c.args.out.now c.on_view-in-Heat.new.out _ (on_view (world_of c.args.self) c.in-Heat.view (heat)) c.on_view-in-Heat.result
+    (ap (λ (line : Line). command (world_of c.args.self) (sentence_of line) files unread) c.in-Heat.is) c.on_view-in-Heat.ensures
 
 pub returns-in-Layout : goal.returns-in-Layout
 returns-in-Layout g c = λ files unread.
-    answers_by g.K.Sink.taken g.K.Sink.faults c.args.out.now c.layout.new.out _ (layout (world_of c.args.self) c.in-Layout.view) c.layout.result
-    (ap (λ (line : Line). command (world_of c.args.self) (sentence_of line) files unread) c.in-Layout.is) c.layout.ensures
+    answers_by g.K.Sink.taken g.K.Sink.faults c.args.out.now c.on_view-in-Layout.new.out _ (on_view (world_of c.args.self) c.in-Layout.view (layout)) c.on_view-in-Layout.result
+    (ap (λ (line : Line). command (world_of c.args.self) (sentence_of line) files unread) c.in-Layout.is) c.on_view-in-Layout.ensures
+
+pub returns-in-Bytes : goal.returns-in-Bytes
+returns-in-Bytes g c = λ files unread.
+    answers_by g.K.Sink.taken g.K.Sink.faults c.args.out.now c.on_view-in-Bytes.new.out _ (on_view (world_of c.args.self) c.in-Bytes.view (λ table. bytes table c.in-Bytes.blob)) c.on_view-in-Bytes.result
+    (ap (λ (line : Line). command (world_of c.args.self) (sentence_of line) files unread) c.in-Bytes.is) c.on_view-in-Bytes.ensures

@@ -1,7 +1,8 @@
 use Rattle.std.proofs.Common.{ap, sym, ◌∙◌, map, List, []}
+use Rattle.views.specs.Tables.{Table}
 use Rattle.worlds.specs.Show.{drop_view}
 use Rattle.worlds.specs.Outcomes.{Goes, some_or}
-use Rattle.worlds.specs.Worlds.{Entry, Table}
+use Rattle.worlds.specs.Worlds.{Entry}
 use Rattle.worlds.specs.declared.fault.CommandFault.TheVariants.{Unknown}
 use Rattle.worlds.specs.declared.fault.UnknownName.TheVariants.{Name}
 use Rattle.command_checks.specs.Entries.{view_of}
@@ -17,4 +18,4 @@ returns c =
     let at : IsAt view_of c.args.name c.args.self.views.items c.in_ok-place.place = rw c.as_slice.ensures.value at c.in_ok-place.ensures.at in
     let known_is = ap (some_or (Unknown (Name c.args.name))) (at.is c.remove-dropped.result) in
     let gone = at.gone ∙ ap (map view_of) (without_is c.args.self.views.items c.in_ok-place.place at.inside ∙ sym c.remove-dropped.ensures.by_index.2) in
-    goes_then _ _ _ known_is ∙ ap (λ (views : List (Entry Table)). Goes (record { world = record (world_of c.args.self) { views = views }; text = [] })) gone
+    goes_then _ _ _ known_is ∙ ap (λ (views : List (Entry Table)). Goes (record { held = record (world_of c.args.self) { views = views }; text = [] })) gone

@@ -1,44 +1,45 @@
-use Rattle.std.proofs.Common.{rules, ◌≡◌, ◌∙◌, Bool, List, [], false, Some, Err, refl, sym, ap, subst}
+use Rattle.std.proofs.Common.{rules, ◌≡◌, ◌∙◌, Bool, List, [], true, false, Some, Err, refl, sym, ap, subst}
 use Rattle.layout_io.specs.Faults.{Rose}
 use Rattle.layout_io.specs.Files.{File}
-use Rattle.views.specs.Seen.{Seen}
+use Rattle.views.specs.Tables.{Table}
 use Rattle.map_expr.specs.Terms.{term_of}
 use Rattle.worlds.specs.Load.{load, loaded_table}
 use Rattle.worlds.specs.Outcomes.{Goes}
 use Rattle.worlds.specs.View.{with_view}
-use Rattle.worlds.specs.Worlds.{World, Table}
-use Rattle.command_checks.specs.Entries.{table_of}
+use Rattle.worlds.specs.Worlds.{World}
 use Rattle.command_checks.specs.GivesLaws.{goes_then}
-use Rattle.session.specs.Loads.{Loads, UnreadOnly}
+use Rattle.session.specs.Loads.{new_of, Loads, UnreadOnly, ToldFor}
 use Rattle.session.specs.Stands.{left_of, world_in, world_of}
-use Rattle.session.proofs.Reading.{after_load, unread_after}
+use Rattle.session.proofs.Reading.{after_load, unread_after, told_first}
 use Rattle.session.proofs.session.Session.load.Goals as goal
 
 pub returns-in_err-view-clause-loads : goal.returns-in_err-view-clause-loads
 unfolding load
-returns-in_err-view-clause-loads g c = λ files told.
+returns-in_err-view-clause-loads g c = λ files given.
     let fault = c.in_err-view.field-0.0 in
     let rose = Rose (g.H.Shelf.faults c.args.shelf.now) (g.H.Shelf.faults c.loaded_view.new.shelf) in
-    let table = λ (world : World). loaded_table world c.args.name c.args.schema c.args.words.now (term_of c.args.expr.now) c.args.file.now files in
+    let table = λ (world : World). loaded_table world (new_of c.args.new.now) c.args.file.now files in
     let lists : world_in c.as_slice.result.now c.as_slice-2.result.now c.as_slice-3.result.now ≡ world_of c.args.self = rw (c.as_slice.ensures.value, c.as_slice-2.ensures.value, c.as_slice-3.ensures.value) refl in
-    let loads = subst (λ (world : World). Loads {A = Seen} table_of (table world) rose (Err fault)) lists (c.in_err-view.ensures.loads files told) in
-    after_load {A = Seen} table_of left_of (table (world_of c.args.self))
-    (λ (made : Table). record { world = with_view (world_of c.args.self) c.args.name made; text = [] }) rose (Err fault) fault c.from_residual.result refl (search rules) loads
+    let told = subst (λ (world : World). ToldFor {A = Table} (g.H.Shelf.files c.args.shelf.now) (table world true) files) (sym lists) (told_first _ files (table (world_of c.args.self) true) (λ (made : Table). record { held = with_view (world_of c.args.self) c.args.new.now.name made; text = [] }) given) in
+    let loads = subst (λ (world : World). Loads {A = Table} c.args.file.now (λ (view : Table). view) (table world) rose (Err fault)) lists (c.in_err-view.ensures.loads files told) in
+    after_load {A = Table} c.args.file.now (λ (view : Table). view) left_of (table (world_of c.args.self))
+    (λ (made : Table). record { held = with_view (world_of c.args.self) c.args.new.now.name made; text = [] }) rose (Err fault) fault c.from_residual.result refl (search rules) loads
 
 pub returns-clause-loads : goal.returns-clause-loads
 unfolding load
-returns-clause-loads g c = λ files told.
-    let table = λ (world : World). loaded_table world c.args.name c.args.schema c.args.words.now (term_of c.args.expr.now) c.args.file.now files in
+returns-clause-loads g c = λ files given.
+    let table = λ (world : World). loaded_table world (new_of c.args.new.now) c.args.file.now files in
     let lists : world_in c.as_slice.result.now c.as_slice-2.result.now c.as_slice-3.result.now ≡ world_of c.args.self = rw (c.as_slice.ensures.value, c.as_slice-2.ensures.value, c.as_slice-3.ensures.value) refl in
-    let made = subst (λ (world : World). table world false ≡ Goes (table_of c.in_ok-view.view)) lists (c.in_ok-view.ensures.loads files told) in
-    goes_then _ _ _ made ∙ ap (λ (world : World). Goes (record { world = world; text = [] })) (sym c.in_ok-next.ensures.added)
+    let told = subst (λ (world : World). ToldFor {A = Table} (g.H.Shelf.files c.args.shelf.now) (table world true) files) (sym lists) (told_first _ files (table (world_of c.args.self) true) (λ (made : Table). record { held = with_view (world_of c.args.self) c.args.new.now.name made; text = [] }) given) in
+    let made = subst (λ (world : World). table world false ≡ Goes c.in_ok-view.view) lists (c.in_ok-view.ensures.loads files told) in
+    goes_then _ _ _ made ∙ ap (λ (world : World). Goes (record { held = world; text = [] })) (sym c.in_ok-next.ensures.added)
 
 pub returns-in_err-view-clause-unread : goal.returns-in_err-view-clause-unread
 unfolding load
 returns-in_err-view-clause-unread g c =
     let fault = c.in_err-view.field-0.0 in
-    let table = λ (world : World) (files : List File) (unread : Bool). loaded_table world c.args.name c.args.schema c.args.words.now (term_of c.args.expr.now) c.args.file.now files unread in
+    let table = λ (world : World) (files : List File) (unread : Bool). loaded_table world (new_of c.args.new.now) c.args.file.now files unread in
     let lists : world_in c.as_slice.result.now c.as_slice-2.result.now c.as_slice-3.result.now ≡ world_of c.args.self = rw (c.as_slice.ensures.value, c.as_slice-2.ensures.value, c.as_slice-3.ensures.value) refl in
-    let unread = subst (λ (world : World). UnreadOnly {A = Seen} (Some c.args.file.now) (table world) (Err fault)) lists c.in_err-view.ensures.unread in
-    unread_after Seen c.args.file.now (table (world_of c.args.self))
-    (λ (made : Table). record { world = with_view (world_of c.args.self) c.args.name made; text = [] }) fault c.from_residual.result (search rules) unread
+    let unread = subst (λ (world : World). UnreadOnly {A = Table} (Some c.args.file.now) (table world) (Err fault)) lists c.in_err-view.ensures.unread in
+    unread_after Table c.args.file.now (table (world_of c.args.self))
+    (λ (made : Table). record { held = with_view (world_of c.args.self) c.args.new.now.name made; text = [] }) fault c.from_residual.result (search rules) unread

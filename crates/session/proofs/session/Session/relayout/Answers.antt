@@ -1,8 +1,9 @@
 use Rattle.std.proofs.Common.{rules, ◌≡◌, ◌∙◌, List, [], Err, refl, sym, ap, subst}
 use Rattle.map_expr.specs.Terms.{term_of}
+use Rattle.views.specs.Tables.{Table}
 use Rattle.worlds.specs.Copy.{relayout, laid_anew}
 use Rattle.worlds.specs.Outcomes.{Outcome, Goes}
-use Rattle.worlds.specs.Worlds.{Entry, Table}
+use Rattle.worlds.specs.Worlds.{Entry}
 use Rattle.command_checks.specs.Entries.{view_of}
 use Rattle.command_checks.specs.Gives.{GivesUp}
 use Rattle.command_checks.specs.GivesLaws.{GivesUp-then, goes_then}
@@ -64,4 +65,4 @@ returns g c =
     let laid = laid_at items c.in_ok-place.place entry (term_of c.in_ok-expr.expr) c.in_ok-fresh.fresh c.index_mut.ensures.value made zeros in
     let same = table_changed c.args.self c.args.name c.in_ok-place.place entry changed at c.index_mut.ensures.value refl in
     goes_then _ _ _ (known_at c.args.name items c.in_ok-place.place entry at c.index_mut.ensures.value) ∙ goes_then _ _ _ whole ∙ goes_then _ _ _ (laid ∙ c.in_ok-laid_over.ensures)
-    ∙ ap (λ (views : List (Entry Table)). Goes (record { world = record (world_of c.args.self) { views = views }; text = [] })) (sym same)
+    ∙ ap (λ (views : List (Entry Table)). Goes (record { held = record (world_of c.args.self) { views = views }; text = [] })) (sym same)

@@ -1,0 +1,307 @@
+-- What is counted of a view are the accesses to it, line after line.
+use Rattle.std.proofs.Common.{◌≡◌, ℕ, ◌+◌, Bool, true, false, List, [], ◌∷◌, ◌++◌, length, Option, Some, None, refl, sym, ap, subst, ◌∙◌, arith, append_assoc}
+use Rattle.std.specs.Prelude.{◌^◌, if◌then◌else◌, is_some, nat_eq, nat_lt, not, ℤ}
+use Rattle.std.specs.Cmp.Lexicographic.{pointwise}
+use Rattle.std.proofs.lemmas.Bool.Decides.{nat_tests}
+use Rattle.layout_io.specs.Files.{File}
+use Rattle.extents.specs.Indices.{indices}
+use Rattle.record_dim.specs.Leaves.{leaves, texts_of}
+use Rattle.record_dim.specs.Trees.{Tree, Fields}
+use Rattle.map_expr.specs.Terms.{Term as MapTerm}
+use Rattle.places.specs.Layout.{Owner}
+use Rattle.piece_bits.specs.Tables.{zeros}
+use Rattle.piece_bits.specs.TableLaws.{zeros_shape}
+use Rattle.line_grammar.specs.Sentences.{Sentence, New}
+use Rattle.line_grammar.specs.Sentences as line
+use Rattle.instrument.specs.Counters.{LeafCounts, HeatCounts}
+use Rattle.instrument.specs.CounterTexts.{counts_text, heat_text}
+use Rattle.views.specs.Tallies.{Access, Tally, tallied, no_tally, all_reads, all_writes}
+use Rattle.views.specs.TallyLaws.{tallied-none, tallied-append}
+use Rattle.views.specs.Tables.{Table, owners_of, leaf_count_of, after_stores}
+use Rattle.worlds.specs.Worlds.{World, Entry, same_name, found, added, replaced, removed}
+use Rattle.csv_rows.specs.Datasets.{records_of, rows_of}
+use Rattle.csv_rows.specs.Loads.{dataset_of}
+use Rattle.map_expr.specs.Checks.{checked}
+use Rattle.worlds.specs.Copy.{copy, copied, relayout, all_read, laid_anew, are_alike}
+use Rattle.worlds.specs.Define.{define, fit}
+use Rattle.worlds.specs.Load.{load, loaded_table, loaded, filled, read, row_fault}
+use Rattle.worlds.specs.Mapping.{mapping}
+use Rattle.worlds.specs.OnView.{Done, Work, done_to, on_view, with_table, worked}
+use Rattle.worlds.specs.Outcomes.{Outcome, Goes, Faults, CannotRead, ◌>>=◌, LeftOf, Left, known, free, some_or, refused_if, ok_or}
+use Rattle.worlds.specs.Show.{drop_view}
+use Rattle.worlds.specs.Step.{step, work_of}
+use Rattle.worlds.specs.Tables.{made, resolved, room, shaped, zeros_of}
+use Rattle.worlds.specs.Names.{nameless}
+use Rattle.worlds.specs.View.{view, new_table, named, Named}
+use Rattle.worlds.specs.declared.fault.CommandFault.{CommandFault}
+use Rattle.worlds.specs.declared.fault.CommandFault.TheVariants.{BadMapping, TooBig, Mismatch}
+use Rattle.equal_runs.specs.Logs.{log_in, logged, reads_of, writes_of, fills_of, done_log, work_logs, logs_after}
+use Rattle.equal_runs.proofs.Agreeing.{Told, goes, told}
+use Rattle.equal_runs.proofs.Entries.{Entries, Finds, some, nothing, finds, entries_added, entries_replaced, entries_removed}
+use Rattle.equal_runs.proofs.Tables.{with_written, anew_of, made_told, rows_told, anew_told}
+
+-- where it goes, it goes to a thing of which this holds
+pub data IfGoes {A : Type 0} (P : A → Type 0) : Outcome A → Type 0 where
+  to : (x : A) → P x → IfGoes P (Goes x)
+  refused : (fault : CommandFault) → IfGoes P (Faults fault)
+  unread : (name : List ℕ) → IfGoes P (CannotRead name)
+
+pub bind : {A B : Type 0} (P : B → Type 0) (x : Outcome A) (f : A → Outcome B) → ((a : A) → x ≡ Goes a → IfGoes P (f a)) → IfGoes P (x >>= f)
+bind P (Goes a) f each = each a refl
+bind P (Faults fault) f each = refused fault
+bind P (CannotRead name) f each = unread name
+
+-- behind what goes to a thing of which something holds
+pub behind : {A B : Type 0} (P : B → Type 0) (Q : A → Type 0) (x : Outcome A) (f : A → Outcome B) → IfGoes Q x → ((a : A) → Q a → IfGoes P (f a)) → IfGoes P (x >>= f)
+behind P Q x f (to a q) each = each a q
+behind P Q x f (refused fault) each = refused fault
+behind P Q x f (unread name) each = unread name
+
+pub gone : {A : Type 0} (P : A → Type 0) (x : Outcome A) (a : A) → IfGoes P x → x ≡ Goes a → P a
+gone P x a (to b p) is = let same : b ≡ a = cc in subst P same p
+gone P x a (refused fault) is = absurd (cc)
+gone P x a (unread name) is = absurd (cc)
+
+of_told : {A : Type 0} (P : A → Type 0) (x : Outcome A) → Told false P x → IfGoes P x
+of_told P x (goes a p) = to a p
+of_told P x (told fault of) = refused fault
+
+-- what a used name stands for
+pub known_found : {A : Type 0} (fault : CommandFault) (x : Option A) (a : A) → some_or fault x ≡ Goes a → x ≡ Some a
+known_found fault (Some b) a is = let same : b ≡ a = cc in ap Some same
+known_found fault None a is = absurd (cc)
+
+found_replaced : {A : Type 0} (name : List ℕ) (new old : A) (entries : List (Entry A)) → found name entries ≡ Some old → found name (replaced name new entries) ≡ Some new
+found_replaced name new old [] is = absurd (cc)
+found_replaced {A} name new old (entry ∷ entries) is = of_test (same_name entry.name name) refl is (found_replaced name new old entries) where
+  of_test : (test : Bool) → same_name entry.name name ≡ test → (if test then Some entry.held else found name entries) ≡ Some old
+      → (found name entries ≡ Some old → found name (replaced name new entries) ≡ Some new) → found name (if test then record { name = entry.name; held = new } ∷ entries else entry ∷ replaced name new entries) ≡ Some new
+  of_test true same is below = rw same refl
+  of_test false same is below = rw same (below is)
+
+same_self : (name : List ℕ) → same_name name name ≡ true
+same_self [] = refl
+same_self (byte ∷ bytes) = let one : nat_eq byte byte ≡ true = grind (arith, nat_tests) in rw one (same_self bytes)
+
+found_added : {A : Type 0} (name : List ℕ) (new : A) (entries : List (Entry A)) → found name entries ≡ None → found name (added name new entries) ≡ Some new
+found_added name new [] is = rw (same_self name) refl
+found_added {A} name new (entry ∷ entries) is = of_test (same_name entry.name name) refl is (found_added name new entries) where
+  of_test : (test : Bool) → same_name entry.name name ≡ test → (if test then Some entry.held else found name entries) ≡ None
+      → (found name entries ≡ None → found name (added name new entries) ≡ Some new) → (if same_name entry.name name then Some entry.held else found name (added name new entries)) ≡ Some new
+  of_test true same is below = absurd (cc)
+  of_test false same is below = rw same (below is)
+
+free_found : {A : Type 0} (fault : CommandFault) (x : Option A) → refused_if (is_some x) fault ≡ Goes tt → x ≡ None
+free_found fault None is = refl
+free_found fault (Some a) is = absurd (cc)
+
+-- the tally of a table is that of a list of accesses
+abbrev pub IsCounted : Table → List Access → Type 0
+IsCounted table log = table.tally ≡ tallied (owners_of table) (no_tally table.mapping (owners_of table) (leaf_count_of table)) log
+
+abbrev pub AreCounted : List (Entry Table) → List (Entry (List Access)) → Type 0
+AreCounted views logs = Entries IsCounted views logs
+
+of_found : (x : Option Table) (y : Option (List Access)) (table : Table) → Finds IsCounted x y → x ≡ Some table → IsCounted table (log_in y)
+of_found x y table (some a b r) is = let same : a ≡ table = cc in subst (λ (t : Table). IsCounted t b) same r
+of_found x y table nothing is = absurd (cc)
+
+pub counted_at : (name : List ℕ) (views : List (Entry Table)) (logs : List (Entry (List Access))) (table : Table) → AreCounted views logs → found name views ≡ Some table → IsCounted table (log_in (found name logs))
+counted_at name views logs table all is = of_found (found name views) (found name logs) table (finds IsCounted name views logs all) is
+
+-- more accesses
+counted_more : (table : Table) (log : List Access) (rows : List (List ℤ)) (more : List Access) → IsCounted table log → IsCounted (after_stores table rows more) (log ++ more)
+counted_more table log rows more is =
+    let owners = owners_of table in
+    ap (λ (tally : Tally). tallied owners tally more) is ∙ tallied-append owners (no_tally table.mapping owners (leaf_count_of table)) log more
+
+logged_more : (name : List ℕ) (views : List (Entry Table)) (logs : List (Entry (List Access))) (table : Table) (rows : List (List ℤ)) (more : List Access) → AreCounted views logs → found name views ≡ Some table
+    → AreCounted (replaced name (after_stores table rows more) views) (logged name more logs)
+logged_more name views logs table rows more all is =
+    entries_replaced IsCounted name (after_stores table rows more) (log_in (found name logs) ++ more) views logs (counted_more table (log_in (found name logs)) rows more (counted_at name views logs table all is)) all
+
+-- zeros that are written to
+counted_zeros : (fields : Fields) (extents : List ℕ) (term : MapTerm) (rows : List (List ℤ)) (log : List Access) → IsCounted (after_stores (zeros_of fields extents term) rows log) log
+counted_zeros fields extents term rows log = refl
+
+length-zeros : (fields : Fields) (extents : List ℕ) (term : MapTerm) → length (zeros_of fields extents term).rows ≡ length (indices extents)
+length-zeros fields extents term = (zeros_shape (length (indices extents)) (length (leaves fields))).row_count
+
+-- a table of zeros, and one with other rows, each value written once
+record IsZeros (table : Table) : Type 0 where
+  fields : Fields
+  extents : List ℕ
+  term : MapTerm
+  is : table ≡ zeros_of fields extents term
+
+record IsFilled (table : Table) : Type 0 where
+  fields : Fields
+  extents : List ℕ
+  term : MapTerm
+  rows : List (List ℤ)
+  is : table ≡ after_stores (zeros_of fields extents term) rows (all_writes (length (leaves fields)) (length (indices extents)))
+
+made_zeros : (views : List (Entry Table)) (fields : Fields) (extents : List ℕ) (term : MapTerm) → IfGoes IsZeros (made views fields extents term)
+made_zeros views fields extents term = of_made (made views fields extents term) (made_told false views fields extents term) where
+  of_made : (x : Outcome Table) → Told false (λ (t : Table). t ≡ zeros_of fields extents term) x → IfGoes IsZeros x
+  of_made x (goes t is) = to t (record { fields = fields; extents = extents; term = term; is = is })
+  of_made x (told fault of) = refused fault
+
+zeros_filled : (zeros : Table) (records : List (List (List ℕ))) → IsZeros zeros → IfGoes IsFilled (filled zeros records)
+zeros_filled zeros records is =
+    bind IsFilled (ok_or (row_fault zeros.fields) (dataset_of zeros records)) _ (λ rows r. to _ (record {
+      fields = is.fields;
+      extents = is.extents;
+      term = is.term;
+      rows = rows;
+      is = ap (λ (t : Table). after_stores t rows (all_writes (leaf_count_of t) (length t.rows))) is.is
+          ∙ ap (λ (n : ℕ). after_stores (zeros_of is.fields is.extents is.term) rows (all_writes (length (leaves is.fields)) n)) (length-zeros is.fields is.extents is.term);
+    }))
+
+counted_filled : (table : Table) → IsFilled table → IsCounted table (fills_of (Some table))
+counted_filled table is =
+    subst (λ (t : Table). IsCounted t (fills_of (Some t))) (sym is.is) (counted_zeros is.fields is.extents is.term is.rows (all_writes (length (leaves is.fields)) (length (indices is.extents))))
+
+counted_none : (table : Table) → IsZeros table → IsCounted table []
+counted_none table is = subst (λ (t : Table). IsCounted t []) (sym is.is) (sym (tallied-none _ _))
+
+module _ (world : World) (logs : List (Entry (List Access))) (all : AreCounted world.views logs) where
+  -- where a line goes, the accesses to each view are those that its table has counted
+  abbrev Keeps : (World → List (Entry (List Access))) → Left → Type 0
+  Keeps after left = AreCounted left.held.views (after left.held)
+
+  define_keeps : (name : List ℕ) (tree : Tree) → IfGoes (Keeps (λ w. logs)) (define world name tree)
+  unfolding define
+  define_keeps name tree = bind (Keeps (λ w. logs)) (free name world.records) _ (λ unused a. bind (Keeps (λ w. logs)) (fit tree) _ (λ fields b. to _ all))
+
+  mapping_keeps : (name : List ℕ) (term : MapTerm) → IfGoes (Keeps (λ w. logs)) (mapping world name term)
+  unfolding mapping
+  mapping_keeps name term =
+      bind (Keeps (λ w. logs)) (free name world.mappings) _ (λ unused a.
+      bind (Keeps (λ w. logs)) (nameless world.mappings term) _ (λ whole b.
+      bind (Keeps (λ w. logs)) (ok_or BadMapping (checked whole)) _ (λ fit c. to _ all)))
+
+  new_zeros : (new : New) → IfGoes IsZeros (new_table world new)
+  unfolding new_table
+  new_zeros new =
+      bind IsZeros (named world new) _ (λ whole a.
+      bind IsZeros (resolved new.words None) _ (λ extents b. made_zeros world.views whole.fields extents whole.mapping))
+
+  view_keeps : (new : New) → IfGoes (Keeps (λ w. added new.name [] logs)) (view world new)
+  unfolding view
+  view_keeps new =
+      behind (Keeps (λ w. added new.name [] logs)) IsZeros (new_table world new) _ (new_zeros new)
+      (λ table is. to _ (entries_added IsCounted new.name table [] world.views logs (counted_none table is) all))
+
+  -- the name of a view that goes is that of no view
+  named_free : (new : New) → IfGoes (λ (whole : Named). found new.name world.views ≡ None) (named world new)
+  named_free new =
+      let P : Named → Type 0 = λ whole. found new.name world.views ≡ None in
+      bind P (free new.name world.views) _ (λ unused is.
+      bind P (known new.schema world.records) _ (λ fields a.
+      bind P (nameless world.mappings new.term) _ (λ whole b.
+      bind P (room world.views) _ (λ space c.
+      bind P (shaped new.words) _ (λ ranked d. to _ (free_found _ (found new.name world.views) is))))))
+
+  -- a table that was filled, of a name that is that of no view
+  abbrev IsLoaded : New → Table → Type 0
+  IsLoaded new table = IsFilled table × (found new.name world.views ≡ None)
+
+  loaded_filled : (new : New) (file : List ℕ) (files : List File) (fails : Bool) → IfGoes (IsLoaded new) (loaded_table world new file files fails)
+  unfolding loaded_table loaded
+  loaded_filled new file files fails =
+      let P : Table → Type 0 = IsLoaded new in
+      behind P (λ (whole : Named). found new.name world.views ≡ None) (named world new) _ (named_free new) (λ whole none.
+      bind P (read files fails file) _ (λ bytes b.
+      bind P (refused_if (nat_lt (2 ^ 28) (length bytes)) TooBig) _ (λ short c.
+      bind P (resolved new.words (Some (length (rows_of (records_of bytes))))) _ (λ extents d.
+      behind P IsZeros (made world.views whole.fields extents whole.mapping) _ (made_zeros world.views whole.fields extents whole.mapping) (λ zeros is.
+      with_free new none (filled zeros (records_of bytes)) (zeros_filled zeros (records_of bytes) is))))))
+    where
+      with_free : (new : New) → found new.name world.views ≡ None → (x : Outcome Table) → IfGoes IsFilled x → IfGoes (IsLoaded new) x
+      with_free new none x (to t is) = to t (is, none)
+      with_free new none x (refused fault) = refused fault
+      with_free new none x (unread name) = unread name
+
+  load_keeps : (new : New) (file : List ℕ) (files : List File) (fails : Bool)
+      → IfGoes (Keeps (λ w. added new.name (fills_of (found new.name w.views)) logs)) (load world new file files fails)
+  unfolding load
+  load_keeps new file files fails =
+      behind (Keeps (λ w. added new.name (fills_of (found new.name w.views)) logs)) (IsLoaded new) (loaded_table world new file files fails) _ (loaded_filled new file files fails)
+      (λ table is. to _ (subst (λ (x : Option Table). AreCounted (added new.name table world.views) (added new.name (fills_of x) logs)) (sym (found_added new.name table world.views is.1))
+      (entries_added IsCounted new.name table (fills_of (Some table)) world.views logs (counted_filled table is.0) all)))
+
+  relayout_keeps : (name : List ℕ) (term : MapTerm) → IfGoes (Keeps (λ w. replaced name (writes_of (found name w.views)) logs)) (relayout world name term)
+  unfolding relayout
+  relayout_keeps name term =
+      let P : Left → Type 0 = Keeps (λ w. replaced name (writes_of (found name w.views)) logs) in
+      bind P (known name world.views) _ (λ table t.
+      bind P (nameless world.mappings term) _ (λ whole b.
+      behind P (λ (new : Table). new ≡ anew_of table whole) (laid_anew world.views table whole) _ (of_told _ _ (anew_told false world.views table whole)) (λ new anew.
+      let there : found name (replaced name new world.views) ≡ Some new = found_replaced name new table world.views (known_found _ (found name world.views) table t) in
+      let one : IsCounted new (writes_of (Some new)) =
+      subst (λ (n : Table). IsCounted n (writes_of (Some n))) (sym anew) (counted_zeros table.fields table.extents whole table.rows (all_writes (leaf_count_of table) (length table.rows))) in
+      to _ (subst (λ (x : Option Table). AreCounted (replaced name new world.views) (replaced name (writes_of x) logs)) (sym there)
+      (entries_replaced IsCounted name new (writes_of (Some new)) world.views logs one all)))))
+
+  copied_written : (source table : Table) → IfGoes (λ (new : Table). new ≡ with_written table source.rows) (copied source table)
+  unfolding copied
+  copied_written source table =
+      bind (λ (new : Table). new ≡ with_written table source.rows) (refused_if (not (are_alike source table)) Mismatch) _ (λ alike a. of_told _ _ (rows_told false table source.rows))
+
+  copy_keeps : (name target : List ℕ) → IfGoes (Keeps (λ w. logged target (writes_of (found target w.views)) (logged name (reads_of (found name world.views)) logs))) (copy world name target)
+  unfolding copy
+  copy_keeps name target =
+      let P : Left → Type 0 = Keeps (λ w. logged target (writes_of (found target w.views)) (logged name (reads_of (found name world.views)) logs)) in
+      bind P (known name world.views) _ (λ s a.
+      let s_is : found name world.views ≡ Some s = known_found _ (found name world.views) s a in
+      let read_views : List (Entry Table) = replaced name (all_read s) world.views in
+      let read_logs : List (Entry (List Access)) = logged name (reads_of (found name world.views)) logs in
+      let read : AreCounted read_views read_logs =
+      subst (λ (x : Option Table). AreCounted read_views (logged name (reads_of x) logs)) (sym s_is) (logged_more name world.views logs s s.rows (all_reads (leaf_count_of s) (length s.rows)) all s_is) in
+      bind P (known target read_views) _ (λ old b.
+      let old_is : found target read_views ≡ Some old = known_found _ (found target read_views) old b in
+      behind P (λ (new : Table). new ≡ with_written old s.rows) (copied s old) _ (copied_written s old) (λ new written.
+      let there : found target (replaced target new read_views) ≡ Some new = found_replaced target new old read_views old_is in
+      let one : AreCounted (replaced target new read_views) (logged target (writes_of (Some new)) read_logs) =
+      subst (λ (n : Table). AreCounted (replaced target n read_views) (logged target (writes_of (Some n)) read_logs)) (sym written)
+      (logged_more target read_views read_logs old s.rows (all_writes (leaf_count_of old) (length s.rows)) read old_is) in
+      to _ (subst (λ (x : Option Table). AreCounted (replaced target new read_views) (logged target (writes_of x) read_logs)) (sym there) one))))
+
+  drop_keeps : (name : List ℕ) → IfGoes (Keeps (λ w. removed name logs)) (drop_view world name)
+  unfolding drop_view
+  drop_keeps name = bind (Keeps (λ w. removed name logs)) (known name world.views) _ (λ table a. to _ (entries_removed IsCounted name world.views logs all))
+
+  -- what a command did to a table
+  record WasDone (outcome : Outcome Done) (table : Table) (new : LeftOf Table) : Type 0 where
+    done : Done
+    is : outcome ≡ Goes done
+    held : new.held ≡ after_stores table done.rows done.log
+
+  was_done : (table : Table) (outcome : Outcome Done) → IfGoes (WasDone outcome table) (done_to table outcome)
+  was_done table outcome = bind (WasDone outcome table) outcome _ (λ done is. to _ (record { done = done; is = is; held = refl }))
+
+  work_keeps : (work : Option Work) → IfGoes (Keeps (λ w. work_logs world work logs)) (worked world work)
+  unfolding on_view
+  work_keeps None = to _ all
+  work_keeps (Some work) =
+      let P : Left → Type 0 = Keeps (λ w. work_logs world (Some work) logs) in
+      bind P (known work.view world.views) _ (λ table t.
+      behind P (WasDone (work.does table) table) (done_to table (work.does table)) _ (was_done table (work.does table)) (λ new was.
+      let log : done_log (known work.view world.views >>= work.does) ≡ was.done.log = ap (λ (x : Outcome Table). done_log (x >>= work.does)) t ∙ ap done_log was.is in
+      let one : AreCounted (replaced work.view (after_stores table was.done.rows was.done.log) world.views) (logged work.view was.done.log logs) =
+      logged_more work.view world.views logs table was.done.rows was.done.log all (known_found _ (found work.view world.views) table t) in
+      to _ (subst (λ (n : Table). AreCounted (replaced work.view n world.views) (work_logs world (Some work) logs)) (sym was.held)
+      (subst (λ (more : List Access). AreCounted (replaced work.view (after_stores table was.done.rows was.done.log) world.views) (logged work.view more logs)) (sym log) one))))
+
+  -- a line that goes
+  pub step_keeps : (files : List File) (fails : Bool) (sentence : Sentence) → IfGoes (Keeps (λ w. logs_after world sentence w logs)) (step world sentence files fails)
+  unfolding step
+  step_keeps files fails (line.Define name tree) = define_keeps name tree
+  step_keeps files fails (line.Mapping name term) = mapping_keeps name term
+  step_keeps files fails (line.View new) = view_keeps new
+  step_keeps files fails (line.Load new file) = load_keeps new file files fails
+  step_keeps files fails (line.Copy name target) = copy_keeps name target
+  step_keeps files fails (line.Relayout name term) = relayout_keeps name term
+  step_keeps files fails (line.Drop name) = drop_keeps name
+  step_keeps files fails sentence = work_keeps (work_of sentence)

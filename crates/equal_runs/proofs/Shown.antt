@@ -1,0 +1,131 @@
+-- What a run shows of its accesses.
+use Rattle.std.proofs.Common.{◌≡◌, ℕ, ◌+◌, Bool, List, [], ◌∷◌, ◌++◌, length, Option, Some, None, refl, sym, ap, subst, ◌∙◌, arith, append_assoc, add-one}
+use Rattle.std.specs.Prelude.{IfSome}
+use Rattle.layout_io.specs.Files.{File}
+use Rattle.map_expr.specs.Terms.{Term}
+use Rattle.places.specs.Layout.{Owner}
+use Rattle.record_dim.specs.Leaves.{texts_of}
+use Rattle.line_grammar.specs.Sentences.{Sentence, Counts, Heat}
+use Rattle.line_grammar.specs.declared.version.Version.{Version}
+use Rattle.instrument.specs.Counters.{LeafCounts, HeatCounts}
+use Rattle.instrument.specs.CounterTexts.{counts_text, heat_text}
+use Rattle.views.specs.Entries.{AreEntries, AreCounts, AreHeat}
+use Rattle.views.specs.Tallies.{Access, Tally, tallied, no_tally}
+use Rattle.views.specs.Tables.{Table, owners_of, leaf_count_of}
+use Rattle.worlds.specs.Worlds.{World, empty, found}
+use Rattle.worlds.specs.OnView.{Done, done_to, on_view}
+use Rattle.worlds.specs.Outcomes.{Outcome, Goes, LeftOf, Left, known, some_or}
+use Rattle.worlds.specs.Show.{counts, heat}
+use Rattle.worlds.specs.Step.{step}
+use Rattle.worlds.specs.declared.fault.CommandFault.TheVariants.{NotCounted}
+use Rattle.script_runs.specs.Fold.{run_from, after, prepend, fails_at}
+use Rattle.script_runs.specs.Outcome.{Output}
+use Rattle.equal_runs.specs.Lines.{AreLines}
+use Rattle.equal_runs.specs.EqualRuns.{DoesLines}
+use Rattle.equal_runs.specs.Logs.{SoFar, at_first, one_more, logs_after, Comes, there, further, log_of}
+use Rattle.equal_runs.specs.Entries.{ShowsCounts, ShowsHeat, ShowsEntries}
+use Rattle.equal_runs.proofs.Entries.{none}
+use Rattle.equal_runs.proofs.Logs.{IfGoes, to, bind, behind, gone, AreCounted, counted_at, step_keeps, known_found}
+
+-- the accesses are those that the tables have counted, as far as a run comes
+comes_counted : (files : List File) (unread : Option ℕ) (number : ℕ) (now last : SoFar) (lines : List Sentence) → Comes files unread number now lines last → AreCounted now.world.views now.logs → AreCounted last.world.views last.logs
+comes_counted files unread number now last lines (there _ _) all = all
+comes_counted files unread number now last lines (further _ _ line left rest _ goes more) all =
+    comes_counted files unread (number + 1) (one_more now line left) last rest more (gone (λ (l : Left). AreCounted l.held.views (logs_after now.world line l.held now.logs)) (step now.world line files (fails_at unread number)) left (step_keeps now.world now.logs all files (fails_at unread number) line) goes)
+
+pub last_counted : (files : List File) (unread : Option ℕ) (lines : List Sentence) (now : SoFar) → Comes files unread 1 at_first lines now → AreCounted now.world.views now.logs
+last_counted files unread lines now comes = comes_counted files unread 1 at_first now lines comes none
+
+prepend-append : (a b : List ℕ) (output : Output) → prepend a (prepend b output) ≡ prepend (a ++ b) output
+prepend-append a b output = ap (λ bytes. record { bytes = bytes; end = output.end }) (sym (append_assoc a b output.bytes))
+
+-- the run over the texts of such lines
+comes_on : (version : Version) (files : List File) (outcome : World → List ℕ → Bool → Outcome Left) → DoesLines version files outcome → (unread : Option ℕ) (number : ℕ) (now last : SoFar) (lines : List Sentence)
+    → Comes files unread number now lines last → (texts more : List (List ℕ)) → AreLines version texts lines
+    → prepend now.text (run_from outcome number now.world (texts ++ more) unread) ≡ prepend last.text (run_from outcome (number + length lines) last.world more unread)
+comes_on version files outcome does unread number now last lines (there _ _) [] more are =
+    let none : number ≡ number + 0 = omega arith in
+    ap (λ (n : ℕ). prepend now.text (run_from outcome n now.world more unread)) none
+comes_on version files outcome does unread number now last lines (there _ _) (text ∷ texts) more are = absurd are
+comes_on version files outcome does unread number now last lines (further _ _ line left rest _ goes comes) [] more are = absurd are
+comes_on version files outcome does unread number now last lines (further _ _ line left rest _ goes comes) (text ∷ texts) more are =
+    let place : number + length (line ∷ rest) ≡ number + 1 + length rest = omega arith in
+    ap (λ (o : Outcome Left). prepend now.text (after number o (λ next. run_from outcome (number + 1) next (texts ++ more) unread))) (does now.world text line (fails_at unread number) are.0 ∙ goes)
+    ∙ prepend-append now.text left.text (run_from outcome (number + 1) left.held (texts ++ more) unread)
+    ∙ comes_on version files outcome does unread (number + 1) (one_more now line left) last rest comes texts more are.1
+    ∙ ap (λ (n : ℕ). prepend last.text (run_from outcome n last.world more unread)) (sym place)
+
+-- a law of what is counted, as it is told
+abbrev pub AreTold : Type 0
+AreTold = (term : Term) (layout : List (List Owner)) (leaves : ℕ) (log : List Access) → AreEntries layout leaves log (tallied layout (no_tally term layout leaves) log)
+
+module _ (told : AreTold) (files : List File) (unread : Option ℕ) (lines : List Sentence) (now : SoFar) (comes : Comes files unread 1 at_first lines now) (name : List ℕ) where
+  entries_at : (table : Table) → found name now.world.views ≡ Some table → AreEntries (owners_of table) (leaf_count_of table) (log_of now name) table.tally
+  entries_at table is =
+      subst (AreEntries (owners_of table) (leaf_count_of table) (log_of now name)) (sym (counted_at name now.world.views now.logs table (last_counted files unread lines now comes) is))
+      (told table.mapping (owners_of table) (leaf_count_of table) (log_of now name))
+
+  some_counts : {A : Type 0} (P : A → Type 0) (x : Option A) (a : A) → IfSome x P → x ≡ Some a → P a
+  some_counts P (Some b) a all is = let same : b ≡ a = cc in subst P same all
+  some_counts P None a all is = absurd (cc)
+
+  -- what is told of a table is of numbers that it has
+  abbrev CountsTold : Table → List ℕ → Type 0
+  CountsTold table text = (numbers : LeafCounts) × (table.tally.counts ≡ Some numbers) × (text ≡ counts_text (texts_of table.fields) numbers)
+
+  counts_told : (table : Table) → IfGoes (λ (new : LeftOf Table). CountsTold table new.text) (done_to table (counts table))
+  unfolding counts
+  counts_told table =
+      behind (λ (new : LeftOf Table). CountsTold table new.text) (λ (done : Done). CountsTold table done.text) (counts table) _
+      (bind (λ (done : Done). CountsTold table done.text) (some_or NotCounted table.tally.counts) _ (λ numbers is. to _ (numbers, known_found _ table.tally.counts numbers is, refl)))
+      (λ done is. to _ is)
+
+  pub shows_counts : (fails : Bool) → IfGoes (λ (left : Left). ShowsCounts now name left.text) (step now.world (Counts name) files fails)
+  unfolding step on_view
+  shows_counts fails =
+      let P : Left → Type 0 = λ left. ShowsCounts now name left.text in
+      bind P (known name now.world.views) _ (λ table t.
+      let t_is : found name now.world.views ≡ Some table = known_found _ (found name now.world.views) table t in
+      behind P (λ (new : LeftOf Table). CountsTold table new.text) (done_to table (counts table)) _ (counts_told table) (λ new told_of.
+      to _ (record {
+        table = table;
+        is = t_is;
+        numbers = told_of.0;
+        shown = told_of.2;
+        counted = some_counts (AreCounts (leaf_count_of table) (log_of now name)) table.tally.counts told_of.0 (entries_at table t_is).counts told_of.1;
+      })))
+
+  -- what is told of a table is of numbers that it has
+  abbrev HeatTold : Table → List ℕ → Type 0
+  HeatTold table text = (numbers : HeatCounts) × (table.tally.heat ≡ Some numbers) × (text ≡ heat_text numbers)
+
+  heat_told : (table : Table) → IfGoes (λ (new : LeftOf Table). HeatTold table new.text) (done_to table (heat table))
+  unfolding heat
+  heat_told table =
+      behind (λ (new : LeftOf Table). HeatTold table new.text) (λ (done : Done). HeatTold table done.text) (heat table) _
+      (bind (λ (done : Done). HeatTold table done.text) (some_or NotCounted table.tally.heat) _ (λ numbers is. to _ (numbers, known_found _ table.tally.heat numbers is, refl)))
+      (λ done is. to _ is)
+
+  pub shows_heat : (fails : Bool) → IfGoes (λ (left : Left). ShowsHeat now name left.text) (step now.world (Heat name) files fails)
+  unfolding step on_view
+  shows_heat fails =
+      let P : Left → Type 0 = λ left. ShowsHeat now name left.text in
+      bind P (known name now.world.views) _ (λ table t.
+      let t_is : found name now.world.views ≡ Some table = known_found _ (found name now.world.views) table t in
+      behind P (λ (new : LeftOf Table). HeatTold table new.text) (done_to table (heat table)) _ (heat_told table) (λ new told_of.
+      to _ (record {
+        table = table;
+        is = t_is;
+        numbers = told_of.0;
+        shown = told_of.2;
+        counted = some_counts (AreHeat (owners_of table) (log_of now name)) table.tally.heat told_of.0 (entries_at table t_is).heat told_of.1;
+      })))
+
+pub shows_entries : AreTold → (version : Version) (files : List File) (outcome : World → List ℕ → Bool → Outcome Left) → DoesLines version files outcome → ShowsEntries version files outcome
+shows_entries told version files outcome does = record {
+  runs = λ texts more lines unread now are comes. comes_on version files outcome does unread 1 at_first now lines comes texts more are ∙ ap (λ (n : ℕ). prepend now.text (run_from outcome n now.world more unread)) (order (length lines));
+  counts = λ lines unread now name fails left comes is. gone _ _ left (shows_counts told files unread lines now comes name fails) is;
+  heat = λ lines unread now name fails left comes is. gone _ _ left (shows_heat told files unread lines now comes name fails) is;
+} where
+  order : (n : ℕ) → 1 + n ≡ n + 1
+  order n = omega arith

@@ -1,0 +1,111 @@
+-- What a work on a view answers is what the command on the view of a name answers.
+use Rattle.std.proofs.Common.{◌≡◌, ℕ, List, map, get_or, Option, Some, None, Result, Ok, Err, refl, sym, ap, subst, ◌∙◌}
+use Rattle.std.specs.Prelude.{slice_set}
+use Rattle.layout_io.specs.Writing.{Wrote, Stopped}
+use Rattle.instrument.specs.Counters.{LeafCounts, HeatCounts}
+use Rattle.instrument.specs.CounterTexts.{counts_text, heat_text, runs_text}
+use Rattle.record_dim.specs.Leaves.{texts_of}
+use Rattle.views.specs.Tables.{Table, owners_of}
+use Rattle.views.specs.Tallies.{Tally}
+use Rattle.views.specs.TallyLaws.{tallied-none}
+use Rattle.worlds.specs.Answers.{Did, Fronted, text_of}
+use Rattle.worlds.specs.OnView.{Done, tells, done_to, on_view, with_table}
+use Rattle.worlds.specs.Outcomes.{Outcome, Goes, Faults, CannotRead, LeftOf, Left, ◌>>=◌, known, some_or, shows}
+use Rattle.worlds.specs.Show.{counts, heat, layout, small, all_runs}
+use Rattle.worlds.specs.Worlds.{World, Entry}
+use Rattle.worlds.specs.declared.fault.CommandFault.TheVariants.{NotCounted}
+use Rattle.command_checks.specs.Entries.{view_of}
+use Rattle.command_checks.specs.Places.{IsAt}
+use Rattle.command_checks.specs.declared.entries.ViewEntry.{ViewEntry}
+use Rattle.command_checks.specs.declared.fault.StepFault.{StepFault}
+use Rattle.command_checks.specs.declared.fault.StepFault.TheVariants as step
+use Rattle.session.specs.Answers.{Answers}
+use Rattle.session.specs.Changes.{IsLeft, left_with}
+use Rattle.session.specs.Stands.{Stands, world_of}
+use Rattle.session.specs.declared.session.Session.{Session}
+use Rattle.session.proofs.Exits.{known_at, table_changed}
+
+-- the outcome of a command on the view of a name, by what it leaves of the table
+abbrev onward : World → List ℕ → Outcome (LeftOf Table) → Outcome Left
+onward world name outcome = outcome >>= (λ new. shows (with_table world name new.held) new.text)
+
+on_known : (world : World) (name : List ℕ) (table : Table) (does : Table → Outcome Done) → known name world.views ≡ Goes table → on_view world name does ≡ onward world name (done_to table (does table))
+unfolding on_view
+on_known world name table does is = rw is refl
+
+text_onward : (world : World) (name : List ℕ) (outcome : Outcome (LeftOf Table)) → text_of (onward world name outcome) ≡ text_of outcome
+text_onward world name (Goes left) = refl
+text_onward world name (Faults fault) = refl
+text_onward world name (CannotRead file) = refl
+
+-- a work that stops
+pub view_stops : {K : Type 0} (taken : K → Option (List ℕ)) (faults : K → ℕ) (old new : K) (world : World) (name : List ℕ) (view : Table) (table : Table) (does : Table → Outcome Done) (fault : StepFault) (result : Result Session StepFault) →
+    result ≡ Err fault → known name world.views ≡ Goes table → Answers (IsLeft view) taken faults old new (done_to table (does table)) (Err fault) →
+    Answers Stands taken faults old new (on_view world name does) result
+view_stops taken faults old new world name view table does (step.Command refusal) result is at refused =
+    rw is (record { is = on_known world name table does at ∙ ap (onward world name) refused.is; wrote = refused.wrote })
+view_stops taken faults old new world name view table does step.Source result is at none = absurd none
+view_stops taken faults old new world name view table does step.Sink result is at broke = rw is (record {
+  left = record { held = with_table world name broke.left.held; text = broke.left.text };
+  goes = on_known world name table does at ∙ ap (onward world name) broke.goes;
+  stopped = broke.stopped;
+})
+view_stops taken faults old new world name view table does step.NoMemory result is at fronted =
+    rw is (subst (Fronted taken faults old new) (sym (ap text_of (on_known world name table does at) ∙ text_onward world name (done_to table (does table)))) fronted)
+
+-- a work that is done: the view stands in its place
+pub view_done : {K : Type 0} (taken : K → Option (List ℕ)) (faults : K → ℕ) (old new : K) (session next : Session) (name : List ℕ) (place : ℕ) (entry changed : ViewEntry) (does : Table → Outcome Done) →
+    IsAt view_of name session.views.items place → entry ≡ get_or session.views.items place entry → changed.name ≡ entry.name →
+    Stands next (record (world_of session) { views = map view_of (slice_set session.views.items place changed) }) →
+    Did (IsLeft changed.view) taken faults old new (done_to entry.view (does entry.view)) tt →
+    Did Stands taken faults old new (on_view (world_of session) name does) next
+view_done taken faults old new session next name place entry changed does at is same stands did =
+    let left : List (Entry Table) → Left = λ views. record { held = record (world_of session) { views = views }; text = did.left.text } in
+    record {
+      left = left (map view_of (slice_set session.views.items place changed));
+      goes = on_known (world_of session) name entry.view does (known_at name session.views.items place entry at is) ∙ ap (onward (world_of session) name) did.goes
+          ∙ ap (λ (table : Table). Goes (record { held = with_table (world_of session) name table; text = did.left.text })) (sym did.stands)
+          ∙ ap (λ (views : List (Entry Table)). Goes (left views)) (sym (table_changed session name place entry changed at is same));
+      stands = stands;
+      wrote = did.wrote;
+    }
+
+-- a work that gives something, and writes it as a text
+pub then_wrote : {K : Type 0} (taken : K → Option (List ℕ)) (faults : K → ℕ) (old new : K) (view : Table) (outcome : Outcome (LeftOf Table)) (text : List ℕ) →
+    outcome ≡ Goes (left_with view text) → Wrote taken faults old new text → Did (IsLeft view) taken faults old new outcome tt
+then_wrote taken faults old new view outcome text goes wrote = record { left = left_with view text; goes = goes; stands = refl; wrote = wrote }
+
+-- or breaks off as it writes it
+pub then_broke : {K : Type 0} (taken : K → Option (List ℕ)) (faults : K → ℕ) (old new : K) (view : Table) (outcome : Outcome (LeftOf Table)) (left : LeftOf Table) (result : Result (Unit {0}) StepFault) →
+    result ≡ Err step.Sink → outcome ≡ Goes left → Stopped taken faults old new left.text → Answers (IsLeft view) taken faults old new outcome result
+then_broke taken faults old new view outcome left result is goes stopped = rw is (record { left = left; goes = goes; stopped = stopped })
+
+-- a table that is told of stays as it is
+pub tells_left : (table : Table) (text : List ℕ) → done_to table (Goes (tells table text)) ≡ Goes (left_with table text)
+tells_left table text = ap (λ (tally : Tally). Goes (left_with (record table { tally = tally }) text)) (tallied-none (owners_of table) table.tally)
+
+-- what is shown of a table
+pub counts_goes : (table : Table) (numbers : LeafCounts) → Some numbers ≡ table.tally.counts → done_to table (counts table) ≡ Goes (left_with table (counts_text (texts_of table.fields) numbers))
+unfolding counts
+counts_goes table numbers is =
+    ap (λ (x : Option LeafCounts). done_to table (some_or NotCounted x >>= (λ (n : LeafCounts). Goes (tells table (counts_text (texts_of table.fields) n))))) (sym is)
+    ∙ tells_left table (counts_text (texts_of table.fields) numbers)
+
+pub heat_goes : (table : Table) (numbers : HeatCounts) → Some numbers ≡ table.tally.heat → done_to table (heat table) ≡ Goes (left_with table (heat_text numbers))
+unfolding heat
+heat_goes table numbers is =
+    ap (λ (x : Option HeatCounts). done_to table (some_or NotCounted x >>= (λ (n : HeatCounts). Goes (tells table (heat_text n))))) (sym is)
+    ∙ tells_left table (heat_text numbers)
+
+pub layout_goes : (table : Table) → small table ≡ Goes tt → done_to table (layout table) ≡ Goes (left_with table (runs_text (texts_of table.fields) (all_runs (owners_of table))))
+unfolding layout
+layout_goes table is = rw is (tells_left table (runs_text (texts_of table.fields) (all_runs (owners_of table))))
+
+-- or is not, where it was not counted
+pub counts_none : (table : Table) → None ≡ table.tally.counts → done_to table (counts table) ≡ Faults NotCounted
+unfolding counts
+counts_none table is = rw (← is) refl
+
+pub heat_none : (table : Table) → None ≡ table.tally.heat → done_to table (heat table) ≡ Faults NotCounted
+unfolding heat
+heat_none table is = rw (← is) refl

@@ -1,0 +1,29 @@
+use Rattle.std.proofs.Common.{rules, ap, ◌∙◌}
+use Rattle.blobs.specs.Bits.{bits_of}
+use Rattle.instrument.specs.BlobTexts.{bytes_of, bytes_text}
+use Rattle.worlds.specs.OnView.{Done, done_to}
+use Rattle.worlds.specs.Outcomes.{Outcome}
+use Rattle.command_checks.specs.GivesLaws.{GivesUp-then}
+use Rattle.session.specs.Changes.{IsLeft, left_with}
+use Rattle.session.proofs.Exits.{gave_up}
+use Rattle.session.proofs.Views.{tells_left, then_broke, then_wrote}
+use Rattle.session.proofs.show.BytesWork.run.Goals as goal
+
+pub returns-in_err-blob : goal.returns-in_err-blob
+returns-in_err-blob g c =
+    let fault = c.in_err-blob.field-0.0 in
+    gave_up (IsLeft c.args.view.now) g.K.Sink.taken g.K.Sink.faults c.args.out.now _ fault _ (search rules) (GivesUp-then _ _ fault c.in_err-blob.ensures)
+
+pub returns-in_err-write_bytes : goal.returns-in_err-write_bytes
+returns-in_err-write_bytes g c =
+    let table = c.args.view.now in
+    let text = bytes_text (bytes_of (bits_of c.in_ok-blob.blob.now)) in
+    then_broke g.K.Sink.taken g.K.Sink.faults c.args.out.now c.write_bytes.new.sink c.args.view.now _ (left_with table text) _ (search rules)
+    (ap (λ (outcome : Outcome Done). done_to table outcome) c.in_ok-blob.ensures ∙ tells_left table text) c.in_err-write_bytes.ensures
+
+pub returns : goal.returns
+returns g c =
+    let table = c.args.view.now in
+    let text = bytes_text (bytes_of (bits_of c.in_ok-blob.blob.now)) in
+    then_wrote g.K.Sink.taken g.K.Sink.faults c.args.out.now c.write_bytes.new.sink c.args.view.now _ text
+    (ap (λ (outcome : Outcome Done). done_to table outcome) c.in_ok-blob.ensures ∙ tells_left table text) c.in_ok-write_bytes.ensures
