@@ -11,7 +11,7 @@ use Rattle.map_expr.specs.Terms.{Term as MapTerm}
 use Rattle.map_checks.specs.Mappings.{holds_by}
 use Rattle.piece_bits.specs.Tables.{hold_at, with_entry}
 use Rattle.views.specs.Stores.{kind_at}
-use Rattle.views.specs.Tallies.{Access, Write, Tally, all_reads}
+use Rattle.views.specs.Tallies.{Access, Write, Tally, all_accesses, Read}
 use Rattle.instrument.specs.Counters.{LeafCounts}
 use Rattle.instrument.specs.CounterTexts.{counts_text}
 use Rattle.views.specs.declared.fault.StoreFault.{StoreFault}
@@ -196,7 +196,7 @@ module _ (m o : Bool) (table : Table) (mapping : MapTerm) (tally : Tally) (same 
 
   -- each value is read once
   read_alike : AlikeTables (all_read table) (all_read (under table mapping tally))
-  read_alike = rewritten_alike table mapping tally same table.rows (all_reads (leaf_count_of table) (length table.rows))
+  read_alike = rewritten_alike table mapping tally same table.rows (all_accesses Read (leaf_count_of table) (length table.rows))
 
 module _ (m o : Bool) (world other : World) (alike : AlikeWorlds world other) where
   -- worlds with alike tables under a name

@@ -15,7 +15,7 @@ use Rattle.line_grammar.specs.Sentences.{Sentence, New}
 use Rattle.line_grammar.specs.Sentences as line
 use Rattle.instrument.specs.Counters.{LeafCounts, HeatCounts}
 use Rattle.instrument.specs.CounterTexts.{counts_text, heat_text}
-use Rattle.views.specs.Tallies.{Access, Tally, tallied, no_tally, all_reads, all_writes}
+use Rattle.views.specs.Tallies.{Access, Tally, tallied, no_tally, all_accesses, Read, Write}
 use Rattle.views.specs.TallyLaws.{tallied-none, tallied-append}
 use Rattle.views.specs.Tables.{Table, owners_of, leaf_count_of, after_stores}
 use Rattle.worlds.specs.Worlds.{World, Entry, same_name, found, added, replaced, removed}
@@ -139,7 +139,7 @@ record IsFilled (table : Table) : Type 0 where
   extents : List ℕ
   term : MapTerm
   rows : List (List ℤ)
-  is : table ≡ after_stores (zeros_of fields extents term) rows (all_writes (length (leaves fields)) (length (indices extents)))
+  is : table ≡ after_stores (zeros_of fields extents term) rows (all_accesses Write (length (leaves fields)) (length (indices extents)))
 
 made_zeros : (views : List (Entry Table)) (fields : Fields) (extents : List ℕ) (term : MapTerm) → IfGoes IsZeros (made views fields extents term)
 made_zeros views fields extents term = of_made (made views fields extents term) (made_told false views fields extents term) where
@@ -154,13 +154,13 @@ zeros_filled zeros records is =
       extents = is.extents;
       term = is.term;
       rows = rows;
-      is = ap (λ (t : Table). after_stores t rows (all_writes (leaf_count_of t) (length t.rows))) is.is
-          ∙ ap (λ (n : ℕ). after_stores (zeros_of is.fields is.extents is.term) rows (all_writes (length (leaves is.fields)) n)) (length-zeros is.fields is.extents is.term);
+      is = ap (λ (t : Table). after_stores t rows (all_accesses Write (leaf_count_of t) (length t.rows))) is.is
+          ∙ ap (λ (n : ℕ). after_stores (zeros_of is.fields is.extents is.term) rows (all_accesses Write (length (leaves is.fields)) n)) (length-zeros is.fields is.extents is.term);
     }))
 
 counted_filled : (table : Table) → IsFilled table → IsCounted table (fills_of (Some table))
 counted_filled table is =
-    subst (λ (t : Table). IsCounted t (fills_of (Some t))) (sym is.is) (counted_zeros is.fields is.extents is.term is.rows (all_writes (length (leaves is.fields)) (length (indices is.extents))))
+    subst (λ (t : Table). IsCounted t (fills_of (Some t))) (sym is.is) (counted_zeros is.fields is.extents is.term is.rows (all_accesses Write (length (leaves is.fields)) (length (indices is.extents))))
 
 counted_none : (table : Table) → IsZeros table → IsCounted table []
 counted_none table is = subst (λ (t : Table). IsCounted t []) (sym is.is) (sym (tallied-none _ _))
@@ -240,7 +240,7 @@ module _ (world : World) (logs : List (Entry (List Access))) (all : AreCounted w
       behind P (λ (new : Table). new ≡ anew_of table whole) (laid_anew world.views table whole) _ (of_told _ _ (anew_told false world.views table whole)) (λ new anew.
       let there : found name (replaced name new world.views) ≡ Some new = found_replaced name new table world.views (known_found _ (found name world.views) table t) in
       let one : IsCounted new (writes_of (Some new)) =
-      subst (λ (n : Table). IsCounted n (writes_of (Some n))) (sym anew) (counted_zeros table.fields table.extents whole table.rows (all_writes (leaf_count_of table) (length table.rows))) in
+      subst (λ (n : Table). IsCounted n (writes_of (Some n))) (sym anew) (counted_zeros table.fields table.extents whole table.rows (all_accesses Write (leaf_count_of table) (length table.rows))) in
       to _ (subst (λ (x : Option Table). AreCounted (replaced name new world.views) (replaced name (writes_of x) logs)) (sym there)
       (entries_replaced IsCounted name new (writes_of (Some new)) world.views logs one all)))))
 
@@ -258,14 +258,14 @@ module _ (world : World) (logs : List (Entry (List Access))) (all : AreCounted w
       let read_views : List (Entry Table) = replaced name (all_read s) world.views in
       let read_logs : List (Entry (List Access)) = logged name (reads_of (found name world.views)) logs in
       let read : AreCounted read_views read_logs =
-      subst (λ (x : Option Table). AreCounted read_views (logged name (reads_of x) logs)) (sym s_is) (logged_more name world.views logs s s.rows (all_reads (leaf_count_of s) (length s.rows)) all s_is) in
+      subst (λ (x : Option Table). AreCounted read_views (logged name (reads_of x) logs)) (sym s_is) (logged_more name world.views logs s s.rows (all_accesses Read (leaf_count_of s) (length s.rows)) all s_is) in
       bind P (known target read_views) _ (λ old b.
       let old_is : found target read_views ≡ Some old = known_found _ (found target read_views) old b in
       behind P (λ (new : Table). new ≡ with_written old s.rows) (copied s old) _ (copied_written s old) (λ new written.
       let there : found target (replaced target new read_views) ≡ Some new = found_replaced target new old read_views old_is in
       let one : AreCounted (replaced target new read_views) (logged target (writes_of (Some new)) read_logs) =
       subst (λ (n : Table). AreCounted (replaced target n read_views) (logged target (writes_of (Some n)) read_logs)) (sym written)
-      (logged_more target read_views read_logs old s.rows (all_writes (leaf_count_of old) (length s.rows)) read old_is) in
+      (logged_more target read_views read_logs old s.rows (all_accesses Write (leaf_count_of old) (length s.rows)) read old_is) in
       to _ (subst (λ (x : Option Table). AreCounted (replaced target new read_views) (logged target (writes_of x) read_logs)) (sym there) one))))
 
   drop_keeps : (name : List ℕ) → IfGoes (Keeps (λ w. removed name logs)) (drop_view world name)

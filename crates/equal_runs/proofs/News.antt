@@ -15,7 +15,7 @@ use Rattle.csv_rows.specs.declared.fault.RowFault.{RowFault}
 use Rattle.csv_rows.specs.declared.fault.RowFault.TheVariants as row_fault
 use Rattle.views.specs.Tables.{Table, leaf_count_of, after_stores}
 use Rattle.worlds.specs.Worlds.{World, Entry, found}
-use Rattle.views.specs.Tallies.{Tally, all_writes}
+use Rattle.views.specs.Tallies.{Tally, all_accesses, Write}
 use Rattle.worlds.specs.Outcomes.{Outcome, known, free, refused_if, ok_or}
 use Rattle.worlds.specs.Names.{nameless}
 use Rattle.worlds.specs.Tables.{room, shaped, resolved, made, zeros_of}
@@ -72,7 +72,7 @@ module _ (m o : Bool) where
       let names = texts_of table.fields in
       let kinds = kinds_of table.fields in
       let under : Table = record table { mapping = mapping; tally = tally } in
-      let log = all_writes (leaf_count_of table) (length table.rows) in
+      let log = all_accesses Write (leaf_count_of table) (length table.rows) in
       bind m o (Given _ _) AlikeTables (ok_or (fault_of table.fields) (dataset_table names kinds (holds_by table.mapping table.fields) records))
       (ok_or (fault_of table.fields) (dataset_table names kinds (holds_by mapping table.fields) records)) _ _
       (ok_agree m o is_narrow_row (fault_of table.fields) _ _ (narrow_row table.fields)

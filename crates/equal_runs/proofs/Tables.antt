@@ -5,7 +5,7 @@ use Rattle.extents.specs.Indices.{indices}
 use Rattle.record_dim.specs.Leaves.{leaves, kinds_of}
 use Rattle.map_expr.specs.Terms.{Term as MapTerm}
 use Rattle.map_checks.specs.Mappings.{leaf_cells, layout_by, most_slots, accepted}
-use Rattle.views.specs.Tallies.{Access, Tally, all_writes, granules_for, no_tally}
+use Rattle.views.specs.Tallies.{Access, Tally, all_accesses, granules_for, no_tally, Write}
 use Rattle.layout_copy.specs.Copies.{refused_at}
 use Rattle.piece_bits.specs.Tables.{zeros}
 use Rattle.std.specs.Prelude.{ℤ, ◌+◌, ◌*◌, ◌^◌, nat_lt}
@@ -65,12 +65,12 @@ zeros_alike fields others extents term changed is = record {
 
 -- with other rows, each value written once
 abbrev pub with_written : Table → List (List ℤ) → Table
-with_written table rows = after_stores table rows (all_writes (leaf_count_of table) (length rows))
+with_written table rows = after_stores table rows (all_accesses Write (leaf_count_of table) (length rows))
 
 pub written_alike : (table other : Table) → AlikeTables table other → (rows : List (List ℤ)) → AlikeTables (with_written table rows) (with_written other rows)
 written_alike table other alike rows =
     of_mapping (λ (t : Table). AlikeTables (with_written table rows) (with_written t rows)) table other alike
-    (λ mapping tally same. rewritten_alike table mapping tally same rows (all_writes (leaf_count_of table) (length rows)))
+    (λ mapping tally same. rewritten_alike table mapping tally same rows (all_accesses Write (leaf_count_of table) (length rows)))
 
 -- the same rows under a new mapping
 abbrev pub anew_of : Table → MapTerm → Table

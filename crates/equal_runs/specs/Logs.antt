@@ -3,7 +3,7 @@ use Rattle.std.specs.Prelude.{ℕ, ◌+◌, ◌≡◌, List, [], ◌∷◌, ◌+
 use Rattle.layout_io.specs.Files.{File}
 use Rattle.extents.specs.Indices.{indices}
 use Rattle.line_grammar.specs.Sentences.{Sentence, View, Load, Copy, Relayout, Drop}
-use Rattle.views.specs.Tallies.{Access, all_reads, all_writes}
+use Rattle.views.specs.Tallies.{Access, all_accesses, Read, Write}
 use Rattle.views.specs.Tables.{Table, leaf_count_of}
 use Rattle.worlds.specs.Worlds.{World, Entry, empty, found, added, replaced, removed}
 use Rattle.worlds.specs.OnView.{Done, Work}
@@ -23,15 +23,15 @@ logged name more logs = replaced name (log_in (found name logs) ++ more) logs
 -- one read, and one write, of each value in the rows of a table, and one write of each value that a table has room for
 abbrev pub reads_of : Option Table → List Access
 reads_of None = []
-reads_of (Some table) = all_reads (leaf_count_of table) (length table.rows)
+reads_of (Some table) = all_accesses Read (leaf_count_of table) (length table.rows)
 
 abbrev pub writes_of : Option Table → List Access
 writes_of None = []
-writes_of (Some table) = all_writes (leaf_count_of table) (length table.rows)
+writes_of (Some table) = all_accesses Write (leaf_count_of table) (length table.rows)
 
 abbrev pub fills_of : Option Table → List Access
 fills_of None = []
-fills_of (Some table) = all_writes (leaf_count_of table) (length (indices table.extents))
+fills_of (Some table) = all_accesses Write (leaf_count_of table) (length (indices table.extents))
 
 -- the accesses of what was done to a table
 abbrev pub done_log : Outcome Done → List Access

@@ -17,7 +17,7 @@ use Rattle.layout_copy.specs.Copies.{AreAlike, IsCopied, refusing, refused_at}
 use Rattle.layout_copy.specs.declared.fault.CopyFault.{CopyFault}
 use Rattle.layout_copy.specs.declared.fault.CopyFault.TheVariants as copy
 use Rattle.views.specs.Tables.{Table, IsTable, table_holds, leaf_count_of, leaf_types_of, answer_of, after_log}
-use Rattle.views.specs.Tallies.{Access, all_reads, all_writes, all_touches}
+use Rattle.views.specs.Tallies.{Access, all_accesses, all_touches, Read, Write}
 use Rattle.views.specs.TallyLaws.{after_log-append}
 use Rattle.views.specs.Stores.{Answer, is_between, kind_at, store_answer}
 use Rattle.worlds.specs.Copy.{copy, copied, with_rows, all_read, laid_anew, narrow_fault}
@@ -131,17 +131,17 @@ unfolding copied
 copied_alike source target are = rw (alike source target are) refl
 
 -- a copy onto itself reads each value and writes it
-touched_once : (leaves_in rows : ℕ) → all_reads leaves_in rows ++ all_writes leaves_in rows ≡ all_touches 1 1 leaves_in rows
+touched_once : (leaves_in rows : ℕ) → all_accesses Read leaves_in rows ++ all_accesses Write leaves_in rows ≡ all_touches 1 1 leaves_in rows
 touched_once leaves_in rows =
-    ap (λ (log : List Access). log ++ all_writes leaves_in rows) (sym (append-nil (all_reads leaves_in rows)))
-    ∙ ap (λ (log : List Access). (all_reads leaves_in rows ++ []) ++ log) (sym (append-nil (all_writes leaves_in rows)))
+    ap (λ (log : List Access). log ++ all_accesses Write leaves_in rows) (sym (append-nil (all_accesses Read leaves_in rows)))
+    ∙ ap (λ (log : List Access). (all_accesses Read leaves_in rows ++ []) ++ log) (sym (append-nil (all_accesses Write leaves_in rows)))
 
 pub copied_self : (seen now : Table) → IsTable seen → now ≡ after_log seen (all_touches 1 1 (leaf_count_of seen) (length seen.rows)) →
     copied seen (all_read seen) ≡ Goes now
 unfolding with_rows
 copied_self seen now is touched =
-    let reads = all_reads (leaf_count_of seen) (length seen.rows) in
-    let writes = all_writes (leaf_count_of seen) (length seen.rows) in
+    let reads = all_accesses Read (leaf_count_of seen) (length seen.rows) in
+    let writes = all_accesses Write (leaf_count_of seen) (length seen.rows) in
     let read : Table = after_log seen reads in
     let held : refused_at (answer_of read) 0 seen.rows ≡ None = own_values seen is in
     let both : after_log read writes ≡ now =
@@ -266,7 +266,7 @@ apart_not views source target place entry old d fault are gives =
     subst (λ (o : Outcome (List (Entry Table))). GivesUp o fault) (sym (apart_is views source target place entry old d are)) (GivesUp-then _ _ fault gives)
 
 pub apart_to : (views now : List ViewEntry) (source target place : ℕ) (entry old d : ViewEntry) (source_now target_now : Table) → AreApart views source target place entry old →
-    source_now ≡ after_log entry.view (all_reads (leaf_count_of entry.view) (length entry.view.rows)) →
+    source_now ≡ after_log entry.view (all_accesses Read (leaf_count_of entry.view) (length entry.view.rows)) →
     now ≡ insert (slice_set (remove views target) place (record { name = entry.name; view = source_now })) target (record { name = old.name; view = target_now }) →
     copied entry.view old.view ≡ Goes target_now →
     copied_at (map view_of views) source target (view_of d) ≡ Goes (map view_of now)

@@ -1,7 +1,7 @@
 // `copy V to W`.
 ghost use Rattle.std.specs.Prelude.{◌≡◌, ◌+◌, ◌<◌, OnOk, length, map};
 ghost use Rattle.views.specs.Tables.{leaf_count_of, after_log};
-ghost use Rattle.views.specs.Tallies.{all_reads};
+ghost use Rattle.views.specs.Tallies.{all_accesses, Read};
 ghost use Rattle.record_dim.specs.Schemas.{schema_fields};
 ghost use Rattle.worlds.specs.Copy.{copy, copied, all_read};
 ghost use Rattle.worlds.specs.Outcomes.{Goes};
@@ -105,7 +105,7 @@ pub fn copy_into<L: Ledger>(
     steps: &mut Steps<L>,
 ) -> Result<(), StepFault>
     ensures copied { Gives (λ done. target.new) result (copied source.old target.old) }
-    ensures read { OnOk result (source.new ≡ after_log source.old (all_reads (leaf_count_of source.old) (length source.old.rows))) }
+    ensures read { OnOk result (source.new ≡ after_log source.old (all_accesses Read (leaf_count_of source.old) (length source.old.rows))) }
 {
     match layout_copy::copy(source, target, steps) {
         Ok(()) => Ok(()),

@@ -14,12 +14,12 @@ use Rattle.worlds.specs.OnView.{Done, tells}
 use Rattle.worlds.specs.Outcomes.{Outcome, Goes, ◌>>=◌, Left, quiet, known, some_or, refused_if}
 use Rattle.worlds.specs.Tables.{blob_bits}
 use Rattle.csv_rows.specs.Texts.{print_text}
-use Rattle.views.specs.Tallies.{all_reads}
+use Rattle.views.specs.Tallies.{all_accesses, Read}
 use Rattle.worlds.specs.declared.fault.CommandFault.TheVariants.{BadIndex, NotCounted, TooBig}
 
 -- each value is read once
 unfoldable pub print : Table → Outcome Done
-print table = Goes (record { rows = table.rows; log = all_reads (leaf_count_of table) (length table.rows); text = print_text (texts_of table.fields) table.rows })
+print table = Goes (record { rows = table.rows; log = all_accesses Read (leaf_count_of table) (length table.rows); text = print_text (texts_of table.fields) table.rows })
 
 unfoldable pub counts : Table → Outcome Done
 counts table = do

@@ -3,7 +3,7 @@ use Rattle.csv_rows.specs.Texts.{print_text}
 use Rattle.record_dim.specs.Leaves.{texts_of}
 use Rattle.record_dim.specs.Schemas.{schema_fields}
 use Rattle.views.specs.Tables.{Table, after_log, leaf_count_of}
-use Rattle.views.specs.Tallies.{all_reads}
+use Rattle.views.specs.Tallies.{all_accesses, Read}
 use Rattle.worlds.specs.Outcomes.{Goes}
 use Rattle.worlds.specs.Show.{print}
 use Rattle.session.specs.Changes.{left_with}
@@ -15,7 +15,7 @@ unfolding print
 returns-in_err-print_rows g c =
     let view = c.args.view.now in
     let text = print_text (texts_of view.fields) view.rows in
-    then_broke g.K.Sink.taken g.K.Sink.faults c.args.out.now c.print_rows.new.sink c.print_rows.new.view _ (left_with ((after_log view (all_reads (leaf_count_of view) (length view.rows)))) text) _ (search rules) refl c.in_err-print_rows.ensures.writes
+    then_broke g.K.Sink.taken g.K.Sink.faults c.args.out.now c.print_rows.new.sink c.print_rows.new.view _ (left_with ((after_log view (all_accesses Read (leaf_count_of view) (length view.rows)))) text) _ (search rules) refl c.in_err-print_rows.ensures.writes
 
 pub returns : goal.returns
 unfolding print
