@@ -1,7 +1,8 @@
 // Kernels that can run on a view.
 ghost use Rattle.std.specs.Prelude.{◌≡◌, ◌≤ℤ◌, ◌<ℤ◌, ◌^◌, ◌<◌, IfOk, OnOk, true, false, pos, neg_ℤ};
 ghost use Rattle.record_dim.specs.Schemas.{schema_fields};
-ghost use Rattle.lane_kernels.specs.Kernels.{IsConstant, IsFactor, IsKernelOf, IsNarrowLeaf};
+ghost use Rattle.lane_kernels.specs.Kernels.{IsFactor, IsKernelOf, IsNarrow};
+ghost use Rattle.views.specs.Columns.{IsNarrowLeaf};
 ghost use Rattle.views.specs.Tables.{leaf_count_of};
 ghost use Rattle.worlds.specs.Kernel.{are_bounds, are_lanes, compare_of, fit_kernel, fit_leaf, fits, is_constant, is_factor, is_wide};
 ghost use Rattle.command_checks.specs.Gives.{Gives};
@@ -148,21 +149,21 @@ fn is_factor(a: i128) -> bool
 
 fn is_constant(c: i128) -> bool
     ensures constant { result ≡ is_constant c }
-    ensures range { result ≡ true → IsConstant c }
+    ensures range { result ≡ true → IsNarrow c }
 {
     LEAST <= c && c < CONSTANTS
 }
 
 fn are_bounds(lo: i128, hi: i128) -> bool
     ensures bounds { result ≡ are_bounds lo hi }
-    ensures range { result ≡ true → IsConstant lo × IsConstant hi × (lo ≤ℤ hi) }
+    ensures range { result ≡ true → IsNarrow lo × IsNarrow hi × (lo ≤ℤ hi) }
 {
     is_constant(lo) && is_constant(hi) && lo <= hi
 }
 
 // A constant that was tested.
 fn narrowed(c: i128) -> i64
-    requires { IsConstant c }
+    requires { IsNarrow c }
     ensures { result ≡ c }
 {
     c as i64
