@@ -2,7 +2,7 @@
 ghost use Rattle.std.specs.Prelude.{IfOk, IfSome};
 ghost use Rattle.map_expr.specs.Terms.{term_of};
 ghost use Rattle.plain_layouts.specs.Plain.{HasLanes};
-ghost use Rattle.map_any.specs.Mappings.{IsBuiltTerm};
+ghost use Rattle.map_checks.specs.Mappings.{IsBuiltTerm};
 
 use extents::{ExtentWord, Extents, Order, Shape};
 use map_any::{AnyMap, BadMapping, MakeMap, MapExpr};

@@ -1,7 +1,7 @@
 // Counters of accesses, made with ample memory, and what a view counts.
 ghost use Rattle.std.specs.Prelude.{IfOk};
 ghost use Rattle.map_expr.specs.Terms.{term_of};
-ghost use Rattle.map_any.specs.Mappings.{IsBuiltTerm};
+ghost use Rattle.map_checks.specs.Mappings.{IsBuiltTerm};
 
 use crate::stored_values::{THREE, aos, get, set, view_of};
 use instrument::{Counts, Heat, write_counts, write_heat};
