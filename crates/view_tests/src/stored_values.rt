@@ -3,7 +3,7 @@ ghost use Rattle.std.specs.Prelude.{◌≡◌, ◌<◌, OnOk, length};
 ghost use Rattle.map_expr.specs.Terms.{term_of};
 ghost use Rattle.map_checks.specs.Mappings.{IsBuiltTerm};
 ghost use Rattle.piece_bits.specs.Tables.{with_entry};
-ghost use Rattle.views.specs.Seen.{leaf_count_of};
+ghost use Rattle.views.specs.Tables.{leaf_count_of};
 
 use extents::{ExtentWord, Extents, Order, Shape};
 use map_any::{BadMapping, MapExpr};
@@ -101,7 +101,7 @@ fn set_from<L: Ledger>(
     requires name { blank.name ≡ L.name }
     requires parts { blank.parts ≡ L.parts }
     requires some { 0 < blank.parts }
-    requires row_in { row < length view.old.table }
+    requires row_in { row < length view.old.rows }
     requires leaf_in { leaf < leaf_count_of view.old }
 {
     let mut steps = Steps::<L>::new(blank);
@@ -112,7 +112,7 @@ fn get_from<L: Ledger>(view: &mut View, row: u64, leaf: usize, blank: Blank) -> 
     requires name { blank.name ≡ L.name }
     requires parts { blank.parts ≡ L.parts }
     requires some { 0 < blank.parts }
-    requires row_in { row < length view.old.table }
+    requires row_in { row < length view.old.rows }
     requires leaf_in { leaf < leaf_count_of view.old }
 {
     let mut steps = Steps::<L>::new(blank);
@@ -130,9 +130,9 @@ fn row_from<L: Ledger>(
     requires name { blank.name ≡ L.name }
     requires parts { blank.parts ≡ L.parts }
     requires some { 0 < blank.parts }
-    requires row_in { row < length view.old.table }
+    requires row_in { row < length view.old.rows }
     requires leaf_in { leaf < leaf_count_of view.old }
-    ensures { OnOk result.0 (view.new ≡ record view.old { table = with_entry view.old.table row leaf value; tally = view.new.tally }) }
+    ensures { OnOk result.0 (view.new ≡ record view.old { rows = with_entry view.old.rows row leaf value; tally = view.new.tally }) }
 {
     let mut steps = Steps::<L>::new(blank);
     let mut borrowed = view.row_mut(row);
