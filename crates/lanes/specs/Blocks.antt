@@ -1,0 +1,20 @@
+-- Sixteen numbers side by side, and numbers of at most 32 bits.
+use Rattle.std.specs.Prelude.{◌≡◌, ◌^◌, Bool, ◌&&◌, int_le, ℤ, pos, neg_ℤ, ◌≤ℤ◌, ◌<ℤ◌, List, length, FitsSigned}
+use Rattle.std.specs.Simd.Lanes.{Each1}
+use mir.Syntax.{w64}
+
+-- a block: sixteen numbers that fit 64 bits with a sign
+pub record IsBlock (lanes : List ℤ) : Type 0 where
+  pub count : length lanes ≡ 16
+  pub fit : Each1 (FitsSigned w64) lanes
+
+-- a factor from -2^31 to 2^31 - 1, and a number from -2^31 to 2^32 - 1, as the leaf types of at most 32 bits have
+abbrev pub IsFactor : ℤ → Type 0
+IsFactor a = (neg_ℤ (pos (2 ^ 31)) ≤ℤ a) × (a <ℤ pos (2 ^ 31))
+
+abbrev pub IsNarrow : ℤ → Type 0
+IsNarrow value = (neg_ℤ (pos (2 ^ 31)) ≤ℤ value) × (value <ℤ pos (2 ^ 32))
+
+-- whether a value lies between two numbers, both included
+abbrev pub is_inside : ℤ → ℤ → ℤ → Bool
+is_inside least greatest value = int_le least value && int_le value greatest
