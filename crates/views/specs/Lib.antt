@@ -6,4 +6,5 @@ pub mod Kept
 pub mod Refusals
 pub mod Tallies
 pub mod TallyLaws
+pub mod OrderLaws
 pub mod Entries
