@@ -36,6 +36,23 @@ impl Block {
         Block { lanes }
     }
 
+    /// The block of the numbers of an array.
+    pub fn of_array(numbers: [i64; 16]) -> Block
+        requires { IsBlock numbers }
+        ensures { result ≡ numbers }
+    {
+        Block {
+            lanes: Simd::from_array(numbers),
+        }
+    }
+
+    pub fn to_array(self) -> [i64; 16]
+        ensures numbers { result ≡ self }
+        ensures count { length self ≡ 16 }
+    {
+        self.lanes.to_array()
+    }
+
     pub fn lanes(self) -> Simd<i64, 16>
         ensures lanes { IsBlock result }
         ensures value { result ≡ self }
