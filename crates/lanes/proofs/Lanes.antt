@@ -8,11 +8,6 @@ use lib.Lanes.{zip2, sel_l, top, Each1, Each2, Steps, fold_l}
 use lib.Signed.{lt_z}
 use Rattle.lanes.specs.Blocks.{IsBlock}
 
--- the bits of numbers that fit give the numbers
-pub same : (xs : List ℤ) → Each1 (FitsSigned w64) xs → map (to_z w64) (map (of_z w64) xs) ≡ xs
-same [] fit = refl
-same (x ∷ xs) fit = rw (to_z-of_z w64 x fit.0, same xs fit.1) refl
-
 -- a comparison, lane by lane
 pub compared : (xs ys : List ℤ) → Each1 (FitsSigned w64) xs → Each1 (FitsSigned w64) ys
     → map (top 63) (zip2 (λ a b. cond (lt_z (to_z w64 a) (to_z w64 b)) (2 ^ 64 - 1) 0) (map (of_z w64) xs) (map (of_z w64) ys)) ≡ zip2 int_lt xs ys

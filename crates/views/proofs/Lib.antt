@@ -7,3 +7,4 @@ pub mod Counted
 pub mod CountLaws
 pub mod TouchLaws
 pub mod RowLaws
+pub mod ColumnLaws

@@ -8,3 +8,4 @@ pub mod Tallies
 pub mod TallyLaws
 pub mod OrderLaws
 pub mod Entries
+pub mod Columns

@@ -24,6 +24,7 @@ use std::marker::Model;
 use std::sync::ledger::Ledger;
 use steps::Steps;
 
+mod columns;
 mod touch;
 
 /// The blobs of a view, in the order of its mapping.
@@ -190,6 +191,18 @@ impl View {
         ensures step { steps.new ≡ steps.old + 1 }
     {
         steps.tick();
+        self.value(row, leaf)
+    }
+
+    // The same, and no step.
+    #[inline(always)]
+    fn value(&mut self, row: u64, leaf: usize) -> i128
+        requires row_in { row < length self.old.rows }
+        requires leaf_in { leaf < leaf_count_of self.old }
+        ensures value { result ≡ entry self.old.rows row leaf }
+        ensures fits { Fits (leaf_type_of self.old leaf) (hold_at (table_holds self.old) leaf) result }
+        ensures same { self.new ≡ after_read self.old row leaf }
+    {
         match short_read(&self.map, self.blobs.as_slice(), row, leaf) {
             Some(value) => value,
             None => self.get_by_rule(row, leaf),

@@ -1,6 +1,6 @@
 use Rattle.std.proofs.Common.{subst, sym, ◌∙◌}
 use Rattle.lanes.specs.Blocks.{IsBlock}
-use Rattle.lanes.proofs.Lanes.{same}
+use Rattle.lanes.specs.BlockLaws.{same}
 use Rattle.lanes.proofs.block.Block.lanes.Goals as goal
 
 pub returns-clause-lanes : goal.returns-clause-lanes

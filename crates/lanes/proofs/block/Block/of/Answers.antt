@@ -1,6 +1,6 @@
 use Rattle.std.proofs.Common.{subst, sym}
 use Rattle.lanes.specs.Blocks.{IsBlock}
-use Rattle.lanes.proofs.Lanes.{same}
+use Rattle.lanes.specs.BlockLaws.{same}
 use Rattle.lanes.proofs.block.Block.of.Goals as goal
 
 pub invariant_of-result : goal.invariant_of-result

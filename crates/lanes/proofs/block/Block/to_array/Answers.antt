@@ -1,5 +1,5 @@
 use Rattle.std.proofs.Common.{◌∙◌}
-use Rattle.lanes.proofs.Lanes.{same}
+use Rattle.lanes.specs.BlockLaws.{same}
 use Rattle.lanes.proofs.block.Block.to_array.Goals as goal
 
 pub returns-clause-numbers : goal.returns-clause-numbers

@@ -12,24 +12,24 @@ use Rattle.views.specs.Tallies.{Read}
 use Rattle.views.proofs.CountLaws.{idle_tallied}
 use Rattle.views.proofs.KeptLaws.{kind_count}
 use Rattle.views.proofs.Opened.{rows_seen, table_seen, leaf_seen, cell_count, laid_here, entry_seen, seen_touched}
-use Rattle.views.proofs.view.View.get.Goals as goal
+use Rattle.views.proofs.view.View.value.Goals as goal
 
 pub short_read-requires-clause-row_in : goal.short_read-requires-clause-row_in
-short_read-requires-clause-row_in g c =
+short_read-requires-clause-row_in c =
     let a = c.self.inside in
     omega (arith, c.requires.row_in, c.self.invariant.0.slots_are, rows_seen a.schema a.extents a.expr a.blobs.items c.self.invariant.1 c.args.self.now c.self.view_is)
 
 pub short_read-requires-clause-leaf_in : goal.short_read-requires-clause-leaf_in
-short_read-requires-clause-leaf_in g c =
+short_read-requires-clause-leaf_in c =
     let a = c.self.inside in
     omega (arith, cell_count c.self.invariant.0, leaf_seen a.schema a.extents a.expr a.blobs.items c.self.invariant.1 c.args.self.now c.self.view_is c.args.leaf c.requires.leaf_in)
 
 pub short_read-requires-clause-laid : goal.short_read-requires-clause-laid
-short_read-requires-clause-laid g c =
+short_read-requires-clause-laid c =
     laid_here c.self.invariant.0 c.as_slice.result.now c.self.inside.blobs.items c.as_slice.ensures.value c.self.invariant.1.laid
 
 pub returns-in-Some-clause-fits : goal.returns-in-Some-clause-fits
-returns-in-Some-clause-fits g c =
+returns-in-Some-clause-fits c =
     let a = c.self.inside in
     let seen = c.args.self.now in
     let row = c.args.row in
@@ -43,7 +43,7 @@ returns-in-Some-clause-fits g c =
     subst (λ (v : ℤ). Fits (leaf_type_of seen leaf) (hold_at (table_holds seen) leaf) v) is (table.fits row leaf c.requires.row_in leaf_in)
 
 pub returns-in-Some-clause-same : goal.returns-in-Some-clause-same
-returns-in-Some-clause-same g c =
+returns-in-Some-clause-same c =
     let a = c.self.inside in
     let access = Read c.args.row c.args.leaf in
     let idle : is_counted (term_of a.expr) ≡ false = ap is_counted (sym c.self.invariant.0.term_is) ∙ c.in-Some.ensures.uncounted refl in
