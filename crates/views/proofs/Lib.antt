@@ -8,3 +8,4 @@ pub mod CountLaws
 pub mod TouchLaws
 pub mod RowLaws
 pub mod ColumnLaws
+pub mod StoredLaws

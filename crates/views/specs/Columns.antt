@@ -1,9 +1,13 @@
 -- The values of one leaf, row after row.
-use Rattle.std.specs.Prelude.{ℕ, zero, suc, ◌<◌, ◌≤◌, ℤ, pos, List, [], ◌∷◌, map, slice_index_or, slice_set}
+use Rattle.std.specs.Prelude.{ℕ, zero, suc, ◌+◌, ◌<◌, ◌≤◌, ℤ, pos, List, [], ◌∷◌, map, slice_index_or, slice_set, Option, Some, None, Result, Ok, Err}
 use Rattle.std.specs.List.{range_with_len}
+use Rattle.std.specs.Option.{option_or}
 use Rattle.record_dim.specs.LeafTypes.{width_of}
+use Rattle.views.specs.Stores.{Answer}
 use Rattle.views.specs.Tables.{Table, leaf_count_of, leaf_type_of}
 use Rattle.views.specs.Tallies.{Access, Read, Write}
+use Rattle.views.specs.declared.fault.LaneFault.{LaneFault}
+use Rattle.views.specs.declared.fault.StoreFault.{StoreFault}
 
 -- the value of a leaf in a row, and its values in all rows
 abbrev pub in_leaf : ℕ → List ℤ → ℤ
@@ -26,7 +30,18 @@ column_writes leaf row count = map (λ at. Write at leaf) (range_with_len row co
 
 -- the rows in which a leaf has these values, from one row on
 abbrev pub with_column : ℕ → ℕ → List ℤ → List (List ℤ) → List (List ℤ)
-with_column leaf row [] rows = rows
-with_column leaf row (value ∷ values) [] = []
+with_column leaf (suc row) values [] = []
+with_column leaf (suc row) values (numbers ∷ rows) = numbers ∷ with_column leaf row values rows
+with_column leaf zero [] rows = rows
+with_column leaf zero (value ∷ values) [] = []
 with_column leaf zero (value ∷ values) (numbers ∷ rows) = slice_set numbers leaf value ∷ with_column leaf zero values rows
-with_column leaf (suc row) (value ∷ values) (numbers ∷ rows) = numbers ∷ with_column leaf row (value ∷ values) rows
+
+-- the fault of a value in this lane
+abbrev pub lane_fault : ℕ → Result Unit StoreFault → Option LaneFault
+lane_fault lane (Ok done) = None
+lane_fault lane (Err fault) = Some (record { lane = lane; fault = fault })
+
+-- the fault of the first of these values, whose lanes begin with this one, that a leaf does not take
+abbrev pub first_lane_fault : Answer → ℕ → ℕ → List ℤ → Option LaneFault
+first_lane_fault answer leaf lane [] = None
+first_lane_fault answer leaf lane (value ∷ values) = option_or (lane_fault lane (answer leaf value)) (first_lane_fault answer leaf (lane + 1) values)

@@ -69,3 +69,10 @@ impl<T: Drop> From<AllocFailed<T>> for MakeView {
         MakeView::NoMemory
     }
 }
+
+/// Why a value of some lanes was not stored: the first lane whose value does not fit.
+#[derive(Clone, Copy)]
+pub struct LaneFault {
+    pub lane: usize,
+    pub fault: StoreFault,
+}

@@ -287,14 +287,25 @@ impl View {
     {
         steps.tick();
         self.fits(leaf, value)?;
-        if short_write(&self.map, &mut self.blobs, row, leaf, value) {
-            return Ok(());
-        }
-        self.set_by_rule(row, leaf, value);
+        self.store(row, leaf, value);
         Ok(())
     }
 
-    // Makes the value of a leaf in a row this one, which is kept as it is, by the whole rule. The test for counters is as in `get_by_rule`.
+    // The same, of a value that is kept as it is.
+    #[inline(always)]
+    fn store(&mut self, row: u64, leaf: usize, value: i128)
+        requires row_in { row < length self.old.rows }
+        requires leaf_in { leaf < leaf_count_of self.old }
+        requires kept { answer_of self.old leaf value ≡ Ok value }
+        ensures { self.new ≡ after_write self.old row leaf value }
+    {
+        if short_write(&self.map, &mut self.blobs, row, leaf, value) {
+            return;
+        }
+        self.set_by_rule(row, leaf, value);
+    }
+
+    // The same by the whole rule. The test for counters is as in `get_by_rule`.
     #[inline(never)]
     fn set_by_rule(&mut self, row: u64, leaf: usize, value: i128)
         requires row_in { row < length self.old.rows }

@@ -1,11 +1,12 @@
 // The values of one leaf in several rows at once.
-ghost use Rattle.std.specs.Prelude.{◌≡◌, ◌+◌, ◌-◌, ◌<◌, ◌≤◌, ◌++◌, pos, [], length, take, drop, replicate, slice_index_or};
+ghost use Rattle.std.specs.Prelude.{◌≡◌, ◌+◌, ◌-◌, ◌<◌, ◌≤◌, ◌++◌, pos, OnOk, OnErr, IfErr, Some, None, [], length, take, drop, replicate, slice_index_or};
 ghost use Rattle.std.specs.Simd.Lanes.{Each1};
 ghost use Rattle.lanes.specs.Blocks.{IsBlock, IsNarrow};
-ghost use Rattle.views.specs.Columns.{in_leaf, column, column_reads, IsNarrowLeaf};
-ghost use Rattle.views.specs.Tables.{after_log, after_read};
+ghost use Rattle.views.specs.Columns.{in_leaf, column, column_reads, column_writes, with_column, first_lane_fault, IsNarrowLeaf};
+ghost use Rattle.views.specs.Tables.{answer_of, leaf_count_of, after_log, after_read, after_stores};
 
 use super::View;
+use crate::fault::LaneFault;
 use lanes::Block;
 use std::simd::Simd;
 use std::sync::ledger::Ledger;
@@ -36,6 +37,61 @@ impl View {
             values[lane] = self.narrow_value(self.row_after(row, lane), leaf);
         }
         Block::of_array(values).lanes()
+    }
+
+    /// Makes the values of a leaf in so many rows, from this one on, those of the first so many lanes. It takes one step, also where one
+    /// of them does not fit; then the table stands, and the fault names the first.
+    pub fn store_lanes<L: Ledger>(
+        &mut self,
+        row: u64,
+        leaf: usize,
+        lanes: usize,
+        values: Simd<i64, 16>,
+        steps: &mut Steps<L>,
+    ) -> Result<(), LaneFault>
+        requires few { lanes ≤ 16 }
+        requires rows_in { row + lanes ≤ length self.old.rows }
+        requires leaf { IsNarrowLeaf self.old leaf }
+        requires values { IsBlock values }
+        ensures taken { OnOk result (first_lane_fault (answer_of self.old) leaf 0 (take lanes values) ≡ None) }
+        ensures stored { OnOk result (self.new ≡ after_stores self.old (with_column leaf row (take lanes values) self.old.rows) (column_writes leaf row lanes)) }
+        ensures named { IfErr result (λ fault. first_lane_fault (answer_of self.old) leaf 0 (take lanes values) ≡ Some fault) }
+        ensures refused { OnErr result (self.new ≡ self.old) }
+        ensures step { steps.new ≡ steps.old + 1 }
+    {
+        steps.tick();
+        let values = Block::of(values).to_array();
+        self.store_values(row, leaf, &values[..lanes])
+    }
+
+    // Makes the values of a leaf in the rows from this one on these.
+    fn store_values(&mut self, row: u64, leaf: usize, values: &[i64]) -> Result<(), LaneFault>
+        requires rows_in { row + length values.now ≤ length self.old.rows }
+        requires leaf_in { leaf < leaf_count_of self.old }
+        ensures taken { OnOk result (first_lane_fault (answer_of self.old) leaf 0 values.now ≡ None) }
+        ensures stored { OnOk result (self.new ≡ after_stores self.old (with_column leaf row values.now self.old.rows) (column_writes leaf row (length values.now))) }
+        ensures named { IfErr result (λ fault. first_lane_fault (answer_of self.old) leaf 0 values.now ≡ Some fault) }
+        ensures refused { OnErr result (self.new ≡ self.old) }
+    {
+        self.lanes_fit(leaf, values)?;
+        for (lane, value) in values.iter().enumerate() {
+            self.store(self.row_after(row, lane), leaf, i128::from(*value));
+        }
+        Ok(())
+    }
+
+    // Whether a leaf takes each of these values.
+    fn lanes_fit(&self, leaf: usize, values: &[i64]) -> Result<(), LaneFault>
+        requires { leaf < leaf_count_of self.now }
+        ensures taken { OnOk result (first_lane_fault (answer_of self.now) leaf 0 values.now ≡ None) }
+        ensures named { IfErr result (λ fault. first_lane_fault (answer_of self.now) leaf 0 values.now ≡ Some fault) }
+    {
+        for (lane, value) in values.iter().enumerate() {
+            if let Err(fault) = self.fits(leaf, i128::from(*value)) {
+                return Err(LaneFault { lane, fault });
+            }
+        }
+        Ok(())
     }
 
     // The value of a leaf of at most 32 bits in a row.

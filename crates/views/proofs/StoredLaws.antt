@@ -1,0 +1,115 @@
+-- The values of one leaf that are stored, a lane at a time.
+use Rattle.std.proofs.Common.{◌≡◌, ℕ, zero, suc, ◌+◌, ◌<◌, ◌≤◌, List, [], ◌∷◌, ◌++◌, length, map, take, drop, set, get_or, ℤ, pos, Some, None, Ok, Err, refl, sym, ap, ◌∙◌, arith, subst, drop-cons, length-take, take_all,  FitsSigned, to_z, of_z, w64}
+use Rattle.std.specs.Prelude.{Option, Result}
+use Rattle.std.specs.Int.{w128}
+use Rattle.std.proofs.lemmas.Int.{to_z-of_z}
+use Rattle.std.specs.Option.{option_or}
+use Rattle.std.proofs.lemmas.List.FromFn.{map-range_with_len_more}
+use Rattle.piece_bits.specs.Tables.{with_entry}
+use Rattle.views.specs.Stores.{Answer}
+use Rattle.views.specs.Tables.{Table, answer_of, after_log, after_stores, after_write}
+use Rattle.views.specs.Tallies.{Write}
+use Rattle.views.specs.TallyLaws.{after_log-none, after_stores-append}
+use Rattle.views.specs.Columns.{column_writes, with_column, lane_fault, first_lane_fault}
+use Rattle.views.specs.declared.fault.StoreFault.{StoreFault}
+use Rattle.views.specs.declared.fault.LaneFault.{LaneFault}
+
+-- a lane whose value is taken
+no_lane_fault : (lane : ℕ) (result : Result Unit StoreFault) → lane_fault lane result ≡ None → result ≡ Ok tt
+no_lane_fault lane (Ok done) none = refl
+no_lane_fault lane (Err fault) none = absurd (cc)
+
+both_none : (one other : Option LaneFault) → option_or one other ≡ None → (one ≡ None) × (other ≡ None)
+both_none None other none = (refl, none)
+both_none (Some fault) other none = absurd (cc)
+
+pub lane_taken : (answer : Answer) (leaf first lane : ℕ) (values : List ℤ) → first_lane_fault answer leaf first values ≡ None → lane < length values
+    → answer leaf (get_or values lane (pos 0)) ≡ Ok tt
+lane_taken answer leaf first lane [] none inside = absurd (omega arith)
+lane_taken answer leaf first zero (value ∷ values) none inside =
+    no_lane_fault first (answer leaf value) (both_none (lane_fault first (answer leaf value)) (first_lane_fault answer leaf (first + 1) values) none).0
+lane_taken answer leaf first (suc lane) (value ∷ values) none inside =
+    lane_taken answer leaf (first + 1) lane values (both_none (lane_fault first (answer leaf value)) (first_lane_fault answer leaf (first + 1) values) none).1 (omega arith)
+
+-- the lanes from one on, where it is taken and where it is not
+pub fault_later : (answer : Answer) (leaf lane : ℕ) (values : List ℤ) → lane < length values → answer leaf (get_or values lane (pos 0)) ≡ Ok tt
+    → first_lane_fault answer leaf lane (drop lane values) ≡ first_lane_fault answer leaf (lane + 1) (drop (lane + 1) values)
+fault_later answer leaf lane values inside taken =
+    let next : suc lane ≡ lane + 1 = omega arith in
+    ap (first_lane_fault answer leaf lane) (drop-cons values lane (pos 0) inside)
+    ∙ ap (λ (r : Result Unit StoreFault). option_or (lane_fault lane r) (first_lane_fault answer leaf (lane + 1) (drop (suc lane) values))) taken
+    ∙ ap (λ (n : ℕ). first_lane_fault answer leaf (lane + 1) (drop n values)) next
+
+pub fault_here : (answer : Answer) (leaf lane : ℕ) (values : List ℤ) (fault : StoreFault) → lane < length values → answer leaf (get_or values lane (pos 0)) ≡ Err fault
+    → first_lane_fault answer leaf lane (drop lane values) ≡ Some (record { lane = lane; fault = fault })
+fault_here answer leaf lane values fault inside refused =
+    ap (first_lane_fault answer leaf lane) (drop-cons values lane (pos 0) inside)
+    ∙ ap (λ (r : Result Unit StoreFault). option_or (lane_fault lane r) (first_lane_fault answer leaf (lane + 1) (drop (suc lane) values))) refused
+
+-- no value, and one more
+pub no_column : (leaf row : ℕ) (rows : List (List ℤ)) → with_column leaf row [] rows ≡ rows
+no_column leaf zero rows = refl
+no_column leaf (suc row) [] = refl
+no_column leaf (suc row) (numbers ∷ rows) = ap (λ (more : List (List ℤ)). numbers ∷ more) (no_column leaf row rows)
+
+pub length-with_column : (leaf row : ℕ) (values : List ℤ) (rows : List (List ℤ)) → length (with_column leaf row values rows) ≡ length rows
+length-with_column leaf zero [] rows = refl
+length-with_column leaf zero (value ∷ values) [] = refl
+length-with_column leaf zero (value ∷ values) (numbers ∷ rows) = ap suc (length-with_column leaf zero values rows)
+length-with_column leaf (suc row) values [] = refl
+length-with_column leaf (suc row) values (numbers ∷ rows) = ap suc (length-with_column leaf row values rows)
+
+entry_more : (leaf row lane at : ℕ) (values : List ℤ) (rows : List (List ℤ)) → lane < length values → at ≡ row + lane → at < length rows
+    → with_entry (with_column leaf row (take lane values) rows) at leaf (get_or values lane (pos 0)) ≡ with_column leaf row (take (suc lane) values) rows
+entry_more leaf row lane at [] rows inside place below = absurd (omega arith)
+entry_more leaf row lane at (value ∷ values) [] inside place below = absurd (omega arith)
+entry_more leaf zero zero zero (value ∷ values) (numbers ∷ rows) inside place below = ap (λ (more : List (List ℤ)). set numbers leaf value ∷ more) (sym (no_column leaf zero rows))
+entry_more leaf zero zero (suc at) (value ∷ values) (numbers ∷ rows) inside place below = absurd (omega arith)
+entry_more leaf zero (suc lane) zero (value ∷ values) (numbers ∷ rows) inside place below = absurd (omega arith)
+entry_more leaf zero (suc lane) (suc at) (value ∷ values) (numbers ∷ rows) inside place below =
+    ap (λ (more : List (List ℤ)). set numbers leaf value ∷ more) (entry_more leaf zero lane at values rows (omega arith) (omega arith) (omega arith))
+entry_more leaf (suc row) lane zero (value ∷ values) (numbers ∷ rows) inside place below = absurd (omega arith)
+entry_more leaf (suc row) lane (suc at) (value ∷ values) (numbers ∷ rows) inside place below =
+    ap (λ (more : List (List ℤ)). numbers ∷ more) (entry_more leaf row lane at (value ∷ values) rows inside (omega arith) (omega arith))
+
+-- the values of the first so many lanes are stored
+pub record HasStored (leaf row lane : ℕ) (old table : Table) (values : List ℤ) : Type 0 where
+  pub stored : table ≡ after_stores old (with_column leaf row (take lane values) old.rows) (column_writes leaf row lane)
+
+pub nothing_stored : (leaf row : ℕ) (old : Table) (values : List ℤ) → HasStored leaf row 0 old old values
+nothing_stored leaf row old values = record { stored = sym (ap (λ (rows : List (List ℤ)). after_stores old rows []) (no_column leaf row old.rows) ∙ after_log-none old) }
+
+pub stored_more : (leaf row lane at : ℕ) (old table new : Table) (values : List ℤ) (value : ℤ) → HasStored leaf row lane old table values → lane < length values → row + lane < length old.rows
+    → at ≡ row + lane → value ≡ get_or values lane (pos 0) → new ≡ after_write table at leaf value → HasStored leaf row (lane + 1) old new values
+stored_more leaf row lane at old table new values value stored inside below place is wrote =
+    let next : suc lane ≡ lane + 1 = omega arith in
+    let so_far = with_column leaf row (take lane values) old.rows in
+    record {
+      stored = wrote
+          ∙ ap (λ (t : Table). after_write t at leaf value) stored.stored
+          ∙ after_stores-append old so_far (with_entry so_far at leaf value) (column_writes leaf row lane) (Write at leaf ∷ [])
+          ∙ ap (λ (v : ℤ). after_stores old (with_entry so_far at leaf v) (column_writes leaf row lane ++ Write at leaf ∷ [])) is
+          ∙ ap (λ (rows : List (List ℤ)). after_stores old rows (column_writes leaf row lane ++ Write at leaf ∷ [])) (entry_more leaf row lane at values old.rows inside place (omega arith))
+          ∙ ap (λ (n : ℕ). after_stores old (with_column leaf row (take n values) old.rows) (column_writes leaf row lane ++ Write at leaf ∷ [])) next
+          ∙ ap (after_stores old (with_column leaf row (take (lane + 1) values) old.rows)) (sym (map-range_with_len_more (λ at. Write at leaf) row lane at (sym place)));
+    }
+
+-- a number of 64 bits that is handed on with 128
+pub passed : (value wide : ℤ) → FitsSigned w64 value → wide ≡ to_z w64 (of_z w64 value) → to_z w128 (of_z w128 wide) ≡ value
+passed value wide fits is =
+    let same : wide ≡ value = is ∙ to_z-of_z w64 value fits in
+    ap (λ (z : ℤ). to_z w128 (of_z w128 z)) same ∙ to_z-of_z w128 value (record { sfits = omega (arith, fits.sfits) })
+
+-- all are stored
+pub all_stored : (leaf row lane : ℕ) (old table : Table) (values : List ℤ) → HasStored leaf row lane old table values → lane ≡ length values
+    → table ≡ after_stores old (with_column leaf row values old.rows) (column_writes leaf row (length values))
+all_stored leaf row lane old table values stored end =
+    stored.stored
+    ∙ ap (λ (n : ℕ). after_stores old (with_column leaf row (take n values) old.rows) (column_writes leaf row n)) end
+    ∙ ap (λ (vs : List ℤ). after_stores old (with_column leaf row vs old.rows) (column_writes leaf row (length values))) (take_all (length values) values (omega arith))
+
+-- the first lanes of an array are those of a block
+pub first_lanes : (P : List ℤ → ℕ → Type 0) (numbers values : List ℤ) (lanes : ℕ) → numbers ≡ values → lanes ≤ length values → P (take lanes numbers) (length (take lanes numbers)) → P (take lanes values) lanes
+first_lanes P numbers values lanes is few there =
+    let many : length (take lanes values) ≡ lanes = omega (arith, length-take lanes values) in
+    subst (P (take lanes values)) many (subst (λ (vs : List ℤ). P (take lanes vs) (length (take lanes vs))) is there)

@@ -1,0 +1,5 @@
+use Rattle.views.proofs.StoredLaws.{HasStored}
+use Rattle.views.proofs.view.View.store_values.Given as goal
+
+abbrev pub invariant-loop-lane : goal.invariant-loop-lane
+invariant-loop-lane l = HasStored l.leaf l.row l.lane l.fn.self l.self l.values
