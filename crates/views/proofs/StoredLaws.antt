@@ -5,9 +5,10 @@ use Rattle.std.specs.Int.{w128}
 use Rattle.std.proofs.lemmas.Int.{to_z-of_z}
 use Rattle.std.specs.Option.{option_or}
 use Rattle.std.proofs.lemmas.List.FromFn.{map-range_with_len_more}
-use Rattle.piece_bits.specs.Tables.{with_entry}
-use Rattle.views.specs.Stores.{Answer}
-use Rattle.views.specs.Tables.{Table, answer_of, after_log, after_stores, after_write}
+use Rattle.piece_bits.specs.Tables.{hold_at, with_entry}
+use Rattle.views.specs.Stores.{Answer, told}
+use Rattle.views.specs.AnswerLaws.{answer_keeps, told_err, kept_of-same}
+use Rattle.views.specs.Tables.{Table, answer_of, kept_of, leaf_type_of, table_holds, after_log, after_stores, after_write}
 use Rattle.views.specs.Tallies.{Write}
 use Rattle.views.specs.TallyLaws.{after_log-none, after_stores-append}
 use Rattle.views.specs.Columns.{column_writes, with_column, lane_fault, first_lane_fault}
@@ -15,8 +16,8 @@ use Rattle.views.specs.declared.fault.StoreFault.{StoreFault}
 use Rattle.views.specs.declared.fault.LaneFault.{LaneFault}
 
 -- a lane whose value is taken
-no_lane_fault : (lane : ℕ) (result : Result Unit StoreFault) → lane_fault lane result ≡ None → result ≡ Ok tt
-no_lane_fault lane (Ok done) none = refl
+no_lane_fault : (lane : ℕ) (result : Result ℤ StoreFault) → lane_fault lane result ≡ None → told result ≡ Ok tt
+no_lane_fault lane (Ok kept) none = refl
 no_lane_fault lane (Err fault) none = absurd (cc)
 
 both_none : (one other : Option LaneFault) → option_or one other ≡ None → (one ≡ None) × (other ≡ None)
@@ -24,7 +25,7 @@ both_none None other none = (refl, none)
 both_none (Some fault) other none = absurd (cc)
 
 pub lane_taken : (answer : Answer) (leaf first lane : ℕ) (values : List ℤ) → first_lane_fault answer leaf first values ≡ None → lane < length values
-    → answer leaf (get_or values lane (pos 0)) ≡ Ok tt
+    → told (answer leaf (get_or values lane (pos 0))) ≡ Ok tt
 lane_taken answer leaf first lane [] none inside = absurd (omega arith)
 lane_taken answer leaf first zero (value ∷ values) none inside =
     no_lane_fault first (answer leaf value) (both_none (lane_fault first (answer leaf value)) (first_lane_fault answer leaf (first + 1) values) none).0
@@ -32,19 +33,35 @@ lane_taken answer leaf first (suc lane) (value ∷ values) none inside =
     lane_taken answer leaf (first + 1) lane values (both_none (lane_fault first (answer leaf value)) (first_lane_fault answer leaf (first + 1) values) none).1 (omega arith)
 
 -- the lanes from one on, where it is taken and where it is not
-pub fault_later : (answer : Answer) (leaf lane : ℕ) (values : List ℤ) → lane < length values → answer leaf (get_or values lane (pos 0)) ≡ Ok tt
+first_taken : (lane : ℕ) (result : Result ℤ StoreFault) (later : Option LaneFault) → told result ≡ Ok tt → option_or (lane_fault lane result) later ≡ later
+first_taken lane (Ok kept) later taken = refl
+first_taken lane (Err fault) later taken = absurd (cc)
+
+pub fault_later : (answer : Answer) (leaf lane : ℕ) (values : List ℤ) → lane < length values → told (answer leaf (get_or values lane (pos 0))) ≡ Ok tt
     → first_lane_fault answer leaf lane (drop lane values) ≡ first_lane_fault answer leaf (lane + 1) (drop (lane + 1) values)
 fault_later answer leaf lane values inside taken =
     let next : suc lane ≡ lane + 1 = omega arith in
     ap (first_lane_fault answer leaf lane) (drop-cons values lane (pos 0) inside)
-    ∙ ap (λ (r : Result Unit StoreFault). option_or (lane_fault lane r) (first_lane_fault answer leaf (lane + 1) (drop (suc lane) values))) taken
+    ∙ first_taken lane (answer leaf (get_or values lane (pos 0))) (first_lane_fault answer leaf (lane + 1) (drop (suc lane) values)) taken
     ∙ ap (λ (n : ℕ). first_lane_fault answer leaf (lane + 1) (drop n values)) next
 
-pub fault_here : (answer : Answer) (leaf lane : ℕ) (values : List ℤ) (fault : StoreFault) → lane < length values → answer leaf (get_or values lane (pos 0)) ≡ Err fault
+pub fault_here : (answer : Answer) (leaf lane : ℕ) (values : List ℤ) (fault : StoreFault) → lane < length values → told (answer leaf (get_or values lane (pos 0))) ≡ Err fault
     → first_lane_fault answer leaf lane (drop lane values) ≡ Some (record { lane = lane; fault = fault })
 fault_here answer leaf lane values fault inside refused =
+    let value = get_or values lane (pos 0) in
     ap (first_lane_fault answer leaf lane) (drop-cons values lane (pos 0) inside)
-    ∙ ap (λ (r : Result Unit StoreFault). option_or (lane_fault lane r) (first_lane_fault answer leaf (lane + 1) (drop (suc lane) values))) refused
+    ∙ ap (λ (r : Result ℤ StoreFault). option_or (lane_fault lane r) (first_lane_fault answer leaf (lane + 1) (drop (suc lane) values))) (told_err (answer leaf value) fault refused)
+
+-- a lane whose value is taken is kept as it is
+pub lane_kept : (table : Table) (leaf first lane : ℕ) (values : List ℤ) → first_lane_fault (answer_of table) leaf first values ≡ None → lane < length values
+    → answer_of table leaf (get_or values lane (pos 0)) ≡ Ok (get_or values lane (pos 0))
+lane_kept table leaf first lane values none inside =
+    answer_keeps (leaf_type_of table leaf) (hold_at (table_holds table) leaf) (get_or values lane (pos 0)) (lane_taken (answer_of table) leaf first lane values none inside)
+
+-- as all are
+pub all_kept : (table : Table) (leaf : ℕ) (values : List ℤ) → map (kept_of table leaf) values ≡ values
+all_kept table leaf [] = refl
+all_kept table leaf (value ∷ values) = rw (kept_of-same table leaf value, all_kept table leaf values) refl
 
 -- no value, and one more
 pub no_column : (leaf row : ℕ) (rows : List (List ℤ)) → with_column leaf row [] rows ≡ rows
@@ -86,7 +103,8 @@ stored_more leaf row lane at old table new values value stored inside below plac
     let so_far = with_column leaf row (take lane values) old.rows in
     record {
       stored = wrote
-          ∙ ap (λ (t : Table). after_write t at leaf value) stored.stored
+          ∙ ap (λ (v : ℤ). after_stores table (with_entry table.rows at leaf v) (Write at leaf ∷ [])) (kept_of-same table leaf value)
+          ∙ ap (λ (t : Table). after_stores t (with_entry t.rows at leaf value) (Write at leaf ∷ [])) stored.stored
           ∙ after_stores-append old so_far (with_entry so_far at leaf value) (column_writes leaf row lane) (Write at leaf ∷ [])
           ∙ ap (λ (v : ℤ). after_stores old (with_entry so_far at leaf v) (column_writes leaf row lane ++ Write at leaf ∷ [])) is
           ∙ ap (λ (rows : List (List ℤ)). after_stores old rows (column_writes leaf row lane ++ Write at leaf ∷ [])) (entry_more leaf row lane at values old.rows inside place (omega arith))
@@ -102,11 +120,12 @@ passed value wide fits is =
 
 -- all are stored
 pub all_stored : (leaf row lane : ℕ) (old table : Table) (values : List ℤ) → HasStored leaf row lane old table values → lane ≡ length values
-    → table ≡ after_stores old (with_column leaf row values old.rows) (column_writes leaf row (length values))
+    → table ≡ after_stores old (with_column leaf row (map (kept_of old leaf) values) old.rows) (column_writes leaf row (length values))
 all_stored leaf row lane old table values stored end =
     stored.stored
     ∙ ap (λ (n : ℕ). after_stores old (with_column leaf row (take n values) old.rows) (column_writes leaf row n)) end
     ∙ ap (λ (vs : List ℤ). after_stores old (with_column leaf row vs old.rows) (column_writes leaf row (length values))) (take_all (length values) values (omega arith))
+    ∙ ap (λ (vs : List ℤ). after_stores old (with_column leaf row vs old.rows) (column_writes leaf row (length values))) (sym (all_kept old leaf values))
 
 -- the first lanes of an array are those of a block
 pub first_lanes : (P : List ℤ → ℕ → Type 0) (numbers values : List ℤ) (lanes : ℕ) → numbers ≡ values → lanes ≤ length values → P (take lanes numbers) (length (take lanes numbers)) → P (take lanes values) lanes

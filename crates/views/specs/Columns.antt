@@ -37,8 +37,8 @@ with_column leaf zero (value ∷ values) [] = []
 with_column leaf zero (value ∷ values) (numbers ∷ rows) = slice_set numbers leaf value ∷ with_column leaf zero values rows
 
 -- the fault of a value in this lane
-abbrev pub lane_fault : ℕ → Result Unit StoreFault → Option LaneFault
-lane_fault lane (Ok done) = None
+abbrev pub lane_fault : ℕ → Result ℤ StoreFault → Option LaneFault
+lane_fault lane (Ok kept) = None
 lane_fault lane (Err fault) = Some (record { lane = lane; fault = fault })
 
 -- the fault of the first of these values, whose lanes begin with this one, that a leaf does not take

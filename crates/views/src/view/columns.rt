@@ -1,9 +1,9 @@
 // The values of one leaf in several rows at once.
-ghost use Rattle.std.specs.Prelude.{◌≡◌, ◌+◌, ◌-◌, ◌<◌, ◌≤◌, ◌++◌, pos, OnOk, OnErr, IfErr, Some, None, [], length, take, drop, replicate, slice_index_or};
+ghost use Rattle.std.specs.Prelude.{◌≡◌, ◌+◌, ◌-◌, ◌<◌, ◌≤◌, ◌++◌, pos, OnOk, OnErr, IfErr, Some, None, [], length, map, take, drop, replicate, slice_index_or};
 ghost use Rattle.std.specs.Simd.Lanes.{Each1};
 ghost use Rattle.lanes.specs.Blocks.{IsBlock, IsNarrow};
 ghost use Rattle.views.specs.Columns.{in_leaf, column, column_reads, column_writes, with_column, first_lane_fault, IsNarrowLeaf};
-ghost use Rattle.views.specs.Tables.{answer_of, leaf_count_of, after_log, after_read, after_stores};
+ghost use Rattle.views.specs.Tables.{answer_of, kept_of, leaf_count_of, after_log, after_read, after_stores};
 
 use super::View;
 use crate::fault::LaneFault;
@@ -39,8 +39,8 @@ impl View {
         Block::of_array(values).lanes()
     }
 
-    /// Makes the values of a leaf in so many rows, from this one on, those of the first so many lanes. It takes one step, also where one
-    /// of them does not fit; then the table stands, and the fault names the first.
+    /// Stores the values of the first so many lanes in a leaf of so many rows, from this one on. It takes one step, also where one of them
+    /// does not fit; then the table stands, and the fault names the first.
     pub fn store_lanes<L: Ledger>(
         &mut self,
         row: u64,
@@ -54,7 +54,7 @@ impl View {
         requires leaf { IsNarrowLeaf self.old leaf }
         requires values { IsBlock values }
         ensures taken { OnOk result (first_lane_fault (answer_of self.old) leaf 0 (take lanes values) ≡ None) }
-        ensures stored { OnOk result (self.new ≡ after_stores self.old (with_column leaf row (take lanes values) self.old.rows) (column_writes leaf row lanes)) }
+        ensures stored { OnOk result (self.new ≡ after_stores self.old (with_column leaf row (map (kept_of self.old leaf) (take lanes values)) self.old.rows) (column_writes leaf row lanes)) }
         ensures named { IfErr result (λ fault. first_lane_fault (answer_of self.old) leaf 0 (take lanes values) ≡ Some fault) }
         ensures refused { OnErr result (self.new ≡ self.old) }
         ensures step { steps.new ≡ steps.old + 1 }
@@ -64,12 +64,12 @@ impl View {
         self.store_values(row, leaf, &values[..lanes])
     }
 
-    // Makes the values of a leaf in the rows from this one on these.
+    // Stores values in a leaf of the rows from this one on.
     fn store_values(&mut self, row: u64, leaf: usize, values: &[i64]) -> Result<(), LaneFault>
         requires rows_in { row + length values.now ≤ length self.old.rows }
         requires leaf_in { leaf < leaf_count_of self.old }
         ensures taken { OnOk result (first_lane_fault (answer_of self.old) leaf 0 values.now ≡ None) }
-        ensures stored { OnOk result (self.new ≡ after_stores self.old (with_column leaf row values.now self.old.rows) (column_writes leaf row (length values.now))) }
+        ensures stored { OnOk result (self.new ≡ after_stores self.old (with_column leaf row (map (kept_of self.old leaf) values.now) self.old.rows) (column_writes leaf row (length values.now))) }
         ensures named { IfErr result (λ fault. first_lane_fault (answer_of self.old) leaf 0 values.now ≡ Some fault) }
         ensures refused { OnErr result (self.new ≡ self.old) }
     {

@@ -2,7 +2,7 @@ use Rattle.std.proofs.Common.{◌≡◌, ◌+◌, ◌<◌, List, ℤ, pos, ℕ, 
 use Rattle.std.specs.Int.{w128}
 use Rattle.views.specs.Columns.{first_lane_fault, with_column, column_writes}
 use Rattle.views.specs.Tables.{Table, answer_of, after_stores}
-use Rattle.views.proofs.StoredLaws.{nothing_stored, stored_more, lane_taken, length-with_column, passed, all_stored}
+use Rattle.views.proofs.StoredLaws.{nothing_stored, stored_more, lane_kept, length-with_column, passed, all_stored}
 use Rattle.views.proofs.view.View.store_values.Goals as goal
 
 pub loop-lane-init : goal.loop-lane-init
@@ -16,13 +16,14 @@ pub store-requires-clause-row_in : goal.store-requires-clause-row_in
 store-requires-clause-row_in c =
     omega (arith, c.row_after.ensures, ap (λ (t : Table). length t.rows) c.loop-lane.invariant.stored, length-with_column c.args.leaf c.args.row (take c.loop-lane.lane c.args.values.now) c.args.self.now.rows)
 
-pub store-requires-clause-taken : goal.store-requires-clause-taken
-store-requires-clause-taken c =
+pub store-requires-clause-kept : goal.store-requires-clause-kept
+store-requires-clause-kept c =
     let value = get_or c.args.values.now c.loop-lane.lane (pos 0) in
     let fit : SFits w64 value = search rules in
-    ap (answer_of c.loop-lane.self c.args.leaf) (passed value c.from.result fit c.from.ensures)
-    ∙ ap (λ (t : Table). answer_of t c.args.leaf value) c.loop-lane.invariant.stored
-    ∙ lane_taken (answer_of c.args.self.now) c.args.leaf 0 c.loop-lane.lane c.args.values.now c.in_ok-lanes_fit.ensures.taken (omega arith)
+    let same : value ≡ to_z w128 (of_z w128 c.from.result) = sym (passed value c.from.result fit c.from.ensures) in
+    subst (λ (v : ℤ). answer_of c.loop-lane.self c.args.leaf v ≡ Ok v) same
+    (ap (λ (t : Table). answer_of t c.args.leaf value) c.loop-lane.invariant.stored
+    ∙ lane_kept c.args.self.now c.args.leaf 0 c.loop-lane.lane c.args.values.now c.in_ok-lanes_fit.ensures.taken (omega arith))
 
 pub loop-lane-preserved : goal.loop-lane-preserved
 loop-lane-preserved c =
