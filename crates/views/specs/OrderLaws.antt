@@ -6,7 +6,7 @@ use Rattle.std.proofs.lemmas.List.{append-nil}
 use Rattle.std.proofs.lemmas.List.Concat.{flat_map-cons}
 use Rattle.places.specs.Layout.{Owner}
 use Rattle.instrument.specs.Counters.{LeafCounts, HeatCounts, counted, next, warmed, warmed_blob}
-use Rattle.views.specs.Tallies.{Access, Read, Write, Tally, counted_by, heated, is_hot, touched, tallied}
+use Rattle.views.specs.Tallies.{Access, Read, Write, Tally, counts_touched, heat_touched, is_hot, touched, tallied}
 use Rattle.views.specs.TallyLaws.{tallied-append}
 
 -- two counts by leaf
@@ -17,7 +17,7 @@ counted_both (count ∷ counts) zero (suc other) = refl
 counted_both (count ∷ counts) (suc one) zero = refl
 counted_both (count ∷ counts) (suc one) (suc other) = ap (λ (rest : List ℕ). count ∷ rest) (counted_both counts one other)
 
-leaves_both : (one other : Access) (counts : LeafCounts) → counted_by other (counted_by one counts) ≡ counted_by one (counted_by other counts)
+leaves_both : (one other : Access) (counts : LeafCounts) → counts_touched other (counts_touched one counts) ≡ counts_touched one (counts_touched other counts)
 leaves_both (Read row leaf) (Read more last) counts = ap (λ (reads : List ℕ). record counts { reads = reads }) (counted_both counts.reads leaf last)
 leaves_both (Read row leaf) (Write more last) counts = refl
 leaves_both (Write row leaf) (Read more last) counts = refl
@@ -47,7 +47,7 @@ unfolding blobs_from warm_from
 blobs_both one other first [] = refl
 blobs_both one other first (counts ∷ blobs) = rw (blob_both (one first) (other first) 0 counts, blobs_both one other (first + 1) blobs) refl
 
-heated_both : (layout : List (List Owner)) (one other : Access) (heat : HeatCounts) → heated layout other (heated layout one heat) ≡ heated layout one (heated layout other heat)
+heated_both : (layout : List (List Owner)) (one other : Access) (heat : HeatCounts) → heat_touched layout other (heat_touched layout one heat) ≡ heat_touched layout one (heat_touched layout other heat)
 unfolding blobs_from
 heated_both layout (Read row leaf) (Read more last) heat = ap (λ (blobs : List (List ℕ)). record heat { blobs = blobs }) (blobs_both (is_hot layout heat.granule row leaf) (is_hot layout heat.granule more last) 0 heat.blobs)
 heated_both layout (Read row leaf) (Write more last) heat = ap (λ (blobs : List (List ℕ)). record heat { blobs = blobs }) (blobs_both (is_hot layout heat.granule row leaf) (is_hot layout heat.granule more last) 0 heat.blobs)
@@ -55,19 +55,19 @@ heated_both layout (Write row leaf) (Read more last) heat = ap (λ (blobs : List
 heated_both layout (Write row leaf) (Write more last) heat = ap (λ (blobs : List (List ℕ)). record heat { blobs = blobs }) (blobs_both (is_hot layout heat.granule row leaf) (is_hot layout heat.granule more last) 0 heat.blobs)
 
 -- two accesses
-counts_both : (one other : Access) (counts : Option LeafCounts) → option_map (counted_by other) (option_map (counted_by one) counts) ≡ option_map (counted_by one) (option_map (counted_by other) counts)
+counts_both : (one other : Access) (counts : Option LeafCounts) → option_map (counts_touched other) (option_map (counts_touched one) counts) ≡ option_map (counts_touched one) (option_map (counts_touched other) counts)
 counts_both one other None = refl
 counts_both one other (Some counts) = ap (λ (c : LeafCounts). Some c) (leaves_both one other counts)
 
 heats_both : (layout : List (List Owner)) (one other : Access) (heat : Option HeatCounts)
-    → option_map (heated layout other) (option_map (heated layout one) heat) ≡ option_map (heated layout one) (option_map (heated layout other) heat)
+    → option_map (heat_touched layout other) (option_map (heat_touched layout one) heat) ≡ option_map (heat_touched layout one) (option_map (heat_touched layout other) heat)
 heats_both layout one other None = refl
 heats_both layout one other (Some heat) = ap (λ (h : HeatCounts). Some h) (heated_both layout one other heat)
 
 touched_both : (layout : List (List Owner)) (tally : Tally) (one other : Access) → touched layout (touched layout tally one) other ≡ touched layout (touched layout tally other) one
 touched_both layout tally one other =
-    ap (λ (counts : Option LeafCounts). record { counts = counts; heat = option_map (heated layout other) (option_map (heated layout one) tally.heat) }) (counts_both one other tally.counts)
-    ∙ ap (λ (heat : Option HeatCounts). record { counts = option_map (counted_by one) (option_map (counted_by other) tally.counts); heat = heat }) (heats_both layout one other tally.heat)
+    ap (λ (counts : Option LeafCounts). record { counts = counts; heat = option_map (heat_touched layout other) (option_map (heat_touched layout one) tally.heat) }) (counts_both one other tally.counts)
+    ∙ ap (λ (heat : Option HeatCounts). record { counts = option_map (counts_touched one) (option_map (counts_touched other) tally.counts); heat = heat }) (heats_both layout one other tally.heat)
 
 -- an access before others or after them
 one_later : (layout : List (List Owner)) (tally : Tally) (access : Access) (log : List Access) → tallied layout tally (log ++ access ∷ []) ≡ tallied layout (touched layout tally access) log
