@@ -1,44 +1,72 @@
--- A kernel that stores, row by row, and its first fault.
-use Rattle.std.proofs.Common.{◌≡◌, ℕ, zero, suc, ◌+◌, ◌<◌, List, [], ◌∷◌, ◌++◌, length, get_or, set, take, ℤ, Option, Some, None, Result, Ok, Err, refl, sym, ap, subst, ◌∙◌, arith}
+-- A kernel that stores, block by block, and its first fault.
+use Rattle.std.proofs.Common.{◌≡◌, ℕ, zero, suc, ◌+◌, ◌-◌, ◌<◌, ◌≤◌, List, [], ◌∷◌, ◌++◌, length, map, get_or, set, take, drop, ℤ, Option, Some, None, Result, Ok, Err, refl, sym, ap, subst, ◌∙◌, arith, length-take, length-drop}
+use Rattle.std.specs.Prelude.{option_map}
 use Rattle.std.specs.Option.{option_or}
+use Rattle.std.specs.List.{flat_map, range_with_len}
+use Rattle.std.proofs.Math.Seq.{take-add}
 use Rattle.std.proofs.lemmas.List.{take_all}
-use Rattle.views.specs.Tables.{Table, answer_of, kept_of, after_log, after_stores, after_write}
-use Rattle.views.specs.Stores.{Answer, told}
-use Rattle.views.specs.TallyLaws.{after_log-none, after_log-append, logs_more}
-use Rattle.views.specs.Tallies.{Access, Write}
+use Rattle.std.proofs.lemmas.List.Concat.{flat_map-cons}
+use Rattle.places.specs.Layout.{Owner}
+use Rattle.views.specs.Columns.{column_reads, column_writes, with_column, lane_fault, first_lane_fault, IsNarrowLeaf}
+use Rattle.views.specs.Tables.{Table, owners_of, answer_of, kept_of, after_log, after_stores}
+use Rattle.views.specs.Stores.{Answer, Keeping}
+use Rattle.views.specs.TallyLaws.{after_log-none, tallied-append}
+use Rattle.views.specs.OrderLaws.{tallied-kinds, swapped, apart}
+use Rattle.views.specs.Tallies.{Access, Read, Write, Tally, tallied}
+use Rattle.views.specs.declared.fault.LaneFault.{LaneFault}
 use Rattle.views.specs.declared.fault.StoreFault.{StoreFault}
 use Rattle.views.specs.declared.fault.StoreFault.TheVariants as store
-use Rattle.lane_kernels.specs.Kernels.{Store, stored, answer_fault, store_fault, first_fault, empty_fault, run_rows, number_of, rows_before, IsKernelOf, IsNarrowLeaf, IsRun}
-use Rattle.lane_kernels.specs.Changes.{changing}
-use Rattle.lane_kernels.specs.Logs.{reads_on, writes_on, rows_log, fault_log}
+use Rattle.lane_kernels.specs.Kernels.{stored, with_store, fault_named, answer_fault, store_fault, first_fault, empty_fault, run_rows, number_of, rows_before, IsKernelOf, IsRun}
+use Rattle.lane_kernels.specs.Changes.{changing, changed_leaf, changed_value, block_reads, after_block, IsDone, IsStopped}
+use Rattle.lane_kernels.specs.Logs.{reads_on, writes_on, rows_log, rows_read, stopped_log, fault_log}
 use Rattle.lane_kernels.specs.declared.changes.Change.{Change}
 use Rattle.lane_kernels.specs.declared.changes.Change.TheVariants.{Axpy, Clamp}
 use Rattle.lane_kernels.specs.declared.fault.KernelFault.{KernelFault}
-use Rattle.lane_kernels.specs.declared.fault.KernelFault.TheVariants.{Range, Narrow}
 use Rattle.lane_kernels.specs.declared.kernel.Kernel.{Kernel}
-use Rattle.lane_kernels.proofs.Rows.{after, row_stands, row_changed, rows_count}
+use Rattle.lane_kernels.proofs.Logs.{logs_from}
+use Rattle.lane_kernels.proofs.Stepping.{IsAt, IsStep, at_start, step_read}
+use Rattle.lane_kernels.specs.Blocks.{step_of}
 
--- no fault of two is none of either, and the other way round
+-- what a change stores in a row
+pub stored_is : (change : Change) (values : List ℤ) → stored (changing change) values ≡ Some (record { leaf = changed_leaf change; value = changed_value change values })
+stored_is (Axpy a x y) values = refl
+stored_is (Clamp x lo hi) values = refl
+
+with_store_is : (keep : Keeping) (change : Change) (values : List ℤ) → with_store keep values (stored (changing change) values) ≡ set values (changed_leaf change) (keep (changed_leaf change) (changed_value change values))
+with_store_is keep (Axpy a x y) values = refl
+with_store_is keep (Clamp x lo hi) values = refl
+
+-- the fault of the lanes of some rows, and that of the rows
+abbrev pub named_row : ℕ → ℕ → LaneFault → KernelFault
+named_row row leaf fault = fault_named (row + fault.lane) leaf fault.fault
+
+one_alike : (row leaf lane : ℕ) (result : Result ℤ StoreFault) (later : Option KernelFault) (lanes : Option LaneFault) → later ≡ option_map (named_row row leaf) lanes
+    → option_or (answer_fault (row + lane) leaf result) later ≡ option_map (named_row row leaf) (option_or (lane_fault lane result) lanes)
+one_alike row leaf lane (Ok kept) later lanes same = same
+one_alike row leaf lane (Err fault) later lanes same = refl
+
+pub faults_alike : (answer : Answer) (change : Change) (row lane : ℕ) (rows : List (List ℤ))
+    → first_fault answer (changing change) (row + lane) rows ≡ option_map (named_row row (changed_leaf change)) (first_lane_fault answer (changed_leaf change) lane (map (changed_value change) rows))
+faults_alike answer change row lane [] = refl
+faults_alike answer change row lane (values ∷ rows) =
+    let next : row + lane + 1 ≡ row + (lane + 1) = omega arith in
+    let later = ap (λ (n : ℕ). first_fault answer (changing change) n rows) next ∙ faults_alike answer change row (lane + 1) rows in
+    ap (λ (s : Option _). option_or (store_fault answer (row + lane) s) (first_fault answer (changing change) (row + lane + 1) rows)) (stored_is change values)
+    ∙ one_alike row (changed_leaf change) lane (answer (changed_leaf change) (changed_value change values)) (first_fault answer (changing change) (row + lane + 1) rows)
+    (first_lane_fault answer (changed_leaf change) (lane + 1) (map (changed_value change) rows)) later
+
+-- rows with no fault before others
 neither : (first second : Option KernelFault) → option_or first second ≡ None → (first ≡ None) × (second ≡ None)
 neither None second e = (refl, e)
 neither (Some fault) second e = absurd (cc)
 
-alone : (fault : Option KernelFault) → option_or fault None ≡ fault
-alone None = refl
-alone (Some fault) = refl
-
--- where the rows before have none, the fault of one row more is its own
-fault_more : (answer : Answer) (kernel : Kernel) (start row : ℕ) (rows : List (List ℤ)) → row < length rows → first_fault answer kernel start (take row rows) ≡ None
-    → first_fault answer kernel start (take (suc row) rows) ≡ store_fault answer (start + row) (stored kernel (get_or rows row []))
-fault_more answer kernel start row [] inside clean = absurd (omega (arith, inside))
-fault_more answer kernel start zero (values ∷ rows) inside clean =
-    let here : start + 0 ≡ start = omega arith in
-    rw here (alone (store_fault answer start (stored kernel values)))
-fault_more answer kernel start (suc row) (values ∷ rows) inside clean =
-    let less : row < length rows = omega (arith, inside) in
-    let none = neither (store_fault answer start (stored kernel values)) (first_fault answer kernel (start + 1) (take row rows)) clean in
-    let next : start + suc row ≡ start + 1 + row = omega arith in
-    rw (none.0, next) (fault_more answer kernel (start + 1) row rows less none.1)
+fault_append : (answer : Answer) (kernel : Kernel) (start end : ℕ) (rows more : List (List ℤ)) → first_fault answer kernel start rows ≡ None → end ≡ start + length rows
+    → first_fault answer kernel start (rows ++ more) ≡ first_fault answer kernel end more
+fault_append answer kernel start end [] more clean at = let here : start ≡ end = omega arith in ap (λ (n : ℕ). first_fault answer kernel n more) here
+fault_append answer kernel start end (values ∷ rows) more clean at =
+    let none = neither (store_fault answer start (stored kernel values)) (first_fault answer kernel (start + 1) rows) clean in
+    ap (λ (f : Option KernelFault). option_or f (first_fault answer kernel (start + 1) (rows ++ more))) none.0
+    ∙ fault_append answer kernel (start + 1) end rows more none.1 (omega arith)
 
 -- a fault of the first rows is that of all
 first_stays : (first few all : Option KernelFault) (fault : KernelFault) → option_or first few ≡ Some fault → (few ≡ Some fault → all ≡ Some fault) → option_or first all ≡ Some fault
@@ -53,55 +81,133 @@ fault_stays answer kernel start (suc count) (values ∷ rows) fault e =
     first_stays (store_fault answer start (stored kernel values)) (first_fault answer kernel (start + 1) (take count rows)) (first_fault answer kernel (start + 1) rows) fault e
     (fault_stays answer kernel (start + 1) count rows fault)
 
+-- rows of which the first are changed, and more of them
+rows_from : (keep : Keeping) (kernel : Kernel) (row : ℕ) (rows : List (List ℤ)) → drop row (run_rows keep kernel row rows) ≡ drop row rows
+rows_from keep kernel zero rows = refl
+rows_from keep kernel (suc row) [] = refl
+rows_from keep kernel (suc row) (values ∷ rows) = rows_from keep kernel row rows
+
+pub rows_count : (keep : Keeping) (kernel : Kernel) (row : ℕ) (rows : List (List ℤ)) → length (run_rows keep kernel row rows) ≡ length rows
+rows_count keep kernel zero rows = refl
+rows_count keep kernel (suc row) [] = refl
+rows_count keep kernel (suc row) (values ∷ rows) = ap suc (rows_count keep kernel row rows)
+
+kept_value : Keeping → Change → List ℤ → ℤ
+kept_value keep change values = keep (changed_leaf change) (changed_value change values)
+
+first_block : (keep : Keeping) (change : Change) (step : ℕ) (rows : List (List ℤ)) → with_column (changed_leaf change) zero (map (kept_value keep change) (take step rows)) rows ≡ run_rows keep (changing change) step rows
+unfolding kept_value
+first_block keep change zero rows = refl
+first_block keep change (suc step) [] = refl
+first_block keep change (suc step) (values ∷ rows) =
+    ap (λ (more : List (List ℤ)). set values (changed_leaf change) (keep (changed_leaf change) (changed_value change values)) ∷ more) (first_block keep change step rows)
+    ∙ ap (λ (first : List ℤ). first ∷ run_rows keep (changing change) step rows) (sym (with_store_is keep change values))
+
+block_rows : (keep : Keeping) (change : Change) (row step end : ℕ) (rows : List (List ℤ)) → end ≡ row + step
+    → with_column (changed_leaf change) row (map (kept_value keep change) (take step (drop row rows))) (run_rows keep (changing change) row rows) ≡ run_rows keep (changing change) end rows
+block_rows keep change zero step end rows is =
+    let same : step ≡ end = omega arith in
+    first_block keep change step rows ∙ ap (λ (n : ℕ). run_rows keep (changing change) n rows) same
+block_rows keep change (suc row) step zero rows is = absurd (omega arith)
+block_rows keep change (suc row) step (suc end) [] is = refl
+block_rows keep change (suc row) step (suc end) (values ∷ rows) is =
+    ap (λ (more : List (List ℤ)). with_store keep values (stored (changing change) values) ∷ more) (block_rows keep change row step end rows (omega arith))
+
+-- the accesses of a block, leaf by leaf and row by row
+each_access : (access : ℕ → Access) (rows : List ℕ) → flat_map (λ row. access row ∷ []) rows ≡ map access rows
+each_access access [] = refl
+each_access access (row ∷ rows) = flat_map-cons (λ n. access n ∷ []) row rows ∙ ap (λ (log : List Access). access row ∷ log) (each_access access rows)
+
+reads_alike : (layout : List (List Owner)) (tally : Tally) (change : Change) (row lanes : ℕ) → tallied layout tally (block_reads change row lanes) ≡ tallied layout tally (flat_map (reads_on (changing change)) (range_with_len row lanes))
+reads_alike layout tally (Axpy a x y) row lanes =
+    sym (tallied-kinds layout tally (λ n. Read n x ∷ []) (λ n. Read n y ∷ []) (range_with_len row lanes)
+    ∙ ap (λ (log : List Access). tallied layout tally (log ++ flat_map (λ n. Read n y ∷ []) (range_with_len row lanes))) (each_access (λ n. Read n x) (range_with_len row lanes))
+    ∙ ap (λ (log : List Access). tallied layout tally (column_reads x row lanes ++ log)) (each_access (λ n. Read n y) (range_with_len row lanes)))
+reads_alike layout tally (Clamp x lo hi) row lanes = ap (tallied layout tally) (sym (each_access (λ n. Read n x) (range_with_len row lanes)))
+
+writes_alike : (change : Change) (row lanes : ℕ) → column_writes (changed_leaf change) row lanes ≡ flat_map (writes_on (changing change)) (range_with_len row lanes)
+writes_alike (Axpy a x y) row lanes = sym (each_access (λ n. Write n y) (range_with_len row lanes))
+writes_alike (Clamp x lo hi) row lanes = sym (each_access (λ n. Write n x) (range_with_len row lanes))
+
+block_alike : (layout : List (List Owner)) (tally : Tally) (change : Change) (row lanes stored : ℕ)
+    → tallied layout tally (block_reads change row lanes ++ column_writes (changed_leaf change) row stored)
+    ≡ tallied layout tally (flat_map (reads_on (changing change)) (range_with_len row lanes) ++ flat_map (writes_on (changing change)) (range_with_len row stored))
+block_alike layout tally change row lanes stored =
+    sym (tallied-append layout tally (block_reads change row lanes) (column_writes (changed_leaf change) row stored))
+    ∙ ap (λ (t : Tally). tallied layout t (column_writes (changed_leaf change) row stored)) (reads_alike layout tally change row lanes)
+    ∙ tallied-append layout tally (flat_map (reads_on (changing change)) (range_with_len row lanes)) (column_writes (changed_leaf change) row stored)
+    ∙ ap (λ (log : List Access). tallied layout tally (flat_map (reads_on (changing change)) (range_with_len row lanes) ++ log)) (writes_alike change row stored)
+
+-- those of the rows before and of a block
+log_more : (layout : List (List Owner)) (tally : Tally) (change : Change) (row step : ℕ)
+    → tallied layout (tallied layout tally (rows_log (changing change) row)) (block_reads change row step ++ column_writes (changed_leaf change) row step) ≡ tallied layout tally (rows_log (changing change) (row + step))
+log_more layout tally change row step =
+    let kernel = changing change in
+    let before = tallied layout tally (rows_log kernel row) in
+    block_alike layout before change row step step
+    ∙ sym (tallied-kinds layout before (reads_on kernel) (writes_on kernel) (range_with_len row step))
+    ∙ tallied-append layout tally (rows_log kernel row) (flat_map (λ n. reads_on kernel n ++ writes_on kernel n) (range_with_len row step))
+    ∙ ap (tallied layout tally) (sym (logs_from (λ n. reads_on kernel n ++ writes_on kernel n) row step))
+
+log_stopped : (layout : List (List Owner)) (tally : Tally) (change : Change) (row step lane : ℕ)
+    → tallied layout (tallied layout tally (rows_log (changing change) row)) (block_reads change row step ++ column_writes (changed_leaf change) row lane)
+    ≡ tallied layout tally (stopped_log (changing change) (row + step) (row + lane))
+log_stopped layout tally change row step lane =
+    let kernel = changing change in
+    let reads = flat_map (reads_on kernel) (range_with_len 0 row) in
+    let writes = flat_map (writes_on kernel) (range_with_len 0 row) in
+    let more = flat_map (reads_on kernel) (range_with_len row step) in
+    let last = flat_map (writes_on kernel) (range_with_len row lane) in
+    block_alike layout (tallied layout tally (rows_log kernel row)) change row step lane
+    ∙ ap (λ (t : Tally). tallied layout t (more ++ last)) (tallied-kinds layout tally (reads_on kernel) (writes_on kernel) (range_with_len 0 row))
+    ∙ sym (tallied-append layout (tallied layout tally (reads ++ writes)) more last)
+    ∙ ap (λ (t : Tally). tallied layout t last) (swapped layout tally reads writes more)
+    ∙ tallied-append layout tally (reads ++ (more ++ writes)) last
+    ∙ ap (tallied layout tally) (apart reads more writes last)
+    ∙ ap (λ (log : List Access). tallied layout tally (log ++ (writes ++ last))) (sym (logs_from (reads_on kernel) row step))
+    ∙ ap (λ (log : List Access). tallied layout tally (flat_map (reads_on kernel) (range_with_len 0 (row + step)) ++ log)) (sym (logs_from (writes_on kernel) row lane))
+
 -- the rows before this one are changed, and had no fault
-pub record AreChanged (old : Table) (kernel : Kernel) (view : Table) (row : ℕ) : Type 0 where
-  pub same : view ≡ after_stores old (run_rows (kept_of old) kernel row old.rows) (rows_log kernel row)
-  pub clean : first_fault (answer_of old) kernel 0 (take row old.rows) ≡ None
+pub record AreChanged (old : Table) (change : Change) (lanes : ℕ) (view : Table) (row : ℕ) : Type 0 where
+  pub same : view ≡ after_stores old (run_rows (kept_of old) (changing change) row old.rows) (rows_log (changing change) row)
+  pub clean : first_fault (answer_of old) (changing change) 0 (take row old.rows) ≡ None
+  pub at : IsAt lanes (length old.rows) row
 
-pub none_changed : (old : Table) (kernel : Kernel) → AreChanged old kernel old 0
-none_changed old kernel = record { same = sym (after_log-none old); clean = refl }
+pub none_changed : (old : Table) (change : Change) (lanes : ℕ) → 0 < lanes → AreChanged old change lanes old 0
+none_changed old change lanes some = record { same = sym (after_log-none old); clean = refl; at = at_start lanes (length old.rows) some }
 
--- what a row's store answers where the rows before are changed is what it answers on the view as it was
-own_fault : (old view : Table) (kernel : Kernel) (row : ℕ) (fault : Option KernelFault) → row < length old.rows → AreChanged old kernel view row
-    → store_fault (answer_of view) row (stored kernel (get_or view.rows row [])) ≡ fault → first_fault (answer_of old) kernel 0 (take (row + 1) old.rows) ≡ fault
-own_fault old view kernel row fault inside so_far told =
-    let one : row + 1 ≡ suc row = omega arith in
-    let zero_row : 0 + row ≡ row = omega arith in
-    let here : store_fault (answer_of old) row (stored kernel (get_or old.rows row [])) ≡ store_fault (answer_of view) row (stored kernel (get_or view.rows row [])) =
-    ap (λ (values : List ℤ). store_fault (answer_of old) row (stored kernel values)) (sym (row_stands (kept_of old) kernel row old.rows))
-    ∙ ap (λ (v : Table). store_fault (answer_of v) row (stored kernel (get_or v.rows row []))) (sym so_far.same) in
-    rw (one, fault_more (answer_of old) kernel 0 row old.rows inside so_far.clean, zero_row) (here ∙ told)
+-- the fault of the first rows, from that of a block
+own_fault : (old view : Table) (change : Change) (lanes row step : ℕ) (fault : Option KernelFault) → AreChanged old change lanes view row → row ≤ length old.rows
+    → first_fault (answer_of view) (changing change) row (take step (drop row view.rows)) ≡ fault → first_fault (answer_of old) (changing change) 0 (take (row + step) old.rows) ≡ fault
+own_fault old view change lanes row step fault so_far inside told =
+    let kernel = changing change in
+    let keep = kept_of old in
+    ap (first_fault (answer_of old) kernel 0) (take-add row step old.rows)
+    ∙ fault_append (answer_of old) kernel 0 row (take row old.rows) (take step (drop row old.rows)) so_far.clean (omega (arith, length-take row old.rows))
+    ∙ ap (λ (rows : List (List ℤ)). first_fault (answer_of old) kernel row (take step rows)) (sym (rows_from keep kernel row old.rows))
+    ∙ ap (λ (t : Table). first_fault (answer_of t) kernel row (take step (drop row t.rows))) (sym so_far.same)
+    ∙ told
 
--- one row more
-pub change_more : (old view new : Table) (kernel : Kernel) (row : ℕ) → row < length old.rows → AreChanged old kernel view row
-    → store_fault (answer_of view) row (stored kernel (get_or view.rows row [])) ≡ None
-    → new ≡ after_stores view (set view.rows row (after (kept_of view) kernel (get_or view.rows row []))) (reads_on kernel row ++ writes_on kernel row) → AreChanged old kernel new (row + 1)
-change_more old view new kernel row inside so_far told changed =
-    let table = run_rows (kept_of old) kernel row old.rows in
-    let own = reads_on kernel row ++ writes_on kernel row in
-    let same = changed
-    ∙ ap (λ (v : Table). after_stores v (set v.rows row (after (kept_of v) kernel (get_or v.rows row []))) own) so_far.same
-    ∙ after_log-append (record old { rows = set table row (after (kept_of old) kernel (get_or table row [])) }) (rows_log kernel row) own
-    ∙ ap (λ (log : List Access). after_stores old (set table row (after (kept_of old) kernel (get_or table row []))) log) (sym (logs_more (λ n. reads_on kernel n ++ writes_on kernel n) row))
-    ∙ ap (λ (values : List ℤ). after_stores old (set table row (after (kept_of old) kernel values)) (rows_log kernel (row + 1))) (row_stands (kept_of old) kernel row old.rows)
-    ∙ ap (λ (rows : List (List ℤ)). after_stores old rows (rows_log kernel (row + 1))) (sym (row_changed (kept_of old) kernel row old.rows inside)) in
-    record { same = same; clean = own_fault old view kernel row None inside so_far told }
+-- the table after a block
+block_table : (old view : Table) (change : Change) (lanes row step stored end : ℕ) (tally : Tally) → AreChanged old change lanes view row → end ≡ row + stored
+    → tallied (owners_of old) (tallied (owners_of old) old.tally (rows_log (changing change) row)) (block_reads change row step ++ column_writes (changed_leaf change) row stored) ≡ tally
+    → after_block view change row step stored ≡ record old { rows = run_rows (kept_of old) (changing change) end old.rows; tally = tally }
+unfolding kept_value
+block_table old view change lanes row step stored end tally so_far is counted =
+    let kernel = changing change in
+    let keep = kept_of old in
+    ap (λ (t : Table). after_block t change row step stored) so_far.same
+    ∙ ap (λ (t : Tally). record old { rows = with_column (changed_leaf change) row (map (kept_value keep change) (take stored (drop row (run_rows keep kernel row old.rows)))) (run_rows keep kernel row old.rows); tally = t }) counted
+    ∙ ap (λ (rows : List (List ℤ)). record old { rows = with_column (changed_leaf change) row (map (kept_value keep change) (take stored rows)) (run_rows keep kernel row old.rows); tally = tally }) (rows_from keep kernel row old.rows)
+    ∙ ap (λ (rows : List (List ℤ)). record old { rows = rows; tally = tally }) (block_rows keep change row stored end old.rows is)
 
--- the leaves of a view are those of the view after accesses
-narrow_stays : (old : Table) (table : List (List ℤ)) (log : List Access) (leaf : ℕ) → IsNarrowLeaf old leaf → IsNarrowLeaf (after_stores old table log) leaf
-narrow_stays old table log leaf narrow = record { inside = narrow.inside; narrow = narrow.narrow }
-
-kernel_stays : (old : Table) (table : List (List ℤ)) (log : List Access) (change : Change) → IsKernelOf old (changing change) → IsKernelOf (after_stores old table log) (changing change)
-kernel_stays old table log (Axpy a x y) is = (is.0, narrow_stays old table log x is.1, narrow_stays old table log y is.2)
-kernel_stays old table log (Clamp x lo hi) is = (narrow_stays old table log x is.0, is.1, is.2, is.3)
-
-pub row_takes : (old view : Table) (change : Change) (row : ℕ) → AreChanged old (changing change) view row → row < length old.rows → IsKernelOf old (changing change)
-    → (row < length view.rows) × IsKernelOf view (changing change)
-row_takes old view change row so_far inside is =
-    let count = ap (λ (v : Table). length v.rows) so_far.same ∙ rows_count (kept_of old) (changing change) row old.rows in (
-      omega (arith, inside, count),
-      subst (λ (v : Table). IsKernelOf v (changing change)) (sym so_far.same) (kernel_stays old (run_rows (kept_of old) (changing change) row old.rows) (rows_log (changing change) row) change is),
-    )
+pub change_more : (old view new : Table) (change : Change) (lanes row step : ℕ) → AreChanged old change lanes view row → IsStep lanes (length old.rows) row step → IsDone view new change row step
+    → AreChanged old change lanes new (row + step)
+change_more old view new change lanes row step so_far next done = record {
+  same = done.after ∙ block_table old view change lanes row step step (row + step) (tallied (owners_of old) old.tally (rows_log (changing change) (row + step))) so_far refl (log_more (owners_of old) old.tally change row step);
+  clean = own_fault old view change lanes row step None so_far so_far.at.inside done.clean;
+  at = next.next;
+}
 
 -- a kernel that stores takes no row for granted, and gives no number
 no_empty : (change : Change) (rows : List (List ℤ)) → empty_fault (changing change) rows ≡ None
@@ -112,66 +218,38 @@ no_number : (change : Change) (rows : List (List ℤ)) → number_of (changing c
 no_number (Axpy a x y) rows = refl
 no_number (Clamp x lo hi) rows = refl
 
--- a row is changed after its reads
-write_of : (change : Change) (row : ℕ) (values : List ℤ) (store : Store) → stored (changing change) values ≡ Some store → writes_on (changing change) row ≡ Write row store.leaf ∷ []
-write_of (Axpy a x y) row values store is = let same : y ≡ store.leaf = cc is in ap (λ (leaf : ℕ). Write row leaf ∷ []) same
-write_of (Clamp x lo hi) row values store is = let same : x ≡ store.leaf = cc is in ap (λ (leaf : ℕ). Write row leaf ∷ []) same
+before_named : (row leaf : ℕ) (cause : StoreFault) → rows_before (fault_named row leaf cause) ≡ row
+before_named row leaf store.Range = refl
+before_named row leaf store.Narrow = refl
 
-pub change_done : (old read new : Table) (change : Change) (row leaf : ℕ) (value : ℤ) → stored (changing change) (get_or old.rows row []) ≡ Some (record { leaf = leaf; value = value })
-    → read ≡ after_log old (reads_on (changing change) row) → new ≡ after_write read row leaf value
-    → new ≡ after_stores old (set old.rows row (after (kept_of old) (changing change) (get_or old.rows row []))) (reads_on (changing change) row ++ writes_on (changing change) row)
-change_done old read new change row leaf value is reads writes =
-    let values = get_or old.rows row [] in
-    rw (write_of change row values (record { leaf = leaf; value = value }) is, is)
-    (writes ∙ ap (λ (v : Table). after_write v row leaf value) reads
-    ∙ after_log-append (record old { rows = set old.rows row (set values leaf (kept_of old leaf value)) }) (reads_on (changing change) row) (Write row leaf ∷ []))
+log_named : (kernel : Kernel) (lanes count row leaf : ℕ) (cause : StoreFault) → fault_log kernel lanes count (fault_named row leaf cause) ≡ stopped_log kernel (rows_read lanes count row) row
+log_named kernel lanes count row leaf store.Range = refl
+log_named kernel lanes count row leaf store.Narrow = refl
 
--- the fault of a store that is answered so
-abbrev pub told_fault : ℕ → ℕ → Result Unit StoreFault → Option KernelFault
-told_fault row leaf (Ok done) = None
-told_fault row leaf (Err store.Range) = Some (Range row leaf)
-told_fault row leaf (Err store.Narrow) = Some (Narrow row leaf)
-
-told_as : (row leaf : ℕ) (answer : Result ℤ StoreFault) → answer_fault row leaf answer ≡ told_fault row leaf (told answer)
-told_as row leaf (Ok kept) = refl
-told_as row leaf (Err store.Range) = refl
-told_as row leaf (Err store.Narrow) = refl
-
-pub row_answered : (old read : Table) (change : Change) (row leaf : ℕ) (value : ℤ) (answer : Result Unit StoreFault) → stored (changing change) (get_or old.rows row []) ≡ Some (record { leaf = leaf; value = value })
-    → read ≡ after_log old (reads_on (changing change) row) → answer ≡ told (answer_of read leaf value)
-    → store_fault (answer_of old) row (stored (changing change) (get_or old.rows row [])) ≡ told_fault row leaf answer
-row_answered old read change row leaf value answer is reads gives =
-    ap (store_fault (answer_of old) row) is ∙ told_as row leaf (answer_of old leaf value)
-    ∙ ap (λ (t : Table). told_fault row leaf (told (answer_of t leaf value))) (sym reads) ∙ ap (told_fault row leaf) (sym gives)
-
--- a row is refused after its reads
-answer_log : (kernel : Kernel) (row leaf : ℕ) (answer : Result ℤ StoreFault) (fault : KernelFault) → answer_fault row leaf answer ≡ Some fault → fault_log kernel fault ≡ rows_log kernel row ++ reads_on kernel row
-answer_log kernel row leaf (Ok done) fault is = absurd (cc)
-answer_log kernel row leaf (Err store.Range) fault is = let same : fault ≡ Range row leaf = cc is in ap (fault_log kernel) same
-answer_log kernel row leaf (Err store.Narrow) fault is = let same : fault ≡ Narrow row leaf = cc is in ap (fault_log kernel) same
-
-refused_log : (answer : Answer) (kernel : Kernel) (row : ℕ) (store : Option Store) (fault : KernelFault) → store_fault answer row store ≡ Some fault → fault_log kernel fault ≡ rows_log kernel row ++ reads_on kernel row
-refused_log answer kernel row None fault is = absurd (cc)
-refused_log answer kernel row (Some store) fault is = answer_log kernel row store.leaf (answer store.leaf store.value) fault is
-
-pub change_stops : (old view new : Table) (change : Change) (row : ℕ) (fault : KernelFault) → row < length old.rows → AreChanged old (changing change) view row
-    → store_fault (answer_of view) row (stored (changing change) (get_or view.rows row [])) ≡ Some fault → rows_before fault ≡ row → new ≡ after_log view (reads_on (changing change) row)
-    → IsRun old new (changing change) (Err fault)
-change_stops old view new change row fault inside so_far told named read =
-    let own = own_fault old view (changing change) row (Some fault) inside so_far told in
-    let first = fault_stays (answer_of old) (changing change) 0 (row + 1) old.rows fault own in (
-      rw (no_empty change old.rows) first,
-      rw (named, refused_log (answer_of view) (changing change) row (stored (changing change) (get_or view.rows row [])) fault told)
-          (read ∙ ap (λ (v : Table). after_log v (reads_on (changing change) row)) so_far.same
-          ∙ after_log-append (record old { rows = run_rows (kept_of old) (changing change) row old.rows }) (rows_log (changing change) row) (reads_on (changing change) row)),
-    )
+pub change_stops : (old view new : Table) (change : Change) (lanes row step : ℕ) (fault : KernelFault) → 0 < lanes → AreChanged old change lanes view row → row < length old.rows
+    → step ≡ step_of lanes (length old.rows) row → IsStopped view new change row step fault → IsRun old new (changing change) lanes (Err fault)
+change_stops old view new change lanes row step fault some so_far small is stopped =
+    let kernel = changing change in
+    let own = own_fault old view change lanes row step (Some fault) so_far so_far.at.inside stopped.named in
+    let first = fault_stays (answer_of old) kernel 0 (row + step) old.rows fault own in
+    let before : rows_before fault ≡ row + stopped.lane = ap rows_before stopped.is ∙ before_named (row + stopped.lane) (changed_leaf change) stopped.cause in
+    let read = step_read lanes (length old.rows) row step (row + stopped.lane) some so_far.at small is (omega arith) (omega (arith, stopped.inside)) in
+    let log : fault_log kernel lanes (length old.rows) fault ≡ stopped_log kernel (row + step) (row + stopped.lane) =
+        ap (fault_log kernel lanes (length old.rows)) stopped.is ∙ log_named kernel lanes (length old.rows) (row + stopped.lane) (changed_leaf change) stopped.cause
+        ∙ ap (λ (n : ℕ). stopped_log kernel n (row + stopped.lane)) read in
+    (rw (no_empty change old.rows) first,
+     stopped.after
+     ∙ block_table old view change lanes row step stopped.lane (row + stopped.lane) (tallied (owners_of old) old.tally (stopped_log kernel (row + step) (row + stopped.lane))) so_far refl
+     (log_stopped (owners_of old) old.tally change row step stopped.lane)
+     ∙ ap (λ (n : ℕ). after_stores old (run_rows (kept_of old) kernel n old.rows) (stopped_log kernel (row + step) (row + stopped.lane))) (sym before)
+     ∙ ap (after_stores old (run_rows (kept_of old) kernel (rows_before fault) old.rows)) (sym log))
 
 -- all rows are changed
-pub change_ends : (old view : Table) (change : Change) (row : ℕ) → row ≡ length old.rows → AreChanged old (changing change) view row → IsRun old view (changing change) (Ok None)
-change_ends old view change row whole so_far =
+pub change_ends : (old view : Table) (change : Change) (lanes row : ℕ) → row ≡ length old.rows → AreChanged old change lanes view row → IsRun old view (changing change) lanes (Ok None)
+change_ends old view change lanes row whole so_far =
     let all : take row old.rows ≡ old.rows = take_all row old.rows (omega (arith, whole)) in
     let clean = rw all at so_far.clean in (
       rw (no_empty change old.rows) clean,
       sym (no_number change old.rows),
-      rw (← whole) so_far.same,
+      so_far.same ∙ ap (λ (n : ℕ). after_stores old (run_rows (kept_of old) (changing change) n old.rows) (rows_log (changing change) n)) whole,
     )

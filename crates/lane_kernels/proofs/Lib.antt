@@ -1,4 +1,7 @@
-pub mod Changed
-pub mod Numbers
-pub mod Products
+pub mod Stepping
+pub mod Logs
 pub mod Rows
+pub mod Numbers
+pub mod Changed
+pub mod Values
+pub mod BlockStores

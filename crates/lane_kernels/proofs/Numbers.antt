@@ -1,9 +1,17 @@
 -- The number of the values of a leaf.
-use Rattle.std.proofs.Common.{◌≡◌, ℕ, ◌+◌, ◌<◌, ◌≤◌, ◌^◌, Bool, true, false, cond, List, [], ◌∷◌, ◌++◌, length, get_or, take, fold, ℤ, pos, ◌+ℤ◌, to_z, of_z, w64, Some, None, Ok, Err, refl, sym, ap, ◌∙◌, arith}
+use Rattle.std.proofs.Common.{◌≡◌, ℕ, ◌+◌, ◌<◌, ◌≤◌, ◌^◌, Bool, true, false, cond, List, [], ◌∷◌, ◌++◌, length, get_or, take, drop, map, fold, replicate, zero, suc, ◌-◌, length-take, length-drop, Less, Greater, Equal, is_eq, FitsSigned, subst, negsuc, ℤ, pos, ◌+ℤ◌, to_z, of_z, w64, Some, None, Ok, Err, refl, sym, ap, ◌∙◌, arith}
 use Rattle.std.specs.Int.{int_min, int_max}
-use Rattle.std.proofs.lemmas.Int.{ints, int_min_is, int_max_is}
+use Rattle.std.specs.Prelude.{int_lt, int_le, not}
+use Rattle.std.specs.Ordering.{int_eq}
+use Rattle.std.proofs.lemmas.List.Recursion.{is_count_by}
+use Rattle.std.proofs.lemmas.Int.{ints, int_min_is, int_max_is, to_z-of_z}
 use Rattle.std.proofs.lemmas.List.{get_or-map, length-map}
-use Rattle.std.proofs.lemmas.List.Sums.{fold_more}
+use Rattle.std.specs.List.{flat_map, count_by, range_with_len}
+use Rattle.std.proofs.Math.Seq.{take-add, take-append_seam}
+use Rattle.std.proofs.lemmas.List.Sums.{fold-append}
+use Rattle.std.proofs.lemmas.List.Concat.{flat_map-cons}
+use Rattle.std.specs.Simd.Lanes.{Each1}
+use Rattle.std.proofs.lemmas.Simd.{Each1-chunk}
 use Rattle.places.specs.Image.{entry}
 use Rattle.places.specs.declared.piece.Hold.{Hold}
 use Rattle.record_dim.specs.declared.leaf_type.LeafType.{LeafType}
@@ -13,21 +21,24 @@ use Rattle.record_dim.specs.Leaves.{leaves}
 use Rattle.piece_bits.specs.Tables.{hold_at}
 use Rattle.views.specs.Stores.{Answer, Fits}
 use Rattle.views.specs.Tables.{Table, IsTable, leaf_types_of, leaf_type_of, table_holds, answer_of, kept_of, after_log, after_stores, after_read}
-use Rattle.views.specs.TallyLaws.{after_log-none, after_log-append, logs_more}
-use Rattle.views.specs.Tallies.{Read}
-use Rattle.lane_kernels.specs.Kernels.{compares, column, in_leaf, number_of, stored, first_fault, empty_fault, IsConstant, IsNarrowLeaf, IsRun}
+use Rattle.views.specs.TallyLaws.{after_log-none, after_log-append}
+use Rattle.views.specs.Tallies.{Access, Read}
+use Rattle.views.specs.Columns.{column_reads}
+use Rattle.lane_kernels.specs.Kernels.{compares, column, in_leaf, number_of, stored, first_fault, empty_fault, IsNarrow, IsNarrowLeaf, IsRun}
 use Rattle.lane_kernels.specs.Logs.{reads_on, writes_on, rows_log}
 use Rattle.lane_kernels.specs.Reductions.{reducing, start, taking, reduced, wants_a_row, IsSmall}
 use Rattle.lane_kernels.specs.declared.fault.KernelFault.TheVariants.{Empty}
 use Rattle.lane_kernels.specs.declared.kernel.Compare.{Compare}
+use Rattle.lane_kernels.specs.declared.kernel.Compare.TheVariants.{Eq, Ne, Lt, Le, Gt, Ge}
 use Rattle.lane_kernels.specs.declared.kernel.Kernel.{Kernel}
 use Rattle.lane_kernels.specs.declared.reductions.Reduction.{Reduction}
 use Rattle.lane_kernels.specs.declared.reductions.Reduction.TheVariants.{Sum, Least, Greatest, Count}
 use Rattle.lane_kernels.proofs.Rows.{rows_stand}
-use mir.Val.{bool_byte}
+use Rattle.lane_kernels.proofs.Logs.{logs_from}
+use Rattle.lane_kernels.proofs.Stepping.{IsAt, IsStep, at_start}
 
 -- a value of at most 32 bits
-declared_constant : (kind : LeafType) (value : ℤ) → width_of kind ≤ 32 → IsDeclared kind value → IsConstant value
+declared_constant : (kind : LeafType) (value : ℤ) → width_of kind ≤ 32 → IsDeclared kind value → IsNarrow value
 declared_constant Truth value narrow d = (omega (arith, ints, d.0), omega (arith, ints, d.1))
 declared_constant U8 value narrow d = (omega (arith, ints, d.0), omega (arith, ints, d.1))
 declared_constant U16 value narrow d = (omega (arith, ints, d.0), omega (arith, ints, d.1))
@@ -38,30 +49,40 @@ declared_constant I16 value narrow d = (omega (arith, ints, d.0), omega (arith, 
 declared_constant I32 value narrow d = (omega (arith, ints, d.0), omega (arith, ints, d.1))
 declared_constant I64 value narrow d = absurd (omega (arith, narrow))
 
-pub fits_constant : (kind : LeafType) (hold : Hold) (value : ℤ) → width_of kind ≤ 32 → Fits kind hold value → IsConstant value
+pub fits_constant : (kind : LeafType) (hold : Hold) (value : ℤ) → width_of kind ≤ 32 → Fits kind hold value → IsNarrow value
 fits_constant kind hold value narrow fits = declared_constant kind value narrow fits.declared
 
--- one value more
-pub reduced_more : (reduction : Reduction) (leaf row : ℕ) (table : List (List ℤ)) (number value : ℤ) → row < length table → value ≡ in_leaf leaf (get_or table row [])
-    → number ≡ reduced reduction (take row (column leaf table)) → taking reduction number value ≡ reduced reduction (take (row + 1) (column leaf table))
-reduced_more reduction leaf row table number value small is so_far =
-    let inside : row < length (column leaf table) = rw length-map small in
-    let at : get_or (column leaf table) row (pos 0) ≡ value = get_or-map (in_leaf leaf) table row [] (pos 0) small ∙ sym is in
-    rw (so_far, ← at) (sym (fold_more (taking reduction) (start reduction) (column leaf table) row (pos 0) inside))
+-- the values of a block more
+pub reduced_more : (reduction : Reduction) (leaf row step : ℕ) (rows : List (List ℤ)) (number new : ℤ) → number ≡ reduced reduction (take row (column leaf rows))
+    → new ≡ fold (taking reduction) number (take step (drop row (column leaf rows))) → new ≡ reduced reduction (take (row + step) (column leaf rows))
+reduced_more reduction leaf row step rows number new so_far is =
+    is ∙ ap (λ (n : ℤ). fold (taking reduction) n (take step (drop row (column leaf rows)))) so_far
+    ∙ sym (fold-append (taking reduction) (start reduction) (take row (column leaf rows)) (take step (drop row (column leaf rows))))
+    ∙ ap (fold (taking reduction) (start reduction)) (sym (take-add row step (column leaf rows)))
 
--- one read more
+-- one read more in each row
 one_read : (reduction : Reduction) (leaf row : ℕ) → reads_on (reducing leaf reduction) row ++ writes_on (reducing leaf reduction) row ≡ Read row leaf ∷ []
 one_read Sum leaf row = refl
 one_read Least leaf row = refl
 one_read Greatest leaf row = refl
 one_read (Count op c) leaf row = refl
 
-pub read_more : (reduction : Reduction) (leaf row : ℕ) (old view new : Table) → view ≡ after_log old (rows_log (reducing leaf reduction) row) → new ≡ after_read view row leaf
-    → new ≡ after_log old (rows_log (reducing leaf reduction) (row + 1))
-read_more reduction leaf row old view new so_far read =
-    let kernel = reducing leaf reduction in
-    rw (logs_more (λ n. reads_on kernel n ++ writes_on kernel n) row, one_read reduction leaf row)
-    (read ∙ ap (λ (v : Table). after_read v row leaf) so_far ∙ after_log-append old (rows_log kernel row) (Read row leaf ∷ []))
+reads_more : (reduction : Reduction) (leaf row step : ℕ) → rows_log (reducing leaf reduction) (row + step) ≡ rows_log (reducing leaf reduction) row ++ column_reads leaf row step
+reads_more reduction leaf row step = logs_from (λ n. reads_on (reducing leaf reduction) n ++ writes_on (reducing leaf reduction) n) row step
+    ∙ ap (λ (log : List Access). rows_log (reducing leaf reduction) row ++ log) (each_read (range_with_len row step)) where
+      each_read : (rows : List ℕ) → flat_map (λ n. reads_on (reducing leaf reduction) n ++ writes_on (reducing leaf reduction) n) rows ≡ map (λ n. Read n leaf) rows
+      each_read [] = refl
+      each_read (n ∷ rows) =
+          flat_map-cons (λ n. reads_on (reducing leaf reduction) n ++ writes_on (reducing leaf reduction) n) n rows
+          ∙ ap (λ (log : List Access). log ++ flat_map (λ n. reads_on (reducing leaf reduction) n ++ writes_on (reducing leaf reduction) n) rows) (one_read reduction leaf n)
+          ∙ ap (λ (log : List Access). Read n leaf ∷ log) (each_read rows)
+
+pub read_more : (reduction : Reduction) (leaf row step : ℕ) (old view new : Table) → view ≡ after_log old (rows_log (reducing leaf reduction) row)
+    → new ≡ after_log view (column_reads leaf row step) → new ≡ after_log old (rows_log (reducing leaf reduction) (row + step))
+read_more reduction leaf row step old view new so_far read =
+    read ∙ ap (λ (v : Table). after_log v (column_reads leaf row step)) so_far
+    ∙ after_log-append old (rows_log (reducing leaf reduction) row) (column_reads leaf row step)
+    ∙ ap (after_log old) (sym (reads_more reduction leaf row step))
 
 -- a number that is small stays so
 pub start_small : (reduction : Reduction) → IsSmall 0 (start reduction)
@@ -70,10 +91,126 @@ start_small Least = record { least = omega (arith, ints); greatest = omega (arit
 start_small Greatest = record { least = omega (arith, ints); greatest = omega (arith, ints) }
 start_small (Count op c) = record { least = omega (arith, ints); greatest = omega (arith, ints) }
 
-pub one_more_small : (rows : ℕ) (number more : ℤ) (test : Bool) → rows < 2 ^ 24 → IsSmall rows number → more ≡ pos (bool_byte test)
-    → IsSmall (rows + 1) (to_z w64 (of_z w64 (to_z w64 (of_z w64 number) +ℤ to_z w64 (of_z w64 more))))
-one_more_small rows number more true few a e = record { least = omega (arith, ints, a.least, e); greatest = omega (arith, ints, a.greatest, e) }
-one_more_small rows number more false few a e = record { least = omega (arith, ints, a.least, e); greatest = omega (arith, ints, a.greatest, e) }
+one_small : (reduction : Reduction) (rows : ℕ) (number value : ℤ) → IsSmall rows number → IsNarrow value → IsSmall (rows + 1) (taking reduction number value)
+one_small Sum rows number value a narrow = record { least = omega (arith, ints, a.least, narrow.0); greatest = omega (arith, ints, a.greatest, narrow.1) }
+one_small Least rows number value a narrow = record { least = omega (arith, ints, a.least, narrow.0, int_min_is number value); greatest = omega (arith, ints, a.greatest, narrow.1, int_min_is number value) }
+one_small Greatest rows number value a narrow = record { least = omega (arith, ints, a.least, narrow.0, int_max_is number value); greatest = omega (arith, ints, a.greatest, narrow.1, int_max_is number value) }
+one_small (Count op c) rows number value a narrow = counted_small (compares op value c) where
+  counted_small : (test : Bool) → IsSmall (rows + 1) (number +ℤ pos (cond test 1 0))
+  counted_small true = record { least = omega (arith, ints, a.least); greatest = omega (arith, ints, a.greatest) }
+  counted_small false = record { least = omega (arith, ints, a.least); greatest = omega (arith, ints, a.greatest) }
+
+pub taking_small : (reduction : Reduction) (rows step : ℕ) (number : ℤ) (values : List ℤ) → IsSmall rows number → Each1 IsNarrow values → length values ≡ step
+    → IsSmall (rows + step) (fold (taking reduction) number values)
+taking_small reduction rows step number [] a narrow long = let none : rows ≡ rows + step = omega arith in subst (λ (n : ℕ). IsSmall n number) none a
+taking_small reduction rows step number (value ∷ values) a narrow long =
+    let next : rows + 1 + (step - 1) ≡ rows + step = omega arith in
+    subst (λ (n : ℕ). IsSmall n (fold (taking reduction) (taking reduction number value) values)) next
+    (taking_small reduction (rows + 1) (step - 1) (taking reduction number value) values (one_small reduction rows number value a narrow.0) narrow.1 (omega arith))
+
+pub small_fits : (rows : ℕ) (number : ℤ) → rows ≤ 2 ^ 24 → IsSmall rows number → FitsSigned w64 number
+small_fits rows (pos n) few a = record { sfits = omega (arith, ints, a.greatest) }
+small_fits rows (negsuc n) few a = record { sfits = omega (arith, ints, a.least) }
+
+-- the sum of some values beside a number, and of lanes of which the others are 0
+sum_apart : (first second : ℤ) (values : List ℤ) → fold (λ a b. a +ℤ b) (first +ℤ second) values ≡ first +ℤ fold (λ a b. a +ℤ b) second values
+sum_apart first second [] = refl
+sum_apart first second (value ∷ values) =
+    let same : first +ℤ second +ℤ value ≡ first +ℤ (second +ℤ value) = omega (arith, ints) in
+    ap (λ (n : ℤ). fold (λ a b. a +ℤ b) n values) same ∙ sum_apart first (second +ℤ value) values
+
+sum_beside : (number : ℤ) (values : List ℤ) → number +ℤ fold (λ a b. a +ℤ b) (pos 0) values ≡ fold (λ a b. a +ℤ b) number values
+sum_beside number values =
+    let none : number +ℤ pos 0 ≡ number = omega (arith, ints) in
+    sym (sum_apart number (pos 0) values) ∙ ap (λ (n : ℤ). fold (λ a b. a +ℤ b) n values) none
+
+no_more : (number : ℤ) (lanes : ℕ) → fold (λ a b. a +ℤ b) number (replicate lanes (pos 0)) ≡ number
+no_more number zero = refl
+no_more number (suc lanes) = ap (λ (n : ℤ). fold (λ a b. a +ℤ b) n (replicate lanes (pos 0))) (omega (arith, ints)) ∙ no_more number lanes
+
+pub sum_of_lanes : (number : ℤ) (block : List ℤ) (lanes rest : ℕ) → block ≡ take lanes block ++ replicate rest (pos 0)
+    → number +ℤ fold (λ a b. a +ℤ b) (pos 0) block ≡ fold (taking Sum) number (take lanes block)
+sum_of_lanes number block lanes rest is =
+    sum_beside number block ∙ ap (fold (λ (a b : ℤ). a +ℤ b) number) is ∙ fold-append (λ (a b : ℤ). a +ℤ b) number (take lanes block) (replicate rest (pos 0))
+    ∙ no_more (fold (λ (a b : ℤ). a +ℤ b) number (take lanes block)) rest
+
+-- how many compare so, beside a number
+count_apart : (op : Compare) (c number : ℤ) (n : ℕ) (values : List ℤ) → number +ℤ pos (fold (λ (a : ℕ) (value : ℤ). a + cond (compares op value c) 1 0) n values) ≡ fold (taking (Count op c)) (number +ℤ pos n) values
+count_apart op c number n [] = refl
+count_apart op c number n (value ∷ values) =
+    let same : number +ℤ pos (n + cond (compares op value c) 1 0) ≡ number +ℤ pos n +ℤ pos (cond (compares op value c) 1 0) = omega (arith, ints) in
+    count_apart op c number (n + cond (compares op value c) 1 0) values ∙ ap (λ (m : ℤ). fold (taking (Count op c)) m values) same
+
+pub count_beside : (op : Compare) (c number : ℤ) (values : List ℤ) → number +ℤ pos (count_by (λ value. compares op value c) values) ≡ fold (taking (Count op c)) number values
+count_beside op c number values = count_apart op c number 0 values ∙ ap (λ (n : ℤ). fold (taking (Count op c)) n values) (omega (arith, ints))
+
+-- how many of some values pass a test
+count : (ℤ → Bool) → List ℤ → ℕ
+count test [] = 0
+count test (value ∷ values) = cond (test value) 1 0 + count test values
+
+count_cons : (test : Bool) (n : ℕ) → cond test 1 0 + n ≡ cond test (1 + n) n
+count_cons true n = refl
+count_cons false n = omega arith
+
+count_is : (test : ℤ → Bool) (values : List ℤ) → count test values ≡ count_by test values
+unfolding count
+count_is test values = is_count_by (count test) test refl (λ value rest. count_cons (test value) (count test rest)) values
+
+-- a test and its contrary
+others : (test other : ℤ → Bool) → ((value : ℤ) → other value ≡ not (test value)) → (values : List ℤ) → count other values + count test values ≡ length values
+unfolding count
+others test other apart [] = refl
+others test other apart (value ∷ values) = omega (arith, one (test value) (other value) (apart value), others test other apart values) where
+  one : (this that : Bool) → that ≡ not this → cond that 1 0 + cond this 1 0 ≡ 1
+  one true that is = ap (λ (t : Bool). cond t 1 0 + 1) is
+  one false that is = ap (λ (t : Bool). cond t 1 0 + 0) is
+
+-- a test that is one of two others, which exclude each other
+either : (test one other : ℤ → Bool) → ((value : ℤ) → cond (test value) 1 0 ≡ cond (one value) 1 0 + cond (other value) 1 0) → (values : List ℤ) → count test values ≡ count one values + count other values
+unfolding count
+either test one other parts [] = refl
+either test one other parts (value ∷ values) = omega (arith, parts value, either test one other parts values)
+
+not_both : (a b : ℤ) → int_lt a b ≡ true → int_lt b a ≡ true → ⊥
+not_both a b below above = grind (arith, ints)
+
+parts_of : (below above : Bool) → (below ≡ true → above ≡ true → ⊥) → cond (not (is_eq (cond below Less (cond above Greater Equal)))) 1 0 ≡ cond below 1 0 + cond above 1 0
+parts_of true true clash = absurd (clash refl refl)
+parts_of true false clash = refl
+parts_of false true clash = refl
+parts_of false false clash = refl
+
+ne_parts : (value c : ℤ) → cond (not (int_eq value c)) 1 0 ≡ cond (int_lt value c) 1 0 + cond (int_lt c value) 1 0
+ne_parts value c = parts_of (int_lt value c) (int_lt c value) (not_both value c)
+
+le_apart : (value c : ℤ) → int_le value c ≡ not (int_lt c value)
+le_apart value c = grind (arith, ints)
+
+not_not : (test : Bool) → test ≡ not (not test)
+not_not true = refl
+not_not false = refl
+
+-- the counts of each comparison, from those below and above
+pub ne_count : (c : ℤ) (values : List ℤ) → count_by (λ value. int_lt value c) values + count_by (λ value. int_lt c value) values ≡ count_by (λ value. compares Ne value c) values
+ne_count c values =
+    omega (arith, either (λ value. compares Ne value c) (λ value. int_lt value c) (λ value. int_lt c value) (λ value. ne_parts value c) values,
+    count_is (λ value. compares Ne value c) values, count_is (λ value. int_lt value c) values, count_is (λ value. int_lt c value) values)
+
+pub eq_count : (c : ℤ) (values : List ℤ) → count_by (λ value. compares Eq value c) values + count_by (λ value. compares Ne value c) values ≡ length values
+eq_count c values =
+    omega (arith, others (λ value. compares Ne value c) (λ value. compares Eq value c) (λ value. not_not (int_eq value c)) values,
+    count_is (λ value. compares Ne value c) values, count_is (λ value. compares Eq value c) values)
+
+pub le_count : (c : ℤ) (values : List ℤ) → count_by (λ value. compares Le value c) values + count_by (λ value. int_lt c value) values ≡ length values
+le_count c values =
+    omega (arith, others (λ value. int_lt c value) (λ value. compares Le value c) (λ value. le_apart value c) values,
+    count_is (λ value. compares Le value c) values, count_is (λ value. int_lt c value) values)
+
+pub ge_count : (c : ℤ) (values : List ℤ) → count_by (λ value. compares Ge value c) values + count_by (λ value. int_lt value c) values ≡ length values
+ge_count c values =
+    omega (arith, others (λ value. int_lt value c) (λ value. compares Ge value c) (λ value. le_apart c value) values,
+    count_is (λ value. compares Ge value c) values, count_is (λ value. int_lt value c) values)
 
 -- a count, value by value
 one_counted : (n : ℕ) (test : Bool) → pos n +ℤ pos (cond test 1 0) ≡ pos (n + cond test 1 0)
@@ -84,16 +221,16 @@ counted op c n [] = refl
 counted op c n (value ∷ values) = counted op c (n + cond (compares op value c) 1 0) values
 
 -- a value beside which the first number says nothing
-least_first : (value : ℤ) → IsConstant value → int_min (start Least) value ≡ value
+least_first : (value : ℤ) → IsNarrow value → int_min (start Least) value ≡ value
 least_first value v = omega (arith, ints, v.1, int_min_is (start Least) value)
 
-greatest_first : (value : ℤ) → IsConstant value → int_max (start Greatest) value ≡ value
+greatest_first : (value : ℤ) → IsNarrow value → int_max (start Greatest) value ≡ value
 greatest_first value v = omega (arith, ints, v.0, int_max_is (start Greatest) value)
 
 -- there is a first row, whose value has at most 32 bits
 pub record HasFirst (leaf : ℕ) (table : List (List ℤ)) : Type 0 where
   pub some : 0 < length table
-  pub narrow : IsConstant (in_leaf leaf (get_or table 0 []))
+  pub narrow : IsNarrow (in_leaf leaf (get_or table 0 []))
 
 -- the number is that of the kernel
 number_is : (reduction : Reduction) (leaf : ℕ) (table : List (List ℤ)) → (wants_a_row reduction ≡ true → HasFirst leaf table)
@@ -132,9 +269,9 @@ no_empty Greatest leaf [] first = let some = (first refl).some in absurd (omega 
 no_empty Greatest leaf (row ∷ rows) first = refl
 
 -- a reduction gives its number
-pub reduction_ends : (seen : Table) (reduction : Reduction) (leaf : ℕ) (number : ℤ) → (wants_a_row reduction ≡ true → HasFirst leaf seen.rows)
-    → number ≡ reduced reduction (column leaf seen.rows) → IsRun seen (after_log seen (rows_log (reducing leaf reduction) (length seen.rows))) (reducing leaf reduction) (Ok (Some number))
-reduction_ends seen reduction leaf number first is =
+pub reduction_ends : (seen : Table) (reduction : Reduction) (leaf lanes : ℕ) (number : ℤ) → (wants_a_row reduction ≡ true → HasFirst leaf seen.rows)
+    → number ≡ reduced reduction (column leaf seen.rows) → IsRun seen (after_log seen (rows_log (reducing leaf reduction) (length seen.rows))) (reducing leaf reduction) lanes (Ok (Some number))
+reduction_ends seen reduction leaf lanes number first is =
     let kernel = reducing leaf reduction in
     let none = stores_nothing reduction leaf in
     let stands = rows_stand (kept_of seen) kernel (length seen.rows) seen.rows none in (
@@ -152,5 +289,82 @@ empty_first Least leaf (row ∷ rows) wants none = absurd (omega (arith, none))
 empty_first Greatest leaf [] wants none = refl
 empty_first Greatest leaf (row ∷ rows) wants none = absurd (omega (arith, none))
 
-pub reduction_empty : (seen : Table) (reduction : Reduction) (leaf : ℕ) → wants_a_row reduction ≡ true → length seen.rows ≡ 0 → IsRun seen seen (reducing leaf reduction) (Err Empty)
-reduction_empty seen reduction leaf wants none = (rw (empty_first reduction leaf seen.rows wants none) refl, sym (after_log-none seen))
+pub reduction_empty : (seen : Table) (reduction : Reduction) (leaf lanes : ℕ) → wants_a_row reduction ≡ true → length seen.rows ≡ 0 → IsRun seen seen (reducing leaf reduction) lanes (Err Empty)
+reduction_empty seen reduction leaf lanes wants none = (rw (empty_first reduction leaf seen.rows wants none) refl, sym (after_log-none seen))
+
+-- what is counted below and above a number in so many values tells each comparison
+pub record IsCounted (c : ℤ) (values : List ℤ) (below above lanes : ℕ) : Type 0 where
+  pub low : below ≡ count_by (λ value. int_lt value c) values
+  pub high : above ≡ count_by (λ value. int_lt c value) values
+  pub all : length values ≡ lanes
+
+pub counted_ne : (c : ℤ) (values : List ℤ) (below above lanes : ℕ) → IsCounted c values below above lanes → below + above ≡ count_by (λ value. compares Ne value c) values
+counted_ne c values below above lanes is = omega (arith, is.low, is.high, ne_count c values)
+
+pub counted_eq : (c : ℤ) (values : List ℤ) (below above lanes : ℕ) → IsCounted c values below above lanes → lanes - (below + above) ≡ count_by (λ value. compares Eq value c) values
+counted_eq c values below above lanes is = omega (arith, is.low, is.high, is.all, ne_count c values, eq_count c values)
+
+pub counted_few : (c : ℤ) (values : List ℤ) (below above lanes : ℕ) → IsCounted c values below above lanes → below + above ≤ lanes
+counted_few c values below above lanes is = omega (arith, is.low, is.high, is.all, ne_count c values, eq_count c values)
+
+pub counted_le : (c : ℤ) (values : List ℤ) (below above lanes : ℕ) → IsCounted c values below above lanes → lanes - above ≡ count_by (λ value. compares Le value c) values
+counted_le c values below above lanes is = omega (arith, is.high, is.all, le_count c values)
+
+pub counted_ge : (c : ℤ) (values : List ℤ) (below above lanes : ℕ) → IsCounted c values below above lanes → lanes - below ≡ count_by (λ value. compares Ge value c) values
+counted_ge c values below above lanes is = omega (arith, is.low, is.all, ge_count c values)
+
+-- the number of a block is worked out so
+pub first_narrow : (block : List ℤ) (lanes : ℕ) → Each1 IsNarrow block → Each1 IsNarrow (take lanes block)
+first_narrow block lanes narrow = Each1-chunk IsNarrow 0 lanes block narrow
+
+pub plain_sum : (number more : ℤ) → FitsSigned w64 number → FitsSigned w64 more → to_z w64 (of_z w64 number) +ℤ to_z w64 (of_z w64 more) ≡ number +ℤ more
+plain_sum number more fits also = rw (to_z-of_z w64 number fits, to_z-of_z w64 more also) refl
+
+pub block_fits : (reduction : Reduction) (rows lanes : ℕ) (number : ℤ) (block : List ℤ) → rows + lanes ≤ 2 ^ 24 → lanes ≤ 16 → length block ≡ 16 → IsSmall rows number → Each1 IsNarrow block
+    → FitsSigned w64 (fold (taking reduction) number (take lanes block))
+block_fits reduction rows lanes number block few within long small narrow =
+    small_fits (rows + lanes) (fold (taking reduction) number (take lanes block)) few
+    (taking_small reduction rows lanes number (take lanes block) small (first_narrow block lanes narrow) (omega (arith, length-take lanes block)))
+
+-- the rows before this one are taken, in blocks
+pub record HasReduced (reduction : Reduction) (leaf lanes : ℕ) (old view : Table) (row : ℕ) (number : ℤ) : Type 0 where
+  pub same : view ≡ after_log old (rows_log (reducing leaf reduction) row)
+  pub so_far : number ≡ reduced reduction (take row (column leaf old.rows))
+  pub small : IsSmall row number
+  pub at : IsAt lanes (length old.rows) row
+
+pub nothing_reduced : (reduction : Reduction) (leaf lanes : ℕ) (old : Table) (number : ℤ) → 0 < lanes → number ≡ start reduction → HasReduced reduction leaf lanes old old 0 number
+nothing_reduced reduction leaf lanes old number some is = record {
+  same = sym (after_log-none old);
+  so_far = is;
+  small = subst (IsSmall 0) (sym is) (start_small reduction);
+  at = at_start lanes (length old.rows) some;
+}
+
+-- the first lanes of a load
+pub lanes_of : (values block : List ℤ) (step : ℕ) → block ≡ take step values ++ replicate (16 - step) (pos 0) → step ≤ length values → take step block ≡ take step values
+lanes_of values block step is few =
+    let long : length (take step values) ≡ step = omega (arith, length-take step values) in
+    ap (take step) is ∙ ap (λ (n : ℕ). take n (take step values ++ replicate (16 - step) (pos 0))) (sym long) ∙ take-append_seam (take step values) (replicate (16 - step) (pos 0))
+
+pub lanes_rest : (values block : List ℤ) (step : ℕ) → block ≡ take step values ++ replicate (16 - step) (pos 0) → step ≤ length values → block ≡ take step block ++ replicate (16 - step) (pos 0)
+lanes_rest values block step is few = is ∙ ap (λ (front : List ℤ). front ++ replicate (16 - step) (pos 0)) (sym (lanes_of values block step is few))
+
+pub reduced_step : (reduction : Reduction) (leaf lanes row step : ℕ) (old view new : Table) (number more : ℤ) (block : List ℤ) → HasReduced reduction leaf lanes old view row number
+    → IsStep lanes (length old.rows) row step → block ≡ take step (drop row (column leaf view.rows)) ++ replicate (16 - step) (pos 0) → length block ≡ 16 → step ≤ 16
+    → Each1 IsNarrow block → more ≡ fold (taking reduction) number (take step block) → new ≡ after_log view (column_reads leaf row step) → HasReduced reduction leaf lanes old new (row + step) more
+reduced_step reduction leaf lanes row step old view new number more block so_far next is long few narrow taken read =
+    let rows : view.rows ≡ old.rows = ap (λ (t : Table). t.rows) so_far.same in
+    let there : block ≡ take step (drop row (column leaf old.rows)) ++ replicate (16 - step) (pos 0) =
+        is ∙ ap (λ (rs : List (List ℤ)). take step (drop row (column leaf rs)) ++ replicate (16 - step) (pos 0)) rows in
+    let enough : step ≤ length (drop row (column leaf old.rows)) = omega (arith, length-drop row (column leaf old.rows), length-map old.rows (in_leaf leaf), next.room) in
+    let values = lanes_of (drop row (column leaf old.rows)) block step there enough in
+    record {
+      same = read_more reduction leaf row step old view new so_far.same read;
+      so_far = reduced_more reduction leaf row step old.rows number more so_far.so_far (taken ∙ ap (fold (taking reduction) number) values);
+      small = subst (IsSmall (row + step)) (sym taken) (taking_small reduction row step number (take step block) so_far.small (first_narrow block step narrow) (omega (arith, length-take step block)));
+      at = next.next;
+    }
+
+pub block_room : (leaf row step : ℕ) (rows : List (List ℤ)) → row + step ≤ length rows → step ≤ length (drop row (column leaf rows))
+block_room leaf row step rows room = omega (arith, length-drop row (column leaf rows), length-map rows (in_leaf leaf))

@@ -1,5 +1,5 @@
 -- What a kernel makes of the rows of a table, row by row, and which number it gives.
-use Rattle.std.specs.Prelude.{ℕ, ◌+◌, ◌*◌, ◌^◌, ◌<◌, ◌≤◌, ◌≡◌, Bool, not, ℤ, pos, neg_ℤ, ◌+ℤ◌, ◌*ℤ◌, ◌≤ℤ◌, ◌<ℤ◌, int_lt, int_le, List, [], ◌∷◌, ◌++◌, length, map, take, drop, fold, slice_index_or, slice_set, Option, Some, None, Result, Ok, Err}
+use Rattle.std.specs.Prelude.{ℕ, ◌+◌, ◌*◌, ◌/◌, ◌%◌, ◌^◌, ◌<◌, ◌≤◌, ◌≡◌, Bool, not, ℤ, pos, neg_ℤ, ◌+ℤ◌, ◌*ℤ◌, ◌≤ℤ◌, ◌<ℤ◌, int_lt, int_le, List, [], ◌∷◌, ◌++◌, length, map, take, drop, fold, slice_index_or, slice_set, Option, Some, None, Result, Ok, Err}
 use Rattle.std.specs.Int.{int_min, int_max}
 use Rattle.std.specs.List.{count_by}
 use Rattle.std.specs.Option.{option_or}
@@ -9,6 +9,8 @@ use Rattle.views.specs.Tables.{Table, leaf_count_of, leaf_type_of, answer_of, ke
 use Rattle.views.specs.Stores.{Answer, Keeping}
 use Rattle.views.specs.declared.fault.StoreFault.TheVariants as store
 use Rattle.views.specs.declared.fault.StoreFault.{StoreFault}
+pub use Rattle.views.specs.Columns.{in_leaf, column, IsNarrowLeaf}
+pub use Rattle.lanes.specs.Blocks.{IsFactor, IsNarrow}
 use Rattle.lane_kernels.specs.Logs.{rows_log, fault_log}
 use Rattle.lane_kernels.specs.declared.fault.KernelFault.{KernelFault}
 use Rattle.lane_kernels.specs.declared.fault.KernelFault.TheVariants.{Empty, Range, Narrow}
@@ -25,13 +27,6 @@ compares Lt value c = int_lt value c
 compares Le value c = int_le value c
 compares Gt value c = int_lt c value
 compares Ge value c = int_le c value
-
--- the value of a leaf in a row, and its values in all rows
-abbrev pub in_leaf : ℕ → List ℤ → ℤ
-in_leaf leaf row = slice_index_or row leaf (pos 0)
-
-abbrev pub column : ℕ → List (List ℤ) → List ℤ
-column leaf rows = map (in_leaf leaf) rows
 
 -- what a kernel stores in a row: a leaf and its value
 pub record Store : Type 0 where
@@ -54,10 +49,13 @@ abbrev pub run_rows : Keeping → Kernel → ℕ → List (List ℤ) → List (L
 run_rows keep kernel count rows = map (λ row. with_store keep row (stored kernel row)) (take count rows) ++ drop count rows
 
 -- the fault of a store that the row of this number does not take
+abbrev pub fault_named : ℕ → ℕ → StoreFault → KernelFault
+fault_named row leaf store.Range = Range row leaf
+fault_named row leaf store.Narrow = Narrow row leaf
+
 abbrev pub answer_fault : ℕ → ℕ → Result ℤ StoreFault → Option KernelFault
 answer_fault row leaf (Ok kept) = None
-answer_fault row leaf (Err store.Range) = Some (Range row leaf)
-answer_fault row leaf (Err store.Narrow) = Some (Narrow row leaf)
+answer_fault row leaf (Err fault) = Some (fault_named row leaf fault)
 
 abbrev pub store_fault : Answer → ℕ → Option Store → Option KernelFault
 store_fault answer row None = None
@@ -98,41 +96,29 @@ rows_before Empty = 0
 rows_before (Range row leaf) = row
 rows_before (Narrow row leaf) = row
 
--- what a kernel answers on a view, which becomes `new`; after a fault exactly the rows before it are changed
-abbrev pub IsRun : Table → Table → Kernel → Result (Option ℤ) KernelFault → Type 0
-IsRun old new kernel (Ok number) =
+-- what a kernel answers on a view, which becomes `new`, in blocks of so many rows; after a fault exactly the rows before it are changed
+abbrev pub IsRun : Table → Table → Kernel → ℕ → Result (Option ℤ) KernelFault → Type 0
+IsRun old new kernel lanes (Ok number) =
     (kernel_fault (answer_of old) kernel old.rows ≡ None) × (number ≡ number_of kernel old.rows)
     × (new ≡ after_stores old (run_rows (kept_of old) kernel (length old.rows) old.rows) (rows_log kernel (length old.rows)))
-IsRun old new kernel (Err fault) =
+IsRun old new kernel lanes (Err fault) =
     (kernel_fault (answer_of old) kernel old.rows ≡ Some fault)
-    × (new ≡ after_stores old (run_rows (kept_of old) kernel (rows_before fault) old.rows) (fault_log kernel fault))
-
--- a leaf of a view, of at most 32 bits
-pub record IsNarrowLeaf (table : Table) (leaf : ℕ) : Type 0 where
-  pub inside : leaf < leaf_count_of table
-  pub narrow : width_of (leaf_type_of table leaf) ≤ 32
-
--- a factor from -2^31 to 2^31 - 1, and any other constant from -2^31 to 2^32 - 1
-abbrev pub IsFactor : ℤ → Type 0
-IsFactor a = (neg_ℤ (pos (2 ^ 31)) ≤ℤ a) × (a <ℤ pos (2 ^ 31))
-
-abbrev pub IsConstant : ℤ → Type 0
-IsConstant c = (neg_ℤ (pos (2 ^ 31)) ≤ℤ c) × (c <ℤ pos (2 ^ 32))
+    × (new ≡ after_stores old (run_rows (kept_of old) kernel (rows_before fault) old.rows) (fault_log kernel lanes (length old.rows) fault))
 
 -- a kernel that can run on a view
 abbrev pub IsKernelOf : Table → Kernel → Type 0
 IsKernelOf table (Axpy a x y) = IsFactor a × IsNarrowLeaf table x × IsNarrowLeaf table y
-IsKernelOf table (Clamp x lo hi) = IsNarrowLeaf table x × IsConstant lo × IsConstant hi × (lo ≤ℤ hi)
+IsKernelOf table (Clamp x lo hi) = IsNarrowLeaf table x × IsNarrow lo × IsNarrow hi × (lo ≤ℤ hi)
 IsKernelOf table (Sum x) = IsNarrowLeaf table x
 IsKernelOf table (Least x) = IsNarrowLeaf table x
 IsKernelOf table (Greatest x) = IsNarrowLeaf table x
-IsKernelOf table (CountWhere x op c) = IsNarrowLeaf table x × IsConstant c
+IsKernelOf table (CountWhere x op c) = IsNarrowLeaf table x × IsNarrow c
 
--- the most steps of a kernel for each row, and over so many rows; one more is left for a kernel that ends
+-- the most steps of a kernel for a block or for a row of the rest, and over so many rows in blocks of so many lanes
 abbrev pub row_cost : Kernel → ℕ
 row_cost (Axpy a x y) = 3
 row_cost (Clamp x lo hi) = 2
 row_cost _ = 1
 
-abbrev pub plain_cost : Kernel → ℕ → ℕ
-plain_cost kernel rows = row_cost kernel * rows + 1
+abbrev pub kernel_cost : Kernel → ℕ → ℕ → ℕ
+kernel_cost kernel lanes rows = row_cost kernel * (rows / lanes + rows % lanes) + lanes

@@ -1,5 +1,5 @@
 -- The accesses of a kernel, row by row: in each row its reads, then its write.
-use Rattle.std.specs.Prelude.{ℕ, List, [], ◌∷◌, ◌++◌}
+use Rattle.std.specs.Prelude.{ℕ, ◌+◌, ◌*◌, ◌/◌, nat_le, List, [], ◌∷◌, ◌++◌, if◌then◌else◌}
 use Rattle.std.specs.List.{flat_map, range_with_len}
 use Rattle.views.specs.Tallies.{Access, Read, Write}
 use Rattle.lane_kernels.specs.declared.fault.KernelFault.{KernelFault}
@@ -24,8 +24,16 @@ writes_on _ row = []
 abbrev pub rows_log : Kernel → ℕ → List Access
 rows_log kernel count = flat_map (λ row. reads_on kernel row ++ writes_on kernel row) (range_with_len 0 count)
 
--- those up to a fault: of the rows before it, and the reads of its own row
-abbrev pub fault_log : Kernel → KernelFault → List Access
-fault_log kernel Empty = []
-fault_log kernel (Range row leaf) = rows_log kernel row ++ reads_on kernel row
-fault_log kernel (Narrow row leaf) = rows_log kernel row ++ reads_on kernel row
+-- how many of so many rows are read where one is refused: those through the end of its block, and in the rest those through itself
+abbrev pub rows_read : ℕ → ℕ → ℕ → ℕ
+rows_read lanes count row = if nat_le ((row / lanes + 1) * lanes) count then (row / lanes + 1) * lanes else row + 1
+
+-- the reads of these rows, and the writes of the rows before the refused one
+abbrev pub stopped_log : Kernel → ℕ → ℕ → List Access
+stopped_log kernel read row = flat_map (reads_on kernel) (range_with_len 0 read) ++ flat_map (writes_on kernel) (range_with_len 0 row)
+
+-- those up to a fault, in blocks of so many rows
+abbrev pub fault_log : Kernel → ℕ → ℕ → KernelFault → List Access
+fault_log kernel lanes count Empty = []
+fault_log kernel lanes count (Range row leaf) = stopped_log kernel (rows_read lanes count row) row
+fault_log kernel lanes count (Narrow row leaf) = stopped_log kernel (rows_read lanes count row) row

@@ -1,15 +1,17 @@
 // Kernels that store in each row.
-ghost use Rattle.std.specs.Prelude.{◌≡◌, ◌+◌, ◌*◌, ◌++◌, ◌<◌, ◌≤◌, OnOk, OnErr, IfErr, Some, None, [], length, slice_index_or, slice_set};
-ghost use Rattle.views.specs.Tables.{leaf_count_of, answer_of, kept_of, after_log, after_stores};
-ghost use Rattle.lane_kernels.specs.Kernels.{IsKernelOf, IsRun, stored, with_store, store_fault, rows_before, row_cost};
-ghost use Rattle.lane_kernels.specs.Changes.{changing};
-ghost use Rattle.lane_kernels.specs.Logs.{reads_on, writes_on};
+ghost use Rattle.std.specs.Prelude.{◌≡◌, ◌+◌, ◌≤◌, ◌^◌, OnOk, IfErr, length, map, take, drop};
+ghost use Rattle.lanes.specs.Blocks.{IsBlock};
+ghost use Rattle.views.specs.Tables.{after_log};
+ghost use Rattle.lane_kernels.specs.Kernels.{IsKernelOf, IsRun, row_cost, kernel_cost};
+ghost use Rattle.lane_kernels.specs.Changes.{changing, changed_leaf, changed_value, block_reads, IsDone, IsStopped};
 
+use crate::blocks::step_at;
 use crate::fault::KernelFault;
-use crate::values::narrow_value;
+use lanes::Block;
+use std::simd::Simd;
 use std::sync::ledger::Ledger;
 use steps::Steps;
-use views::{StoreFault, View};
+use views::{LaneFault, View};
 
 /// What is stored in each row.
 #[derive(Clone, Copy)]
@@ -22,68 +24,78 @@ pub enum Change {
 pub fn change_rows<L: Ledger>(
     view: &mut View,
     change: &Change,
+    lanes: usize,
     steps: &mut Steps<L>,
 ) -> Result<Option<i64>, KernelFault>
-    requires { IsKernelOf view.old (changing change.now) }
-    ensures run { IsRun view.old view.new (changing change.now) result }
-    ensures steps { steps.new ≤ steps.old + row_cost (changing change.now) * length view.old.rows }
+    requires kernel { IsKernelOf view.old (changing change.now) }
+    requires some { 1 ≤ lanes }
+    requires few { lanes ≤ 16 }
+    ensures run { IsRun view.old view.new (changing change.now) lanes result }
+    ensures steps { steps.new ≤ steps.old + kernel_cost (changing change.now) lanes (length view.old.rows) }
 {
-    for row in 0..view.extents().count() {
-        change_row(view, row, change, steps)?;
+    let count = view.extents().count();
+    let mut row = 0;
+    while row < count {
+        let step = step_at(row, lanes, count);
+        change_block(view, row, step, change, steps)?;
+        row += step as u64;
     }
     Ok(None)
 }
 
-// Stores in one row, or only reads it.
-fn change_row<L: Ledger>(
+// Stores in so many rows from this one on, up to the first that does not take its value.
+fn change_block<L: Ledger>(
     view: &mut View,
     row: u64,
+    lanes: usize,
     change: &Change,
     steps: &mut Steps<L>,
 ) -> Result<(), KernelFault>
-    requires row_in { row < length view.old.rows }
+    requires few { lanes ≤ 16 }
+    requires rows_in { row + lanes ≤ length view.old.rows }
+    requires small { row + lanes ≤ 2 ^ 24 }
     requires kernel { IsKernelOf view.old (changing change.now) }
-    ensures taken { OnOk result (store_fault (answer_of view.old) row (stored (changing change.now) (slice_index_or view.old.rows row [])) ≡ None) }
-    ensures stored { let values = slice_index_or view.old.rows row [] in
-        OnOk result (view.new ≡ after_stores view.old (slice_set view.old.rows row (with_store (kept_of view.old) values (stored (changing change.now) values)))
-        (reads_on (changing change.now) row ++ writes_on (changing change.now) row)) }
-    ensures refused { IfErr result (λ fault. store_fault (answer_of view.old) row (stored (changing change.now) (slice_index_or view.old.rows row []))
-        ≡ Some fault) }
-    ensures named { IfErr result (λ fault. rows_before fault ≡ row) }
-    ensures read { OnErr result (view.new ≡ after_log view.old (reads_on (changing change.now) row)) }
-    ensures steps { steps.new ≡ steps.old + row_cost (changing change.now) }
+    ensures done { OnOk result (IsDone view.old view.new change.now row lanes) }
+    ensures stopped { IfErr result (IsStopped view.old view.new change.now row lanes) }
+    ensures most { steps.new ≤ steps.old + row_cost (changing change.now) + 1 }
+    ensures taken { OnOk result (steps.new ≡ steps.old + row_cost (changing change.now)) }
 {
-    let (leaf, value) = store_of(view, row, change, steps);
-    match view.set(row, leaf, value, steps) {
+    let (leaf, values) = values_of(view, row, lanes, change, steps);
+    match view.store_lanes(row, leaf, lanes, values, steps) {
         Ok(()) => Ok(()),
-        Err(StoreFault::Range) => Err(KernelFault::Range { row, leaf }),
-        Err(StoreFault::Narrow) => Err(KernelFault::Narrow { row, leaf }),
+        Err(LaneFault { lane, fault }) => {
+            let _stored = view.store_lanes(row, leaf, lane, values, steps);
+            Err(KernelFault::of(row + lane as u64, leaf, fault))
+        }
     }
 }
 
-// The leaf and the value that a change stores in a row.
-fn store_of<L: Ledger>(
+// The leaf and the values that a change stores in so many rows, in the first so many lanes.
+fn values_of<L: Ledger>(
     view: &mut View,
     row: u64,
+    lanes: usize,
     change: &Change,
     steps: &mut Steps<L>,
-) -> (usize, i128)
-    requires row_in { row < length view.old.rows }
+) -> (usize, Simd<i64, 16>)
+    requires few { lanes ≤ 16 }
+    requires rows_in { row + lanes ≤ length view.old.rows }
     requires kernel { IsKernelOf view.old (changing change.now) }
-    ensures store { stored (changing change.now) (slice_index_or view.old.rows row []) ≡ Some (record { leaf = result.0; value = result.1 }) }
-    ensures leaf_in { result.0 < leaf_count_of view.old }
-    ensures same { view.new ≡ after_log view.old (reads_on (changing change.now) row) }
+    ensures leaf { result.0 ≡ changed_leaf change.now }
+    ensures block { IsBlock result.1 }
+    ensures values { take lanes result.1 ≡ map (changed_value change.now) (take lanes (drop row view.old.rows)) }
+    ensures same { view.new ≡ after_log view.old (block_reads change.now row lanes) }
     ensures steps { steps.new + 1 ≡ steps.old + row_cost (changing change.now) }
 {
     match *change {
         Change::Axpy { a, x, y } => {
-            let factor = narrow_value(view, row, x, steps);
-            let added = narrow_value(view, row, y, steps);
-            (y, i128::from(a) * i128::from(factor) + i128::from(added))
+            let from = Block::of(view.load_lanes(row, x, lanes, steps));
+            let added = Block::of(view.load_lanes(row, y, lanes, steps));
+            (y, from.times_plus(a, added).lanes())
         }
         Change::Clamp { x, lo, hi } => {
-            let value = narrow_value(view, row, x, steps);
-            (x, i128::from(value.clamp(lo, hi)))
+            let from = Block::of(view.load_lanes(row, x, lanes, steps));
+            (x, from.clamped(lo, hi).lanes())
         }
     }
 }

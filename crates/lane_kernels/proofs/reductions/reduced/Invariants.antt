@@ -1,14 +1,14 @@
-use Rattle.std.proofs.Common.{◌≡◌, ◌+◌, take}
-use Rattle.views.specs.Tables.{after_log}
-use Rattle.lane_kernels.specs.Kernels.{column}
-use Rattle.lane_kernels.specs.Logs.{rows_log}
-use Rattle.lane_kernels.specs.Reductions.{reducing, reduced, IsSmall}
+use Rattle.std.proofs.Common.{◌≡◌, ◌+◌, ◌-◌, length, ℕ}
+use Rattle.extents.specs.Indices.{indices}
+use Rattle.lane_kernels.proofs.Numbers.{HasReduced}
+use Rattle.lane_kernels.proofs.Stepping.{cost}
 use Rattle.lane_kernels.proofs.reductions.reduced.Given as goal
 
 abbrev pub invariant-loop-row : goal.invariant-loop-row
 invariant-loop-row g l = record {
-  same : l.view ≡ after_log l.initial.view (rows_log (reducing l.leaf l.reduction) l.row);
-  small : IsSmall l.row l.number;
-  so_far : l.number ≡ reduced l.reduction (take l.row (column l.leaf l.initial.view.rows));
-  counted : l.steps ≡ l.initial.steps + l.row;
+  reduced : HasReduced l.reduction l.leaf l.lanes l.initial.view l.view l.row l.number;
+  counted : l.steps ≡ l.initial.steps + cost l.lanes l.row;
 }
+
+abbrev pub decreases-loop-row : goal.decreases-loop-row
+decreases-loop-row g l = l.count - l.row
