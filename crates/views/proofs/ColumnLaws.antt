@@ -1,5 +1,5 @@
 -- The values of one leaf that have at most 32 bits, a lane at a time.
-use Rattle.std.proofs.Common.{◌≡◌, ℕ, zero, suc, ◌+◌, ◌-◌, ◌<◌, ◌≤◌, ◌^◌, List, [], ◌∷◌, ◌++◌, length, map, take, drop, set, get_or, replicate, ℤ, pos, refl, sym, ap, ◌∙◌, subst, arith, length-append, length-take, length-drop, get_or-drop, to_z, of_z, w64}
+use Rattle.std.proofs.Common.{◌≡◌, ℕ, zero, suc, ◌+◌, ◌-◌, ◌<◌, ◌≤◌, List, [], ◌∷◌, ◌++◌, length, take, drop, set, get_or, replicate, ℤ, pos, refl, sym, ap, ◌∙◌, subst, arith, length-append, length-take, length-drop, get_or-drop, to_z, of_z, w64}
 use Rattle.std.proofs.lemmas.Int.{ints, to_z-of_z}
 use Rattle.std.proofs.lemmas.List.{get_or-map, length-map, length-replicate}
 use Rattle.std.proofs.lemmas.Simd.{Each1-replicate}
@@ -72,8 +72,8 @@ loaded_more leaf row lane at old table new values value loaded small below place
     let kept = to_z-of_z w64 value (narrow_fits value narrow) in
     let rows_same : table.rows ≡ old.rows = ap (λ (t : Table). t.rows) loaded.log in
     let there : get_or (drop row (column leaf old.rows)) lane (pos 0) ≡ value =
-        lane_value leaf row lane old.rows below ∙ ap (λ (n : ℕ). in_leaf leaf (get_or old.rows n [])) (sym place)
-        ∙ ap (λ (rows : List (List ℤ)). in_leaf leaf (get_or rows at [])) (sym rows_same) ∙ sym is in
+    lane_value leaf row lane old.rows below ∙ ap (λ (n : ℕ). in_leaf leaf (get_or old.rows n [])) (sym place)
+    ∙ ap (λ (rows : List (List ℤ)). in_leaf leaf (get_or rows at [])) (sym rows_same) ∙ sym is in
     let inside : lane < length (drop row (column leaf old.rows)) = omega (arith, lanes_inside leaf row (lane + 1) old.rows (omega arith)) in
     record {
       filled = ap (set values lane) kept ∙ lanes_more (drop row (column leaf old.rows)) values lane 16 value inside small there loaded.filled;

@@ -1,5 +1,5 @@
 -- The values of one leaf that are stored, a lane at a time.
-use Rattle.std.proofs.Common.{◌≡◌, ℕ, zero, suc, ◌+◌, ◌<◌, ◌≤◌, List, [], ◌∷◌, ◌++◌, length, map, take, drop, set, get_or, ℤ, pos, Some, None, Ok, Err, refl, sym, ap, ◌∙◌, arith, subst, drop-cons, length-take, take_all,  FitsSigned, to_z, of_z, w64}
+use Rattle.std.proofs.Common.{◌≡◌, ℕ, zero, suc, ◌+◌, ◌<◌, ◌≤◌, List, [], ◌∷◌, ◌++◌, length, map, take, drop, set, get_or, ℤ, pos, Some, None, Ok, Err, refl, sym, ap, ◌∙◌, arith, subst, drop-cons, length-take, take_all, FitsSigned, to_z, of_z, w64}
 use Rattle.std.specs.Prelude.{Option, Result}
 use Rattle.std.specs.Int.{w128}
 use Rattle.std.proofs.lemmas.Int.{to_z-of_z}
@@ -8,7 +8,7 @@ use Rattle.std.proofs.lemmas.List.FromFn.{map-range_with_len_more}
 use Rattle.piece_bits.specs.Tables.{hold_at, with_entry}
 use Rattle.views.specs.Stores.{Answer, told}
 use Rattle.views.specs.AnswerLaws.{answer_keeps, told_err, kept_of-same}
-use Rattle.views.specs.Tables.{Table, answer_of, kept_of, leaf_type_of, table_holds, after_log, after_stores, after_write}
+use Rattle.views.specs.Tables.{Table, answer_of, kept_of, leaf_type_of, table_holds, after_stores, after_write}
 use Rattle.views.specs.Tallies.{Write}
 use Rattle.views.specs.TallyLaws.{after_log-none, after_stores-append}
 use Rattle.views.specs.Columns.{column_writes, with_column, lane_fault, first_lane_fault}

@@ -1,11 +1,11 @@
 -- The order of accesses carries no meaning: what is counted of some is counted of them in any order.
-use Rattle.std.proofs.Common.{◌≡◌, ℕ, zero, suc, ◌+◌, Bool, true, false, List, [], ◌∷◌, ◌++◌, map, append_assoc, refl, ap, sym, ◌∙◌, arith}
+use Rattle.std.proofs.Common.{◌≡◌, ℕ, zero, suc, ◌+◌, Bool, true, false, List, [], ◌∷◌, ◌++◌, map, append_assoc, refl, ap, sym, ◌∙◌}
 use Rattle.std.specs.Prelude.{Option, Some, None, option_map, if◌then◌else◌}
 use Rattle.std.specs.List.{fold, flat_map, enumerate_from}
 use Rattle.std.proofs.lemmas.List.{append-nil}
 use Rattle.std.proofs.lemmas.List.Concat.{flat_map-cons}
 use Rattle.places.specs.Layout.{Owner}
-use Rattle.instrument.specs.Counters.{LeafCounts, HeatCounts, counted, next, warmed, warmed_blob}
+use Rattle.instrument.specs.Counters.{LeafCounts, HeatCounts, counted, next, warmed_blob}
 use Rattle.views.specs.Tallies.{Access, Read, Write, Tally, counts_touched, heat_touched, is_hot, touched, tallied}
 use Rattle.views.specs.TallyLaws.{tallied-append}
 
@@ -88,7 +88,7 @@ tallied-swap layout tally (access ∷ one) other =
     ∙ ap (λ (log : List Access). tallied layout tally log) (append_assoc other (access ∷ []) one)
 
 -- the accesses of two kinds of some rows, row by row or kind by kind
-swapped : (layout : List (List Owner)) (tally : Tally) (first second third : List Access) → tallied layout (tallied layout tally (first ++ second)) third ≡ tallied layout tally (first ++ (third ++ second))
+pub swapped : (layout : List (List Owner)) (tally : Tally) (first second third : List Access) → tallied layout (tallied layout tally (first ++ second)) third ≡ tallied layout tally (first ++ (third ++ second))
 swapped layout tally first second third =
     tallied-append layout tally (first ++ second) third
     ∙ ap (λ (log : List Access). tallied layout tally log) (append_assoc first second third)
@@ -96,7 +96,7 @@ swapped layout tally first second third =
     ∙ tallied-swap layout (tallied layout tally first) second third
     ∙ tallied-append layout tally first (third ++ second)
 
-apart : (a b c d : List Access) → (a ++ (b ++ c)) ++ d ≡ (a ++ b) ++ (c ++ d)
+pub apart : (a b c d : List Access) → (a ++ (b ++ c)) ++ d ≡ (a ++ b) ++ (c ++ d)
 apart a b c d = simp append_assoc
 
 pub tallied-kinds : (layout : List (List Owner)) (tally : Tally) (one other : ℕ → List Access) (rows : List ℕ)

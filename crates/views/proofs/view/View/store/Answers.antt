@@ -9,9 +9,7 @@ use Rattle.map_any.specs.Counters.{is_counted}
 use Rattle.map_any.specs.Mappings.{holds_by}
 use Rattle.piece_bits.specs.Tables.{hold_at, with_entry}
 use Rattle.views.specs.Kept.{table_under, tally_of}
-use Rattle.views.specs.Tables.{Table, answer_of, leaf_type_of, table_holds}
-use Rattle.views.specs.Stores.{told}
-use Rattle.views.specs.AnswerLaws.{answer_keeps}
+use Rattle.views.specs.Tables.{Table, answer_of}
 use Rattle.views.specs.Tallies.{Write}
 use Rattle.views.proofs.CountLaws.{idle_tallied}
 use Rattle.views.proofs.Opened.{rows_seen, leaf_seen, cell_count, fits_seen, kept_after, table_same, laid_there, seen_from, seen_written}
