@@ -5,8 +5,9 @@ use Rattle.std.specs.List.{fold, flat_map, enumerate_from}
 use Rattle.std.proofs.lemmas.List.{append-nil}
 use Rattle.std.proofs.lemmas.List.Concat.{flat_map-cons}
 use Rattle.places.specs.Layout.{Owner}
+use Rattle.places.specs.Touched.{is_hot}
 use Rattle.instrument.specs.Counters.{LeafCounts, HeatCounts, counted, next, warmed_blob}
-use Rattle.views.specs.Tallies.{Access, Read, Write, Tally, counts_touched, heat_touched, is_hot, touched, tallied}
+use Rattle.views.specs.Tallies.{Access, Read, Write, Tally, counts_touched, heat_touched, touched, tallied}
 use Rattle.views.specs.TallyLaws.{tallied-append}
 
 -- two counts by leaf
