@@ -1,5 +1,5 @@
 -- What the stores of a block of rows leave.
-use Rattle.std.proofs.Common.{◌≡◌, ℕ, ◌+◌, ◌-◌, ◌<◌, ◌≤◌, List, length, map, take, drop, ℤ, Option, Some, None, Result, Ok, Err, OnOk, IfErr, refl, sym, ap, ◌∙◌, arith, length-take}
+use Rattle.std.proofs.Common.{◌≡◌, ℕ, ◌+◌, ◌-◌, ◌<◌, ◌≤◌, List, map, take, drop, ℤ, Option, Some, None, Result, Ok, Err, OnOk, IfErr, sym, ap, ◌∙◌, arith, length-take}
 use Rattle.std.specs.Prelude.{option_map}
 use Rattle.std.proofs.lemmas.List.{take-take}
 use Rattle.views.specs.Columns.{column_writes, with_column, first_lane_fault}
@@ -80,11 +80,11 @@ block_stopped old read again new change row lanes leaf given fault told result r
     let inside = inside_lanes read leaf lanes given fault named in
     let here : fault.lane - 0 ≡ fault.lane = omega arith in
     let none : first_lane_fault (answer_of again) leaf 0 (take fault.lane given) ≡ None =
-        ap (λ (t : Table). first_lane_fault (answer_of t) leaf 0 (take fault.lane given)) same
-        ∙ ap (first_lane_fault (answer_of read) leaf 0) (sym (ap (λ (n : ℕ). take n (take lanes given)) here ∙ take-take fault.lane lanes given (omega arith)))
-        ∙ first.clean in
+    ap (λ (t : Table). first_lane_fault (answer_of t) leaf 0 (take fault.lane given)) same
+    ∙ ap (first_lane_fault (answer_of read) leaf 0) (sym (ap (λ (n : ℕ). take n (take lanes given)) here ∙ take-take fault.lane lanes given (omega arith)))
+    ∙ first.clean in
     let wrote = stored_then result (new ≡ after_stores again (with_column leaf row (map (kept_of again leaf) (take fault.lane given)) again.rows) (column_writes leaf row fault.lane))
-        (first_lane_fault (answer_of again) leaf 0 (take fault.lane given)) stored refused none in
+    (first_lane_fault (answer_of again) leaf 0 (take fault.lane given)) stored refused none in
     let own : told ≡ fault_named (row + fault.lane) (changed_leaf change) fault.fault = is ∙ ap (λ (l : ℕ). fault_named (row + fault.lane) l fault.fault) ready.at in
     record {
       lane = fault.lane;

@@ -1,5 +1,5 @@
 -- A kernel that stores, block by block, and its first fault.
-use Rattle.std.proofs.Common.{◌≡◌, ℕ, zero, suc, ◌+◌, ◌-◌, ◌<◌, ◌≤◌, List, [], ◌∷◌, ◌++◌, length, map, get_or, set, take, drop, ℤ, Option, Some, None, Result, Ok, Err, refl, sym, ap, subst, ◌∙◌, arith, length-take, length-drop}
+use Rattle.std.proofs.Common.{◌≡◌, ℕ, zero, suc, ◌+◌, ◌<◌, ◌≤◌, List, [], ◌∷◌, ◌++◌, length, map, set, take, drop, ℤ, Option, Some, None, Result, Ok, Err, refl, sym, ap, ◌∙◌, arith, length-take}
 use Rattle.std.specs.Prelude.{option_map}
 use Rattle.std.specs.Option.{option_or}
 use Rattle.std.specs.List.{flat_map, range_with_len}
@@ -7,8 +7,8 @@ use Rattle.std.proofs.Math.Seq.{take-add}
 use Rattle.std.proofs.lemmas.List.{take_all}
 use Rattle.std.proofs.lemmas.List.Concat.{flat_map-cons}
 use Rattle.places.specs.Layout.{Owner}
-use Rattle.views.specs.Columns.{column_reads, column_writes, with_column, lane_fault, first_lane_fault, IsNarrowLeaf}
-use Rattle.views.specs.Tables.{Table, owners_of, answer_of, kept_of, after_log, after_stores}
+use Rattle.views.specs.Columns.{column_reads, column_writes, with_column, lane_fault, first_lane_fault}
+use Rattle.views.specs.Tables.{Table, owners_of, answer_of, kept_of, after_stores}
 use Rattle.views.specs.Stores.{Answer, Keeping}
 use Rattle.views.specs.TallyLaws.{after_log-none, tallied-append}
 use Rattle.views.specs.OrderLaws.{tallied-kinds, swapped, apart}
@@ -16,7 +16,7 @@ use Rattle.views.specs.Tallies.{Access, Read, Write, Tally, tallied}
 use Rattle.views.specs.declared.fault.LaneFault.{LaneFault}
 use Rattle.views.specs.declared.fault.StoreFault.{StoreFault}
 use Rattle.views.specs.declared.fault.StoreFault.TheVariants as store
-use Rattle.lane_kernels.specs.Kernels.{stored, with_store, fault_named, answer_fault, store_fault, first_fault, empty_fault, run_rows, number_of, rows_before, IsKernelOf, IsRun}
+use Rattle.lane_kernels.specs.Kernels.{stored, with_store, fault_named, answer_fault, store_fault, first_fault, empty_fault, run_rows, number_of, rows_before, IsRun}
 use Rattle.lane_kernels.specs.Changes.{changing, changed_leaf, changed_value, block_reads, after_block, IsDone, IsStopped}
 use Rattle.lane_kernels.specs.Logs.{reads_on, writes_on, rows_log, rows_read, stopped_log, fault_log}
 use Rattle.lane_kernels.specs.declared.changes.Change.{Change}
@@ -235,14 +235,15 @@ change_stops old view new change lanes row step fault some so_far small is stopp
     let before : rows_before fault ≡ row + stopped.lane = ap rows_before stopped.is ∙ before_named (row + stopped.lane) (changed_leaf change) stopped.cause in
     let read = step_read lanes (length old.rows) row step (row + stopped.lane) some so_far.at small is (omega arith) (omega (arith, stopped.inside)) in
     let log : fault_log kernel lanes (length old.rows) fault ≡ stopped_log kernel (row + step) (row + stopped.lane) =
-        ap (fault_log kernel lanes (length old.rows)) stopped.is ∙ log_named kernel lanes (length old.rows) (row + stopped.lane) (changed_leaf change) stopped.cause
-        ∙ ap (λ (n : ℕ). stopped_log kernel n (row + stopped.lane)) read in
-    (rw (no_empty change old.rows) first,
-     stopped.after
-     ∙ block_table old view change lanes row step stopped.lane (row + stopped.lane) (tallied (owners_of old) old.tally (stopped_log kernel (row + step) (row + stopped.lane))) so_far refl
-     (log_stopped (owners_of old) old.tally change row step stopped.lane)
-     ∙ ap (λ (n : ℕ). after_stores old (run_rows (kept_of old) kernel n old.rows) (stopped_log kernel (row + step) (row + stopped.lane))) (sym before)
-     ∙ ap (after_stores old (run_rows (kept_of old) kernel (rows_before fault) old.rows)) (sym log))
+    ap (fault_log kernel lanes (length old.rows)) stopped.is ∙ log_named kernel lanes (length old.rows) (row + stopped.lane) (changed_leaf change) stopped.cause
+    ∙ ap (λ (n : ℕ). stopped_log kernel n (row + stopped.lane)) read in (
+      rw (no_empty change old.rows) first,
+      stopped.after
+          ∙ block_table old view change lanes row step stopped.lane (row + stopped.lane) (tallied (owners_of old) old.tally (stopped_log kernel (row + step) (row + stopped.lane))) so_far refl
+          (log_stopped (owners_of old) old.tally change row step stopped.lane)
+          ∙ ap (λ (n : ℕ). after_stores old (run_rows (kept_of old) kernel n old.rows) (stopped_log kernel (row + step) (row + stopped.lane))) (sym before)
+          ∙ ap (after_stores old (run_rows (kept_of old) kernel (rows_before fault) old.rows)) (sym log),
+    )
 
 -- all rows are changed
 pub change_ends : (old view : Table) (change : Change) (lanes row : ℕ) → row ≡ length old.rows → AreChanged old change lanes view row → IsRun old view (changing change) lanes (Ok None)

@@ -5,7 +5,7 @@ use Rattle.std.specs.Prelude.{int_lt, int_le, not}
 use Rattle.std.specs.Ordering.{int_eq}
 use Rattle.std.proofs.lemmas.List.Recursion.{is_count_by}
 use Rattle.std.proofs.lemmas.Int.{ints, int_min_is, int_max_is, to_z-of_z}
-use Rattle.std.proofs.lemmas.List.{get_or-map, length-map}
+use Rattle.std.proofs.lemmas.List.{length-map}
 use Rattle.std.specs.List.{flat_map, count_by, range_with_len}
 use Rattle.std.proofs.Math.Seq.{take-add, take-append_seam}
 use Rattle.std.proofs.lemmas.List.Sums.{fold-append}
@@ -20,7 +20,7 @@ use Rattle.record_dim.specs.LeafTypes.{width_of, IsDeclared}
 use Rattle.record_dim.specs.Leaves.{leaves}
 use Rattle.piece_bits.specs.Tables.{hold_at}
 use Rattle.views.specs.Stores.{Answer, Fits}
-use Rattle.views.specs.Tables.{Table, IsTable, leaf_types_of, leaf_type_of, table_holds, answer_of, kept_of, after_log, after_stores, after_read}
+use Rattle.views.specs.Tables.{Table, IsTable, leaf_types_of, leaf_type_of, table_holds, answer_of, kept_of, after_log, after_stores}
 use Rattle.views.specs.TallyLaws.{after_log-none, after_log-append}
 use Rattle.views.specs.Tallies.{Access, Read}
 use Rattle.views.specs.Columns.{column_reads}
@@ -29,7 +29,7 @@ use Rattle.lane_kernels.specs.Logs.{reads_on, writes_on, rows_log}
 use Rattle.lane_kernels.specs.Reductions.{reducing, start, taking, reduced, wants_a_row, IsSmall}
 use Rattle.lane_kernels.specs.declared.fault.KernelFault.TheVariants.{Empty}
 use Rattle.lane_kernels.specs.declared.kernel.Compare.{Compare}
-use Rattle.lane_kernels.specs.declared.kernel.Compare.TheVariants.{Eq, Ne, Lt, Le, Gt, Ge}
+use Rattle.lane_kernels.specs.declared.kernel.Compare.TheVariants.{Eq, Ne, Le, Ge}
 use Rattle.lane_kernels.specs.declared.kernel.Kernel.{Kernel}
 use Rattle.lane_kernels.specs.declared.reductions.Reduction.{Reduction}
 use Rattle.lane_kernels.specs.declared.reductions.Reduction.TheVariants.{Sum, Least, Greatest, Count}
@@ -194,23 +194,40 @@ not_not false = refl
 -- the counts of each comparison, from those below and above
 pub ne_count : (c : ℤ) (values : List ℤ) → count_by (λ value. int_lt value c) values + count_by (λ value. int_lt c value) values ≡ count_by (λ value. compares Ne value c) values
 ne_count c values =
-    omega (arith, either (λ value. compares Ne value c) (λ value. int_lt value c) (λ value. int_lt c value) (λ value. ne_parts value c) values,
-    count_is (λ value. compares Ne value c) values, count_is (λ value. int_lt value c) values, count_is (λ value. int_lt c value) values)
+    omega (
+      arith,
+      either (λ value. compares Ne value c) (λ value. int_lt value c) (λ value. int_lt c value) (λ value. ne_parts value c) values,
+      count_is (λ value. compares Ne value c) values,
+      count_is (λ value. int_lt value c) values,
+      count_is (λ value. int_lt c value) values,
+    )
 
 pub eq_count : (c : ℤ) (values : List ℤ) → count_by (λ value. compares Eq value c) values + count_by (λ value. compares Ne value c) values ≡ length values
 eq_count c values =
-    omega (arith, others (λ value. compares Ne value c) (λ value. compares Eq value c) (λ value. not_not (int_eq value c)) values,
-    count_is (λ value. compares Ne value c) values, count_is (λ value. compares Eq value c) values)
+    omega (
+      arith,
+      others (λ value. compares Ne value c) (λ value. compares Eq value c) (λ value. not_not (int_eq value c)) values,
+      count_is (λ value. compares Ne value c) values,
+      count_is (λ value. compares Eq value c) values,
+    )
 
 pub le_count : (c : ℤ) (values : List ℤ) → count_by (λ value. compares Le value c) values + count_by (λ value. int_lt c value) values ≡ length values
 le_count c values =
-    omega (arith, others (λ value. int_lt c value) (λ value. compares Le value c) (λ value. le_apart value c) values,
-    count_is (λ value. compares Le value c) values, count_is (λ value. int_lt c value) values)
+    omega (
+      arith,
+      others (λ value. int_lt c value) (λ value. compares Le value c) (λ value. le_apart value c) values,
+      count_is (λ value. compares Le value c) values,
+      count_is (λ value. int_lt c value) values,
+    )
 
 pub ge_count : (c : ℤ) (values : List ℤ) → count_by (λ value. compares Ge value c) values + count_by (λ value. int_lt value c) values ≡ length values
 ge_count c values =
-    omega (arith, others (λ value. int_lt value c) (λ value. compares Ge value c) (λ value. le_apart c value) values,
-    count_is (λ value. compares Ge value c) values, count_is (λ value. int_lt value c) values)
+    omega (
+      arith,
+      others (λ value. int_lt value c) (λ value. compares Ge value c) (λ value. le_apart c value) values,
+      count_is (λ value. compares Ge value c) values,
+      count_is (λ value. int_lt value c) values,
+    )
 
 -- a count, value by value
 one_counted : (n : ℕ) (test : Bool) → pos n +ℤ pos (cond test 1 0) ≡ pos (n + cond test 1 0)
@@ -356,7 +373,7 @@ pub reduced_step : (reduction : Reduction) (leaf lanes row step : ℕ) (old view
 reduced_step reduction leaf lanes row step old view new number more block so_far next is long few narrow taken read =
     let rows : view.rows ≡ old.rows = ap (λ (t : Table). t.rows) so_far.same in
     let there : block ≡ take step (drop row (column leaf old.rows)) ++ replicate (16 - step) (pos 0) =
-        is ∙ ap (λ (rs : List (List ℤ)). take step (drop row (column leaf rs)) ++ replicate (16 - step) (pos 0)) rows in
+    is ∙ ap (λ (rs : List (List ℤ)). take step (drop row (column leaf rs)) ++ replicate (16 - step) (pos 0)) rows in
     let enough : step ≤ length (drop row (column leaf old.rows)) = omega (arith, length-drop row (column leaf old.rows), length-map old.rows (in_leaf leaf), next.room) in
     let values = lanes_of (drop row (column leaf old.rows)) block step there enough in
     record {

@@ -1,6 +1,5 @@
 -- Rows in blocks of so many lanes, and the rest one by one.
-use Rattle.std.proofs.Common.{◌≡◌, ℕ, zero, suc, ◌+◌, ◌-◌, ◌*◌, ◌/◌, ◌%◌, ◌<◌, ◌≤◌, ◌⊎◌, inl, inr, true, false, refl, sym, ap, ◌∙◌, arith}
-use Rattle.std.specs.Prelude.{nat_le}
+use Rattle.std.proofs.Common.{◌≡◌, ℕ, zero, suc, ◌+◌, ◌-◌, ◌*◌, ◌/◌, ◌%◌, ◌<◌, ◌≤◌, ◌⊎◌, inl, inr, sym, ap, ◌∙◌, arith}
 use Rattle.std.proofs.Math.Nat.{add-div_right, add-mod_right, add-mul-div_right, div-eq_of_lt, mul_comm, mul-add, mul-le-mul_left}
 use Rattle.std.proofs.lemmas.Bool.Decides.{nat_tests}
 use Rattle.lane_kernels.specs.Blocks.{step_of}
@@ -49,7 +48,7 @@ whole_cost lanes row some = omega (arith, add-div_right row some, add-mod_right 
 -- the rest
 rest_quotient : (lanes count row : ℕ) → 0 < lanes → IsAt lanes count row → row < count → count < row + lanes → row / lanes ≡ count / lanes
 rest_quotient lanes count row some at small room = elim at.even [
-  inl even ↦ sym (quotient lanes count (row / lanes) some (omega arith) (omega arith))
+  | inl even ↦ sym (quotient lanes count (row / lanes) some (omega arith) (omega arith))
   | inr same ↦ same
 ]
 
@@ -87,10 +86,10 @@ pub record IsStep (lanes count row step : ℕ) : Type 0 where
 
 pub step_next : (lanes count row step : ℕ) → 0 < lanes → IsAt lanes count row → row < count → step ≡ step_of lanes count row → IsStep lanes count row step
 step_next lanes count row step some at small is = elim (lt_or_le count (row + lanes)) [
-  inl room ↦ let one : step ≡ 1 = is ∙ step_rest lanes count row room in
-  rw one (record { next = rest_next lanes count row some at small room; cost = rest_cost lanes count row some at small room; some = omega arith; few = omega arith; room = omega arith })
+  | inl room ↦ let one : step ≡ 1 = is ∙ step_rest lanes count row room in
+      rw one (record { next = rest_next lanes count row some at small room; cost = rest_cost lanes count row some at small room; some = omega arith; few = omega arith; room = omega arith })
   | inr room ↦ let all : step ≡ lanes = is ∙ step_whole lanes count row room in
-  rw all (record { next = whole_next lanes count row some at room; cost = whole_cost lanes row some; some = omega arith; few = omega arith; room = room })
+      rw all (record { next = whole_next lanes count row some at room; cost = whole_cost lanes row some; some = omega arith; few = omega arith; room = room })
 ]
 
 -- how many rows are read where one of this step is refused
@@ -103,25 +102,25 @@ read_rest lanes count row room = grind (arith, nat_tests)
 pub step_read : (lanes count row step refused : ℕ) → 0 < lanes → IsAt lanes count row → row < count → step ≡ step_of lanes count row → row ≤ refused → refused < row + step
     → rows_read lanes count refused ≡ row + step
 step_read lanes count row step refused some at small is from inside = elim (lt_or_le count (row + lanes)) [
-  inl room ↦ let one : step ≡ 1 = is ∙ step_rest lanes count row room in
-  let same = rest_quotient lanes count row some at small room in
-  let here : refused ≡ row = omega arith in
-  let times = ap (λ (n : ℕ). lanes * n) same in
-  let over : count < (row / lanes + 1) * lanes = omega (arith, times, mul_comm (row / lanes + 1) lanes, mul-add lanes (row / lanes) 1) in
-  rw (here, one) (read_rest lanes count row over)
+  | inl room ↦ let one : step ≡ 1 = is ∙ step_rest lanes count row room in
+      let same = rest_quotient lanes count row some at small room in
+      let here : refused ≡ row = omega arith in
+      let times = ap (λ (n : ℕ). lanes * n) same in
+      let over : count < (row / lanes + 1) * lanes = omega (arith, times, mul_comm (row / lanes + 1) lanes, mul-add lanes (row / lanes) 1) in
+      rw (here, one) (read_rest lanes count row over)
   | inr room ↦ let all : step ≡ lanes = is ∙ step_whole lanes count row room in
-  let even = whole_even lanes count row some at room in
-  let within : refused < row + lanes = omega arith in
-  let same = quotient lanes refused (row / lanes) some (omega arith) (omega arith) in
-  let end : (refused / lanes + 1) * lanes ≡ row + lanes = ap (λ (n : ℕ). (n + 1) * lanes) same ∙ omega (arith, mul_comm (row / lanes + 1) lanes, mul-add lanes (row / lanes) 1) in
-  rw all (read_whole lanes count refused (omega (arith, end)) ∙ end)
+      let even = whole_even lanes count row some at room in
+      let within : refused < row + lanes = omega arith in
+      let same = quotient lanes refused (row / lanes) some (omega arith) (omega arith) in
+      let end : (refused / lanes + 1) * lanes ≡ row + lanes = ap (λ (n : ℕ). (n + 1) * lanes) same ∙ omega (arith, mul_comm (row / lanes + 1) lanes, mul-add lanes (row / lanes) 1) in
+      rw all (read_whole lanes count refused (omega (arith, end)) ∙ end)
 ]
 
 -- no more steps than to the end
 quotients : (lanes count row : ℕ) → 0 < lanes → row ≤ count → row / lanes ≤ count / lanes
 quotients lanes count row some inside = elim (lt_or_le (count / lanes) (row / lanes)) [
-  inl less ↦ let more : lanes * (count / lanes + 1) ≤ lanes * (row / lanes) = mul-le-mul_left lanes (omega arith) in
-  absurd (omega (arith, more, mul-add lanes (count / lanes) 1))
+  | inl less ↦ let more : lanes * (count / lanes + 1) ≤ lanes * (row / lanes) = mul-le-mul_left lanes (omega arith) in
+      absurd (omega (arith, more, mul-add lanes (count / lanes) 1))
   | inr enough ↦ enough
 ]
 

@@ -1,5 +1,5 @@
 -- The kernels that store in each row, and what they make of a block of rows.
-use Rattle.std.specs.Prelude.{ℕ, ◌≡◌, ◌+◌, ◌-◌, ◌<◌, ◌++◌, ℤ, ◌+ℤ◌, ◌*ℤ◌, List, map, take, drop, Some, None}
+use Rattle.std.specs.Prelude.{ℕ, ◌≡◌, ◌+◌, ◌<◌, ◌++◌, ℤ, ◌+ℤ◌, ◌*ℤ◌, List, map, take, drop, Some, None}
 use Rattle.std.specs.Int.{int_min, int_max}
 use Rattle.views.specs.Tables.{Table, answer_of, kept_of, after_stores}
 use Rattle.views.specs.Tallies.{Access}

@@ -1,11 +1,10 @@
 -- What a kernel makes of the rows of a table, row by row, and which number it gives.
-use Rattle.std.specs.Prelude.{ℕ, ◌+◌, ◌*◌, ◌/◌, ◌%◌, ◌^◌, ◌<◌, ◌≤◌, ◌≡◌, Bool, not, ℤ, pos, neg_ℤ, ◌+ℤ◌, ◌*ℤ◌, ◌≤ℤ◌, ◌<ℤ◌, int_lt, int_le, List, [], ◌∷◌, ◌++◌, length, map, take, drop, fold, slice_index_or, slice_set, Option, Some, None, Result, Ok, Err}
+use Rattle.std.specs.Prelude.{ℕ, ◌+◌, ◌*◌, ◌/◌, ◌%◌, ◌≡◌, Bool, not, ℤ, pos, ◌+ℤ◌, ◌*ℤ◌, ◌≤ℤ◌, int_lt, int_le, List, [], ◌∷◌, ◌++◌, length, map, take, drop, fold, slice_set, Option, Some, None, Result, Ok, Err}
 use Rattle.std.specs.Int.{int_min, int_max}
 use Rattle.std.specs.List.{count_by}
 use Rattle.std.specs.Option.{option_or}
 use Rattle.std.specs.Ordering.{int_eq}
-use Rattle.record_dim.specs.LeafTypes.{width_of}
-use Rattle.views.specs.Tables.{Table, leaf_count_of, leaf_type_of, answer_of, kept_of, after_stores}
+use Rattle.views.specs.Tables.{Table, answer_of, kept_of, after_stores}
 use Rattle.views.specs.Stores.{Answer, Keeping}
 use Rattle.views.specs.declared.fault.StoreFault.TheVariants as store
 use Rattle.views.specs.declared.fault.StoreFault.{StoreFault}

@@ -9,5 +9,9 @@ pub fn step_at(row: u64, lanes: usize, count: u64) -> usize
     requires small { count ≤ 2 ^ 24 }
     ensures { result ≡ step_of lanes count row }
 {
-    if row + lanes as u64 <= count { lanes } else { 1 }
+    if row + lanes as u64 <= count {
+        lanes
+    } else {
+        1
+    }
 }

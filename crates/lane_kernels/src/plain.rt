@@ -26,7 +26,12 @@ pub fn run_lanes<L: Ledger>(
 {
     match *kernel {
         Kernel::Axpy { a, x, y } => change_rows(view, &Change::Axpy { a, x, y }, lanes, steps),
-        Kernel::Clamp { x, lo, hi } => change_rows(view, &Change::Clamp { x, lo, hi }, lanes, steps),
+        Kernel::Clamp { x, lo, hi } => change_rows(
+            view,
+            &Change::Clamp { x, lo, hi },
+            lanes,
+            steps,
+        ),
         Kernel::Sum { x } => reduce_rows(view, x, &Reduction::Sum, lanes, steps),
         Kernel::Least { x } => reduce_rows(view, x, &Reduction::Least, lanes, steps),
         Kernel::Greatest { x } => reduce_rows(view, x, &Reduction::Greatest, lanes, steps),

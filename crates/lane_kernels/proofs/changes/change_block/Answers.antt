@@ -1,8 +1,7 @@
-use Rattle.std.proofs.Common.{◌≡◌, ◌+◌, ◌<◌, ◌≤◌, ◌∙◌, List, ℤ, length, map, take, drop, to_z, of_z, w64, sym, ap, subst, arith}
+use Rattle.std.proofs.Common.{◌∙◌, length, map, take, to_z, of_z, w64, sym, ap, subst, arith}
 use Rattle.lanes.specs.Blocks.{IsBlock}
 use Rattle.lanes.specs.BlockLaws.{same}
 use Rattle.views.specs.Tables.{Table}
-use Rattle.lane_kernels.specs.Changes.{changed_value}
 use Rattle.lane_kernels.proofs.BlockStores.{IsReady, block_done, block_stopped, inside_lanes}
 use Rattle.lane_kernels.proofs.changes.change_block.Given as given
 use Rattle.lane_kernels.proofs.changes.change_block.Goals as goal
@@ -27,8 +26,13 @@ store_lanes-stored-requires-clause-few g c =
 
 pub store_lanes-stored-requires-clause-rows_in : goal.store_lanes-stored-requires-clause-rows_in
 store_lanes-stored-requires-clause-rows_in g c =
-    omega (arith, c.requires.rows_in, inside_lanes c.values_of-leaf.new.view c.values_of-leaf.result.0 c.args.lanes (map (to_z w64) (map (of_z w64) c.values_of-leaf.result.1)) c.in-Err.field-0 c.in-Err.ensures.named,
-    ap (λ (t : Table). length t.rows) c.in-Err.ensures.refused, ap (λ (t : Table). length t.rows) c.values_of-leaf.ensures.same)
+    omega (
+      arith,
+      c.requires.rows_in,
+      inside_lanes c.values_of-leaf.new.view c.values_of-leaf.result.0 c.args.lanes (map (to_z w64) (map (of_z w64) c.values_of-leaf.result.1)) c.in-Err.field-0 c.in-Err.ensures.named,
+      ap (λ (t : Table). length t.rows) c.in-Err.ensures.refused,
+      ap (λ (t : Table). length t.rows) c.values_of-leaf.ensures.same,
+    )
 
 pub overflow_add-row : goal.overflow_add-row
 overflow_add-row g c =

@@ -1,10 +1,10 @@
-use Rattle.std.proofs.Common.{rules, arith, ◌≡◌, ◌+◌, ◌*◌, ◌<◌, ◌≤◌, ◌∙◌, Err, length, ℕ, List, ap, sym}
+use Rattle.std.proofs.Common.{rules, arith, ◌≡◌, ◌+◌, ◌*◌, ◌≤◌, ◌∙◌, Err, length, ℕ, List, ap, sym}
 use Rattle.std.proofs.Math.Nat.{mul-le-mul_left}
 use Rattle.extents.specs.Indices.{indices}
 use Rattle.lane_kernels.specs.Kernels.{row_cost}
 use Rattle.lane_kernels.specs.Changes.{changing}
 use Rattle.lane_kernels.specs.Blocks.{step_of}
-use Rattle.lane_kernels.proofs.Changed.{none_changed, change_more, change_stops, change_ends, faults_alike}
+use Rattle.lane_kernels.proofs.Changed.{none_changed, change_more, change_stops}
 use Rattle.lane_kernels.proofs.Stepping.{IsStep, step_next, at_cost, none_cost, more_cost, cost}
 use Rattle.lane_kernels.proofs.changes.change_rows.Given as given
 use Rattle.lane_kernels.proofs.changes.change_rows.Goals as goal
@@ -33,7 +33,7 @@ returns-in_err-change_block-clause-run g c =
     let fault = c.in_err-change_block.field-0.0 in
     let is : c.from_residual.result ≡ Err fault = search rules in
     rw is (change_stops c.args.view.now c.loop-row.view c.change_block.new.view c.args.change.now c.args.lanes c.loop-row.row c.step_at-step.result fault c.requires.some
-      c.loop-row.invariant.changed (omega (arith, count_is g at)) (step_is g at) c.in_err-change_block.ensures.stopped)
+    c.loop-row.invariant.changed (omega (arith, count_is g at)) (step_is g at) c.in_err-change_block.ensures.stopped)
 
 pub returns-in_err-change_block-clause-steps : goal.returns-in_err-change_block-clause-steps
 returns-in_err-change_block-clause-steps g c =
@@ -41,7 +41,7 @@ returns-in_err-change_block-clause-steps g c =
     let k = row_cost (changing c.args.change.now) in
     let more = more_cost k (cost c.args.lanes c.loop-row.row) (cost c.args.lanes (c.loop-row.row + c.step_at-step.result)) next.cost in
     let all : k * cost c.args.lanes (c.loop-row.row + c.step_at-step.result) ≤ k * cost c.args.lanes (length c.args.view.now.rows) =
-        mul-le-mul_left k (at_cost c.args.lanes (length c.args.view.now.rows) (c.loop-row.row + c.step_at-step.result) c.requires.some next.next) in
+    mul-le-mul_left k (at_cost c.args.lanes (length c.args.view.now.rows) (c.loop-row.row + c.step_at-step.result) c.requires.some next.next) in
     omega (arith, c.change_block.ensures.most, c.loop-row.invariant.counted, more, all)
 
 pub loop-row-preserved : goal.loop-row-preserved

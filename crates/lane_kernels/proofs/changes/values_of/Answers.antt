@@ -1,16 +1,15 @@
-use Rattle.std.proofs.Common.{rules, ◌≡◌, ◌+◌, ◌-◌, ◌≤◌, ◌++◌, ◌+ℤ◌, ◌*ℤ◌, ◌∙◌, List, ℤ, length, map, take, drop, replicate, pos, to_z, of_z, w64, refl, sym, ap, subst, arith, SFits}
+use Rattle.std.proofs.Common.{rules, ◌≡◌, ◌-◌, ◌++◌, ◌+ℤ◌, ◌*ℤ◌, ◌∙◌, List, ℤ, map, take, drop, replicate, pos, to_z, of_z, w64, sym, ap, subst, SFits}
 use Rattle.std.specs.Int.{int_min, int_max}
 use Rattle.std.specs.Simd.Lanes.{Each1, zip2}
 use Rattle.std.proofs.lemmas.Int.{to_z-of_z}
-use Rattle.lanes.specs.Blocks.{IsBlock, IsNarrow, IsFactor}
+use Rattle.lanes.specs.Blocks.{IsBlock, IsNarrow}
 use Rattle.lanes.specs.BlockLaws.{same}
 use Rattle.views.specs.Columns.{in_leaf, column, column_reads}
 use Rattle.views.specs.Tables.{Table, after_log}
 use Rattle.views.specs.TallyLaws.{after_log-append}
-use Rattle.lane_kernels.specs.Kernels.{IsKernelOf}
-use Rattle.lane_kernels.specs.Changes.{changing, changed_value, block_reads}
+use Rattle.lane_kernels.specs.Changes.{changed_value, block_reads}
 use Rattle.lane_kernels.specs.declared.changes.Change.{Change}
-use Rattle.lane_kernels.proofs.Values.{column_rows, both_lanes, each_lane, first_named}
+use Rattle.lane_kernels.proofs.Values.{column_rows, both_lanes, each_lane}
 use Rattle.lane_kernels.proofs.Numbers.{lanes_of, block_room}
 use Rattle.lane_kernels.proofs.changes.values_of.Goals as goal
 
@@ -53,11 +52,11 @@ returns-in-Axpy-clause-values g c =
     let fits : SFits w64 c.in-Axpy.a = search rules in
     let from = c.of-from.ensures ∙ same c.load_lanes.result c.load_lanes.ensures.lanes.fit ∙ c.load_lanes.ensures.values in
     let first : take n c.of-from.result ≡ map (in_leaf x) rows =
-        lanes_of (drop row (column x view.rows)) c.of-from.result n from (block_room x row n view.rows c.requires.rows_in) ∙ column_rows x row n view.rows in
+    lanes_of (drop row (column x view.rows)) c.of-from.result n from (block_room x row n view.rows c.requires.rows_in) ∙ column_rows x row n view.rows in
     let added = c.of-added.ensures ∙ same c.load_lanes-in-Axpy.result c.load_lanes-in-Axpy.ensures.lanes.fit ∙ c.load_lanes-in-Axpy.ensures.values
-        ∙ ap (λ (t : Table). take n (drop row (column y t.rows)) ++ replicate (16 - n) (pos 0)) c.load_lanes.ensures.same in
+    ∙ ap (λ (t : Table). take n (drop row (column y t.rows)) ++ replicate (16 - n) (pos 0)) c.load_lanes.ensures.same in
     let second : take n c.of-added.result ≡ map (in_leaf y) rows =
-        lanes_of (drop row (column y view.rows)) c.of-added.result n added (block_room y row n view.rows c.requires.rows_in) ∙ column_rows y row n view.rows in
+    lanes_of (drop row (column y view.rows)) c.of-added.result n added (block_room y row n view.rows c.requires.rows_in) ∙ column_rows y row n view.rows in
     ap (take n) (same c.lanes.result c.lanes.ensures.lanes.fit ∙ c.lanes.ensures.value ∙ c.times_plus.ensures
     ∙ ap (λ (a : ℤ). zip2 (λ v w. a *ℤ v +ℤ w) c.of-from.result c.of-added.result) (to_z-of_z w64 c.in-Axpy.a fits))
     ∙ both_lanes (λ v w. c.in-Axpy.a *ℤ v +ℤ w) x y n c.of-from.result c.of-added.result rows first second
@@ -77,7 +76,7 @@ returns-in-Clamp-clause-values g c =
     let high : SFits w64 c.in-Clamp.hi = search rules in
     let from = c.of-from-in-Clamp.ensures ∙ same c.load_lanes-in-Clamp.result c.load_lanes-in-Clamp.ensures.lanes.fit ∙ c.load_lanes-in-Clamp.ensures.values in
     let first : take n c.of-from-in-Clamp.result ≡ map (in_leaf x) rows =
-        lanes_of (drop row (column x view.rows)) c.of-from-in-Clamp.result n from (block_room x row n view.rows c.requires.rows_in) ∙ column_rows x row n view.rows in
+    lanes_of (drop row (column x view.rows)) c.of-from-in-Clamp.result n from (block_room x row n view.rows c.requires.rows_in) ∙ column_rows x row n view.rows in
     ap (take n) (same c.lanes-in-Clamp.result c.lanes-in-Clamp.ensures.lanes.fit ∙ c.lanes-in-Clamp.ensures.value ∙ c.clamped.ensures
     ∙ ap (λ (lo : ℤ). map (λ v. int_max lo (int_min v (to_z w64 (of_z w64 c.in-Clamp.hi)))) c.of-from-in-Clamp.result) (to_z-of_z w64 c.in-Clamp.lo low)
     ∙ ap (λ (hi : ℤ). map (λ v. int_max c.in-Clamp.lo (int_min v hi)) c.of-from-in-Clamp.result) (to_z-of_z w64 c.in-Clamp.hi high))

@@ -1,4 +1,4 @@
-use Rattle.std.proofs.Common.{◌≡◌, ℤ, List, length, take, w64, sym, ap, ◌∙◌, arith, length-take}
+use Rattle.std.proofs.Common.{ℤ, take, w64, sym, ap, ◌∙◌, arith, length-take}
 use Rattle.std.specs.Prelude.{int_lt}
 use Rattle.std.specs.List.{count_by}
 use Rattle.std.proofs.lemmas.Int.{to_z-of_z}

@@ -1,13 +1,13 @@
-use Rattle.std.proofs.Common.{rules, arith, ◌≡◌, ◌+◌, ◌-◌, ◌<◌, ◌≤◌, ◌++◌, ◌∙◌, length, take, drop, replicate, pos, ℕ, List, ℤ, FitsSigned, ap, sym, subst, w64}
+use Rattle.std.proofs.Common.{rules, arith, ◌≡◌, ◌∙◌, length, drop, ℕ, List, ℤ, FitsSigned, ap, sym, subst, w64}
 use Rattle.std.specs.Simd.Lanes.{Each1}
 use Rattle.std.proofs.lemmas.Int.{to_z-of_z}
 use Rattle.extents.specs.Indices.{indices}
 use Rattle.lanes.specs.Blocks.{IsBlock, IsNarrow}
 use Rattle.lanes.specs.BlockLaws.{same}
-use Rattle.views.specs.Columns.{column, in_leaf}
+use Rattle.views.specs.Columns.{column}
 use Rattle.views.specs.Tables.{Table}
 use Rattle.lane_kernels.specs.Blocks.{step_of}
-use Rattle.lane_kernels.proofs.Numbers.{HasReduced, nothing_reduced, reduced_step, lanes_rest, block_room}
+use Rattle.lane_kernels.proofs.Numbers.{nothing_reduced, reduced_step, lanes_rest, block_room}
 use Rattle.lane_kernels.proofs.Stepping.{IsStep, step_next}
 use Rattle.lane_kernels.proofs.reductions.reduced.Given as given
 use Rattle.lane_kernels.proofs.reductions.reduced.Goals as goal
@@ -53,9 +53,8 @@ loop-row-preserved g c =
     let block = block_is g at.After-of-block in
     let narrow = subst (λ (values : List ℤ). Each1 IsNarrow values) (sym block) c.load_lanes.ensures.narrow in
     let long : length c.of-block.result ≡ 16 = ap length block ∙ c.load_lanes.ensures.lanes.count in
-    let so_far = subst (λ (n : ℤ). HasReduced c.args.reduction.now c.args.leaf c.args.lanes c.args.view.now c.loop-row.view c.loop-row.row n) c.loop-row.number-is c.loop-row.invariant.reduced in
     rw (to_z-of_z w64 c.taking-number.result fits) (record {
-      reduced = reduced_step c.args.reduction.now c.args.leaf c.args.lanes c.loop-row.row c.step_at-step.result c.args.view.now c.loop-row.view c.load_lanes.new.self c.loop-row.number c.taking-number.result c.of-block.result
-          so_far next (block ∙ c.load_lanes.ensures.values) long (omega (arith, next.few, c.requires.few)) narrow c.taking-number.ensures c.load_lanes.ensures.same;
+      reduced = reduced_step c.args.reduction.now c.args.leaf c.args.lanes c.loop-row.row c.step_at-step.result c.args.view.now c.loop-row.view c.load_lanes.new.self _ c.taking-number.result c.of-block.result
+          c.loop-row.invariant.reduced next (block ∙ c.load_lanes.ensures.values) long (omega (arith, next.few, c.requires.few)) narrow c.taking-number.ensures c.load_lanes.ensures.same;
       counted = omega (arith, c.load_lanes.ensures.step, c.loop-row.invariant.counted, next.cost);
     })

@@ -1,5 +1,4 @@
-use Rattle.std.proofs.Common.{◌≡◌, ◌+◌, ◌-◌, length, ℕ}
-use Rattle.extents.specs.Indices.{indices}
+use Rattle.std.proofs.Common.{◌≡◌, ◌+◌, ◌-◌}
 use Rattle.lane_kernels.proofs.Numbers.{HasReduced}
 use Rattle.lane_kernels.proofs.Stepping.{cost}
 use Rattle.lane_kernels.proofs.reductions.reduced.Given as goal

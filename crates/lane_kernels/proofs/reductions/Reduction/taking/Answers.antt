@@ -1,5 +1,5 @@
-use Rattle.std.proofs.Common.{◌≡◌, ◌+ℤ◌, ℤ, pos, fold, take, to_z, of_z, w64, FitsSigned, SFits, sym, ap, subst, ◌∙◌, arith, rules}
-use Rattle.std.proofs.lemmas.Int.{ints, to_z-of_z}
+use Rattle.std.proofs.Common.{◌≡◌, ◌+ℤ◌, ℤ, pos, fold, take, to_z, of_z, w64, FitsSigned, SFits, sym, ap, subst, ◌∙◌, rules}
+use Rattle.std.proofs.lemmas.Int.{to_z-of_z}
 use Rattle.std.specs.List.{count_by}
 use Rattle.lane_kernels.specs.Kernels.{compares}
 use Rattle.lane_kernels.specs.Reductions.{taking}
@@ -35,9 +35,9 @@ returns-in-Count c =
     let fits : SFits w64 c.from.result = search rules in
     let constant : SFits w64 c.in-Count.c = search rules in
     let counted : c.counted.result ≡ count_by (λ value. compares op value c.in-Count.c) values =
-        c.counted.ensures ∙ ap (λ (k : ℤ). count_by (λ value. compares op value k) values) (to_z-of_z w64 c.in-Count.c constant) in
+    c.counted.ensures ∙ ap (λ (k : ℤ). count_by (λ value. compares op value k) values) (to_z-of_z w64 c.in-Count.c constant) in
     let total : to_z w64 (of_z w64 c.args.number) +ℤ to_z w64 (of_z w64 c.from.result) ≡ fold (taking (Count op c.in-Count.c)) c.args.number values =
-        plain_sum c.args.number c.from.result c.ranges.number fits ∙ ap (λ (n : ℤ). c.args.number +ℤ n) (c.from.ensures ∙ ap pos counted) ∙ count_beside op c.in-Count.c c.args.number values in
+    plain_sum c.args.number c.from.result c.ranges.number fits ∙ ap (λ (n : ℤ). c.args.number +ℤ n) (c.from.ensures ∙ ap pos counted) ∙ count_beside op c.in-Count.c c.args.number values in
     let small = block_fits (Count op c.in-Count.c) c.args.rows c.args.lanes c.args.number c.args.block c.requires.few c.requires.within c.requires.block c.requires.number c.requires.narrow in
     to_z-of_z w64 (to_z w64 (of_z w64 c.args.number) +ℤ to_z w64 (of_z w64 c.from.result)) (subst (FitsSigned w64) (sym total) small) ∙ total
     ∙ ap (λ (r : Reduction). fold (taking r) c.args.number values) (sym c.in-Count.is)
