@@ -1,5 +1,5 @@
 -- From the line that a text is to the text.
-use Rattle.std.proofs.Common.{◌≡◌, ℕ, ◌≤◌, ltb, Bool, true, false, List, [], length, Option, None, Some, Result, Ok, Err, ⊎_elim, inl, inr, refl, sym, ap, subst, ◌∙◌, arith}
+use Rattle.std.proofs.Common.{◌≡◌, ℕ, ◌≤◌, ltb, Bool, true, false, List, [], length, Option, None, Some, Result, Ok, Err, option_map, ⊎_elim, inl, inr, refl, sym, ap, subst, ◌∙◌, arith}
 use Rattle.std.specs.Prelude.{◌⊎◌, if◌then◌else◌, IsSome, IsSomeAnd}
 use Rattle.std.proofs.lemmas.Bool.Decides.{nat_tests}
 use Rattle.layout_io.specs.Faults.{Rose}
@@ -34,6 +34,10 @@ text_steps version files world text sentence unread short is shallow =
 pub reads_one : (file : Option (List ℕ)) (P : List ℕ → Type 0) → IsSomeAnd file P → IsSome file
 reads_one None P unread = absurd unread
 reads_one (Some name) P unread = refl
+
+pub map_some : {A B : Type 0} (f : A → B) (x : Option A) (y : Option B) → option_map f x ≡ y → IsSome y → IsSome x
+map_some f (Some a) y is some = refl
+map_some f None y is some = subst (λ (o : Option _). IsSome o) (sym is) some
 
 -- a line whose file was not read ends the run with the file's name
 pub told_unread : {K : Type 0} (taken : K → Option (List ℕ)) (faults : K → ℕ) (old new : K) (name : List ℕ) (file : Option (List ℕ)) (outcome : Bool → Outcome Left) (read_failed : Type 0) (ending : LineEnd) →
