@@ -28,12 +28,12 @@ abbrev pub is_narrow : StoreFault → Bool
 is_narrow Range = false
 is_narrow Narrow = true
 
--- the answer by the test of the hold, and by those of the type and of the hold
-abbrev by_hold : Bool → Result (Unit {0}) StoreFault
-by_hold held = if held then Ok tt else Err Narrow
+-- the answer for a value by the test of the hold, and by those of the type and of the hold
+abbrev by_hold : ℤ → Bool → Result ℤ StoreFault
+by_hold value held = if held then Ok value else Err Narrow
 
-abbrev by_tests : Bool → Bool → Result (Unit {0}) StoreFault
-by_tests declared held = if declared then by_hold held else Err Range
+abbrev by_tests : ℤ → Bool → Bool → Result ℤ StoreFault
+by_tests value declared held = if declared then by_hold value held else Err Range
 
 -- what a store answers, by the hold: `Range` depends on the type alone
 pub store_answers : (kind : LeafType) (hold held : Hold) (value : ℤ) → Answers is_narrow (store_answer kind hold value) (store_answer kind held value)
@@ -41,11 +41,11 @@ store_answers kind hold held value =
     of_tests (is_between (least_of kind) (greatest_of kind) value) (is_between (least_in hold.signed hold.width) (greatest_in hold.signed hold.width) value)
     (is_between (least_in held.signed held.width) (greatest_in held.signed held.width) value)
   where
-    of_tests : (d h k : Bool) → Answers is_narrow (by_tests d h) (by_tests d k)
+    of_tests : (d h k : Bool) → Answers is_narrow (by_tests value d h) (by_tests value d k)
     of_tests false h k = equal (Err Range)
-    of_tests true true true = equal (Ok tt)
-    of_tests true true false = second (Ok tt) Narrow refl
-    of_tests true false k = first Narrow (by_hold k) refl
+    of_tests true true true = equal (Ok value)
+    of_tests true true false = second (Ok value) Narrow refl
+    of_tests true false k = first Narrow (by_hold value k) refl
 
 -- two answers that are things, the same in both
 pub record Given {A E : Type 0} (x y : Result A E) (a b : A) : Type 0 where

@@ -10,7 +10,8 @@ use Rattle.record_dim.specs.Leaves.{kinds_of, texts_of}
 use Rattle.map_expr.specs.Terms.{Term as MapTerm}
 use Rattle.map_checks.specs.Mappings.{holds_by}
 use Rattle.piece_bits.specs.Tables.{hold_at, with_entry}
-use Rattle.views.specs.Stores.{kind_at}
+use Rattle.views.specs.AnswerLaws.{kept_alike}
+use Rattle.views.specs.Stores.{Keeping, kind_at}
 use Rattle.views.specs.Tallies.{Access, Write, Tally, all_accesses, Read}
 use Rattle.instrument.specs.Counters.{LeafCounts}
 use Rattle.instrument.specs.CounterTexts.{counts_text}
@@ -20,7 +21,7 @@ use Rattle.expr_lang.specs.Terms.{Term}
 use Rattle.line_grammar.specs.Sentences.{Value, Assignment}
 use Rattle.line_grammar.specs.declared.line.KernelText.{KernelText}
 use Rattle.line_grammar.specs.declared.line.ReduceKind.{ReduceKind}
-use Rattle.views.specs.Tables.{Table, leaf_count_of, answer_of, after_stores}
+use Rattle.views.specs.Tables.{Table, leaf_count_of, answer_of, kept_of, after_stores}
 use Rattle.row_updates.specs.Rows.{Setting, updated_rows, counted}
 use Rattle.row_updates.specs.Logs.{value_log, count_log, rows_log}
 use Rattle.row_updates.specs.declared.fault.UpdateFault.{UpdateFault}
@@ -40,7 +41,7 @@ use Rattle.worlds.specs.Assign.{inside, assigned}
 use Rattle.worlds.specs.Update.{updated, update_fault, kind_fault}
 use Rattle.worlds.specs.Reduce.{reduction, reduced, column, counting}
 use Rattle.worlds.specs.Copy.{are_alike, all_read, copied, copy}
-use Rattle.worlds.specs.Kernel.{run, fit_kernel, kernel_run, run_fault}
+use Rattle.worlds.specs.Kernel.{run, fit_kernel, kernel_run, number_text, run_fault}
 use Rattle.worlds.specs.Show.{print, counts, drop_view}
 use Rattle.worlds.specs.declared.fault.CommandFault.TheVariants.{Mismatch, NotCounted}
 use Rattle.equal_runs.specs.Endings.{is_of_layout}
@@ -98,30 +99,32 @@ module _ (m o : Bool) (table : Table) (mapping : MapTerm) (tally : Tally) where
       stored leaf row number (value_log row (slice_index_or table.rows row []) index term ++ Write row leaf ∷ [])))))
     where
       stored : (leaf row : ℕ) (number : ℤ) (log : List Access)
-          → Same m o (storable table row leaf number >>= (λ fits. Goes (stores (with_entry table.rows row leaf number) log)))
-          (storable (under table mapping tally) row leaf number >>= (λ fits. Goes (stores (with_entry table.rows row leaf number) log)))
+          → Same m o (storable table row leaf number >>= (λ kept. Goes (stores (with_entry table.rows row leaf kept) log)))
+          (storable (under table mapping tally) row leaf number >>= (λ kept. Goes (stores (with_entry table.rows row leaf kept) log)))
       stored leaf row number log =
           bind m o (Given _ _) SameDone (storable table row leaf number) (storable (under table mapping tally) row leaf number) _ _
           (ok_agree m o is_narrow (store_fault row (text_of_leaf table.fields leaf)) _ _ (narrow_store row (text_of_leaf table.fields leaf)) (answers_under table mapping tally leaf number))
-          (λ fits also given. go _ _ refl)
+          (λ kept also given. go _ _ (ap (λ (number : ℤ). stores (with_entry table.rows row leaf number) log) given.same))
 
   module _ (test : Option (Term ℕ)) (settings : List Setting) where
     abbrev update_log : Table → List Access
     update_log t = rows_log (answer_of t) test settings table.extents table.rows (length table.rows)
 
     abbrev new_rows : Table → Result (List (List ℤ)) UpdateFault
-    new_rows t = updated_rows (answer_of t) test settings table.extents table.rows (length table.rows)
+    new_rows t = updated_rows (answer_of t) (kept_of t) test settings table.extents table.rows (length table.rows)
 
     -- where both go, both have the same accesses
     log_is : (t : Table) (rows : List (List ℤ)) → new_rows t ≡ Ok rows → update_log t ≡ fit_rows test settings table.extents table.rows (length table.rows)
-    log_is t rows goes = rows_are (answer_of t) test settings table.extents table.rows (length table.rows) rows goes
+    log_is t rows goes = rows_are (kept_of t) (answer_of t) test settings table.extents table.rows (length table.rows) rows goes
 
     updated_agree_of : Same m o (ok_or (update_fault table.fields) (new_rows table) >>= (λ rows. Goes (stores rows (update_log table))))
         (ok_or (update_fault table.fields) (new_rows (under table mapping tally)) >>= (λ rows. Goes (stores rows (update_log (under table mapping tally)))))
     updated_agree_of =
         bind m o (Given _ _) SameDone (ok_or (update_fault table.fields) (new_rows table)) (ok_or (update_fault table.fields) (new_rows (under table mapping tally))) _ _
         (ok_agree m o is_narrow_update (update_fault table.fields) _ _ (narrow_update table)
-        (rows_answers (answer_of table) (answer_of (under table mapping tally)) (answers_under table mapping tally) test settings table.extents table.rows (length table.rows)))
+        (subst (λ (keep : Keeping). Answers is_narrow_update (new_rows table) (updated_rows (answer_of (under table mapping tally)) keep test settings table.extents table.rows (length table.rows)))
+        (kept_alike table (under table mapping tally))
+        (rows_answers (kept_of table) (answer_of table) (answer_of (under table mapping tally)) (answers_under table mapping tally) test settings table.extents table.rows (length table.rows))))
         (λ rows others given. go _ _
         (ap (λ (r : List (List ℤ)). stores r (update_log (under table mapping tally))) given.same
         ∙ ap (λ (log : List Access). stores rows log) (log_is (under table mapping tally) others given.second ∙ sym (log_is table rows given.first))))
@@ -133,6 +136,14 @@ module _ (m o : Bool) (table : Table) (mapping : MapTerm) (tally : Tally) where
       before m o SameDone (bound_sets table.fields (length table.extents) sets) _ _ (λ settings.
       before m o SameDone (each_once table.fields [] (leaves_of settings)) _ _ (λ once. updated_agree_of test settings)))
 
+  -- what a kernel does whose stores keep these numbers
+  abbrev ran_by : Keeping → Kernel → Done
+  ran_by keep fit = record {
+    rows = kernels.run_rows keep fit (length table.rows) table.rows;
+    log = kernel_logs.rows_log fit (length table.rows);
+    text = number_text (kernels.number_of fit table.rows);
+  }
+
   pub ran_agree : (text : KernelText) (lanes : ℕ) → Same m o (kernel_run table text lanes) (kernel_run (under table mapping tally) text lanes)
   unfolding kernel_run
   ran_agree text lanes = before m o SameDone (fit_kernel table.fields text lanes) _ _ ran where
@@ -142,7 +153,7 @@ module _ (m o : Bool) (table : Table) (mapping : MapTerm) (tally : Tally) where
         (refused_by (run_fault table.fields) (kernels.kernel_fault (answer_of (under table mapping tally)) fit table.rows)) _ _
         (by_agree m o is_narrow_kernel (run_fault table.fields) _ _ (narrow_run table)
         (kernel_causes (answer_of table) (answer_of (under table mapping tally)) (answers_under table mapping tally) fit table.rows))
-        (λ done also p. go _ _ refl)
+        (λ done also p. go _ _ (ap (λ (keep : Keeping). ran_by keep fit) (kept_alike (under table mapping tally) table)))
 
   pub reduction_agree : (kind : ReduceKind) (path : List PathStep) → Same m o (reduction table kind path) (reduction (under table mapping tally) kind path)
   unfolding reduction

@@ -28,7 +28,7 @@ narrow_other : (row leaf : ℕ) (x : Option KernelFault) (e : StoreFault) → is
 narrow_other row leaf x stored_fault.Range is = absurd (cc)
 narrow_other row leaf x stored_fault.Narrow is = another x (Narrow row leaf) refl
 
-answer_causes : (row leaf : ℕ) (x y : Result Unit StoreFault) → Answers is_narrow x y → Causes is_narrow_kernel (answer_fault row leaf x) (answer_fault row leaf y)
+answer_causes : (row leaf : ℕ) (x y : Result ℤ StoreFault) → Answers is_narrow x y → Causes is_narrow_kernel (answer_fault row leaf x) (answer_fault row leaf y)
 answer_causes row leaf x y (equal z) = same (answer_fault row leaf z)
 answer_causes row leaf x y (first e z is) = narrow_answer row leaf e (answer_fault row leaf z) is
 answer_causes row leaf x y (second z e is) = narrow_other row leaf (answer_fault row leaf z) e is

@@ -45,22 +45,22 @@ narrow_refusal row leaf store.Narrow is = refl
 abbrev held_by : Place → Hold → Place
 held_by place hold = record place { hold = hold }
 
-taken_answers : (place : Place) (hold : Hold) (value : ℤ) (x y : Result Unit StoreFault) → Answers is_narrow x y → Answers is_narrow_row (taken place value x) (taken (held_by place hold) value y)
-taken_answers place hold value x y (equal (Ok done)) = equal (Ok value)
-taken_answers place hold value x y (equal (Err e)) = equal (Err (refusal place.row place.leaf e))
-taken_answers place hold value x y (first e z is) = first (refusal place.row place.leaf e) (taken (held_by place hold) value z) (narrow_refusal place.row place.leaf e is)
-taken_answers place hold value x y (second z e is) = second (taken place value z) (refusal place.row place.leaf e) (narrow_refusal place.row place.leaf e is)
+taken_answers : (place : Place) (hold : Hold) (x y : Result ℤ StoreFault) → Answers is_narrow x y → Answers is_narrow_row (taken place x) (taken (held_by place hold) y)
+taken_answers place hold x y (equal (Ok kept)) = equal (Ok kept)
+taken_answers place hold x y (equal (Err e)) = equal (Err (refusal place.row place.leaf e))
+taken_answers place hold x y (first e z is) = first (refusal place.row place.leaf e) (taken (held_by place hold) z) (narrow_refusal place.row place.leaf e is)
+taken_answers place hold x y (second z e is) = second (taken place z) (refusal place.row place.leaf e) (narrow_refusal place.row place.leaf e is)
 
 value_answers : (place : Place) (hold : Hold) (fields : List (List ℕ)) → Answers is_narrow_row (value_at place fields) (value_at (held_by place hold) fields)
 value_answers place hold fields = of_field (slice_get fields place.column) where
-  of_number : (number : Option ℤ) → Answers is_narrow_row (the_number place number >>= (λ value. taken place value (store_answer place.kind place.hold value)))
-      (the_number (held_by place hold) number >>= (λ value. taken (held_by place hold) value (store_answer place.kind hold value)))
+  of_number : (number : Option ℤ) → Answers is_narrow_row (the_number place number >>= (λ value. taken place (store_answer place.kind place.hold value)))
+      (the_number (held_by place hold) number >>= (λ value. taken (held_by place hold) (store_answer place.kind hold value)))
   of_number None = equal (Err (Number place.row place.leaf))
-  of_number (Some value) = taken_answers place hold value (store_answer place.kind place.hold value) (store_answer place.kind hold value) (store_answers place.kind place.hold hold value)
+  of_number (Some value) = taken_answers place hold (store_answer place.kind place.hold value) (store_answer place.kind hold value) (store_answers place.kind place.hold hold value)
 
   of_field : (field : Option (List ℕ))
-      → Answers is_narrow_row (the_field place field >>= (λ f. the_number place (number_of (unspaced f)) >>= (λ value. taken place value (store_answer place.kind place.hold value))))
-      (the_field (held_by place hold) field >>= (λ f. the_number (held_by place hold) (number_of (unspaced f)) >>= (λ value. taken (held_by place hold) value (store_answer place.kind hold value))))
+      → Answers is_narrow_row (the_field place field >>= (λ f. the_number place (number_of (unspaced f)) >>= (λ value. taken place (store_answer place.kind place.hold value))))
+      (the_field (held_by place hold) field >>= (λ f. the_number (held_by place hold) (number_of (unspaced f)) >>= (λ value. taken (held_by place hold) (store_answer place.kind hold value))))
   of_field None = equal (Err (ShortRow place.row place.leaf))
   of_field (Some field) = of_number (number_of (unspaced field))
 

@@ -9,6 +9,7 @@ use Rattle.views.specs.Tallies.{Access, Tally, all_accesses, granules_for, no_ta
 use Rattle.layout_copy.specs.Copies.{refused_at}
 use Rattle.piece_bits.specs.Tables.{zeros}
 use Rattle.std.specs.Prelude.{ℤ, ◌+◌, ◌*◌, ◌^◌, nat_lt}
+use Rattle.views.specs.AnswerLaws.{kept_rows-same}
 use Rattle.views.specs.Tables.{Table, owners_of, leaf_count_of, answer_of, after_stores}
 use Rattle.worlds.specs.Worlds.{World, Entry}
 use Rattle.worlds.specs.Outcomes.{Left, refused_by, refused_if, ok_or}
@@ -99,7 +100,8 @@ module _ (m : Bool) where
   pub rows_told : (table : Table) (rows : List (List ℤ)) → Told m (λ (t : Table). t ≡ with_written table rows) (with_rows table rows)
   unfolding with_rows
   rows_told table rows =
-      told_bind m Any _ (refused_by (narrow_fault table.fields) (refused_at (answer_of table) 0 rows)) _ (told_by m (narrow_fault table.fields) _ (λ e. refl)) (λ held p. goes _ refl)
+      told_bind m Any _ (refused_by (narrow_fault table.fields) (refused_at (answer_of table) 0 rows)) _ (told_by m (narrow_fault table.fields) _ (λ e. refl)) (λ held p. goes _
+      (ap (λ (kept : List (List ℤ)). after_stores table kept (all_accesses Write (leaf_count_of table) (length rows))) (kept_rows-same table rows)))
 
   pub anew_told : (views : List (Entry Table)) (table : Table) (mapping : MapTerm) → Told m (λ (t : Table). t ≡ anew_of table mapping) (laid_anew views table mapping)
   unfolding laid_anew

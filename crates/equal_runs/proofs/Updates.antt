@@ -4,7 +4,7 @@ use Rattle.std.specs.Prelude.{◌++◌, if◌then◌else◌, slice_index_or}
 use Rattle.std.specs.List.{flat_map, range_with_len}
 use Rattle.expr_lang.specs.Terms.{Term}
 use Rattle.linearize.specs.Slots.{index_at}
-use Rattle.views.specs.Stores.{Answer}
+use Rattle.views.specs.Stores.{Answer, Keeping}
 use Rattle.views.specs.Tallies.{Access}
 use Rattle.views.specs.declared.fault.StoreFault.{StoreFault}
 use Rattle.views.specs.declared.fault.StoreFault.TheVariants as store
@@ -40,43 +40,43 @@ narrow_kind : (leaf : ℕ) (e : StoreFault) → is_narrow e ≡ true → is_narr
 narrow_kind leaf store.Range is = is
 narrow_kind leaf store.Narrow is = refl
 
-in_row_answers : (number leaf : ℕ) (x y : Result Unit StoreFault) → Answers is_narrow x y → Answers is_narrow_update (in_row number (store_kind leaf) x) (in_row number (store_kind leaf) y)
+in_row_answers : (number leaf : ℕ) (x y : Result ℤ StoreFault) → Answers is_narrow x y → Answers is_narrow_update (in_row number (store_kind leaf) x) (in_row number (store_kind leaf) y)
 in_row_answers number leaf x y (equal z) = equal (in_row number (store_kind leaf) z)
 in_row_answers number leaf x y (first e z is) = first (record { row = number; kind = store_kind leaf e }) (in_row number (store_kind leaf) z) (narrow_kind leaf e is)
 in_row_answers number leaf x y (second z e is) = second (in_row number (store_kind leaf) z) (record { row = number; kind = store_kind leaf e }) (narrow_kind leaf e is)
 
--- two answers to stores that are equal, or say that the value is not held
-module _ (answer other : Answer) (alike : (leaf : ℕ) (value : ℤ) → Answers is_narrow (answer leaf value) (other leaf value)) where
+-- two answers to stores that are equal, or say that the value is not held, where both keep the same numbers
+module _ (keep : Keeping) (answer other : Answer) (alike : (leaf : ℕ) (value : ℤ) → Answers is_narrow (answer leaf value) (other leaf value)) where
   new_value_answers : (number : ℕ) (row : List ℤ) (index : List ℕ) (set : Setting) → Answers is_narrow_update (new_value answer number row index set) (new_value other number row index set)
   new_value_answers number row index set =
       bind (value_of number row index set.value) (value_of number row index set.value)
-      (λ value. in_row number (store_kind set.leaf) (answer set.leaf value) >>= (λ fits. Ok value))
-      (λ value. in_row number (store_kind set.leaf) (other set.leaf value) >>= (λ fits. Ok value))
+      (λ value. in_row number (store_kind set.leaf) (answer set.leaf value) >>= (λ kept. Ok value))
+      (λ value. in_row number (store_kind set.leaf) (other set.leaf value) >>= (λ kept. Ok value))
       (equal (value_of number row index set.value))
-      (λ value. bind (in_row number (store_kind set.leaf) (answer set.leaf value)) (in_row number (store_kind set.leaf) (other set.leaf value)) (λ fits. Ok value) (λ fits. Ok value)
-      (in_row_answers number set.leaf (answer set.leaf value) (other set.leaf value) (alike set.leaf value)) (λ fits. equal (Ok value)))
+      (λ value. bind (in_row number (store_kind set.leaf) (answer set.leaf value)) (in_row number (store_kind set.leaf) (other set.leaf value)) (λ kept. Ok value) (λ kept. Ok value)
+      (in_row_answers number set.leaf (answer set.leaf value) (other set.leaf value) (alike set.leaf value)) (λ kept. equal (Ok value)))
 
   row_answers : (filter : Option (Term ℕ)) (sets : List Setting) (number : ℕ) (row : List ℤ) (index : List ℕ)
-      → Answers is_narrow_update (updated_row answer filter sets number row index) (updated_row other filter sets number row index)
+      → Answers is_narrow_update (updated_row answer keep filter sets number row index) (updated_row other keep filter sets number row index)
   row_answers filter sets number row index =
       bind (passes number row index filter) (passes number row index filter)
-      (λ test. if test then (each (new_value answer number row index) sets >>= (λ values. Ok (with_values sets values row))) else Ok row)
-      (λ test. if test then (each (new_value other number row index) sets >>= (λ values. Ok (with_values sets values row))) else Ok row)
+      (λ test. if test then (each (new_value answer number row index) sets >>= (λ values. Ok (with_values keep sets values row))) else Ok row)
+      (λ test. if test then (each (new_value other number row index) sets >>= (λ values. Ok (with_values keep sets values row))) else Ok row)
       (equal (passes number row index filter)) of_test
     where
       of_test : (test : Bool) → Answers is_narrow_update
-          (if test then (each (new_value answer number row index) sets >>= (λ values. Ok (with_values sets values row))) else Ok row)
-          (if test then (each (new_value other number row index) sets >>= (λ values. Ok (with_values sets values row))) else Ok row)
+          (if test then (each (new_value answer number row index) sets >>= (λ values. Ok (with_values keep sets values row))) else Ok row)
+          (if test then (each (new_value other number row index) sets >>= (λ values. Ok (with_values keep sets values row))) else Ok row)
       of_test false = equal (Ok row)
       of_test true =
-          bind (each (new_value answer number row index) sets) (each (new_value other number row index) sets) (λ values. Ok (with_values sets values row)) (λ values. Ok (with_values sets values row))
-          (each_answers (new_value answer number row index) (new_value other number row index) (new_value_answers number row index) sets) (λ values. equal (Ok (with_values sets values row)))
+          bind (each (new_value answer number row index) sets) (each (new_value other number row index) sets) (λ values. Ok (with_values keep sets values row)) (λ values. Ok (with_values keep sets values row))
+          (each_answers (new_value answer number row index) (new_value other number row index) (new_value_answers number row index) sets) (λ values. equal (Ok (with_values keep sets values row)))
 
   pub rows_answers : (filter : Option (Term ℕ)) (sets : List Setting) (extents : List ℕ) (rows : List (List ℤ)) (count : ℕ)
-      → Answers is_narrow_update (updated_rows answer filter sets extents rows count) (updated_rows other filter sets extents rows count)
+      → Answers is_narrow_update (updated_rows answer keep filter sets extents rows count) (updated_rows other keep filter sets extents rows count)
   rows_answers filter sets extents rows count =
-      each_answers (λ number. updated_row answer filter sets number (slice_index_or rows number []) (index_at extents number))
-      (λ number. updated_row other filter sets number (slice_index_or rows number []) (index_at extents number))
+      each_answers (λ number. updated_row answer keep filter sets number (slice_index_or rows number []) (index_at extents number))
+      (λ number. updated_row other keep filter sets number (slice_index_or rows number []) (index_at extents number))
       (λ number. row_answers filter sets number (slice_index_or rows number []) (index_at extents number)) (range_with_len 0 count)
 
 -- the accesses of right sides that all fit, of a row and of rows
@@ -108,7 +108,7 @@ logs_of_each {A} {B} step logs others same (x ∷ xs) ys goes = of_first (step x
   of_first (Err e) is goes later = absurd (cc)
   of_first (Ok y) is goes later = of_rest y is (each step xs) refl goes later
 
-module _ (answer : Answer) where
+module _ (keep : Keeping) (answer : Answer) where
   -- where all right sides fit, which answers there were is no matter
   abbrev SidesFit : ℕ → List ℤ → List ℕ → List Setting → Type 0
   SidesFit number row index sets =
@@ -129,16 +129,16 @@ module _ (answer : Answer) where
       of_first (Err e) goes later = absurd (cc)
       of_first (Ok y) goes later = of_rest y (each (new_value answer number row index) sets) refl goes later
 
-  row_is : (filter : Option (Term ℕ)) (sets : List Setting) (number : ℕ) (row : List ℤ) (index : List ℕ) (new : List ℤ) → updated_row answer filter sets number row index ≡ Ok new
+  row_is : (filter : Option (Term ℕ)) (sets : List Setting) (number : ℕ) (row : List ℤ) (index : List ℕ) (new : List ℤ) → updated_row answer keep filter sets number row index ≡ Ok new
       → row_log answer filter sets number row index ≡ fit_row filter sets number row index
   row_is filter sets number row index new goes = ap (λ (log : List Access). filter_log number row index filter ++ log) (of_test (passes number row index filter) goes) where
-    of_values : (values : Result (List ℤ) UpdateFault) → each (new_value answer number row index) sets ≡ values → (values >>= (λ found. Ok (with_values sets found row))) ≡ Ok new
+    of_values : (values : Result (List ℤ) UpdateFault) → each (new_value answer number row index) sets ≡ values → (values >>= (λ found. Ok (with_values keep sets found row))) ≡ Ok new
         → sides_log answer number row index sets ++ if_ok values (stores_log number sets) ≡ fit_sides number row index sets ++ stores_log number sets
     of_values (Err e) is goes = absurd (cc)
     of_values (Ok found) is goes = ap (λ (log : List Access). log ++ stores_log number sets) (sides_are number row index sets found is)
 
     of_test : (test : Result Bool UpdateFault)
-        → (test >>= (λ t. if t then (each (new_value answer number row index) sets >>= (λ values. Ok (with_values sets values row))) else Ok row)) ≡ Ok new
+        → (test >>= (λ t. if t then (each (new_value answer number row index) sets >>= (λ values. Ok (with_values keep sets values row))) else Ok row)) ≡ Ok new
         → if_passes test (sides_log answer number row index sets ++ if_ok (each (new_value answer number row index) sets) (stores_log number sets))
         ≡ if_passes test (fit_sides number row index sets ++ stores_log number sets)
     of_test (Err e) goes = refl
@@ -147,9 +147,9 @@ module _ (answer : Answer) where
 
   -- those of an update that goes
   pub rows_are : (filter : Option (Term ℕ)) (sets : List Setting) (extents : List ℕ) (rows : List (List ℤ)) (count : ℕ) (new : List (List ℤ))
-      → updated_rows answer filter sets extents rows count ≡ Ok new → rows_log answer filter sets extents rows count ≡ fit_rows filter sets extents rows count
+      → updated_rows answer keep filter sets extents rows count ≡ Ok new → rows_log answer filter sets extents rows count ≡ fit_rows filter sets extents rows count
   rows_are filter sets extents rows count new goes =
-      logs_of_each (λ number. updated_row answer filter sets number (slice_index_or rows number []) (index_at extents number))
+      logs_of_each (λ number. updated_row answer keep filter sets number (slice_index_or rows number []) (index_at extents number))
       (λ number. row_log answer filter sets number (slice_index_or rows number []) (index_at extents number))
       (λ number. fit_row filter sets number (slice_index_or rows number []) (index_at extents number))
       (λ number row is. row_is filter sets number (slice_index_or rows number []) (index_at extents number) row is) (range_with_len 0 count) new goes

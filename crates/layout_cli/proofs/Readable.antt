@@ -290,7 +290,7 @@ assigned_reads table index path value =
     next (bound_reads table.fields (length table.extents) value) (λ term.
     next (inside_reads table.extents index) (λ is_inside.
     next (value_reads row (slice_index_or table.rows row []) index term) (λ number.
-    next (store_reads table row leaf number) (λ fits. goes _)))))
+    next (store_reads table row leaf number) (λ kept. goes _)))))
 
 -- a command on a view
 view_works : (world : World) (name : List ℕ) (command : Table → Outcome Done) → ((table : Table) → IsReadable (command table)) → IsReadable (on_view world name command)
