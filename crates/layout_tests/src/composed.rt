@@ -56,7 +56,7 @@ fn swapped(alloc: Global) -> Result<Byteswap<Aos>, NewMapping> {
 
 fn swapped_in_seven_bits(alloc: Global) -> Result<Byteswap<BitAos>, NewMapping> {
     let cells = cells_of(alloc, &[LeafType::U8])?;
-    let inner = BitAos::new(alloc, &cells, 2, 7)?;
+    let inner = BitAos::new(alloc, &cells, 2, &[7])?;
     Byteswap::new(alloc, &cells, inner)
 }
 
@@ -73,7 +73,7 @@ fn cut(alloc: Global) -> Result<Bytesplit<Soa>, NewMapping> {
 
 fn cut_in_seven_bits(alloc: Global) -> Result<Bytesplit<BitAos>, NewMapping> {
     let cells = one_cell(alloc, 0, LeafType::U8)?;
-    let inner = BitAos::new(alloc, &cells, 2, 7)?;
+    let inner = BitAos::new(alloc, &cells, 2, &[7])?;
     Bytesplit::new(alloc, &cells, inner)
 }
 

@@ -100,7 +100,7 @@ tallied-swap layout tally (access ∷ one) other =
     ∙ ap (λ (log : List Access). tallied layout tally log) (append_assoc other (access ∷ []) one)
 
 -- the accesses of two kinds of some rows, row by row or kind by kind
-swapped : (layout : List (List Owner)) (tally : Tally) (first second third : List Access)
+pub swapped : (layout : List (List Owner)) (tally : Tally) (first second third : List Access)
     → tallied layout (tallied layout tally (first ++ second)) third ≡ tallied layout tally (first ++ (third ++ second))
 swapped layout tally first second third =
     tallied-append layout tally (first ++ second) third
@@ -109,7 +109,7 @@ swapped layout tally first second third =
     ∙ tallied-swap layout (tallied layout tally first) second third
     ∙ tallied-append layout tally first (third ++ second)
 
-apart : (a b c d : List Access) → (a ++ (b ++ c)) ++ d ≡ (a ++ b) ++ (c ++ d)
+pub apart : (a b c d : List Access) → (a ++ (b ++ c)) ++ d ≡ (a ++ b) ++ (c ++ d)
 apart a b c d = simp append_assoc
 
 pub tallied-kinds : (layout : List (List Owner)) (tally : Tally) (one other : ℕ → List Access) (rows : List ℕ)
