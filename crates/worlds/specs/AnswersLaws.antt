@@ -16,7 +16,8 @@ ends_same taken faults old new whole outcome read_failed (Unread (Some name)) sa
 ends_same taken faults old new whole outcome read_failed Breaks same broke = record { left = broke.left; goes = same false ∙ broke.goes; stopped = broke.stopped }
 ends_same taken faults old new whole outcome read_failed Starves same fronted = rw (same false) fronted
 
-pub steps_same : {S F K A : Type 0} (ending : F → Ending) (Stands : S → A → Type 0) (taken : K → Option (List ℕ)) (faults : K → ℕ) (old new : K) (whole outcome : Bool → Outcome (LeftOf A)) (read_failed : Type 0) (result : Result S F) →
-    ((unread : Bool) → whole unread ≡ outcome unread) → StepsTo ending Stands taken faults old new outcome read_failed result → StepsTo ending Stands taken faults old new whole read_failed result
+pub steps_same : {S F K A : Type 0} (ending : F → Ending) (Stands : S → A → Type 0) (taken : K → Option (List ℕ)) (faults : K → ℕ) (old new : K)
+    (whole outcome : Bool → Outcome (LeftOf A)) (read_failed : Type 0) (result : Result S F) → ((unread : Bool) → whole unread ≡ outcome unread)
+    → StepsTo ending Stands taken faults old new outcome read_failed result → StepsTo ending Stands taken faults old new whole read_failed result
 steps_same ending Stands taken faults old new whole outcome read_failed (Ok next) same did = record { left = did.left; goes = same false ∙ did.goes; stands = did.stands; wrote = did.wrote }
 steps_same ending Stands taken faults old new whole outcome read_failed (Err fault) same ends = ends_same taken faults old new whole outcome read_failed (ending fault) same ends
