@@ -200,12 +200,7 @@ fn cells_in_fewer_bits_leave_these_bytes(rt: HostRuntime) -> Result<(), Fail> {
     let odd = [0, 0, 0, 0, 0xfe, 0xff, 0xff, 0xff, 3, 0, 0, 0, 0, 0, 0, 0];
     let twenty = [0, 0, 16, 0, 0, 0, 0, 16, 0, 0, 0, 0, 0, 0, 0, 0];
     for (slots, widths, entries, bytes) in [
-        (
-            1,
-            [64, 64].as_slice(),
-            ends.as_slice(),
-            whole.as_slice(),
-        ),
+        (1, [64, 64].as_slice(), ends.as_slice(), whole.as_slice()),
         (3, [1].as_slice(), [1, 0, 1].as_slice(), flags.as_slice()),
         (
             2,

@@ -46,7 +46,12 @@ fn runs_tell_padding_and_the_rows_of_leaves(rt: HostRuntime) -> Result<(), Fail>
         order: Order::Row,
     };
     let schema = schema_of(alloc, &[LeafType::U8, LeafType::U16])?;
-    let map = AnyMap::new(alloc, &schema, &extents_of(alloc, [2, 1, 1, 1], 1)?, &aligned)?;
+    let map = AnyMap::new(
+        alloc,
+        &schema,
+        &extents_of(alloc, [2, 1, 1, 1], 1)?,
+        &aligned,
+    )?;
     let due = [
         (0, 8, owned(0, 0, 0)),
         (8, 8, RunOwner::Pad),
@@ -68,7 +73,12 @@ fn runs_tell_which_bits_of_a_leaf_stand_first(rt: HostRuntime) -> Result<(), Fai
     };
     let turned = MapExpr::Byteswap(Box::new(alloc, packed)?);
     let schema = schema_of(alloc, &[LeafType::U16])?;
-    let map = AnyMap::new(alloc, &schema, &extents_of(alloc, [2, 1, 1, 1], 1)?, &turned)?;
+    let map = AnyMap::new(
+        alloc,
+        &schema,
+        &extents_of(alloc, [2, 1, 1, 1], 1)?,
+        &turned,
+    )?;
     let due = [
         (0, 8, owned(0, 0, 8)),
         (8, 8, owned(0, 0, 0)),

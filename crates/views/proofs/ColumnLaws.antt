@@ -72,8 +72,8 @@ loaded_more leaf row lane at old table new values value loaded small below place
     let kept = to_z-of_z w64 value (narrow_fits value narrow) in
     let rows_same : table.rows ≡ old.rows = ap (λ (t : Table). t.rows) loaded.log in
     let there : get_or (drop row (column leaf old.rows)) lane (pos 0) ≡ value =
-        lane_value leaf row lane old.rows below ∙ ap (λ (n : ℕ). in_leaf leaf (get_or old.rows n [])) (sym place)
-        ∙ ap (λ (rows : List (List ℤ)). in_leaf leaf (get_or rows at [])) (sym rows_same) ∙ sym is in
+    lane_value leaf row lane old.rows below ∙ ap (λ (n : ℕ). in_leaf leaf (get_or old.rows n [])) (sym place)
+    ∙ ap (λ (rows : List (List ℤ)). in_leaf leaf (get_or rows at [])) (sym rows_same) ∙ sym is in
     let inside : lane < length (drop row (column leaf old.rows)) = omega (arith, lanes_inside leaf row (lane + 1) old.rows (omega arith)) in
     record {
       filled = ap (set values lane) kept ∙ lanes_more (drop row (column leaf old.rows)) values lane 16 value inside small there loaded.filled;

@@ -1,5 +1,5 @@
 -- The values of one leaf that are stored, a lane at a time.
-use Rattle.std.proofs.Common.{◌≡◌, ℕ, zero, suc, ◌+◌, ◌<◌, ◌≤◌, List, [], ◌∷◌, ◌++◌, length, map, take, drop, set, get_or, ℤ, pos, Some, None, Ok, Err, refl, sym, ap, ◌∙◌, arith, subst, drop-cons, length-take, take_all,  FitsSigned, to_z, of_z, w64}
+use Rattle.std.proofs.Common.{◌≡◌, ℕ, zero, suc, ◌+◌, ◌<◌, ◌≤◌, List, [], ◌∷◌, ◌++◌, length, map, take, drop, set, get_or, ℤ, pos, Some, None, Ok, Err, refl, sym, ap, ◌∙◌, arith, subst, drop-cons, length-take, take_all, FitsSigned, to_z, of_z, w64}
 use Rattle.std.specs.Prelude.{Option, Result}
 use Rattle.std.specs.Int.{w128}
 use Rattle.std.proofs.lemmas.Int.{to_z-of_z}

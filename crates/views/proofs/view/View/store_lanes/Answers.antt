@@ -24,7 +24,7 @@ pub returns-clause-stored : goal.returns-clause-stored
 returns-clause-stored g c =
     let old = c.args.self.now in
     let P : List ℤ → ℕ → Type 0 = λ values count.
-        OnOk c.store_values.result (c.store_values.new.self ≡ after_stores old (with_column c.args.leaf c.args.row (map (kept_of old c.args.leaf) values) old.rows) (column_writes c.args.leaf c.args.row count)) in
+    OnOk c.store_values.result (c.store_values.new.self ≡ after_stores old (with_column c.args.leaf c.args.row (map (kept_of old c.args.leaf) values) old.rows) (column_writes c.args.leaf c.args.row count)) in
     first_lanes P c.to_array-values.result c.args.values c.args.lanes (lanes_are g (goal.at.returns-clause-stored g c).After-to_array-values)
     (omega (arith, c.requires.values.count)) c.store_values.ensures.stored
 
