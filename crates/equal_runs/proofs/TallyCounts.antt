@@ -6,12 +6,12 @@ use Rattle.instrument.specs.Counters.{LeafCounts, no_counts}
 use Rattle.map_any.specs.Counters.{has_count}
 use Rattle.map_expr.specs.Terms.{Term as MapTerm}
 use Rattle.places.specs.Layout.{Owner}
-use Rattle.views.specs.Tallies.{Access, Tally, counted_by, tallied, no_tally}
+use Rattle.views.specs.Tallies.{Access, Tally, counts_touched, tallied, no_tally}
 use Rattle.views.specs.TallyLaws.{tallied-counts}
 
 -- some counts after accesses
 abbrev counts_after : List Access → LeafCounts → LeafCounts
-counts_after log counts = fold (λ (c : LeafCounts) (access : Access). counted_by access c) counts log
+counts_after log counts = fold (λ (c : LeafCounts) (access : Access). counts_touched access c) counts log
 
 -- equal counts, where both are there
 abbrev pub SameCounts : Option LeafCounts → Option LeafCounts → Type 0
