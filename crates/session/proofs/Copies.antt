@@ -16,10 +16,11 @@ use Rattle.places.specs.declared.piece.Hold.{Hold}
 use Rattle.layout_copy.specs.Copies.{AreAlike, IsCopied, refusing, refused_at}
 use Rattle.layout_copy.specs.declared.fault.CopyFault.{CopyFault}
 use Rattle.layout_copy.specs.declared.fault.CopyFault.TheVariants as copy
-use Rattle.views.specs.Tables.{Table, IsTable, table_holds, leaf_count_of, leaf_types_of, answer_of, after_log}
+use Rattle.views.specs.Tables.{Table, IsTable, table_holds, leaf_count_of, leaf_types_of, answer_of, kept_of, after_log}
 use Rattle.views.specs.Tallies.{Access, all_accesses, all_touches, Read, Write}
 use Rattle.views.specs.TallyLaws.{after_log-append}
-use Rattle.views.specs.Stores.{Answer, is_between, kind_at, store_answer}
+use Rattle.views.specs.Stores.{Answer, is_between, kept_rows, kind_at, store_answer}
+use Rattle.views.specs.AnswerLaws.{kept_rows-same}
 use Rattle.worlds.specs.Copy.{copy, copied, with_rows, all_read, laid_anew, narrow_fault}
 use Rattle.worlds.specs.Tables.{made, zeros_of}
 use Rattle.map_expr.specs.Terms.{Term as MapTerm}
@@ -93,23 +94,23 @@ both_set xs gone place now x y small apart before behind =
 is_within : (least greatest value : ℤ) → least ≤ℤ value → value ≤ℤ greatest → is_between least greatest value ≡ true
 is_within least greatest value low high = grind (arith, ints)
 
-taken : (kind : LeafType) (hold : Hold) (value : ℤ) → IsDeclared kind value → IsIn hold.signed hold.width value → store_answer kind hold value ≡ Ok tt
+taken : (kind : LeafType) (hold : Hold) (value : ℤ) → IsDeclared kind value → IsIn hold.signed hold.width value → store_answer kind hold value ≡ Ok value
 taken kind hold value declared held =
     rw (
       is_within (least_of kind) (greatest_of kind) value declared.0 declared.1,
       is_within (least_in hold.signed hold.width) (greatest_in hold.signed hold.width) value held.0 held.1,
     ) refl
 
-row_held : (answer : Answer) (leaf : ℕ) (values : List ℤ) → ((k : ℕ) → k < length values → answer (leaf + k) (get_or values k (pos 0)) ≡ Ok tt) → refusing answer leaf values ≡ None
+row_held : (answer : Answer) (leaf : ℕ) (values : List ℤ) → ((k : ℕ) → k < length values → answer (leaf + k) (get_or values k (pos 0)) ≡ Ok (get_or values k (pos 0))) → refusing answer leaf values ≡ None
 row_held answer leaf [] all = refl
 row_held answer leaf (value ∷ values) all =
     let here : leaf + 0 ≡ leaf = omega arith in
-    let first : answer leaf value ≡ Ok tt = subst (λ (n : ℕ). answer n value ≡ Ok tt) here (all 0 (omega arith)) in
+    let first : answer leaf value ≡ Ok value = subst (λ (n : ℕ). answer n value ≡ Ok value) here (all 0 (omega arith)) in
     rw first (row_held answer (leaf + 1) values (λ k small.
     let next : leaf + suc k ≡ leaf + 1 + k = omega arith in
-    subst (λ (n : ℕ). answer n (get_or values k (pos 0)) ≡ Ok tt) next (all (suc k) (omega (arith, small)))))
+    subst (λ (n : ℕ). answer n (get_or values k (pos 0)) ≡ Ok (get_or values k (pos 0))) next (all (suc k) (omega (arith, small)))))
 
-rows_held : (answer : Answer) (row : ℕ) (rows : List (List ℤ)) → ((r k : ℕ) → r < length rows → k < length (get_or rows r []) → answer k (entry rows r k) ≡ Ok tt) → refused_at answer row rows ≡ None
+rows_held : (answer : Answer) (row : ℕ) (rows : List (List ℤ)) → ((r k : ℕ) → r < length rows → k < length (get_or rows r []) → answer k (entry rows r k) ≡ Ok (entry rows r k)) → refused_at answer row rows ≡ None
 rows_held answer row [] all = refl
 rows_held answer row (values ∷ rows) all =
     let first : refusing answer 0 values ≡ None = row_held answer 0 values (λ k small.
@@ -144,9 +145,10 @@ copied_self seen now is touched =
     let writes = all_accesses Write (leaf_count_of seen) (length seen.rows) in
     let read : Table = after_log seen reads in
     let held : refused_at (answer_of read) 0 seen.rows ≡ None = own_values seen is in
+    let kept : kept_rows (kept_of read) seen.rows ≡ seen.rows = kept_rows-same read seen.rows in
     let both : after_log read writes ≡ now =
     after_log-append seen reads writes ∙ ap (after_log seen) (touched_once (leaf_count_of seen) (length seen.rows)) ∙ sym touched in
-    copied_alike seen read (refl, refl) ∙ rw held (ap (λ (s : Table). Goes s) both)
+    copied_alike seen read (refl, refl) ∙ rw (held, kept) (ap (λ (s : Table). Goes s) both)
 
 -- a table that is laid out anew is copied into the new one
 pub laid_copied : (views : List (Entry Table)) (term : MapTerm) (old fresh : Table) → made views old.fields old.extents term ≡ Goes fresh →

@@ -87,4 +87,4 @@ assigned_is table index path value leaf term a b c =
     let row = place_in (indices table.extents) index in
     let log = value_log row (get_or table.rows row []) index term in
     rw (a, b, c) (then_same (value_on row (get_or table.rows row []) index term) _ _ _ _ (λ number.
-    then_same (storable table row leaf number) _ _ _ _ (λ fits. ap (λ (t : Table). Goes (left_with t [])) (read_stored table (with_entry table.rows row leaf number) log (Write row leaf ∷ [])))))
+    then_same (storable table row leaf number) _ _ _ _ (λ kept. ap (λ (t : Table). Goes (left_with t [])) (read_stored table (with_entry table.rows row leaf kept) log (Write row leaf ∷ [])))))

@@ -1,6 +1,11 @@
 -- The leaves that are set, one after another.
 use Rattle.std.proofs.Common.{◌≡◌, ℕ, suc, ◌+◌, ◌<◌, ◌≤◌, Bool, true, false, nat_eq, List, [], ◌∷◌, ◌++◌, length, get_or, take, drop, map, refl, sym, ap, subst, ◌∙◌, arith, add-one, ⊎_elim}
-use Rattle.std.specs.Prelude.{◌||◌, All}
+use Rattle.std.specs.Prelude.{◌||◌, All, Option, Some, None, option_map}
+use Rattle.std.specs.Option.{option_copied}
+use Rattle.std.specs.Borrow.{Bor}
+use Rattle.expr_lang.specs.declared.bound.Bound.{Bound}
+use Rattle.expr_lang.specs.Bounds.{bound_term}
+use Rattle.expr_lang.specs.Terms.{Term}
 use Rattle.std.proofs.lemmas.List.Elements.{All-get_or}
 use Rattle.views.specs.Tables.{Table, leaf_count_of}
 use Rattle.std.specs.List.{list_any, IsDistinct}
@@ -13,15 +18,17 @@ use Rattle.std.proofs.lemmas.Map.Steps.{length-le_from_distinct_below}
 use Rattle.std.proofs.Math.ListN.{drop_of_length-le}
 use Rattle.std.proofs.Math.Seq.{drop-cons}
 use Rattle.record_dim.specs.Trees.{Fields}
-use Rattle.line_grammar.specs.Sentences.{Assignment}
-use Rattle.row_updates.specs.Rows.{Setting, setting_of, IsSetOf}
+use Rattle.line_grammar.specs.Sentences.{Assignment, Value}
+use Rattle.row_updates.specs.Rows.{Setting, setting_of, filter_term, IsSetOf}
 use Rattle.row_updates.specs.declared.update.Assign.{Assign}
 use Rattle.worlds.specs.Outcomes.{Outcome, Goes, Faults, CannotRead, ◌>>=◌}
-use Rattle.worlds.specs.Names.{bound_set, bound_sets, each_once, leaves_of, text_of_leaf}
+use Rattle.worlds.specs.Names.{bound_filter, bound_set, bound_sets, each_once, leaves_of, text_of_leaf}
+use Rattle.worlds.specs.Update.{updated}
 use Rattle.worlds.specs.declared.fault.CommandFault.TheVariants.{Twice}
 use Rattle.command_checks.specs.Gives.{GivesUp}
 use Rattle.command_checks.specs.GivesLaws.{GivesUp-then}
 use Rattle.command_checks.specs.declared.fault.StepFault.{StepFault}
+use Rattle.session.specs.Changes.{rows_updated}
 
 -- a list at one of its places
 pub map_at : {X Y : Type 0} (f : X → Y) (xs : List X) (i : ℕ) (d : X) → i < length xs → map f (take i xs) ++ f (get_or xs i d) ∷ map f (drop (suc i) xs) ≡ map f xs
@@ -137,3 +144,15 @@ leaves_below seen (set ∷ sets) all k small =
     let within : k < length (set ∷ sets) = rw (← leaves_long (set ∷ sets)) small in
     let is = (All-get_or (IsSetOf seen) (set ∷ sets) k set within all).inside in
     rw (ap (λ leaves. get_or leaves k 0) (leaves_are (set ∷ sets)) ∙ get_or-map (λ (s : Assign). s.leaf) (set ∷ sets) k set 0 within) is
+
+-- the filter of an update, as it is lent
+pub filter_is : (filter : Option (Bor Bound)) (bound : Option Bound) → option_copied filter ≡ bound → filter_term filter ≡ option_map bound_term bound
+filter_is None bound is = ap (option_map bound_term) is
+filter_is (Some lent) bound is = ap (option_map bound_term) is
+
+-- an update whose words are known
+pub updated_is : (table : Table) (filter : Option Value) (sets : List Assignment) (test : Option (Term ℕ)) (settings : List Setting) →
+    bound_filter table.fields (length table.extents) filter ≡ Goes test → bound_sets table.fields (length table.extents) sets ≡ Goes settings →
+    each_once table.fields [] (leaves_of settings) ≡ Goes tt → updated table filter sets ≡ rows_updated table test settings
+unfolding updated
+updated_is table filter sets test settings a b c = rw (a, b, c) refl

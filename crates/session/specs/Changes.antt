@@ -5,7 +5,7 @@ use Rattle.piece_bits.specs.Tables.{with_entry}
 use Rattle.record_dim.specs.Trees.{Fields}
 use Rattle.map_expr.specs.Terms.{Term as MapTerm}
 use Rattle.map_expr.specs.Checks.{checked}
-use Rattle.views.specs.Tables.{Table, answer_of, after_log, after_stores}
+use Rattle.views.specs.Tables.{Table, answer_of, kept_of, after_log, after_stores}
 use Rattle.worlds.specs.Worlds.{World, Entry, added}
 use Rattle.worlds.specs.Outcomes.{Outcome, Goes, ◌>>=◌, LeftOf, ok_or}
 use Rattle.worlds.specs.OnView.{Done, stores}
@@ -37,11 +37,11 @@ with_record world name fields = record world { records = added name fields world
 abbrev pub with_mapping : World → List ℕ → MapTerm → World
 with_mapping world name term = record world { mappings = added name term world.mappings }
 
--- a table with a value in a leaf of a row, where it fits
+-- a table with the number that is kept of a value in a leaf of a row, where it fits
 abbrev pub stored : Table → ℕ → ℕ → ℤ → Outcome Table
 stored table row leaf value = do
-  fits ← storable table row leaf value
-  Goes (after_stores table (with_entry table.rows row leaf value) (Write row leaf ∷ []))
+  kept ← storable table row leaf value
+  Goes (after_stores table (with_entry table.rows row leaf kept) (Write row leaf ∷ []))
 
 -- the same of the value of an expression on a row
 abbrev pub set_row : Table → ℕ → List ℕ → ℕ → Term ℕ → Outcome Table
@@ -62,7 +62,7 @@ TellsRow fields fault told = Tells (row_fault fields fault) told
 -- new values go into the rows that pass a filter
 abbrev pub rows_updated : Table → Option (Term ℕ) → List Setting → Outcome Done
 rows_updated table test settings = do
-  rows ← ok_or (update_fault table.fields) (updated_rows (answer_of table) test settings table.extents table.rows (length table.rows))
+  rows ← ok_or (update_fault table.fields) (updated_rows (answer_of table) (kept_of table) test settings table.extents table.rows (length table.rows))
   Goes (stores rows (rows_log (answer_of table) test settings table.extents table.rows (length table.rows)))
 
 -- the tables beside one another, that at one place read, and then that at a place as a copy of it
