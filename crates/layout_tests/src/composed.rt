@@ -55,7 +55,7 @@ fn swapped(alloc: Global) -> Result<Byteswap<Aos>, NewMapping> {
 }
 
 fn swapped_in_seven_bits(alloc: Global) -> Result<Byteswap<BitAos>, NewMapping> {
-    let cells = cells_of(alloc, &[LeafType::U8])?;
+    let cells = one_cell(alloc, 0, LeafType::U8)?;
     let inner = BitAos::new(alloc, &cells, 2, &[7])?;
     Byteswap::new(alloc, &cells, inner)
 }
