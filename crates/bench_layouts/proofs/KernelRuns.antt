@@ -46,7 +46,7 @@ written_is rows table is =
 
 -- one run more
 pub run_more : (old view new : Table) (kernel : Kernel) (round : ℕ) (number : Option ℤ)
-    → view ≡ record old { rows = table_after kernel round old.rows; tally = view.tally } → IsRun view new kernel (Ok number)
+    → view ≡ record old { rows = table_after kernel round old.rows; tally = view.tally } → IsRun view new kernel 1 (Ok number)
     → new ≡ record old { rows = table_after kernel (round + 1) old.rows; tally = new.tally }
 run_more old view new kernel round number same run =
     let one : round + 1 ≡ suc round = omega arith in
@@ -54,7 +54,7 @@ run_more old view new kernel round number same run =
     ∙ ap (λ (v : Table). record v { rows = run_rows (λ leaf value. value) kernel (length v.rows) v.rows; tally = new.tally }) same)
 
 pub given_more : (old view new : Table) (kernel : Kernel) (round : ℕ) (number : Option ℤ) (total more : ℤ)
-    → view ≡ record old { rows = table_after kernel round old.rows; tally = view.tally } → IsRun view new kernel (Ok number)
+    → view ≡ record old { rows = table_after kernel round old.rows; tally = view.tally } → IsRun view new kernel 1 (Ok number)
     → total ≡ all_given kernel round old.rows → more ≡ unwrap_or number (pos 0) → total +ℤ more ≡ all_given kernel (round + 1) old.rows
 given_more old view new kernel round number total more same run so_far is =
     let one : round + 1 ≡ suc round = omega arith in
@@ -62,7 +62,7 @@ given_more old view new kernel round number total more same run so_far is =
     rw (one, so_far, is, number_is) refl
 
 pub refused_run : (old view new : Table) (kernel : Kernel) (round rounds : ℕ) (fault : KernelFault) → round < rounds
-    → view ≡ record old { rows = table_after kernel round old.rows; tally = view.tally } → IsRun view new kernel (Err fault) → IsRefusedRun (answer_of old) kernel rounds old.rows fault
+    → view ≡ record old { rows = table_after kernel round old.rows; tally = view.tally } → IsRun view new kernel 1 (Err fault) → IsRefusedRun (answer_of old) kernel rounds old.rows fault
 refused_run old view new kernel round rounds fault small same run =
     (round, small, sym (ap (λ (v : Table). kernel_fault (answer_of v) kernel v.rows) same) ∙ run.0)
 

@@ -1,10 +1,11 @@
-use Rattle.std.proofs.Common.{◌≡◌, ◌∙◌, ℤ, [], ◌∷◌, ap, refl, arith}
+use Rattle.std.proofs.Common.{rules, ◌≡◌, ◌∙◌, ℤ, [], ◌∷◌, Err, ap, sym, refl, arith}
 use Rattle.piece_bits.specs.Tables.{with_entry}
-use Rattle.views.specs.AnswerLaws.{kept_of-same}
-use Rattle.views.specs.Tables.{after_stores, after_write}
+use Rattle.views.specs.AnswerLaws.{kept_of-same, told_err}
+use Rattle.views.specs.Stores.{told}
+use Rattle.views.specs.Tables.{after_stores, after_write, answer_of}
 use Rattle.views.specs.Tallies.{Write}
 use Rattle.bench_layouts.specs.Tables.{value}
-use Rattle.bench_layouts.proofs.Rounds.{rewritten_on, values_on, others_on}
+use Rattle.bench_layouts.proofs.Rounds.{rewritten_on, values_on, others_on, refused_before}
 use Rattle.bench_layouts.proofs.table.write_row.Goals as goal
 
 pub loop-leaf-preserved : goal.loop-leaf-preserved
@@ -23,3 +24,13 @@ loop-leaf-preserved g c =
       values = values_on old mid new row leaf number still c.requires.row_in (omega arith) is c.args.round refl c.loop-leaf.invariant.values;
       others = others_on old mid new row leaf number still c.requires.row_in (omega arith) is c.loop-leaf.invariant.others;
     }
+
+pub returns-in_err-set-clause-refused : goal.returns-in_err-set-clause-refused
+returns-in_err-set-clause-refused g c =
+    let mid = c.loop-leaf.view in
+    let leaf = c.loop-leaf.leaf in
+    let number = value c.args.round c.args.row leaf in
+    let fault = c.in_err-set.field-0.0 in
+    let is : c.from_residual.result ≡ Err fault = search rules in
+    let refused : told (answer_of mid leaf number) ≡ Err fault = search rules in
+    rw is (refused_before c.args.view.now mid c.args.round c.args.row fault c.loop-leaf.invariant.rewritten (leaf, omega arith, told_err (answer_of mid leaf number) fault refused))
