@@ -9,7 +9,7 @@ use Rattle.std.proofs.lemmas.List.FromFn.{length-range_with_len}
 use Rattle.std.proofs.lemmas.List.Sums.{AllPass-from_list_all}
 use Rattle.std.proofs.lemmas.Nat.{le-div, pow_pos, mul-le, and_le_r}
 use Rattle.std.proofs.lemmas.Nat.Bits.{bit_at-zero, bit_at-lt, bit_at_and, bit_at_or, bit_at_above, bit_at_cat_low, bit_at_cat_high}
-use Rattle.std.proofs.Math.Nat.{mod-eq_of_lt, div-one, pow-le-pow_right}
+use Rattle.std.proofs.Math.Nat.{mod-eq_of_lt, pow-le-pow_right}
 use Rattle.linearize.specs.MortonLaws.{at_own_place}
 use Rattle.linearize.specs.Spreads.{IsSpread}
 
@@ -119,8 +119,3 @@ stage_last {w} {source} {x} {y} rank h some wide there = λ k.
     (λ _. sym (bit_at_above x w (k / rank) h.narrow (le-div w k rank some (omega (arith, wide, l)))))
     (λ _. refl))
     (cases_lt k 24)
-
-pub spread_by_one : (x : ℕ) → IsSpread 1 x x
-spread_by_one x = λ k.
-    let even : k % 1 ≡ 0 = omega arith in
-    ap (bit_at x) (sym (div-one k)) ∙ sym (cond-true (eqb (k % 1) 0) (bit_at x (k / 1)) 0 (eq-eqb (k % 1) 0 even))

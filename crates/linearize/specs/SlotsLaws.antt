@@ -1,5 +1,5 @@
 -- The laws of slots, for any order.
-use Rattle.std.proofs.Common.{◌≡◌, ◌≢◌, ℕ, ◌<◌, Bool, cond, eqb, ltb, List, [], ◌∷◌, ◌++◌, length, get_or, Some, None, refl, sym, ap, subst, ◌∙◌, arith}
+use Rattle.std.proofs.Common.{◌≡◌, ℕ, ◌<◌, Bool, cond, eqb, ltb, List, [], ◌∷◌, ◌++◌, length, get_or, Some, None, refl, sym, ap, subst, ◌∙◌, arith}
 use Rattle.std.specs.Prelude.{reverse, nat_eq, slice_get}
 use Rattle.std.specs.List.{position_or_len}
 use Rattle.std.specs.Cmp.Lexicographic.{pointwise}
@@ -114,12 +114,6 @@ slot_at-row_at o e s r at =
     let passes = passes_at_first (λ i. eqb (slot_of o e i) s) (indices e) [] within in
     let same : slot_at o e (position_or_len (λ i. eqb (slot_of o e i) s) (indices e)) ≡ s = (Decides-eqb (slot_at o e (position_or_len (λ i. eqb (slot_of o e i) s) (indices e))) s).0 passes in
     subst (λ k. (k < length (indices e)) × (slot_at o e k ≡ s)) parts.1 (within, same)
-
--- a slot with no row is the slot of none
-pub none_at_slot : (o : Order) (e : List ℕ) (s r : ℕ) → row_at o e s ≡ None → r < length (indices e) → slot_at o e r ≢ s
-none_at_slot o e s r none h same =
-    let some : row_at o e s ≡ Some r = ap (row_at o e) (sym same) ∙ row_at-slot_at o e r h in
-    cc
 
 -- the row at the slot of an index is that of the index
 pub row_at-slot_of : (o : Order) (e i : List ℕ) (r : ℕ) → slice_get (indices e) r ≡ Some i → row_at o e (slot_of o e i) ≡ Some r

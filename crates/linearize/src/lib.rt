@@ -11,9 +11,7 @@ mod digits;
 pub use crate::columns::Columns;
 use crate::digits::spread;
 pub use extents::Order;
-
-/// The greatest number of slots.
-const MAX_SLOTS: u64 = 1 << 24;
+use places::MAX_SLOTS;
 
 /// The number of slots over these extents, None where there are more than 2^24.
 pub fn slots<const R: usize>(order: Order, extents: &[u64; R]) -> Option<u64>

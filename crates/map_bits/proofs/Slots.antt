@@ -177,12 +177,6 @@ not_too_big slots widths offsets stride h few small big =
     (λ (long : 8 * 2 ^ 28 < sum_by length (bit_aos slots widths)). let none : ⊥ = omega arith in none)
     big
 
--- no slot is not too many
-pub none_fits : (slots : ℕ) (widths : List ℕ) → slots ≡ 0 → IsTooBig slots (bit_aos slots widths) → ⊥
-none_fits slots widths none =
-    let product : slots * 0 ≡ 0 = omega arith in
-    not_too_big slots widths [] 0 (λ filled. let never : ⊥ = omega arith in absurd never) (omega arith) (omega arith)
-
 -- one cell more, as the code reads it
 pub end_next : (holds : List Hold) (i : ℕ) (d : Hold) (end bits : ℕ) → i < length holds → bits ≡ (get_or holds i d).width
     → end ≡ sum (take i (widths_in holds)) → end + bits ≡ sum (take (i + 1) (widths_in holds))

@@ -23,20 +23,6 @@ bytes_in cell = map (λ (byte : ℕ). (cell.0, byte)) (range_with_len 0 (cell.1 
 length-bytes_in : (c w : ℕ) → length (bytes_in (c, w)) ≡ w / 8
 length-bytes_in c w = length-map-range_with_len {X = ℕ × ℕ} (λ (byte : ℕ). (c, byte)) 0 (w / 8)
 
-length_from : (a : ℕ) (ws : List ℕ) → length (flat_map bytes_in (enumerate_from a ws)) ≡ sum_by (λ (w : ℕ). w / 8) ws
-length_from a [] = refl
-length_from a (w ∷ ws) =
-    let here : length (bytes_in (a, w)) ≡ w / 8 = length-bytes_in a w in
-    let later : length (flat_map bytes_in (enumerate_from (a + 1) ws)) ≡ sum_by (λ (x : ℕ). x / 8) ws = length_from (a + 1) ws in
-    let both : length (bytes_in (a, w) ++ flat_map bytes_in (enumerate_from (a + 1) ws)) ≡ length (bytes_in (a, w)) + length (flat_map bytes_in (enumerate_from (a + 1) ws)) =
-    length-append (bytes_in (a, w)) (flat_map bytes_in (enumerate_from (a + 1) ws)) in
-    let step : sum_by (λ (x : ℕ). x / 8) (w ∷ ws) ≡ w / 8 + sum_by (λ (x : ℕ). x / 8) ws = sum_by-cons (λ (x : ℕ). x / 8) w ws in
-    omega arith
-
--- there is a cell for each byte
-pub length-byte_cells : (ws : List ℕ) → length (byte_cells ws) ≡ sum_by (λ (w : ℕ). w / 8) ws
-length-byte_cells ws = length_from 0 ws
-
 at_from : (a : ℕ) (ws : List ℕ) (c j : ℕ) (d : ℕ × ℕ) → c < length ws → j < get_or ws c 0 / 8
     → get_or (flat_map bytes_in (enumerate_from a ws)) (bytes_before ws c + j) d ≡ (a + c, j)
 at_from a [] c j d inside low = let never : ⊥ = omega arith in absurd never

@@ -1,21 +1,12 @@
 -- One more item of a list that is mapped, and how a cell of a split is stored.
-use Rattle.std.proofs.Common.{◌≡◌, ℕ, ◌+◌, ◌<◌, Bool, true, false, List, [], ◌∷◌, ◌++◌, map, length, get_or, slice_get, Some, take, sym, ap, ◌∙◌, arith}
+use Rattle.std.proofs.Common.{◌≡◌, ℕ, ◌<◌, Bool, true, false, List, map, length, get_or, slice_get, Some, sym, ap, ◌∙◌, arith}
 use Rattle.std.specs.Prelude.{not}
 use Rattle.std.specs.List.{count_by}
-use Rattle.std.proofs.lemmas.List.{length-map, take_more, map_push}
+use Rattle.std.proofs.lemmas.List.{length-map}
 use Rattle.std.proofs.lemmas.Option.{slice_get-get_or, get_or_from_slice_get}
 use Rattle.places.specs.declared.piece.Hold.{Hold}
 use Rattle.map_split.specs.Sides.{merged, rank_first, rank_rest}
 use Rattle.map_split.specs.SidesLaws.{map-merged, merged_first, merged_rest, length-merged}
-
-pub one_more : {X : Type 0} (f : X → X) (items old new : List X) (i : ℕ) (item made : X) → i < length items → item ≡ get_or items i item
-    → old ≡ map f (take i items) → made ≡ f item → new ≡ old ++ made ∷ [] → new ≡ map f (take (i + 1) items)
-one_more {X} f items old new i item made inside read so_far is pushed =
-    pushed
-    ∙ ap (λ (xs : List X). xs ++ made ∷ []) so_far
-    ∙ ap (λ (x : X). map f (take i items) ++ x ∷ []) is
-    ∙ sym (map_push f (take i items) item)
-    ∙ sym (ap (map f) (take_more items i item inside ∙ ap (λ (x : X). take i items ++ x ∷ []) (sym read)))
 
 module _ (side : List Bool) (hs gs : List Hold) (cell : ℕ) (inside : cell < length side) (left : length hs ≡ count_by (λ (s : Bool). s) side)
     (right : length gs ≡ count_by not side) where

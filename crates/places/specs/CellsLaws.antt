@@ -78,13 +78,6 @@ member_at [] i d l = let none : ⊥ = omega arith in absurd none
 member_at (cell ∷ cells) zero d l = inl (refl, refl)
 member_at (cell ∷ cells) (suc i) d l = inr (member_at cells i d (omega arith))
 
--- the cells before a place
-pub member_take : (cells : List (ℕ × ℕ)) (i c w : ℕ) → Member (take i cells) c w → Member cells c w
-member_take cells zero c w m = absurd m
-member_take [] (suc i) c w m = m
-member_take (cell ∷ cells) (suc i) c w m =
-    ⊎_elim (λ (x : (cell.0 ≡ c) × (cell.1 ≡ w)). inl x) (λ (x : Member (take i cells) c w). inr (member_take cells i c w x)) m
-
 -- the cell at a place stands not before it
 pub fresh_at : (cells : List (ℕ × ℕ)) (i : ℕ) (d : ℕ × ℕ) (v : ℕ) → Apart cells → i < length cells → Member (take i cells) (get_or cells i d).0 v → ⊥
 fresh_at [] i d v apart l m = let none : ⊥ = omega arith in none

@@ -114,9 +114,6 @@ pub record IsFilled (align : ℕ → ℕ) (f : ℕ × ℕ → List Owner) (offse
   pub ends : (c w : ℕ) → Member cells c w → get_or offsets c 0 + length (f (c, w)) ≤ at
   pub here : (c w j : ℕ) → Member cells c w → j < length (f (c, w)) → get_or (stacked align f [] cells) (get_or offsets c 0 + j) Pad ≡ get_or (f (c, w)) j Pad
 
-pub filled_none : (align : ℕ → ℕ) (f : ℕ × ℕ → List Owner) (offsets : List ℕ) → IsFilled align f offsets 0 []
-filled_none align f offsets = record { size = refl; ends = λ c w (m : ⊥). absurd m; here = λ c w j (m : ⊥) l. absurd m }
-
 -- which cells stand in a list with one more
 pub member_push : (cells : List (ℕ × ℕ)) (cell : ℕ × ℕ) (c w : ℕ) → Member (cells ++ cell ∷ []) c w → Member cells c w ⊎ ((cell.0 ≡ c) × (cell.1 ≡ w))
 member_push [] cell c w m = ⊎_elim (λ (x : (cell.0 ≡ c) × (cell.1 ≡ w)). inr x) (λ (x : ⊥). absurd x) m

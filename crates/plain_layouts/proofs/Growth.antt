@@ -36,10 +36,6 @@ grown_range {Y} f old now new i was pushed =
     ap (flat_map f) (range_more i) ∙ parts ∙ ap (λ (ys : List Y). flat_map f (range_with_len 0 i) ++ ys) (append-nil (f i)) in
     pushed ∙ ap (λ (ys : List Y). ys ++ f i) was ∙ append_assoc old (flat_map f (range_with_len 0 i)) (f i) ∙ ap (λ (ys : List Y). old ++ ys) (sym step)
 
--- nothing yet
-pub grown_none : {Y : Type 0} (now : List Y) → now ≡ now ++ []
-grown_none now = sym (append-nil now)
-
 -- one owner more behind owners that follow a function of their number
 pub owners_grown : (f : ℕ → Owner) (old : List Owner) (now new : List PlainOwner) (owner : PlainOwner) (i : ℕ)
     → owners_of now ≡ old ++ map f (range_with_len 0 i) → new ≡ now ++ owner ∷ [] → owner_of owner ≡ f i

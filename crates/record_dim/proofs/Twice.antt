@@ -35,10 +35,6 @@ twice_step old new name names updates absent =
     rw (absent, any_either new (pointwise nat_eq name) old same names)
     (regroup (list_any (pointwise nat_eq name) names) (list_any old names) (has_twice names))
 
--- the name is in the set
-pub twice_found : (old : List ℕ → Bool) (name : List ℕ) (names : List (List ℕ)) → old name ≡ true → (list_any old (name ∷ names) || has_twice (name ∷ names)) ≡ true
-twice_found old name names present = rw present refl
-
 any_none : {X : Type 0} (p : X → Bool) → ((x : X) → p x ≡ false) → (xs : List X) → list_any p xs ≡ false
 any_none p none [] = refl
 any_none p none (x ∷ xs) = rw (none x) (any_none p none xs)
