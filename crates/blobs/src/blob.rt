@@ -3,6 +3,7 @@ ghost use Rattle.std.specs.Prelude.{◌≡◌, ◌+◌, ◌<◌, ◌≤◌, ◌+
 ghost use Rattle.std.specs.Int.{bytes_low_first, bytes_high_first};
 ghost use Rattle.byteorder.specs.Endian.{little_from};
 ghost use Rattle.blobs.specs.Bits.{AreBytes};
+ghost use Rattle.blobs.specs.Moves.{moved};
 ghost use Rattle.blobs.specs.Turned.{turned_from};
 
 use crate::none::no_places;
@@ -277,7 +278,7 @@ impl Blob {
         requires few { len ≤ 64 }
         requires room { at + len ≤ length self.old }
         requires there { from + len ≤ length source.now }
-        ensures bytes { self.new ≡ take at self.old ++ (take len (drop from source.now) ++ drop (at + len) self.old) }
+        ensures bytes { self.new ≡ moved self.old at source.now from len }
         ensures step { steps.new ≡ steps.old + 1 }
     {
         steps.tick();
@@ -289,7 +290,7 @@ impl Blob {
         requires few { len ≤ 64 }
         requires room { at + len ≤ length self.old }
         requires there { from + len ≤ length source.now }
-        ensures { self.new ≡ take at self.old ++ (take len (drop from source.now) ++ drop (at + len) self.old) }
+        ensures { self.new ≡ moved self.old at source.now from len }
     {
         let places = &source.places;
         let mut block = [0u8; 64];

@@ -3,8 +3,10 @@
 
 mod bits;
 mod blob;
+mod moves;
 mod none;
 mod word;
 
 pub use blob::Blob;
+pub use moves::move_bytes;
 pub use word::{bits_in_word, with_bits};

@@ -47,3 +47,9 @@ depth_of (Change from to inner) = depth_of inner + 1
 depth_of (Count inner) = depth_of inner
 depth_of (Heat granule inner) = depth_of inner
 depth_of _ = 1
+
+-- what is left of it without the counters at its top
+abbrev pub uncounted : Term → Term
+uncounted (Count inner) = uncounted inner
+uncounted (Heat granule inner) = uncounted inner
+uncounted term = term

@@ -4,6 +4,7 @@
 mod check;
 mod copies;
 mod expr;
+mod same;
 
 pub use check::BadMapping;
 pub use expr::MapExpr;

@@ -7,3 +7,4 @@ pub mod OrderLaws
 pub mod SwapRuleLaws
 pub mod JoinRuleLaws
 pub mod BytePlanLaws
+pub mod ArrayLaws

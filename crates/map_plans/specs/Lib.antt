@@ -5,3 +5,4 @@ pub mod Plans
 pub mod PlansLaws
 pub mod LeafOrders
 pub mod ByteRules
+pub mod Arrays

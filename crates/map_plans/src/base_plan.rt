@@ -1,6 +1,7 @@
 ghost use Rattle.std.specs.Prelude.{ℕ, ◌≡◌, ◌^◌, ◌≤◌, IfOk, map};
 ghost use Rattle.linearize.specs.Slots.{row_at, slot_count};
 ghost use Rattle.places.specs.Rules.{in_rows};
+ghost use Rattle.map_plans.specs.Arrays.{AreArrays};
 ghost use Rattle.map_plans.specs.Ruled.{HasLengths, IsRuled};
 
 use crate::plan::{LengthList, Plan};
@@ -26,6 +27,8 @@ pub fn base_plan<M: Ruled>(
     ensures rules { IfOk result (λ plan. IsRuled (in_rows (row_at order extents.now) (M.layout mapping.now)) extents.now
         (map (λ h. h.width) (M.hold_list mapping.now)) plan.rules) }
     ensures orders { IfOk result (λ plan. map (λ rule. rule.order) plan.rules ≡ map (λ cell. order) (M.cell_list mapping.now)) }
+    ensures arrays { IfOk result (λ plan. AreArrays (M.layout mapping.now) (M.slot_count mapping.now) (M.lane_count mapping.now)
+        (map (λ h. h.width) (M.hold_list mapping.now)) plan.rules) }
 {
     let holds = holds_of(alloc, mapping)?;
     let lengths = lengths_of(alloc, mapping)?;
@@ -71,6 +74,8 @@ fn rules_of<M: Ruled>(
     ensures rules { IfOk result (λ rules. IsRuled (in_rows (row_at order extents.now) (M.layout mapping.now)) extents.now
         (map (λ h. h.width) (M.hold_list mapping.now)) rules) }
     ensures orders { IfOk result (λ rules. map (λ rule. rule.order) rules ≡ map (λ cell. order) (M.cell_list mapping.now)) }
+    ensures arrays { IfOk result (λ rules. AreArrays (M.layout mapping.now) (M.slot_count mapping.now) (M.lane_count mapping.now)
+        (map (λ h. h.width) (M.hold_list mapping.now)) rules) }
 {
     let mut rules = PlanRules::new(alloc);
     for cell in 0..mapping.cells() {

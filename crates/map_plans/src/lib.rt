@@ -14,6 +14,6 @@ mod split_rules;
 mod swap_plan;
 
 pub use make::make_plan;
-pub use orders::slot_of_row;
+pub use orders::{slot_of_row, slots_of};
 pub use plan::{LengthList, Plan};
 pub use rule::{PlanRules, Rule};

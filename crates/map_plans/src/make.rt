@@ -2,6 +2,7 @@ ghost use Rattle.std.specs.Prelude.{◌≡◌, ◌⊎◌, IfOk, IfErr, IsErrOf, 
 ghost use Rattle.record_dim.specs.Schemas.{schema_fields};
 ghost use Rattle.map_expr.specs.Terms.{term_of};
 ghost use Rattle.map_checks.specs.Mappings.{IsBuiltTerm, HasNumbers, IsTooBigFor, not_full};
+ghost use Rattle.map_plans.specs.Arrays.{HasArrays};
 ghost use Rattle.map_plans.specs.LeafOrders.{orders_of};
 ghost use Rattle.map_plans.specs.Plans.{IsPlanOf};
 
@@ -35,6 +36,7 @@ pub fn make_plan(
     requires numbers { HasNumbers (term_of expr.now) }
     ensures plan { IfOk result (IsPlanOf (term_of expr.now) extents.now (schema_fields schema.now) cells.now) }
     ensures orders { IfOk result (λ plan. map (λ rule. rule.order) plan.rules ≡ orders_of (term_of expr.now) (schema_fields schema.now) cells.now) }
+    ensures arrays { IfOk result (λ plan. HasArrays (term_of expr.now) extents.now cells.now plan.rules) }
     ensures too_big { IsErrOf result MakeMap.TooBig → IsTooBigFor (term_of expr.now) extents.now (schema_fields schema.now) cells.now }
     ensures not_full { IsErrOf result (MakeMap.Bad BadMapping.NotFull) → not_full (term_of expr.now) (schema_fields schema.now) cells.now ≡ true }
     ensures only { IfErr result (λ e. (e ≡ MakeMap.TooBig) ⊎ ((e ≡ MakeMap.Bad BadMapping.NotFull) ⊎ (e ≡ MakeMap.NoMemory))) }

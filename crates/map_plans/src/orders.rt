@@ -33,6 +33,17 @@ pub fn count_slots(order: Order, extents: &Extents) -> Result<u64, MakeMap>
     count.ok_or(MakeMap::TooBig)
 }
 
+/// The number of slots over these extents, of which there are at most 2^24.
+pub fn slots_of(order: Order, extents: &Extents) -> u64
+    requires few { slot_count order extents.now ≤ 2 ^ 24 }
+    ensures { result ≡ slot_count order extents.now }
+{
+    match count_slots(order, extents) {
+        Ok(count) => count,
+        Err(_) => unreachable!(),
+    }
+}
+
 /// The slot of an index, where there are `R` extents.
 fn slot_of_array<const R: usize>(order: Order, extents: &Extents, index: &[u64]) -> u64
     requires ranked { (0 < R) × (R ≤ 4) }

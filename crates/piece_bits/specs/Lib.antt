@@ -6,6 +6,8 @@ pub mod LocatedLaws
 pub mod SpotsOfLaws
 pub mod TableLaws
 pub mod WritesLaws
+pub mod MovedLaws
+pub mod MovedBytesLaws
 pub mod OnePieceLaws
 pub mod Words
 pub mod WordsLaws

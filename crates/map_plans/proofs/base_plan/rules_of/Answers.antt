@@ -10,10 +10,12 @@ use Rattle.places.specs.Rules.{in_rows}
 use Rattle.places.specs.declared.piece.Cell.{Cell}
 use Rattle.places.specs.declared.piece.Hold.{Hold}
 use Rattle.map_plans.specs.declared.rule.Rule.{Rule}
+use Rattle.map_plans.specs.Arrays.{IsArray}
 use Rattle.map_plans.specs.Ruled.{IsRuleOf}
 use Rattle.map_plans.proofs.RuleLaws.{rule_by_rows}
 use Rattle.map_plans.specs.RuledLaws.{each_push}
 use Rattle.map_plans.proofs.OrderLaws.{map_constant}
+use Rattle.map_plans.proofs.ArrayLaws.{array_rule}
 use Rattle.map_plans.proofs.base_plan.rules_of.Goals as goal
 
 pub loop-cell-preserved : goal.loop-cell-preserved
@@ -23,6 +25,9 @@ loop-cell-preserved g c =
     let layout : List (List Owner) = g.M.Mapping.layout c.args.mapping.now in
     let widths : List ℕ = map (λ (h : Hold). h.width) (g.M.Mapping.hold_list c.args.mapping.now) in
     let P : ℕ → Rule → Type 0 = λ cell rule. IsRuleOf (in_rows (row_at order extents) layout) extents cell (slice_index widths cell) rule in
+    let slots : ℕ = g.M.Mapping.slot_count c.args.mapping.now in
+    let lanes : ℕ = g.M.Ruled.lane_count c.args.mapping.now in
+    let Q : ℕ → Rule → Type 0 = λ cell rule. IsArray layout slots lanes cell (slice_index widths cell) rule in
     let made : Rule = c.of_piece.result in
     let size : length c.loop-cell.rules ≡ c.loop-cell.cell = c.loop-cell.invariant.0 in
     let width : c.rule.result.bits ≡ slice_index widths c.loop-cell.cell = c.rule.ensures.bits in
@@ -47,6 +52,10 @@ loop-cell-preserved g c =
           ∙ ap (λ (os : List Order). os ++ made.order ∷ []) c.loop-cell.invariant.2
           ∙ ap (λ (o : Order). replicate c.loop-cell.cell order ++ o ∷ []) c.of_piece.ensures.order
           ∙ replicate_more c.loop-cell.cell order,
+      each_push Q c.loop-cell.rules c.push.new.self made c.in_ok-push.ensures.ok c.loop-cell.invariant.3
+          (subst (λ (n : ℕ). Q n made) (sym size)
+          (array_rule layout slots lanes c.loop-cell.cell (slice_index widths c.loop-cell.cell) c.rule.result made (omega (arith, c.requires.few, c.requires.counted)) c.of_piece.ensures.pieces width
+          c.rule.ensures.places c.rule.ensures.dense)),
     )
 
 pub returns-clause-orders : goal.returns-clause-orders

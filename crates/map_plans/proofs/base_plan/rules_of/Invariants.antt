@@ -2,6 +2,7 @@
 use Rattle.std.proofs.Common.{◌≡◌, length, map, slice_index, replicate}
 use Rattle.linearize.specs.Slots.{row_at}
 use Rattle.places.specs.Rules.{in_rows}
+use Rattle.map_plans.specs.Arrays.{AreArrays}
 use Rattle.map_plans.specs.Ruled.{EachWith, IsRuleOf}
 use Rattle.map_plans.proofs.base_plan.rules_of.Given as goal
 
@@ -11,3 +12,5 @@ invariant-loop-cell g l =
     × EachWith (λ cell rule. IsRuleOf (in_rows (row_at l.order l.extents) (g.M.Mapping.layout l.mapping)) l.extents cell
     (slice_index (map (λ h. h.width) (g.M.Mapping.hold_list l.mapping)) cell) rule) l.rules
     × (map (λ rule. rule.order) l.rules ≡ replicate l.cell l.order)
+    × AreArrays (g.M.Mapping.layout l.mapping) (g.M.Mapping.slot_count l.mapping) (g.M.Ruled.lane_count l.mapping)
+    (map (λ h. h.width) (g.M.Mapping.hold_list l.mapping)) l.rules

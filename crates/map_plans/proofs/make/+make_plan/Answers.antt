@@ -3,7 +3,8 @@ use Rattle.record_dim.specs.Trees.{Fields}
 use Rattle.record_dim.specs.Schemas.{schema_fields}
 use Rattle.std.specs.Prelude.{IfOk}
 use Rattle.extents.specs.declared.order.Order.{Order}
-use Rattle.places.specs.Holds.{full_holds}
+use Rattle.linearize.specs.Slots.{slot_count}
+use Rattle.places.specs.Holds.{full_holds, widths_of}
 use Rattle.places.specs.declared.piece.Cell.{Cell}
 use Rattle.places.specs.Layout.{aosoa}
 use Rattle.places.specs.Forms.{aos_layout, soa_layout}
@@ -12,9 +13,11 @@ use Rattle.map_expr.specs.declared.expr.MapExpr.{MapExpr}
 use Rattle.map_checks.specs.Mappings.{IsTooBigFor, not_full}
 use Rattle.map_checks.specs.declared.fault.MakeMap.TheVariants.{Bad}
 use Rattle.map_expr.specs.declared.check.BadMapping.TheVariants.{NotFull}
+use Rattle.map_plans.specs.Arrays.{HasArrays}
 use Rattle.map_plans.specs.LeafOrders.{orders_of}
 use Rattle.map_plans.specs.Plans.{IsPlanOf}
 use Rattle.map_plans.specs.declared.rule.Rule.{Rule}
+use Rattle.map_plans.proofs.ArrayLaws.{base_arrays}
 use Rattle.map_plans.proofs.OrderLaws.{planned_orders, orders_changed}
 use Rattle.map_plans.proofs.BytePlanLaws.{narrow_under, narrow_beside, over_swap, swap_held, swap_bytes, swap_planned, swap_ordered, over_join, join_each, join_alone, join_planned, join_ordered}
 use Rattle.map_plans.proofs.Faults.{too_big_of, handed_on, handed}
@@ -307,3 +310,27 @@ returns-in_ok-plan-in-Aosoa-clause-orders t c =
     c.in_ok-plan-in-Aosoa.ensures.orders
     ∙ ap (map (λ (cell : Cell). c.in-Aosoa.order)) c.in_ok-mapping-in-Aosoa.ensures.cells
     ∙ ap (λ (expr : MapExpr). orders_of (term_of expr) (schema_fields c.args.schema.now) c.args.cells.now) (sym c.in-Aosoa.is)
+
+pub returns-in_ok-plan-in-Soa-clause-arrays : goal.returns-in_ok-plan-in-Soa-clause-arrays
+returns-in_ok-plan-in-Soa-clause-arrays t c =
+    let slots = c.in_ok-slots-in-Soa in
+    let made = c.in_ok-mapping-in-Soa in
+    let plan = c.in_ok-plan-in-Soa in
+    let cells : List Cell = c.args.cells.now in
+    let count : ℕ = slot_count c.in-Soa.order c.args.extents.now in
+    subst (λ (expr : MapExpr). HasArrays (term_of expr) c.args.extents.now cells plan.plan.rules) (sym c.in-Soa.is)
+    (base_arrays _ (soa_layout c.in-Soa.form count (widths_of cells)) _ count _ (slot_count c.in-Soa.order c.args.extents.now) _ (full_holds cells) plan.plan.rules
+    (made.ensures.layout ∙ ap (λ (n : ℕ). soa_layout c.in-Soa.form n (widths_of cells)) slots.ensures.count) (made.ensures.slots ∙ slots.ensures.count)
+    (made.ensures.dense ∙ slots.ensures.count) made.ensures.holds plan.ensures.arrays)
+
+pub returns-in_ok-plan-in-Aosoa-clause-arrays : goal.returns-in_ok-plan-in-Aosoa-clause-arrays
+returns-in_ok-plan-in-Aosoa-clause-arrays t c =
+    let slots = c.in_ok-slots-in-Aosoa in
+    let made = c.in_ok-mapping-in-Aosoa in
+    let plan = c.in_ok-plan-in-Aosoa in
+    let cells : List Cell = c.args.cells.now in
+    let count : ℕ = slot_count c.in-Aosoa.order c.args.extents.now in
+    subst (λ (expr : MapExpr). HasArrays (term_of expr) c.args.extents.now cells plan.plan.rules) (sym c.in-Aosoa.is)
+    (base_arrays _ (aosoa c.in-Aosoa.lanes count (widths_of cells)) _ count _ c.in-Aosoa.lanes _ (full_holds cells) plan.plan.rules
+    (made.ensures.layout ∙ ap (λ (n : ℕ). aosoa c.in-Aosoa.lanes n (widths_of cells)) slots.ensures.count) (made.ensures.slots ∙ slots.ensures.count)
+    (made.ensures.dense) made.ensures.holds plan.ensures.arrays)
