@@ -25,8 +25,8 @@ VIEWS = [
 ]
 
 
-def rows(name, extents, due):
-    return Case(f'limit_{name}', BYTE + f'view V : P {extents} as soa(multi, row) | print W', due)
+def rows(name, extents, due, form='soa(multi, row)'):
+    return Case(f'limit_{name}', BYTE + f'view V : P {extents} as {form} | print W', due)
 
 
 GOES, TOO_MANY = 'line 3: Unknown W', 'line 2: BadExtents TooMany'
@@ -34,6 +34,9 @@ ROWS = [
     rows('2_to_the_24_rows', '[16777216]', GOES), rows('2_to_the_24_rows_and_one_more', '[16777217]', TOO_MANY),
     rows('2_to_the_24_rows_in_two_dimensions', '[4096, 4096]', GOES), rows('2_to_the_24_rows_in_two_dimensions_and_more', '[4096, 4097]', TOO_MANY),
     rows('2_to_the_24_rows_in_four_dimensions', '[64, 64, 64, 64]', GOES), rows('2_to_the_24_rows_in_four_dimensions_and_more', '[65, 64, 64, 64]', TOO_MANY),
+    rows('2_to_the_24_rows_of_packed_records', '[4096, 4096]', GOES, 'aos(packed, row)'),
+    rows('2_to_the_24_rows_of_packed_records_and_more', '[4097, 4096]', TOO_MANY, 'aos(packed, row)'),
+    rows('2_to_the_24_slots', '[1, 4096]', GOES, 'aos(packed, morton)'), rows('2_to_the_24_slots_and_more', '[1, 4097]', 'line 2: TooBig', 'aos(packed, morton)'),
     rows('2_to_the_24_rows_beside_ones', '[1, 16777216, 1, 1]', GOES), rows('2_to_the_32_rows', '[65536, 65536]', TOO_MANY),
     rows('4294967295_rows', '[4294967295]', TOO_MANY), rows('2_to_the_64_rows', '[65536, 65536, 65536, 65536]', TOO_MANY),
     rows('no_row_among_great_dimensions', '[4294967295, 4294967295, 4294967295, 0]', GOES),
@@ -153,6 +156,15 @@ TOKENS = [
          "line 2: cannot read  !#$%&'()*+,-.:;<=>?@[]^_`{|}~"),
 ]
 
+def piped(size):
+    """A dataset that a pipe of a name of so many bytes gives: it can be read once, from its beginning on."""
+    name = 'd' * size
+    return Case(f'limit_pipe_of_a_name_of_{size}_bytes', PAIR + f'load V : P [?] as soa(multi, row) from "{name}" | print V', 'a,b | 1,2',
+                make=f"mkfifo {name}\ntimeout 20 sh -c \"printf 'a,b\\\\n1,2\\\\n' >{name}\" >/dev/null 2>&1 &\n")
+
+
+PIPES = [piped(1), piped(128)]
+
 AFTER = b'\nprint V\n'
 LINES = [
     Case('limit_line_of_4096_bytes', b'#' * 4096 + AFTER, 'line 2: Unknown V'),
@@ -204,4 +216,4 @@ DATASETS = [
     dataset('2_to_the_28_bytes_and_one_more', '[7]', MOST_BYTES + 1, 'line 2: TooBig'),
 ]
 
-CASES = VIEWS + ROWS + SIZES + RECORDS + LANES + EXPRESSIONS + TOKENS + LINES + SCRIPTS + DATASETS
+CASES = VIEWS + ROWS + SIZES + RECORDS + LANES + EXPRESSIONS + TOKENS + PIPES + LINES + SCRIPTS + DATASETS

@@ -1,0 +1,355 @@
+"""Thrown runs of the program: scripts of all commands, faults and limits, with datasets, damaged here and there.
+
+A run is told by a seed and a number. What is thrown knows the names, leaves and limits of its tables, so that most lines are done; it says
+nothing of what is printed: that is for the model.
+"""
+import random
+from collections import namedtuple
+
+from grammar import SyntaxFault, read_line
+from layouts import product
+from llama_model import declared_range, leaves_of, record_depth
+from mappings import bad_mapping, holds_of, lengths_of, range_of
+from thrown_texts import Exprs, damaged, deep_expr, one_in, respaced, thrown_dataset, thrown_number, with_comment
+
+Thrown = namedtuple('Thrown', 'words files')
+Table = namedtuple('Table', 'record leaves extents limits mapping')
+TYPES = ['bool', 'u8', 'u16', 'u32', 'u64', 'i8', 'i16', 'i32', 'i64']
+ORDERS = ['row', 'row', 'col', 'morton']
+FIELDS = ['a', 'b', 'c', 'x', 'y', 'pos', 'h', 'row', 'where', 'aos', 'set', 'i4', '_', 'n' * 32]
+MOST_ROWS = 40
+
+
+class Script:
+    """The lines so far, and what they named."""
+
+    def __init__(self, dice):
+        self.dice, self.lines, self.files = dice, [], {}
+        self.records, self.mappings, self.tables = {}, {}, {}
+
+    # names
+
+    def new_name(self, names, letter):
+        if names and one_in(self.dice, 60):
+            return self.dice.choice(sorted(names))
+        if one_in(self.dice, 200):
+            return self.dice.choice(['and', 'i0', 'x' * 33, '1a', 'min', 'é'])
+        return f'{letter}{len(names)}_{len(self.lines)}'
+
+    def known(self, names):
+        if not names or one_in(self.dice, 120):
+            return self.dice.choice(['None', 'V', 'P', 'M'])
+        return self.dice.choice(sorted(names))
+
+    # records
+
+    def type_of_field(self, depth):
+        if depth > 0 and one_in(self.dice, 4):
+            return f' {self.fields(depth - 1)}'
+        return ':' + self.dice.choice(TYPES)
+
+    def fields(self, depth):
+        count = self.dice.choice([1, 1, 2, 2, 3, 4])
+        names = self.dice.sample(FIELDS, count)
+        if one_in(self.dice, 150):
+            names[-1] = names[0]
+        parts = []
+        for name in names:
+            dims = ''.join(f'[{self.dice.choice([1, 2, 2, 3] if self.dice.randrange(300) else [0, 65, 2 ** 32 - 1, 2 ** 32])}]' for _ in range(self.dice.choice([0, 0, 0, 1, 1, 2])))
+            parts.append(name + self.type_of_field(depth) + dims)
+        return '{ ' + ', '.join(parts) + ' }'
+
+    def record(self):
+        name = self.new_name(self.records, 'P')
+        text = self.fields(2)
+        if one_in(self.dice, 40):
+            text = self.dice.choice(['{ a:u8[64] }', '{ a:u8[65] }', '{ a:u8[8][8], b:u8 }', '{ a { b { c { d { e { f { g { h:u8 } } } } } } } }',
+                                     '{ a:u8[1][1][1][1][1][1][1] }', '{ a:u8[1][1][1][1][1][1][1][1] }'])
+        self.add(f'record {name} {text}')
+        try:
+            _, line = read_line(f'record P {text}'.encode())
+        except SyntaxFault:
+            return
+        if record_depth(line['record']) <= 8 and 1 <= len(text) and self.leaf_count(line['record']) <= 64:
+            self.records[name] = line['record']
+
+    def leaf_count(self, dim):
+        if dim[0] == 'leaf':
+            return 1
+        if dim[0] == 'array':
+            return dim[1] * self.leaf_count(dim[2]) or 65
+        return sum(self.leaf_count(field) for _, field in dim[1])
+
+    # mappings
+
+    def base(self):
+        dice, order = self.dice, self.dice.choice(ORDERS)
+        lanes = dice.choice([1, 2, 3, 4, 8, 64] if dice.randrange(60) else [0, 65])
+        width = dice.choice([1, 2, 7, 8, 13, 24, 32, 33, 63, 64, 64, 64] if dice.randrange(60) else [0, 65])
+        return dice.choice([f'aos({dice.choice(["packed", "aligned", "min"])}, {order})', f'soa({dice.choice(["single", "aligned", "multi"])}, {order})', f'aosoa({lanes}, {order})',
+                            f'bitaos({width}, {order})', f'bitsoa({width}, {order})'])
+
+    def under(self, paths):
+        """A path of a leaf, or a front of one."""
+        path = self.dice.choice(paths) if paths else 'a'
+        cuts = [at for at, sign in enumerate(path) if sign in '.[']
+        return path[:self.dice.choice(cuts)] if cuts and one_in(self.dice, 2) else path
+
+    def layout(self, depth, paths):
+        dice = self.dice
+        if depth <= 1 or one_in(dice, 4):
+            return self.known(self.mappings) if self.mappings and one_in(dice, 3) else self.base()
+        kind = dice.choice(['split', 'split', 'byteswap', 'bytesplit', 'change'])
+        if kind == 'split':
+            return f'split({self.under(paths)}, {self.layout(depth - 1, paths)}, {self.layout(depth - 1, paths)})'
+        if kind == 'change':
+            return f'change({dice.choice(TYPES)}->{dice.choice(TYPES[1:])}, {self.layout(depth - 1, paths)})'
+        return f'{kind}({self.layout(depth - 1, paths)})'
+
+    def counted(self, inner):
+        dice = self.dice
+        granule = dice.choice([1, 2, 4, 8, 64, 4096] if dice.randrange(60) else [0, 3, 8192, 48])
+        counters = dice.choice([[], [], ['count'], [f'heat:{granule}'], ['count', f'heat:{granule}'], [f'heat:{granule}', 'count']])
+        counters = counters * 2 if one_in(dice, 100) else counters
+        for counter in counters:
+            form, _, number = counter.partition(':')
+            inner = f'{form}({number}, {inner})' if number else f'{form}({inner})'
+        return inner
+
+    def whole(self, text):
+        """The mapping of a text with names replaced, or None."""
+        try:
+            _, line = read_line(f'mapping M = {text}'.encode())
+            return self.replaced(line['map'])
+        except (SyntaxFault, KeyError):
+            return None
+
+    def replaced(self, mapping):
+        if mapping[0] == 'name':
+            return self.mappings[mapping[1]]
+        return tuple(self.replaced(part) if isinstance(part, tuple) and place >= 1 and not (mapping[0] == 'split' and place == 1) else part
+                     for place, part in enumerate(mapping))
+
+    def layout_for(self, leaves):
+        """A layout that is mostly accepted over these leaves, and its mapping where it is."""
+        text = whole = None
+        for _ in range(1 if one_in(self.dice, 25) else 8):
+            text = self.counted(self.layout(self.dice.choice([1, 1, 2, 3, 4, 8, 9]), [leaf.path for leaf in leaves]))
+            whole = self.whole(text)
+            if whole and not bad_mapping(whole, leaves):
+                return text, whole
+        return text, None
+
+    def mapping(self):
+        name = self.new_name(self.mappings, 'M')
+        record = self.dice.choice(sorted(self.records)) if self.records else None
+        text, whole = self.layout_for(leaves_of(self.records[record])) if record else (self.base(), None)
+        self.add(f'mapping {name} = {text}')
+        if whole:
+            self.mappings[name] = whole
+
+    # views
+
+    def extents(self):
+        rank = self.dice.choice([1, 1, 1, 2, 2, 3, 4])
+        most = {1: 17, 2: 6, 3: 4, 4: 3}[rank]
+        return [self.dice.randrange(most) if one_in(self.dice, 12) else self.dice.randint(1, most) for _ in range(rank)]
+
+    def table(self, name, record, extents, whole):
+        """Keeps what is known of a table, where its layout is accepted and it is small."""
+        leaves = leaves_of(self.records[record])
+        limits = [(max(least, low), min(greatest, high)) for (least, greatest), (low, high) in
+                  ((declared_range(leaf), range_of(hold)) for leaf, hold in zip(leaves, holds_of(whole, leaves)))]
+        self.tables[name] = Table(record, leaves, extents, limits, whole)
+
+    def view(self):
+        name, record = self.new_name(self.tables, 'V'), self.known(self.records)
+        text, whole = self.layout_for(leaves_of(self.records[record]) if record in self.records else [])
+        extents = self.extents()
+        if one_in(self.dice, 80):
+            extents = self.dice.choice([[1, 1, 1, 1, 1], [2 ** 32 - 1], [2 ** 24 + 1], [4097, 4096], [65536] * 4, [2 ** 32]])
+            whole = None
+        self.add(f'view {name} : {record} [{", ".join(map(str, extents))}] as {text}')
+        if whole and record in self.records:
+            self.table(name, record, extents, whole)
+
+    def load(self):
+        name, record = self.new_name(self.tables, 'V'), self.known(self.records)
+        leaves = leaves_of(self.records[record]) if record in self.records else []
+        text, whole = self.layout_for(leaves)
+        extents = self.extents()
+        words, rows = list(map(str, extents)), product(extents)
+        place = self.dice.randrange(len(extents))
+        if self.dice.randrange(3) and 0 not in extents or one_in(self.dice, 40):
+            words[place] = '?'
+        if one_in(self.dice, 40):
+            words[self.dice.randrange(len(words))] = self.dice.choice(['?', '0', '7'])
+        file = f'd{len(self.files)}.csv' if self.dice.randrange(30) else self.dice.choice(['none.csv', '.', 'f' * 200, 'f' * 201, 'a b', 'd0.csv'])
+        self.add(f'load {name} : {record} [{", ".join(words)}] as {text} from "{file}"')
+        if not leaves or not file.startswith(('d', 'f', 'a')) or len(file) > 200:
+            return
+        rows = rows if self.dice.randrange(40) else self.dice.randrange(MOST_ROWS)
+        if whole:
+            self.table(name, record, extents, whole)
+            limits = self.tables[name].limits
+        else:
+            limits = [declared_range(leaf) for leaf in leaves]
+        self.files.setdefault(file, thrown_dataset(self.dice, [leaf.path for leaf in leaves], limits, rows))
+
+    # the other commands
+
+    def path(self, table):
+        if one_in(self.dice, 150):
+            return self.dice.choice(['q', 'a.b.c', 'h[9]', 'a[0][0]', 'pos'])
+        return self.dice.choice(table.leaves).path
+
+    def expr(self, table, size):
+        if one_in(self.dice, 120):
+            return deep_expr(self.dice)
+        return Exprs(self.dice, [leaf.path for leaf in table.leaves], len(table.extents)).thrown(size)
+
+    def value(self, table, path):
+        """An expression whose value mostly fits the leaf of this path."""
+        expr = self.expr(table, self.dice.choice([1, 4, 10, 20]))
+        limits = [limits for leaf, limits in zip(table.leaves, table.limits) if leaf.path == path]
+        if not limits or one_in(self.dice, 30):
+            return expr
+        least, greatest = limits[0]
+        if one_in(self.dice, 4):
+            return str(thrown_number(self.dice, limits[0]))
+        return f'max({least}, min({greatest}, {expr}))'
+
+    def set(self, name, table):
+        if 0 in table.extents and self.dice.randrange(10):
+            return
+        index = [self.dice.randrange(extent) if extent and self.dice.randrange(80) else extent for extent in table.extents]
+        path = self.path(table)
+        index = index if self.dice.randrange(80) else index + [0]
+        self.add(f'set {name}[{", ".join(map(str, index))}].{path} = {self.value(table, path)}')
+
+    def update(self, name, table):
+        where = f'where {self.expr(table, self.dice.choice([2, 6, 12]))} ' if one_in(self.dice, 2) else ''
+        paths = list(dict.fromkeys(self.path(table) for _ in range(self.dice.choice([1, 1, 2, 3]))))
+        paths = paths + paths[:1] if one_in(self.dice, 80) else paths
+        self.add(f'update {name} {where}set ' + ', '.join(f'{path} = {self.value(table, path)}' for path in paths))
+
+    def constant(self, usual):
+        if one_in(self.dice, 30):
+            return self.dice.choice([-2 ** 31 - 1, -2 ** 31, 2 ** 31 - 1, 2 ** 31, 2 ** 32 - 1, 2 ** 32, 2 ** 127 - 1, -2 ** 127 + 1, 2 ** 127])
+        return usual
+
+    def kernel(self, name, table):
+        dice = self.dice
+        narrow = [leaf.path for leaf in table.leaves if not leaf.kind.endswith('64')]
+        if not narrow and dice.randrange(20):
+            return
+        paths = narrow if narrow and dice.randrange(40) else [leaf.path for leaf in table.leaves]
+        x, y = dice.choice(paths), dice.choice(paths)
+        limits = dict(zip((leaf.path for leaf in table.leaves), table.limits))
+        low = self.constant(max(limits[x][0], -9) if limits[x][0] < 0 else 0)
+        high = self.constant(min(limits[x][1], 100))
+        kern = dice.choice([f'axpy({self.constant(dice.choice([0, 0, 1, -1]))}, {x}, {y})', f'clamp({x}, {low}, {high})', f'sum({x})', f'least({x})', f'greatest({x})',
+                            f'count_where({x} {dice.choice(["==", "!=", "<", "<=", ">", ">="])} {self.constant(dice.randint(-5, 300))})'])
+        self.add(f'kernel {name} {kern} lanes {dice.choice([1, 2, 4, 8, 16] if dice.randrange(60) else [0, 3, 32])}')
+
+    def reduce(self, name, table):
+        if one_in(self.dice, 2):
+            self.add(f'reduce {name} count where {self.expr(table, self.dice.choice([2, 8, 16]))}')
+        else:
+            self.add(f'reduce {name} {self.dice.choice(["sum", "sum", "min", "max"] if product(table.extents) else ["sum"] * 30 + ["min"])} {self.path(table)}')
+
+    def copy(self, name, table):
+        alike = [other for other, of in self.tables.items() if (of.record, of.extents) == (table.record, table.extents)]
+        self.add(f'copy {name} to {self.dice.choice(alike) if self.dice.randrange(30) else self.known(self.tables)}')
+
+    def relayout(self, name, table):
+        text, whole = self.layout_for(table.leaves)
+        self.add(f'relayout {name} as {text}')
+        if whole:
+            self.table(name, table.record, table.extents, whole)
+
+    def show(self, name, table):
+        counters = [form for form in ('count', 'heat') if form in (table.mapping[0], table.mapping[-1][0])]
+        shown = ['print', 'print', 'layout', 'bytes', 'bytes'] + [{'count': 'counts', 'heat': 'heat'}[form] for form in counters] * 3
+        command = self.dice.choice(shown) if self.dice.randrange(60) else self.dice.choice(['counts', 'heat'])
+        if command == 'bytes':
+            blobs = len(lengths_of(table.mapping, table.leaves, table.extents))
+            self.add(f'bytes {name} {self.dice.randrange(blobs if self.dice.randrange(60) else 70)}')
+        else:
+            self.add(f'{command} {name}')
+
+    def drop(self, name, _):
+        self.add(f'drop {name}')
+        del self.tables[name]
+
+    # lines
+
+    def add(self, line):
+        self.lines.append(line)
+
+    def line(self):
+        dice = self.dice
+        if not self.records or one_in(dice, 12):
+            return self.record()
+        if not self.tables or one_in(dice, 8):
+            return dice.choice([self.view, self.view, self.load, self.load])()
+        if one_in(dice, 10):
+            return self.mapping()
+        if one_in(dice, 20):
+            return self.add(dice.choice(['', '', '# note', '   ', '\t#', 'nothing', 'print', 'print V V', 'drop 5', '}', '"']) if one_in(dice, 4) else '')
+        name = dice.choice(sorted(self.tables))
+        act = dice.choice([self.set, self.set, self.update, self.update, self.update, self.kernel, self.kernel, self.reduce, self.reduce, self.copy, self.relayout,
+                           self.show, self.show, self.show] + [self.drop] * one_in(dice, 2))
+        return act(name, self.tables[name])
+
+    def rendered(self):
+        """The bytes of the script."""
+        dice, spaced = self.dice, one_in(self.dice, 3)
+        lines = [with_comment(dice, respaced_or(dice, line) if spaced else line) for line in self.lines]
+        if one_in(dice, 60):
+            at = dice.randrange(len(lines))
+            lines[at] += b' ' * (dice.choice([4096, 4097]) - len(lines[at]))
+        end = dice.choice([b'\n', b'\n', b'\n', b'\r\n'])
+        return end.join(lines) + (end if dice.randrange(6) else b'')
+
+
+def respaced_or(dice, line):
+    """The line with other blanks, where it has no bad token."""
+    try:
+        line.encode('ascii')
+        text = respaced(dice, line)
+        same = read_line(text.encode()) == read_line(line.encode())
+    except (SyntaxFault, UnicodeEncodeError):
+        return line
+    return text if same else line
+
+
+def limit_script(dice):
+    """A script at or past a limit of lines, bytes or views."""
+    views = 'record P { a:u8 }\n' + ''.join(f'view V{number} : P [1] as soa(multi, row)\n' for number in range(64))
+    return dice.choice(['\n' * 65536, '\n' * 65537, '\n' * 65535 + 'print V', '#' * 4096 + '\n', '#' * 4097, ('#' * 1023 + '\n') * 1024, ('#' * 1023 + '\n') * 1024 + '\n',
+                        views + 'print V63', views + 'view V64 : P [1] as soa(multi, row)', views + 'drop V3\nview V64 : P [1] as soa(multi, row)\nprint V64', '',
+                        'record P { a:u8[64] }\nview V : P [1024] as aos(packed, row)\nreduce V sum a[0]\nlayout V', 'record P { a:u64 }\nview V : P [8193] as aos(packed, row)\nbytes V 0']).encode()
+
+
+def thrown_words(dice):
+    """Words that run no script of these files."""
+    number = dice.choice(['0', '01', '65537', '-1', '', '1e3', '+1', ' 1', '2' * 50]) if one_in(dice, 2) else str(dice.randint(1, 60))
+    return dice.choice([['gen', number], ['gen', number], ['run'], [], ['run', 'none.llama'], ['run', 'a', 'b'], ['gen'], ['help'], ['run', ''], ['run', '.'], ['gen', '1', '2']])
+
+
+def thrown(seed, number):
+    """The run of this number."""
+    dice = random.Random(f'{seed} {number}')
+    if one_in(dice, 60):
+        return Thrown(thrown_words(dice), {})
+    if one_in(dice, 150):
+        return Thrown(['run', 'script.llama'], {'script.llama': limit_script(dice)})
+    script = Script(dice)
+    for _ in range(dice.choice([4, 8, 12, 16, 24, 32])):
+        script.line()
+    data = script.rendered()
+    if one_in(dice, 8):
+        data = damaged(dice, data)
+        data = damaged(dice, data) if one_in(dice, 4) else data
+    return Thrown(['run', 'script.llama'], script.files | {'script.llama': data})
