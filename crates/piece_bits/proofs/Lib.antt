@@ -2,3 +2,4 @@ pub mod Values
 pub mod Wholes
 pub mod FieldValues
 pub mod Bytes
+pub mod WideLaws

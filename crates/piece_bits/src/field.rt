@@ -44,7 +44,7 @@ impl Field {
     }
 }
 
-/// The number that the field from bit `at` on says (two's complement). Half of the range is added and taken off again, so no sign is asked for.
+/// The number that the field from bit `at` on says (two's complement).
 #[inline(always)]
 pub fn field_at(blob: &Blob, at: u64, field: &Field) -> i128
     requires form { IsField field.now }
@@ -56,14 +56,15 @@ pub fn field_at(blob: &Blob, at: u64, field: &Field) -> i128
     moved_back(field, (word >> (at % 8)) & field.ones)
 }
 
+/// The number that the bits of a field say. Half of the range is added within the width, by its bit alone, and taken off again, so no sign
+/// is asked for.
 #[inline(always)]
-fn moved_back(field: &Field, bits: u64) -> i128
+pub(crate) fn moved_back(field: &Field, bits: u64) -> i128
     requires form { IsField field.now }
-    requires narrow { field.now.width ≤ 57 }
     requires small { bits < 2 ^ field.now.width }
     ensures { result ≡ decoded field.now.signed field.now.width bits }
 {
-    i128::from((bits + field.half) & field.ones) - i128::from(field.half)
+    i128::from(bits ^ field.half) - i128::from(field.half)
 }
 
 /// Makes the field from bit `at` on that of a number. All other bits stay.

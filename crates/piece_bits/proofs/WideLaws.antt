@@ -1,0 +1,57 @@
+-- The number that the low bits of eight bytes say, and the high ones of eight bytes in reverse order.
+use Rattle.std.proofs.Common.{◌≡◌, ℕ, ◌+◌, ◌-◌, ◌*◌, ◌/◌, ◌%◌, ◌^◌, ◌<◌, ◌≤◌, List, get_or, bit_and, ⊎_elim, sym, ap, ◌∙◌, subst, arith}
+use Rattle.std.proofs.lemmas.Nat.{and_mask, shr-shr}
+use Rattle.std.proofs.lemmas.Nat.Bits.{bit_at-lt}
+use Rattle.std.proofs.Math.Nat.{mod-eq_of_lt}
+use Rattle.places.specs.Image.{number}
+use Rattle.places.specs.NumbersLaws.{number_same, number_bits, number_lt, bit_number}
+use Rattle.blobs.specs.Bits.{bit_of}
+use Rattle.blobs.specs.BytesLaws.{bit_read}
+use Rattle.blobs.specs.FieldsLaws.{field_read}
+use Rattle.blobs.specs.Turned.{turned_place, IsTurned}
+
+-- a field is read off the eight bytes from that of its first bit on
+pub low_field : (bytes : List ℕ) (at first low n ones word : ℕ) → at ≡ 8 * first + low → low + n ≤ 64 → ones ≡ 2 ^ n - 1
+    → word ≡ number (λ k. bit_of bytes (8 * first + k)) 64 → bit_and (word / 2 ^ low) ones ≡ number (λ k. bit_of bytes (at + k)) n
+low_field bytes at first low n ones word place within mask is =
+    ap (λ (m : ℕ). bit_and (word / 2 ^ low) m) mask ∙ and_mask (word / 2 ^ low) n
+    ∙ field_read bytes at first low n word place within (bit_read bytes (8 * first) 64 word is)
+
+pub low_bytes : (bytes : List ℕ) (first n ones word : ℕ) → n ≤ 64 → ones ≡ 2 ^ n - 1
+    → word ≡ number (λ k. bit_of bytes (8 * first + k)) 64 → bit_and word ones ≡ number (λ k. bit_of bytes (8 * first + k)) n
+low_bytes bytes first n ones word few mask is =
+    let whole : word ≡ word / 2 ^ 0 = omega arith in
+    ap (λ (w : ℕ). bit_and w ones) whole ∙ low_field bytes (8 * first) first 0 n ones word (omega arith) (omega arith) mask is
+
+-- the high bits of eight turned bytes are the turned bytes of a shorter word
+turned_high : (n k : ℕ) → IsTurned n → k < n → turned_place 64 (64 - n + k) ≡ turned_place n k
+turned_high n k either below =
+    ⊎_elim (λ (two : n ≡ 16). omega arith) (λ others. ⊎_elim (λ (four : n ≡ 32). omega arith) (λ (eight : n ≡ 64). omega arith) others) either
+
+high_small : (n word : ℕ) → IsTurned n → word < 2 ^ 64 → word / 2 ^ (64 - n) < 2 ^ n
+high_small n word either small =
+    ⊎_elim
+    (λ (two : n ≡ 16). subst (λ (m : ℕ). word / 2 ^ (64 - m) < 2 ^ m) (sym two) (omega arith))
+    (λ others. ⊎_elim
+    (λ (four : n ≡ 32). subst (λ (m : ℕ). word / 2 ^ (64 - m) < 2 ^ m) (sym four) (omega arith))
+    (λ (eight : n ≡ 64). subst (λ (m : ℕ). word / 2 ^ (64 - m) < 2 ^ m) (sym eight) (omega arith)) others)
+    either
+
+module _ (bytes : List ℕ) (first n word : ℕ) (turned : IsTurned n) (is : word ≡ number (λ k. bit_of bytes (8 * first + turned_place 64 k)) 64) where
+  bit_below : (j : ℕ) → j < 64 → bit_of bytes (8 * first + turned_place 64 j) < 2
+  bit_below j l = bit_at-lt (get_or bytes ((8 * first + turned_place 64 j) / 8) 0) ((8 * first + turned_place 64 j) % 8)
+
+  pub high_fits : word / 2 ^ (64 - n) < 2 ^ n
+  high_fits =
+      high_small n word turned
+      (subst (λ (w : ℕ). w < 2 ^ 64) (sym is) (number_lt (λ k. bit_of bytes (8 * first + turned_place 64 k)) 64 bit_below))
+
+  pub high_bytes : word / 2 ^ (64 - n) ≡ number (λ k. bit_of bytes (8 * first + turned_place n k)) n
+  high_bytes =
+      sym (number_same (λ k. bit_of bytes (8 * first + turned_place n k)) (λ k. (word / 2 ^ (64 - n) / 2 ^ k) % 2) n
+      (λ k l.
+      let low : 64 - n + k < 64 = omega arith in
+      ap (λ (p : ℕ). bit_of bytes (8 * first + p)) (sym (turned_high n k turned l))
+      ∙ sym (bit_number (λ j. bit_of bytes (8 * first + turned_place 64 j)) 64 (64 - n + k) bit_below low)
+      ∙ ap (λ (w : ℕ). (w / 2 ^ (64 - n + k)) % 2) (sym is) ∙ ap (λ (w : ℕ). w % 2) (sym (shr-shr word (64 - n) k)))
+      ∙ number_bits (word / 2 ^ (64 - n)) n ∙ mod-eq_of_lt high_fits)

@@ -1,0 +1,17 @@
+use Rattle.std.proofs.Common.{ℕ, ◌/◌, ◌%◌, ap, ◌∙◌, arith, rules, SFits}
+use Rattle.std.specs.Int.{w128}
+use Rattle.std.proofs.lemmas.Int.{to_z-of_z}
+use Rattle.places.specs.Image.{decoded}
+use Rattle.blobs.specs.BytesLaws.{byte_and_bit}
+use Rattle.piece_bits.proofs.WideLaws.{low_field}
+use Rattle.piece_bits.proofs.wide.field_wide.Goals as goal
+
+pub returns : goal.returns
+returns c =
+    let field = c.args.field.now in
+    let at = c.args.at in
+    let fits : SFits w128 c.moved_back.result = search rules in
+    to_z-of_z w128 c.moved_back.result fits ∙ c.moved_back.ensures
+    ∙ ap (λ (n : ℕ). decoded field.signed field.width n)
+    (low_field c.args.blob.now at (at / 8) (at % 8) field.width field.ones c.whole.result (byte_and_bit at) (omega (arith, c.requires.narrow)) c.requires.form.ones
+    c.whole.ensures)

@@ -1,0 +1,17 @@
+use Rattle.std.proofs.Common.{ℕ, ap, ◌∙◌, rules, SFits}
+use Rattle.std.specs.Int.{w128}
+use Rattle.std.proofs.lemmas.Int.{to_z-of_z}
+use Rattle.places.specs.Image.{decoded}
+use Rattle.piece_bits.proofs.WideLaws.{high_fits, high_bytes}
+use Rattle.piece_bits.proofs.wide.turned_wide.Goals as goal
+
+pub moved_back-requires-clause-small : goal.moved_back-requires-clause-small
+moved_back-requires-clause-small c = high_fits c.args.blob.now c.args.first c.args.field.now.width c.turned.result c.requires.turned c.turned.ensures
+
+pub returns : goal.returns
+returns c =
+    let field = c.args.field.now in
+    let fits : SFits w128 c.moved_back.result = search rules in
+    to_z-of_z w128 c.moved_back.result fits ∙ c.moved_back.ensures
+    ∙ ap (λ (n : ℕ). decoded field.signed field.width n)
+    (high_bytes c.args.blob.now c.args.first field.width c.turned.result c.requires.turned c.turned.ensures)

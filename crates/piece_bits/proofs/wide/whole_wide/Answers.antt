@@ -1,0 +1,14 @@
+use Rattle.std.proofs.Common.{ℕ, ap, ◌∙◌, rules, SFits}
+use Rattle.std.specs.Int.{w128}
+use Rattle.std.proofs.lemmas.Int.{to_z-of_z}
+use Rattle.places.specs.Image.{decoded}
+use Rattle.piece_bits.proofs.WideLaws.{low_bytes}
+use Rattle.piece_bits.proofs.wide.whole_wide.Goals as goal
+
+pub returns : goal.returns
+returns c =
+    let field = c.args.field.now in
+    let fits : SFits w128 c.moved_back.result = search rules in
+    to_z-of_z w128 c.moved_back.result fits ∙ c.moved_back.ensures
+    ∙ ap (λ (n : ℕ). decoded field.signed field.width n)
+    (low_bytes c.args.blob.now c.args.first field.width field.ones c.whole.result c.requires.form.narrow c.requires.form.ones c.whole.ensures)
