@@ -3,11 +3,11 @@ ghost use Rattle.std.specs.Prelude.{◌≡◌, ◌<◌, length};
 ghost use Rattle.expr_lang.specs.Bounds.{bound_leaves, bound_rank};
 ghost use Rattle.schema_lang.specs.Parsing.{IsWhole};
 
-use crate::forms::{MOST_BYTES, fault_answer, no_form};
+use crate::forms::{fault_answer, no_form};
 use crate::row::LoggedRow;
 use expr_lang::{BindFault, Bound, EvalFault, Expr, bind, eval};
 use record_dim::{MakeSchema, PathStep, Schema};
-use schema_lang::{Line, LineFault, parse_line};
+use schema_lang::{Line, LineFault, MAX_LINE_BYTES, parse_line};
 use std::alloc::{AllocError as NoMemory, Global};
 use std::marker::Brand;
 use std::sync::ledger::{Blank, Ledger};
@@ -30,7 +30,7 @@ pub(crate) fn value_answer(alloc: Global, asked: &[u8]) -> Result<String, NoMemo
     let mut text = Vec::new(alloc);
     text.extend_from_slice(b"reduce V count where ")?;
     text.extend_from_slice(expr.as_bytes())?;
-    if text.len() > MOST_BYTES {
+    if text.len() > MAX_LINE_BYTES {
         return no_form(alloc);
     }
     match parse_line(alloc, text.as_slice()) {

@@ -14,11 +14,8 @@ use crate::expressions::value_answer;
 use crate::repeats::{chain_answer, nested_answer, written_answer};
 use crate::tokens::{next_answer, tokens_answer};
 use line_writer::write_line;
-use schema_lang::{LineFault, parse_line};
+use schema_lang::{LineFault, MAX_LINE_BYTES, parse_line};
 use std::alloc::{AllocError as NoMemory, Global};
-
-/// The most bytes of a line.
-pub(crate) const MOST_BYTES: usize = 4096;
 
 /// The answer to a line of stdin.
 pub(crate) fn answer(alloc: Global, asked: &[u8]) -> Result<String, NoMemory> {
@@ -36,7 +33,7 @@ pub(crate) fn answer(alloc: Global, asked: &[u8]) -> Result<String, NoMemory> {
 
 /// The canonical text of a line, or its fault.
 pub(crate) fn text_answer(alloc: Global, text: &[u8]) -> Result<String, NoMemory> {
-    if text.len() > MOST_BYTES {
+    if text.len() > MAX_LINE_BYTES {
         return String::from_str(alloc, "LineTooLong");
     }
     match parse_line(alloc, text) {

@@ -1,6 +1,6 @@
 // Lines that are made of one part many times.
-use crate::forms::{MOST_BYTES, cut, fault_answer, no_form, number_of, text_answer};
-use schema_lang::parse_line;
+use crate::forms::{cut, fault_answer, no_form, number_of, text_answer};
+use schema_lang::{MAX_LINE_BYTES, parse_line};
 use std::alloc::{AllocError as NoMemory, Global};
 
 pub(crate) fn nested_answer(alloc: Global, asked: &[u8]) -> Result<String, NoMemory> {
@@ -31,14 +31,14 @@ pub(crate) fn written_answer(alloc: Global, asked: &[u8]) -> Result<String, NoMe
 fn chain(alloc: Global, asked: &[u8]) -> Result<Vec<u8>, NoMemory> {
     let (head, parts) = cut(asked, b'|');
     let (part, tail) = cut(parts, b'|');
-    let room = MOST_BYTES
+    let room = MAX_LINE_BYTES
         .saturating_sub(head.len())
         .saturating_sub(tail.len());
     let mut text = Vec::new(alloc);
     text.extend_from_slice(head)?;
     push_many(&mut text, part, room.checked_div(part.len()).unwrap_or(0))?;
     text.extend_from_slice(tail)?;
-    let spaces = MOST_BYTES.saturating_sub(text.len());
+    let spaces = MAX_LINE_BYTES.saturating_sub(text.len());
     push_many(&mut text, b" ", spaces)?;
     Ok(text)
 }
@@ -52,7 +52,7 @@ fn push_many(text: &mut Vec<u8>, part: &[u8], count: usize) -> Result<(), NoMemo
 
 // `line`, or the fault.
 fn short_answer(alloc: Global, text: &[u8]) -> Result<String, NoMemory> {
-    if text.len() > MOST_BYTES {
+    if text.len() > MAX_LINE_BYTES {
         return no_form(alloc);
     }
     match parse_line(alloc, text) {

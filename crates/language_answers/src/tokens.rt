@@ -1,10 +1,7 @@
 // The tokens of a text.
 use crate::forms::{cut, no_form, number_of};
-use line_tokens::{Next, TokenKind, next_token, spots_of};
+use line_tokens::{MAX_BRACKETS, Next, TokenKind, next_token, spots_of};
 use std::alloc::{AllocError as NoMemory, Global};
-
-// The most brackets that may be open.
-const MOST_BRACKETS: usize = 64;
 
 pub(crate) fn next_answer(alloc: Global, asked: &[u8]) -> Result<String, NoMemory> {
     let (at, rest) = cut(asked, b' ');
@@ -12,7 +9,7 @@ pub(crate) fn next_answer(alloc: Global, asked: &[u8]) -> Result<String, NoMemor
     let (Some(at), Some(brackets)) = (number_of(at), number_of(brackets)) else {
         return no_form(alloc);
     };
-    if at > text.len() || brackets > MOST_BRACKETS {
+    if at > text.len() || brackets > MAX_BRACKETS as usize {
         return no_form(alloc);
     }
     match next_token(text, at, brackets as u32) {

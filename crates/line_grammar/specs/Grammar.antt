@@ -24,7 +24,7 @@ use Rattle.line_grammar.specs.declared.line.MapWord.{MapWord}
 use Rattle.line_grammar.specs.declared.line.MapWord.TheVariants as form
 use Rattle.line_grammar.specs.declared.version.Version.{Version}
 use Rattle.line_grammar.specs.Tokens.{name_of, number_of, count_of, string_of, type_of, integer_type_of, order_of, aos_form_of, soa_form_of, map_word, index_of, choice_of, or_of, and_of, comparison_of, sum_of, product_of, kernel_word_of, reduction_of, command_of}
-use Rattle.line_grammar.specs.Sentences.{Assignment, New, Sentence, Value, Blank, Define, Mapping, View, Load, Assign, Update, Kernel, Reduce, Count, Copy, Relayout, Print, Counts, Heat, Layout, Drop, Bytes}
+use Rattle.line_grammar.specs.Sentences.{Assignment, New, Sentence, Value, Blank, Define, Mapping, View, Load, Assign, Update, Kernel, Reduce, Count, Copy, Relayout, Show, Drop, Bytes}
 
 -- what is said of phrases: a list of tokens, and the value that it has
 abbrev pub Phrase : Type 0 → Type 1
@@ -273,11 +273,9 @@ IsBody version n command.Reduce = Joined IsName (λ view. IsEither
 IsBody version n command.Copy = Joined IsName (λ source. Behind (Word (codes "to")) (Joined IsName (λ target. IsNothing (Copy source target))))
 -- "relayout" NAME "as" map
 IsBody version n command.Relayout = Joined IsName (λ view. Behind (Word (codes "as")) (Joined (IsMap version n) (λ map. IsNothing (Relayout view map))))
--- ("print" | "counts" | "heat" | "layout" | "drop") NAME
-IsBody version n command.Print = Joined IsName (λ view. IsNothing (Print view))
-IsBody version n command.Counts = Joined IsName (λ view. IsNothing (Counts view))
-IsBody version n command.Heat = Joined IsName (λ view. IsNothing (Heat view))
-IsBody version n command.Layout = Joined IsName (λ view. IsNothing (Layout view))
+-- ("print" | "counts" | "heat" | "layout") NAME
+IsBody version n (command.Show kind) = Joined IsName (λ view. IsNothing (Show kind view))
+-- "drop" NAME
 IsBody version n command.Drop = Joined IsName (λ view. IsNothing (Drop view))
 -- "bytes" NAME COUNT
 IsBody version n command.Bytes = Joined IsName (λ view. Joined IsCount (λ blob. IsNothing (Bytes view blob)))

@@ -10,6 +10,8 @@ use Rattle.line_grammar.specs.declared.line.Line.{Line}
 use Rattle.line_grammar.specs.declared.line.Line.TheVariants as line
 use Rattle.line_grammar.specs.declared.line.ReduceKind.{ReduceKind}
 use Rattle.line_grammar.specs.declared.line.SetText.{SetText}
+use Rattle.line_grammar.specs.declared.line.ShowKind.{ShowKind}
+use Rattle.line_grammar.specs.declared.line.ShowKind.TheVariants as show
 
 -- an expression whose leaves are named by their paths
 abbrev pub Value : Type 0
@@ -41,10 +43,7 @@ pub data Sentence : Type 0 where
   Count : List ℕ → Value → Sentence
   Copy : List ℕ → List ℕ → Sentence
   Relayout : List ℕ → MapTerm → Sentence
-  Print : List ℕ → Sentence
-  Counts : List ℕ → Sentence
-  Heat : List ℕ → Sentence
-  Layout : List ℕ → Sentence
+  Show : ShowKind → List ℕ → Sentence
   Drop : List ℕ → Sentence
   Bytes : List ℕ → ℕ → Sentence
 
@@ -65,10 +64,10 @@ sentence_of (line.Reduce view kind path) = Reduce view kind path
 sentence_of (line.Count view filter) = Count view (term_of filter)
 sentence_of (line.Copy source target) = Copy source target
 sentence_of (line.Relayout view expr) = Relayout view (map_of expr)
-sentence_of (line.Print view) = Print view
-sentence_of (line.Counts view) = Counts view
-sentence_of (line.Heat view) = Heat view
-sentence_of (line.Layout view) = Layout view
+sentence_of (line.Print view) = Show show.Print view
+sentence_of (line.Counts view) = Show show.Counts view
+sentence_of (line.Heat view) = Show show.Heat view
+sentence_of (line.Layout view) = Show show.Layout view
 sentence_of (line.Drop view) = Drop view
 sentence_of (line.Bytes view blob) = Bytes view blob
 
@@ -86,6 +85,11 @@ deepest (Assign view index path value) = depth_of value
 deepest (Update view filter sets) = max (filter_depth filter) (deepest_set sets)
 deepest (Count view filter) = depth_of filter
 deepest _ = 0
+
+-- what a line shows of a view, and the name of the view
+abbrev pub show_of : Sentence → Option (ShowKind × List ℕ)
+show_of (Show kind view) = Some (kind, view)
+show_of _ = None
 
 -- the name of the file that a line reads
 abbrev pub file_of : Sentence → Option (List ℕ)

@@ -1,5 +1,5 @@
 -- The tokens of a line as its grammar sees them, and what each stands for.
-use Rattle.std.specs.Prelude.{ℕ, ◌^◌, ◌+◌, ◌-◌, Bool, false, bytes_eq, nat_lt, if◌then◌else◌, List, [], ◌∷◌, Option, Some, None, codes, ℤ, pos, slice_range}
+use Rattle.std.specs.Prelude.{ℕ, ◌^◌, ◌+◌, ◌-◌, Bool, false, bytes_eq, nat_lt, if◌then◌else◌, List, [], ◌∷◌, ◌++◌, map, Option, Some, None, codes, ℤ, pos, slice_range}
 use Rattle.std.specs.List.{list_any}
 use Rattle.line_tokens.specs.Signs.{spelling}
 use Rattle.line_tokens.specs.declared.sign.Sign.{Sign}
@@ -16,7 +16,7 @@ use Rattle.places.specs.declared.forms.AosForm.{AosForm}
 use Rattle.places.specs.declared.forms.AosForm.TheVariants as aos
 use Rattle.places.specs.declared.forms.SoaForm.{SoaForm}
 use Rattle.places.specs.declared.forms.SoaForm.TheVariants as soa
-use Rattle.line_grammar.specs.Words.{type_word, order_word, aos_word, soa_word, form_word, kernel_word, reduction_word, command_word, index_word, operator}
+use Rattle.line_grammar.specs.Words.{type_word, order_word, aos_word, soa_word, form_word, kernel_word, reduction_word, command_word, show_kinds, index_word, operator}
 use Rattle.line_grammar.specs.declared.items.Symbol.{Symbol}
 use Rattle.line_grammar.specs.declared.items.Symbol.TheVariants as symbol
 use Rattle.line_grammar.specs.declared.token.Token.{Token}
@@ -180,8 +180,7 @@ reduction_of = meaning reduction_word reductions
 
 abbrev pub commands : List Command
 commands = command.Record ∷ command.Mapping ∷ command.View ∷ command.Load ∷ command.Set ∷ command.Update ∷ command.Kernel
-    ∷ command.Reduce ∷ command.Copy ∷ command.Relayout ∷ command.Print ∷ command.Counts ∷ command.Heat ∷ command.Layout
-    ∷ command.Drop ∷ command.Bytes ∷ []
+    ∷ command.Reduce ∷ command.Copy ∷ command.Relayout ∷ (map command.Show show_kinds ++ command.Drop ∷ command.Bytes ∷ [])
 
 abbrev pub command_of : Token → Option Command
 command_of = meaning command_word commands

@@ -22,6 +22,8 @@ use Rattle.line_grammar.specs.declared.line.MapWord.{MapWord}
 use Rattle.line_grammar.specs.declared.line.MapWord.TheVariants as form
 use Rattle.line_grammar.specs.declared.line.ReduceKind.{ReduceKind}
 use Rattle.line_grammar.specs.declared.line.ReduceKind.TheVariants as reduce
+use Rattle.line_grammar.specs.declared.line.ShowKind.{ShowKind}
+use Rattle.line_grammar.specs.declared.line.ShowKind.TheVariants as show
 
 -- the types of leaves
 abbrev pub type_word : LeafType → List ℕ
@@ -81,6 +83,16 @@ reduction_word reduce.Sum = codes "sum"
 reduction_word reduce.Min = codes "min"
 reduction_word reduce.Max = codes "max"
 
+-- what is shown of a view
+abbrev pub show_word : ShowKind → List ℕ
+show_word show.Print = codes "print"
+show_word show.Counts = codes "counts"
+show_word show.Heat = codes "heat"
+show_word show.Layout = codes "layout"
+
+abbrev pub show_kinds : List ShowKind
+show_kinds = show.Print ∷ show.Counts ∷ show.Heat ∷ show.Layout ∷ []
+
 -- what begins a line
 abbrev pub command_word : Command → List ℕ
 command_word command.Record = codes "record"
@@ -93,10 +105,7 @@ command_word command.Kernel = codes "kernel"
 command_word command.Reduce = codes "reduce"
 command_word command.Copy = codes "copy"
 command_word command.Relayout = codes "relayout"
-command_word command.Print = codes "print"
-command_word command.Counts = codes "counts"
-command_word command.Heat = codes "heat"
-command_word command.Layout = codes "layout"
+command_word (command.Show kind) = show_word kind
 command_word command.Drop = codes "drop"
 command_word command.Bytes = codes "bytes"
 

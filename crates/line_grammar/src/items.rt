@@ -4,7 +4,7 @@ ghost use Rattle.std.specs.List.{list_any};
 ghost use Rattle.line_grammar.specs.Tokens.{aos_form_of, and_of, choice_of, command_of, comparison_of, count_of, index_named, index_of, integer_type_of, is_same, kernel_word_of, map_word, meaning, name_of, number_of, operator_in, or_of, order_of, product_of, reduction_of, reserved, soa_form_of, string_of, sum_of, symbol_token, type_of};
 ghost use Rattle.line_grammar.specs.Words.{operator};
 
-use crate::words::{Spelled, listed};
+use crate::words::{COMMANDS, Spelled, listed};
 use crate::{Command, FileName, KernelWord, MapWord, ReduceKind, Token};
 use expr_lang::BinOp;
 use extents::Order;
@@ -243,27 +243,7 @@ impl Item for Command {
     ghost value_of = { command_of };
 
     fn of(token: &Token) -> Option<Command> {
-        spelled(
-            &[
-                Command::Record,
-                Command::Mapping,
-                Command::View,
-                Command::Load,
-                Command::Set,
-                Command::Update,
-                Command::Kernel,
-                Command::Reduce,
-                Command::Copy,
-                Command::Relayout,
-                Command::Print,
-                Command::Counts,
-                Command::Heat,
-                Command::Layout,
-                Command::Drop,
-                Command::Bytes,
-            ],
-            token,
-        )
+        spelled(&COMMANDS, token)
     }
 }
 

@@ -16,7 +16,7 @@ pub use items::{
 };
 pub use line::{
     Command, ExtentWords, IndexWords, KernelText, KernelWord, Line, MapWord, ReduceKind, SetList,
-    SetText,
+    SetText, ShowKind,
 };
 pub use quoted::Quoted;
 pub use token::Token;

@@ -1,5 +1,5 @@
 ghost use Rattle.std.specs.Prelude.{◌≡◌, option_map};
-ghost use Rattle.line_grammar.specs.Sentences.{file_of, sentence_of};
+ghost use Rattle.line_grammar.specs.Sentences.{Show, file_of, sentence_of, show_of};
 
 use crate::FileName;
 use expr_lang::{BinOp, Expr};
@@ -109,6 +109,31 @@ impl Line {
             _ => None,
         }
     }
+
+    /// The line that shows this of a view.
+    pub fn show(kind: ShowKind, view: Name) -> Line
+        ensures { sentence_of result ≡ Show kind view }
+    {
+        match kind {
+            ShowKind::Print => Line::Print(view),
+            ShowKind::Counts => Line::Counts(view),
+            ShowKind::Heat => Line::Heat(view),
+            ShowKind::Layout => Line::Layout(view),
+        }
+    }
+
+    /// What the line shows, and of which view, where it does nothing else.
+    pub fn shown(&self) -> Option<(ShowKind, Name)>
+        ensures { result ≡ show_of (sentence_of self.now) }
+    {
+        match self {
+            Line::Print(view) => Some((ShowKind::Print, *view)),
+            Line::Counts(view) => Some((ShowKind::Counts, *view)),
+            Line::Heat(view) => Some((ShowKind::Heat, *view)),
+            Line::Layout(view) => Some((ShowKind::Layout, *view)),
+            _ => None,
+        }
+    }
 }
 
 /// The path of a leaf, and the value that it gets.
@@ -124,6 +149,19 @@ pub enum ReduceKind {
     Sum,
     Min,
     Max,
+}
+
+/// What a line of one word and the name of a view shows.
+#[derive(Clone, Copy)]
+pub enum ShowKind {
+    /// The rows.
+    Print,
+    /// How often each leaf was read and written.
+    Counts,
+    /// How often each granule was accessed.
+    Heat,
+    /// Whose each bit is.
+    Layout,
 }
 
 /// A kernel with its leaves and numbers.
@@ -153,10 +191,7 @@ pub enum Command {
     Reduce,
     Copy,
     Relayout,
-    Print,
-    Counts,
-    Heat,
-    Layout,
+    Show(ShowKind),
     Drop,
     Bytes,
 }

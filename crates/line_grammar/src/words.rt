@@ -1,9 +1,9 @@
 // How a script spells the values of its enums: a word each, an operator a sign or a word.
 ghost use Rattle.std.specs.Prelude.{◌≡◌};
 ghost use Rattle.line_grammar.specs.Tokens.{listed};
-ghost use Rattle.line_grammar.specs.Words.{aos_word, command_word, form_word, kernel_word, order_word, reduction_word, soa_word, type_word};
+ghost use Rattle.line_grammar.specs.Words.{aos_word, command_word, form_word, kernel_word, order_word, reduction_word, show_word, soa_word, type_word};
 
-use crate::{Command, KernelWord, MapWord, ReduceKind};
+use crate::{Command, KernelWord, MapWord, ReduceKind, ShowKind};
 use extents::Order;
 use places::{AosForm, SoaForm};
 use record_dim::LeafType;
@@ -131,6 +131,39 @@ impl Spelled for ReduceKind {
     }
 }
 
+impl Spelled for ShowKind {
+    ghost word = { show_word };
+
+    fn word(self) -> &'static str {
+        match self {
+            ShowKind::Print => "print",
+            ShowKind::Counts => "counts",
+            ShowKind::Heat => "heat",
+            ShowKind::Layout => "layout",
+        }
+    }
+}
+
+// The words that begin a line.
+pub(crate) const COMMANDS: [Command; 16] = [
+    Command::Record,
+    Command::Mapping,
+    Command::View,
+    Command::Load,
+    Command::Set,
+    Command::Update,
+    Command::Kernel,
+    Command::Reduce,
+    Command::Copy,
+    Command::Relayout,
+    Command::Show(ShowKind::Print),
+    Command::Show(ShowKind::Counts),
+    Command::Show(ShowKind::Heat),
+    Command::Show(ShowKind::Layout),
+    Command::Drop,
+    Command::Bytes,
+];
+
 impl Spelled for Command {
     ghost word = { command_word };
 
@@ -146,10 +179,7 @@ impl Spelled for Command {
             Command::Reduce => "reduce",
             Command::Copy => "copy",
             Command::Relayout => "relayout",
-            Command::Print => "print",
-            Command::Counts => "counts",
-            Command::Heat => "heat",
-            Command::Layout => "layout",
+            Command::Show(kind) => kind.word(),
             Command::Drop => "drop",
             Command::Bytes => "bytes",
         }

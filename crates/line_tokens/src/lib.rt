@@ -7,4 +7,4 @@ mod token;
 
 pub use sign::Sign;
 pub use spots::{Spot, SpotList, spots_of};
-pub use token::{MAX_STRING_BYTES, Next, TokenKind, next_token};
+pub use token::{MAX_BRACKETS, MAX_STRING_BYTES, Next, TokenKind, next_token};

@@ -20,7 +20,7 @@ pub const MAX_STRING_BYTES: usize = 200;
 const MAX_NUMBER: u128 = (1 << 127) - 1;
 
 /// The most brackets that are open at once.
-const MAX_BRACKETS: u32 = 64;
+pub const MAX_BRACKETS: u32 = 64;
 
 /// What stands next in a line's text. Places are byte offsets from the start of the text.
 #[derive(Clone, Copy)]

@@ -10,9 +10,9 @@ use Rattle.line_grammar.specs.declared.version.Version.{Version}
 use Rattle.line_grammar.specs.declared.line.Command.{Command}
 use Rattle.line_grammar.specs.declared.line.Command.TheVariants as command
 use Rattle.line_grammar.specs.declared.line.KernelWord.{KernelWord}
-use Rattle.line_grammar.specs.Sentences.{Assignment, Sentence, Blank, Define, Mapping, View, Load, Assign, Update, Kernel, Reduce, Count, Copy, Relayout, Print, Counts, Heat, Layout, Drop, Bytes}
+use Rattle.line_grammar.specs.Sentences.{Assignment, Sentence, Blank, Define, Mapping, View, Load, Assign, Update, Kernel, Reduce, Count, Copy, Relayout, Show, Drop, Bytes}
 use Rattle.line_grammar.specs.Grammar.{Phrase, IsName, IsMore, IsListed, IsAssignment, IsFilter, IsKernel, IsNew, IsBody, IsLine}
-use Rattle.line_grammar.specs.Words.{reduction_word, command_word}
+use Rattle.line_grammar.specs.Words.{reduction_word, show_word, command_word}
 use Rattle.line_writer.specs.Canonical.{count_token, bracket_list, extent_tokens, path_tokens, new_tokens, line_tokens}
 use Rattle.line_writer.proofs.Gives.{Each, each_append, Gives, nothing_gives, behind_gives, joined_gives, either_gives, repeats_gives, gives_also}
 use Rattle.line_writer.proofs.Words.{name_gives, count_gives, string_gives, reduction_gives, command_gives, kernel_word_gives}
@@ -166,10 +166,7 @@ body_gives version n command.Kernel = kept_behind version (codes "kernel") (kern
 body_gives version n command.Reduce = reduce_body version n
 body_gives version n command.Copy = copy_body version n
 body_gives version n command.Relayout = relayout_body version n
-body_gives version n command.Print = named_body version (codes "print") Print (λ view. refl)
-body_gives version n command.Counts = named_body version (codes "counts") Counts (λ view. refl)
-body_gives version n command.Heat = named_body version (codes "heat") Heat (λ view. refl)
-body_gives version n command.Layout = named_body version (codes "layout") Layout (λ view. refl)
+body_gives version n (command.Show kind) = named_body version (show_word kind) (Show kind) (λ view. refl)
 body_gives version n command.Drop = named_body version (codes "drop") Drop (λ view. refl)
 body_gives version n command.Bytes = bytes_body version n
 

@@ -21,7 +21,7 @@ use Rattle.line_grammar.specs.declared.line.KernelText.TheVariants as kernel
 use Rattle.line_grammar.specs.declared.line.KernelWord.TheVariants as worded
 use Rattle.line_grammar.specs.declared.line.MapWord.TheVariants as map_form
 use Rattle.line_grammar.specs.Words.{type_word, order_word, aos_word, soa_word, form_word, kernel_word, reduction_word, command_word, operator}
-use Rattle.line_grammar.specs.Sentences.{Assignment, New, Sentence, Value, Blank, Define, Mapping, View, Load, Assign, Update, Kernel, Reduce, Count, Copy, Relayout, Print, Counts, Heat, Layout, Drop, Bytes}
+use Rattle.line_grammar.specs.Sentences.{Assignment, New, Sentence, Value, Blank, Define, Mapping, View, Load, Assign, Update, Kernel, Reduce, Count, Copy, Relayout, Show, Drop, Bytes}
 
 -- a number; the minus of a negative one is a token of its own
 abbrev pub number_tokens : ℤ → List Token
@@ -174,9 +174,6 @@ line_tokens (Reduce view kind path) = Word (command_word command.Reduce) ∷ Wor
 line_tokens (Count view filter) = Word (command_word command.Reduce) ∷ Word view ∷ Word (codes "count") ∷ Word (codes "where") ∷ value_tokens filter
 line_tokens (Copy source target) = Word (command_word command.Copy) ∷ Word source ∷ Word (codes "to") ∷ Word target ∷ []
 line_tokens (Relayout view expr) = Word (command_word command.Relayout) ∷ Word view ∷ Word (codes "as") ∷ map_tokens expr
-line_tokens (Print view) = Word (command_word command.Print) ∷ Word view ∷ []
-line_tokens (Counts view) = Word (command_word command.Counts) ∷ Word view ∷ []
-line_tokens (Heat view) = Word (command_word command.Heat) ∷ Word view ∷ []
-line_tokens (Layout view) = Word (command_word command.Layout) ∷ Word view ∷ []
+line_tokens (Show kind view) = Word (command_word (command.Show kind)) ∷ Word view ∷ []
 line_tokens (Drop view) = Word (command_word command.Drop) ∷ Word view ∷ []
 line_tokens (Bytes view blob) = Word (command_word command.Bytes) ∷ Word view ∷ count_token blob ∷ []

@@ -34,7 +34,6 @@ fn write_command(text: &mut Text, line: &Line) -> Result<(), NoMemory>
     ensures { OnOk result (text.new ≡ canonical (sentence_of line.now)) }
 {
     match line {
-        Line::Blank => Ok(()),
         Line::Define { name, dim } => write_define(text, name, dim),
         Line::Mapping { name, expr } => write_mapping(text, name, expr),
         Line::View {
@@ -66,11 +65,12 @@ fn write_command(text: &mut Text, line: &Line) -> Result<(), NoMemory>
         Line::Count { view, filter } => write_count(text, view, filter),
         Line::Copy { source, target } => write_copy(text, source, target),
         Line::Relayout { view, expr } => write_relayout(text, view, expr),
-        Line::Print(view) => write_named(text, Command::Print, view),
-        Line::Counts(view) => write_named(text, Command::Counts, view),
-        Line::Heat(view) => write_named(text, Command::Heat, view),
-        Line::Layout(view) => write_named(text, Command::Layout, view),
         Line::Drop(view) => write_named(text, Command::Drop, view),
         Line::Bytes { view, blob } => write_bytes(text, view, *blob),
+        // What is left shows something, or is blank.
+        _ => match line.shown() {
+            Some((kind, view)) => write_named(text, Command::Show(kind), &view),
+            None => Ok(()),
+        },
     }
 }

@@ -22,7 +22,7 @@ use Rattle.line_grammar.specs.declared.line.ReduceKind.TheVariants as reduce
 use Rattle.line_grammar.specs.declared.token.Token.{Token}
 use Rattle.line_grammar.specs.declared.token.Token.TheVariants.{Word, Text, Sign as Signed}
 use Rattle.line_grammar.specs.declared.version.Version.{Version}
-use Rattle.line_grammar.specs.Sentences.{Blank, Define, Mapping, View, Load, Assign, Update, Kernel, Reduce, Count, Copy, Relayout, Print, Counts, Heat, Layout, Drop, Bytes}
+use Rattle.line_grammar.specs.Sentences.{Blank, Define, Mapping, View, Load, Assign, Update, Kernel, Reduce, Count, Copy, Relayout, Show, Drop, Bytes}
 use Rattle.line_grammar.specs.Tokens.{is_sign, is_word, number_of, string_of, comparison_of, kernel_word_of, reduction_of, command_of}
 use Rattle.line_grammar.specs.Grammar.{IsAssignment, IsBody, IsCommand, IsConst, IsFilter, IsKernel, IsKernelInside, IsLine, IsNew}
 use Rattle.line_phrases.specs.Constants.{const_at}
@@ -116,15 +116,12 @@ body_parses version n command.Reduce = then_parses Always name_parses (λ view. 
     (λ xs v rest h _. joined_starts (is_word (codes "count")) false _ _ (item_starts (is_word (codes "count")) reduction_of false (apart (exact_word (codes "count")) reduction_of refl)) xs v rest h)) (anything _ _)
 body_parses version n command.Copy = then_parses Always name_parses (λ source. behind_parses (exact_word (codes "to")) (then_parses Always name_parses (λ target. give_parses AtEnd (Copy source target)) (anything _ _))) (anything _ _)
 body_parses version n command.Relayout = then_parses Always name_parses (λ view. behind_parses (exact_word (codes "as")) (then_parses (Not OpenParen) (map_parses version n) (λ map. give_parses AtEnd (Relayout view map)) (ended_after (Not OpenParen) (Relayout view) refl))) (anything _ _)
-body_parses version n command.Print = then_parses Always name_parses (λ view. give_parses AtEnd (Print view)) (anything _ _)
-body_parses version n command.Counts = then_parses Always name_parses (λ view. give_parses AtEnd (Counts view)) (anything _ _)
-body_parses version n command.Heat = then_parses Always name_parses (λ view. give_parses AtEnd (Heat view)) (anything _ _)
-body_parses version n command.Layout = then_parses Always name_parses (λ view. give_parses AtEnd (Layout view)) (anything _ _)
+body_parses version n (command.Show kind) = then_parses Always name_parses (λ view. give_parses AtEnd (Show kind view)) (anything _ _)
 body_parses version n command.Drop = then_parses Always name_parses (λ view. give_parses AtEnd (Drop view)) (anything _ _)
 body_parses version n command.Bytes = then_parses Always name_parses (λ view. then_parses Always count_parses (λ blob. give_parses AtEnd (Bytes view blob)) (anything _ _)) (anything _ _)
 
 command_item : Parses (IsItem command_of) (item_at command_of) Always
-command_item = item_parses command_of (Word (codes "print")) command.Print refl
+command_item = item_parses command_of (Word (codes "drop")) command.Drop refl
 
 command_parses : (version : Version) (n : ℕ) → Parses (IsCommand version n) (command_at version n) AtEnd
 unfolding command_at
@@ -162,10 +159,7 @@ body_wider version n m le command.Kernel = same_wider _
 body_wider version n m le command.Reduce = joined_wider (same_wider _) (λ view. either_wider (behind_wider _ (behind_wider _ (joined_wider (expr_wider n m le) (λ filter. same_wider _)))) (same_wider _))
 body_wider version n m le command.Copy = same_wider _
 body_wider version n m le command.Relayout = joined_wider (same_wider _) (λ view. behind_wider _ (joined_wider (map_wider version n m le) (λ map. same_wider _)))
-body_wider version n m le command.Print = same_wider _
-body_wider version n m le command.Counts = same_wider _
-body_wider version n m le command.Heat = same_wider _
-body_wider version n m le command.Layout = same_wider _
+body_wider version n m le (command.Show kind) = same_wider _
 body_wider version n m le command.Drop = same_wider _
 body_wider version n m le command.Bytes = same_wider _
 
@@ -200,10 +194,7 @@ body_alike version n m le command.Kernel = same_alike n _
 body_alike version n m le command.Reduce = then_alike n (no_longer name_parses) (same_alike n _) (λ view. either_alike n _ (behind_kept n _ (behind_kept n _ (then_alike n (no_longer (expr_parses n)) (expr_alike n m le) (λ filter. same_alike n _)))) (same_alike n _))
 body_alike version n m le command.Copy = same_alike n _
 body_alike version n m le command.Relayout = then_alike n (no_longer name_parses) (same_alike n _) (λ view. behind_kept n _ (then_alike n (no_longer (map_parses version n)) (map_alike version n m le) (λ map. same_alike n _)))
-body_alike version n m le command.Print = same_alike n _
-body_alike version n m le command.Counts = same_alike n _
-body_alike version n m le command.Heat = same_alike n _
-body_alike version n m le command.Layout = same_alike n _
+body_alike version n m le (command.Show kind) = same_alike n _
 body_alike version n m le command.Drop = same_alike n _
 body_alike version n m le command.Bytes = same_alike n _
 

@@ -13,7 +13,7 @@ use Rattle.line_grammar.specs.declared.line.Line.{Line}
 use Rattle.line_grammar.specs.declared.line.Line.TheVariants as line
 use Rattle.line_grammar.specs.declared.token.Token.{Token}
 use Rattle.line_grammar.specs.declared.version.Version.{Version}
-use Rattle.line_grammar.specs.Sentences.{Sentence, sentence_of, Blank, Define, Mapping, View, Load, Assign, Update, Kernel, Reduce, Count, Copy, Relayout, Print, Counts, Heat, Layout, Drop, Bytes}
+use Rattle.line_grammar.specs.Sentences.{Sentence, sentence_of, Blank, Define, Mapping, View, Load, Assign, Update, Kernel, Reduce, Count, Copy, Relayout, Show, Drop, Bytes}
 use Rattle.line_grammar.specs.Tokens.{is_sign, is_word, name_of, count_of, string_of, reduction_of, command_of}
 use Rattle.line_phrases.specs.Exprs.{expr_at}
 use Rattle.line_phrases.specs.Fields.{fields_at}
@@ -91,10 +91,7 @@ body_whole version n command.Reduce = each_then (item_at name_of) (λ view. each
     (each_then (item_at reduction_of) (λ kind. each_then path_at (λ path. each_give (Reduce view kind path) tt))))
 body_whole version n command.Copy = each_then (item_at name_of) (λ source. each_behind (is_word (codes "to")) (each_then (item_at name_of) (λ target. each_give (Copy source target) tt)))
 body_whole version n command.Relayout = each_then (item_at name_of) (λ view. each_behind (is_word (codes "as")) (each_then (map_at version n) (λ map. each_give (Relayout view map) tt)))
-body_whole version n command.Print = each_then (item_at name_of) (λ view. each_give (Print view) tt)
-body_whole version n command.Counts = each_then (item_at name_of) (λ view. each_give (Counts view) tt)
-body_whole version n command.Heat = each_then (item_at name_of) (λ view. each_give (Heat view) tt)
-body_whole version n command.Layout = each_then (item_at name_of) (λ view. each_give (Layout view) tt)
+body_whole version n (command.Show kind) = each_then (item_at name_of) (λ view. each_give (Show kind view) tt)
 body_whole version n command.Drop = each_then (item_at name_of) (λ view. each_give (Drop view) tt)
 body_whole version n command.Bytes = each_then (item_at name_of) (λ view. each_then (item_at count_of) (λ blob. each_give (Bytes view blob) tt))
 
@@ -108,24 +105,8 @@ record_whole (dim.Fields fields) h = tt
 record_whole (dim.Array' len p element) h = h
 
 of_line : (found : Line) → HasFields (sentence_of found) → IsWhole found
-of_line line.Blank h = tt
 of_line (line.Define name held) h = record_whole held h
-of_line (line.Mapping name expr) h = tt
-of_line (line.View name schema words expr) h = tt
-of_line (line.Load name schema words expr file) h = tt
-of_line (line.Assign view index path value) h = tt
-of_line (line.Update view filter sets) h = tt
-of_line (line.Kernel view kernel lanes) h = tt
-of_line (line.Reduce view kind path) h = tt
-of_line (line.Count view filter) h = tt
-of_line (line.Copy source target) h = tt
-of_line (line.Relayout view expr) h = tt
-of_line (line.Print view) h = tt
-of_line (line.Counts view) h = tt
-of_line (line.Heat view) h = tt
-of_line (line.Layout view) h = tt
-of_line (line.Drop view) h = tt
-of_line (line.Bytes view blob) h = tt
+of_line _ h = tt
 
 -- a line that is read whole
 pub read_whole : (version : Version) (n : ℕ) (tokens rest : List Token) (found : Line) → line_at version n tokens ≡ Ok (sentence_of found, rest) → IsWhole found

@@ -10,7 +10,7 @@ use Rattle.line_grammar.specs.declared.line.Command.{Command}
 use Rattle.line_grammar.specs.declared.line.Command.TheVariants as command
 use Rattle.line_grammar.specs.declared.token.Token.{Token}
 use Rattle.line_grammar.specs.declared.version.Version.{Version}
-use Rattle.line_grammar.specs.Sentences.{New, Sentence, Blank, Define, Mapping, View, Load, Assign, Update, Kernel, Reduce, Count, Copy, Relayout, Print, Counts, Heat, Layout, Drop, Bytes}
+use Rattle.line_grammar.specs.Sentences.{New, Sentence, Blank, Define, Mapping, View, Load, Assign, Update, Kernel, Reduce, Count, Copy, Relayout, Show, Drop, Bytes}
 use Rattle.line_grammar.specs.Tokens.{is_sign, is_word, name_of, count_of, string_of, reduction_of, command_of}
 use Rattle.line_phrases.specs.Exprs.{expr_at}
 use Rattle.line_phrases.specs.Fields.{fields_at}
@@ -83,10 +83,7 @@ body_at version n command.Kernel = kernel_line_at
 body_at version n command.Reduce = reduce_at n
 body_at version n command.Copy = copy_at
 body_at version n command.Relayout = relayout_at version n
-body_at version n command.Print = then_at (item_at name_of) (λ view. give_at (Print view))
-body_at version n command.Counts = then_at (item_at name_of) (λ view. give_at (Counts view))
-body_at version n command.Heat = then_at (item_at name_of) (λ view. give_at (Heat view))
-body_at version n command.Layout = then_at (item_at name_of) (λ view. give_at (Layout view))
+body_at version n (command.Show kind) = then_at (item_at name_of) (λ view. give_at (Show kind view))
 body_at version n command.Drop = then_at (item_at name_of) (λ view. give_at (Drop view))
 body_at version n command.Bytes = bytes_at
 

@@ -52,10 +52,7 @@ fn read_body(
         Command::Reduce => read_reduce(alloc, room, tokens),
         Command::Copy => read_copy(tokens),
         Command::Relayout => read_relayout(alloc, version, room, tokens),
-        Command::Print => Ok(Line::Print(tokens.item::<Name>()?)),
-        Command::Counts => Ok(Line::Counts(tokens.item::<Name>()?)),
-        Command::Heat => Ok(Line::Heat(tokens.item::<Name>()?)),
-        Command::Layout => Ok(Line::Layout(tokens.item::<Name>()?)),
+        Command::Show(kind) => Ok(Line::show(kind, tokens.item::<Name>()?)),
         Command::Drop => Ok(Line::Drop(tokens.item::<Name>()?)),
         Command::Bytes => read_bytes(tokens),
     }

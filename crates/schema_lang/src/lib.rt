@@ -10,7 +10,7 @@ mod token_list;
 mod updates;
 
 pub use fault::LineFault;
-pub use line::{line_law, one_line_law, parse_line, parse_line_in};
+pub use line::{MAX_LINE_BYTES, line_law, one_line_law, parse_line, parse_line_in};
 pub use line_grammar::{
     ExtentWords, FileName, IndexWords, KernelText, Line, ReduceKind, SetList, SetText, Version,
 };

@@ -17,6 +17,9 @@ use line_phrases::{ReadError, Tokens};
 use line_tokens::spots_of;
 use std::alloc::Global;
 
+/// The most bytes of a line.
+pub const MAX_LINE_BYTES: usize = 4096;
+
 /// The line that the text is in the first version of the language. A fault is `Syntax` where it is none, and `TooDeep` where it
 /// is one with an expression more than 32 deep. The depth of a mapping is not looked at here.
 pub fn parse_line(alloc: Global, text: &[u8]) -> Result<Line, LineFault>
