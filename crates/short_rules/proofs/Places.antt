@@ -1,6 +1,7 @@
 -- Where pieces begin, by slots.
-use Rattle.std.proofs.Common.{◌≡◌, ℕ, ◌+◌, ◌-◌, ◌*◌, ◌/◌, ◌%◌, ◌^◌, bit_and, ap, ◌∙◌, arith}
-use Rattle.std.proofs.lemmas.Nat.{and_mask}
+use Rattle.std.proofs.Common.{◌≡◌, ℕ, ◌+◌, ◌-◌, ◌*◌, ◌/◌, ◌%◌, ◌^◌, ◌<◌, ◌≤◌, bit_and, ap, ◌∙◌, subst, arith}
+use Rattle.std.proofs.lemmas.Nat.{and_mask, pow_pos}
+use Rattle.std.proofs.Math.Nat.{div-lt_iff_lt-mul, div-mul-le_self, mod-lt, mul-le-mul_right}
 use Rattle.places.specs.declared.piece.Piece.{Piece}
 
 -- the place in a block of a power of two is what a mask leaves
@@ -33,3 +34,17 @@ byte_steps block lane slot lanes power whole_block whole_lane is =
     let block' : q * block ≡ q * (8 * (block / 8)) = ap (λ (n : ℕ). q * n) (let e : block ≡ 8 * (block / 8) = omega arith in e) in
     let lane' : r * lane ≡ r * (8 * (lane / 8)) = ap (λ (n : ℕ). r * n) (let e : lane ≡ 8 * (lane / 8) = omega arith in e) in
     omega arith
+
+-- the slots of so many whole blocks begin at a place or before it, where those of the last block do
+pub slots_before : (base block lane power mask ahead last room blocks slots slot : ℕ) → 0 < block → mask ≡ 2 ^ power - 1 → ahead ≡ mask * lane + base
+    → room + ahead ≡ last → blocks ≡ room / block + 1 → slots ≡ blocks * 2 ^ power → slot < slots
+    → base + slot / 2 ^ power * block + slot % 2 ^ power * lane ≤ last
+slots_before base block lane power mask ahead last room blocks slots slot some masked before end count all inside =
+    let size : 0 < 2 ^ power = pow_pos power in
+    let row : slot / 2 ^ power < blocks = (div-lt_iff_lt-mul size).1 (subst (λ (n : ℕ). slot < n) all inside) in
+    let low : slot / 2 ^ power ≤ room / block = omega (arith, row, count) in
+    let steps : slot / 2 ^ power * block ≤ room / block * block = mul-le-mul_right block low in
+    let short : room / block * block ≤ room = div-mul-le_self room block in
+    let left : slot % 2 ^ power < 2 ^ power = mod-lt slot size in
+    let lanes : slot % 2 ^ power * lane ≤ mask * lane = mul-le-mul_right lane (let e : slot % 2 ^ power ≤ mask = omega (arith, left, masked) in e) in
+    omega (arith, steps, short, lanes, before, end)

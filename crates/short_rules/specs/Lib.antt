@@ -5,3 +5,4 @@ pub mod Shorts
 pub mod ShortsLaws
 pub mod Stands
 pub mod Alongs
+pub mod Wides

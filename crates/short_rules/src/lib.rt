@@ -10,8 +10,10 @@ mod stand;
 mod start;
 mod unit;
 mod walk;
+mod wide;
 mod words;
 
 pub use piece_bits::{Field, Word};
 pub use short::ShortRule;
 pub use walk::Walk;
+pub use wide::Wide;

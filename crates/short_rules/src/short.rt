@@ -1,5 +1,6 @@
-ghost use Rattle.std.specs.Prelude.{◌≡◌, ◌-◌, ◌^◌, ◌<◌, false};
+ghost use Rattle.std.specs.Prelude.{◌≡◌, ◌≢◌, ◌-◌, ◌^◌, ◌<◌, true, false};
 ghost use Rattle.piece_bits.specs.Words.{IsField};
+ghost use Rattle.piece_bits.specs.declared.word.Word.TheVariants.{Scattered};
 ghost use Rattle.short_rules.specs.Walks.{walks_plain, walks_in_blocks};
 
 use crate::walk::Walk;
@@ -11,9 +12,9 @@ use piece_bits::{Field, Word};
 #[derive(Clone, Copy)]
 pub struct ShortRule {
     pub walk: Walk,
-    /// Whether the walk is `Plain`: it is asked first, by a flag of its own.
+    /// Whether the walk is `Plain`, and no bytes are scattered: it is asked first, by a flag of its own.
     pub is_plain: bool,
-    /// Whether the walk is `Blocks`: it is asked next.
+    /// Whether the walk is `Blocks`, and no bytes are scattered: it is asked next.
     pub in_blocks: bool,
     /// How many lines there are, where there are lines and columns.
     pub lines: u64,
@@ -32,8 +33,8 @@ pub struct ShortRule {
     pub mask: u64,
     /// The power of two that the slots of a block are.
     pub power: u32,
-    ghost plain: { is_plain ≡ walks_plain walk },
-    ghost blocks: { in_blocks ≡ walks_in_blocks walk },
+    ghost plain: { is_plain ≡ true → (walks_plain walk ≡ true) × (word ≢ Scattered) },
+    ghost blocks: { in_blocks ≡ true → (walks_in_blocks walk ≡ true) × (word ≢ Scattered) },
     ghost single: { walks_in_blocks walk ≡ false → power ≡ 0 },
     ghost masked: { mask ≡ 2 ^ power - 1 },
     ghost low: { power < 64 },

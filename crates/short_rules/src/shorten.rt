@@ -69,10 +69,11 @@ fn along(path: Path, stand: Stand, hold: Hold) -> ShortRule
     requires low { stand.power < 64 }
     ensures { IsAlong path stand hold result }
 {
+    let alone = !matches!(stand.word, Word::Scattered);
     ShortRule {
         walk: path.walk,
-        is_plain: matches!(path.walk, Walk::Plain),
-        in_blocks: matches!(path.walk, Walk::Blocks),
+        is_plain: alone && matches!(path.walk, Walk::Plain),
+        in_blocks: alone && matches!(path.walk, Walk::Blocks),
         lines: path.lines,
         columns: path.columns,
         word: stand.word,

@@ -1,0 +1,40 @@
+-- Rows whose value is read by one load of eight bytes, which lie within the blob.
+use Rattle.std.specs.Prelude.{ℕ, ◌≡◌, ◌+◌, ◌/◌, ◌<◌, ◌≤◌, true}
+use Rattle.piece_bits.specs.declared.word.Word.TheVariants as stored
+use Rattle.short_rules.specs.Shorts.{start_in}
+use Rattle.short_rules.specs.Stands.{IsWhole, IsTurned}
+use Rattle.short_rules.specs.Walks.{walks_plain, walks_in_blocks}
+use Rattle.short_rules.specs.declared.short.ShortRule.{ShortRule}
+use Rattle.short_rules.specs.declared.wide.Wide.{Wide}
+
+-- whole bytes stand at the place of a row, by rows
+pub record IsWholeWide (short : ShortRule) (bytes row : ℕ) : Type 0 where
+  pub walk : walks_plain short.walk ≡ true
+  pub word : IsWhole short.word short.field.signed short.field.width
+  pub room : start_in short row + 8 ≤ bytes
+
+-- the same in blocks of a power of two
+pub record IsBlockWide (short : ShortRule) (bytes row : ℕ) : Type 0 where
+  pub walk : walks_in_blocks short.walk ≡ true
+  pub word : IsWhole short.word short.field.signed short.field.width
+  pub room : start_in short row + 8 ≤ bytes
+
+-- a field of bits, which begins in the first of the eight bytes
+pub record IsFieldWide (short : ShortRule) (bytes row : ℕ) : Type 0 where
+  pub walk : walks_plain short.walk ≡ true
+  pub word : short.word ≡ stored.Field
+  pub narrow : short.field.width ≤ 57
+  pub room : start_in short row / 8 + 8 ≤ bytes
+
+-- whole bytes in reverse order
+pub record IsTurnedWide (short : ShortRule) (bytes row : ℕ) : Type 0 where
+  pub walk : walks_plain short.walk ≡ true
+  pub word : IsTurned short.word short.field.signed short.field.width
+  pub room : start_in short row + 8 ≤ bytes
+
+-- so many rows are read so, where the blob has so many bytes
+pub record IsWide (short : ShortRule) (bytes : ℕ) (wide : Wide) : Type 0 where
+  pub whole : (row : ℕ) → row < wide.whole → IsWholeWide short bytes row
+  pub blocks : (row : ℕ) → row < wide.blocks → IsBlockWide short bytes row
+  pub field : (row : ℕ) → row < wide.field → IsFieldWide short bytes row
+  pub turned : (row : ℕ) → row < wide.turned → IsTurnedWide short bytes row
