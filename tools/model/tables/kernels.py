@@ -22,6 +22,27 @@ ROWS = [case for lanes in LANES for case in (
          '1159 | 17 | 75 | 1 | 0 | 0'),
 )]
 
+# x is 4294967295 4294967294 .. 4294967277 over 19 rows; below 4294967290 lie the last 13
+FIELDS = 'record P { x:u32 } | view V : P [19] as bitsoa(32, row) | update V set x = 4294967295 - i0 | '
+
+
+# over 22 rows x is 1, and y 200, but for 1 and 100 in row 10, and 500 and 100 in row 13, which stands in a block for each number of lanes
+def faults(form):
+    return f'record P {{ x:u16, y:u8 }} | view V : P [22] as {form} | update V set x = 1, y = 200 | set V[10].y = 100 | set V[13].x = 500 | set V[13].y = 100 | '
+
+
+BLOCKS = [case for lanes in LANES for case in (
+    Case(f'kernel_numbers_of_fields_by_{lanes}', FIELDS + f'kernel V sum(x) lanes {lanes} | kernel V least(x) lanes {lanes} | kernel V count_where(x < 4294967290) lanes {lanes}',
+         '81604378434 | 4294967277 | 13'),
+    Case(f'kernel_axpy_up_to_a_fault_by_{lanes}', faults('aosoa(4, row)') + f'kernel V axpy(55, x, y) lanes {lanes} | print V', 'line 7: Range record 13 leaf y'),
+    Case(f'kernel_axpy_of_a_counted_view_up_to_a_fault_by_{lanes}', faults('count(heat(1, soa(multi, row)))') + f'kernel V axpy(55, x, y) lanes {lanes} | counts V',
+         'line 7: Range record 13 leaf y'),
+    Case(f'kernel_axpy_up_to_what_is_not_held_by_{lanes}', faults('bitaos(9, row)') + f'kernel V clamp(x, 0, 511) lanes {lanes} | kernel V axpy(1, y, x) lanes {lanes} | print V',
+         'line 8: Narrow record 13 leaf x'),
+    Case(f'kernel_clamp_of_each_row_by_{lanes}', faults('aosoa(4, row)') + f'kernel V clamp(y, 0, 255) lanes {lanes} | kernel V sum(y) lanes {lanes} | kernel V clamp(x, -1, 200) lanes {lanes} | '
+         f'kernel V sum(x) lanes {lanes} | kernel V clamp(y, 256, 300) lanes {lanes}', '4200 | 221 | line 11: Range record 0 leaf y'),
+)]
+
 SMALL = [('bool', 0, 1), ('u8', 0, 255), ('u16', 0, 65535), ('u32', 0, 4294967295), ('i8', -128, 127), ('i16', -32768, 32767), ('i32', -2147483648, 2147483647)]
 
 
@@ -158,4 +179,4 @@ REFUSED = [
     bad('least_of_no_row_of_two_dimensions', 'record P { a:u8 } | view V : P [3, 0] as soa(multi, row) | ', 'least(a)', 'Empty'),
 ]
 
-CASES = ROWS + EDGES + DOES + LAID + REFUSED
+CASES = ROWS + BLOCKS + EDGES + DOES + LAID + REFUSED
