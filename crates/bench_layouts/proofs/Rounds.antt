@@ -1,5 +1,5 @@
 -- A store more: what it leaves of a row, of a round and of rounds.
-use Rattle.std.proofs.Common.{◌≡◌, ℕ, zero, suc, ◌+◌, ◌%◌, ◌<◌, ℤ, pos, ◌-ℤ◌, ◌≤ℤ◌, [], ◌∷◌, length, refl, sym, ap, ◌∙◌, subst, ⊎_elim, add-one, arith}
+use Rattle.std.proofs.Common.{◌≡◌, ℕ, zero, suc, ◌+◌, ◌%◌, ◌<◌, ℤ, pos, ◌-ℤ◌, ◌≤ℤ◌, [], ◌∷◌, length, refl, sym, ap, ◌∙◌, subst, ⊎_elim, arith}
 use Rattle.std.proofs.lemmas.Bool.{cases_eq}
 use Rattle.std.proofs.lemmas.Int.{ints}
 use Rattle.places.specs.Image.{entry}
@@ -10,7 +10,6 @@ use Rattle.views.specs.Tables.{Table, answer_of, after_stores}
 use Rattle.views.specs.Tallies.{Write}
 use Rattle.bench_layouts.specs.Tables.{value, entry_after, row_sum, round_sum, sum_read}
 use Rattle.bench_layouts.specs.Rounds.{IsRewritten, AreSmall, HasEntries, HasValues, OthersStand, IsRefusedInRow}
-use Rattle.bench_layouts.proofs.Counted.{still_with}
 use Rattle.bench_layouts.proofs.TableSums.{same_sums}
 
 module _ (old mid new : Table) (row leaf : ℕ) (number : ℤ) (still : IsRewritten old mid) (row_in : row < length old.rows) (leaf_in : leaf < 4)
@@ -56,31 +55,11 @@ module _ (old mid new : Table) (row leaf : ℕ) (number : ℤ) (still : IsRewrit
   pub others_on : OthersStand row old mid → OthersStand row old new
   others_on others r l apart = stands r l (λ e. apart e.0) ∙ others r l apart
 
--- a rewriting after another
-pub rewritten_more : (old mid new : Table) → IsRewritten old mid → IsRewritten mid new → IsRewritten old new
-rewritten_more old mid new one two = record {
-  same = still_with old mid new mid.rows new.rows one.same two.same;
-  rows = two.rows ∙ one.rows;
-  measured = two.measured;
-}
-
 -- it changes no answer to a store
 pub refused_before : (old mid : Table) (round row : ℕ) (refusal : StoreFault) → IsRewritten old mid →
     IsRefusedInRow (answer_of mid) round row refusal → IsRefusedInRow (answer_of old) round row refusal
 refused_before old mid round row refusal still (leaf, below, refused) =
     (leaf, below, ap (λ (view : Table). answer_of view leaf (value round row leaf)) (sym still.same) ∙ refused)
-
--- a row more is written
-pub entries_on : (mid new : Table) (round row : ℕ) → HasEntries row (value round) mid → HasValues 4 round row new → OthersStand row mid new →
-    HasEntries (row + 1) (value round) new
-entries_on mid new round row entries values others r l r_below l_below =
-    ⊎_elim (λ (same : r ≡ row). ap (λ (w : ℕ). entry new.rows w l) same ∙ values l l_below ∙ ap (λ (w : ℕ). value round w l) (sym same))
-    (λ (apart : r ≡ row → ⊥). others r l apart ∙ entries r l (omega (arith, apart)) l_below)
-    (cases_eq r row)
-
--- a round more is written
-pub round_on : (new : Table) (rows round : ℕ) → HasEntries rows (value round) new → HasEntries rows (entry_after (round + 1)) new
-round_on new rows round entries r l r_below l_below = entries r l r_below l_below ∙ ap (λ (rounds : ℕ). entry_after rounds r l) (sym (add-one round))
 
 -- what is read of a table with these entries
 pub same_read : (view : Table) (entries : ℕ → ℕ → ℤ) (rows gets : ℕ) → HasEntries rows entries view →

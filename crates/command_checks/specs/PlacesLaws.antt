@@ -2,7 +2,7 @@
 use Rattle.std.proofs.Common.{◌≡◌, ℕ, zero, suc, ◌+◌, ◌<◌, true, false, List, [], ◌∷◌, ◌++◌, length, map, take, drop, Some, None, refl, ap, subst, arith, ⊎_elim}
 use Rattle.std.specs.List.{position_from}
 use Rattle.std.proofs.lemmas.Bool.{cases_Bool}
-use Rattle.worlds.specs.Worlds.{Entry, same_name, found, added}
+use Rattle.worlds.specs.Worlds.{Entry, same_name, found}
 use Rattle.std.specs.Prelude.{is_some}
 use Rattle.worlds.specs.Outcomes.{Goes, Faults, known, free, some_or, refused_if}
 use Rattle.worlds.specs.declared.fault.CommandFault.TheVariants.{Unknown, Taken}
@@ -84,8 +84,3 @@ pub taken_name : {E A : Type 0} (entry_of : E → Entry A) (name : List ℕ) (en
 taken_name entry_of name [] place some = absurd (cc)
 taken_name entry_of name (d ∷ rest) place some =
     let entries = d ∷ rest in ap (λ o. refused_if (is_some o) (Taken name)) ((placed_at entry_of name entries place some).is d)
-
--- one entry more, behind the others
-pub map_added : {E A : Type 0} (entry_of : E → Entry A) (entries : List E) (e : E) → map entry_of (entries ++ e ∷ []) ≡ added (entry_of e).name (entry_of e).held (map entry_of entries)
-map_added entry_of [] e = refl
-map_added entry_of (entry ∷ entries) e = ap (λ xs. entry_of entry ∷ xs) (map_added entry_of entries e)

@@ -16,4 +16,4 @@ pub use count::count_rows;
 pub use fault::RowFault;
 pub use laws::printed_loads;
 pub use load::load_rows;
-pub use print::print_rows;
+pub use print::{print_rows, put_names, put_row};

@@ -25,10 +25,6 @@ finds {A} {B} R name xs ys (more other a b us vs r rest) = of_test (same_name ot
   of_test true later = some a b r
   of_test false later = later
 
-pub is_some_found : {A B : Type 0} (R : A → B → Type 0) (x : Option A) (y : Option B) → Finds R x y → is_some x ≡ is_some y
-is_some_found R x y (some a b r) = refl
-is_some_found R x y nothing = refl
-
 -- what is found, and that it is what was looked for
 pub record At {A : Type 0} (R : A → A → Type 0) (x y : Option A) (a b : A) : Type 0 where
   pub alike : R a b

@@ -46,17 +46,9 @@ entry_within bytes at small = omega (arith, length-enumerate_from 0 (bytes_of (b
 pub entries_over : (bytes : List ℕ) (at : ℕ) → length bytes ≤ at → length (enumerate_from 0 (bytes_of (bits_of bytes))) ≤ at
 entries_over bytes at over = omega (arith, length-enumerate_from 0 (bytes_of (bits_of bytes)), bytes_long bytes)
 
--- whether there is a last line
-no_line : (bytes : List ℕ) → length bytes ≡ 0 → line_end bytes ≡ []
-no_line [] none = refl
-no_line (byte ∷ bytes) none = absurd (omega (arith, none))
-
 one_line : (bytes : List ℕ) → 0 < length bytes → line_end bytes ≡ 10 ∷ []
 one_line [] some = absurd (omega (arith, some))
 one_line (byte ∷ bytes) some = refl
-
-pub no_end : (bytes : List ℕ) → length bytes ≡ 0 → line_end (bytes_of (bits_of bytes)) ≡ []
-no_end bytes none = no_line (bytes_of (bits_of bytes)) (bytes_long bytes ∙ none)
 
 pub one_end : (bytes : List ℕ) → (length bytes ≡ 0 → ⊥) → line_end (bytes_of (bits_of bytes)) ≡ 10 ∷ []
 one_end bytes some = one_line (bytes_of (bits_of bytes)) (omega (arith, bytes_long bytes, some))

@@ -1,14 +1,11 @@
 -- The numbers that are shown: a count that began with 0 is the number of the entries that touch its place, or 2^64 - 1 where there are more.
-use Rattle.std.specs.Prelude.{◌≡◌, ℕ, ◌+◌, ◌-◌, ◌^◌, ◌<◌, ◌≤◌, ◌==◌, min, Bool, true, false, List, [], ◌∷◌, length, map, replicate, get_or, slice_index, slice_index_or, if◌then◌else◌}
+use Rattle.std.specs.Prelude.{◌≡◌, ℕ, ◌+◌, ◌-◌, ◌^◌, ◌<◌, ◌≤◌, ◌==◌, min, Bool, true, false, List, [], ◌∷◌, length, replicate, get_or, slice_index, slice_index_or, if◌then◌else◌}
 use Rattle.std.specs.List.{fold, count_by}
-use Rattle.std.proofs.Common.{refl, ap, sym, ◌∙◌, arith, ⊎_elim, cond}
+use Rattle.std.proofs.Common.{ap, sym, ◌∙◌, arith, ⊎_elim, cond}
 use Rattle.std.proofs.lemmas.Bool.{cases_Bool, cases_eq, eq-eqb, ne_eqb}
 use Rattle.std.proofs.lemmas.List.{length-set, length-map, length-replicate, get_or-set_same, get_or-set_other, get_or-replicate, get_or-map}
 use Rattle.std.proofs.lemmas.List.Sums.{sum_by-cons}
-use Rattle.std.proofs.lemmas.List.Folds.{fold-map}
-use Rattle.places.specs.declared.piece.Piece.{Piece}
-use Rattle.places.specs.Touched.{is_touched}
-use Rattle.instrument.specs.Counters.{HeatCounts, next, counted, granules_of, no_heat, warmed, heated_by}
+use Rattle.instrument.specs.Counters.{next, counted, granules_of, no_heat, warmed}
 use Rattle.instrument.specs.WarmingLaws.{length-warmed, length-heated, get-warmed, get-warmed_blob}
 
 -- one entry before others
@@ -23,9 +20,6 @@ capped_none count bound = omega arith
 
 from_zero : (number : ℕ) → min (0 + number) (2 ^ 64 - 1) ≡ min number (2 ^ 64 - 1)
 from_zero number = omega arith
-
-next_bound : (count : ℕ) → next count ≤ 2 ^ 64 - 1
-next_bound count = omega arith
 
 -- an entry touches a place or does not
 counts_by : {X : Type 0} (touches : X → Bool) (entry : X) (entries : List X) (count new : ℕ) → new ≡ (if touches entry then next count else count)
@@ -60,11 +54,6 @@ counted_at counts touch place small =
 
 counted_long : (counts : List ℕ) (touch : ℕ) → length (counted counts touch) ≡ length counts
 counted_long counts touch = length-set counts touch (next (get_or counts touch 0))
-
--- as many counts as before
-pub length-counts : (touches counts : List ℕ) → length (fold counted counts touches) ≡ length counts
-length-counts [] counts = refl
-length-counts (touch ∷ touches) counts = length-counts touches (counted counts touch) ∙ counted_long counts touch
 
 -- any count is the one before and the number of the entries that touch its place, up to the end of its type
 pub count-after : (touches counts : List ℕ) (leaf : ℕ) → leaf < length counts → get_or counts leaf 0 ≤ 2 ^ 64 - 1
@@ -113,19 +102,3 @@ heat-from_zero granule bytes accesses blob at blob_in at_in =
     let many : length blobs ≡ length bytes = length-map bytes (λ len. replicate (granules_of granule len) 0) in
     heat-after accesses blobs blob at (omega (arith, many)) (omega (arith, long)) (omega (arith, zero_there))
     ∙ ap (λ n. min (n + count_by (λ hot. hot blob at) accesses) (2 ^ 64 - 1)) zero_there ∙ from_zero (count_by (λ hot. hot blob at) accesses)
-
--- accesses to pieces are such accesses
-heat-accesses : (entries : List (List Piece)) (heat : HeatCounts)
-    → (fold (λ heat pieces. heated_by pieces heat) heat entries).blobs ≡ fold (λ blobs pieces. warmed (is_touched heat.granule pieces) blobs) heat.blobs entries
-heat-accesses [] heat = refl
-heat-accesses (pieces ∷ entries) heat = heat-accesses entries (heated_by pieces heat)
-
--- so the number of a granule is that of the accesses to pieces of which one has a bit in it, or 2^64 - 1 where there are more
-pub heat-of_pieces : (granule : ℕ) (bytes : List ℕ) (entries : List (List Piece)) (blob at : ℕ) → blob < length bytes → at < granules_of granule (slice_index bytes blob)
-    → slice_index (slice_index_or (fold (λ heat pieces. heated_by pieces heat) (no_heat granule bytes) entries).blobs blob []) at
-    ≡ min (count_by (λ pieces. is_touched granule pieces blob at) entries) (2 ^ 64 - 1)
-heat-of_pieces granule bytes entries blob at blob_in at_in =
-    ap (λ blobs. slice_index (slice_index_or blobs blob []) at)
-    (heat-accesses entries (no_heat granule bytes) ∙ sym (fold-map (λ blobs hot. warmed hot blobs) (is_touched granule) (no_heat granule bytes).blobs entries))
-    ∙ heat-from_zero granule bytes (map (is_touched granule) entries) blob at blob_in at_in
-    ∙ ap (λ n. min n (2 ^ 64 - 1)) (fold-map (λ n hot. n + cond (hot blob at) 1 0) (is_touched granule) 0 entries)

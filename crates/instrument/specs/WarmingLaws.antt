@@ -1,14 +1,14 @@
 -- Laws of counts by granule: their number stays, and which of them have one more.
-use Rattle.std.specs.Prelude.{◌≡◌, ℕ, ◌+◌, ◌-◌, ◌*◌, ◌/◌, ◌^◌, ◌<◌, ◌≤◌, Bool, List, [], length, get_or, map, replicate, slice_index, if◌then◌else◌}
+use Rattle.std.specs.Prelude.{◌≡◌, ℕ, ◌+◌, ◌-◌, ◌*◌, ◌/◌, ◌<◌, ◌≤◌, Bool, List, [], length, get_or, map, if◌then◌else◌}
 use Rattle.std.specs.List.{enumerate_from}
 use Rattle.std.proofs.Common.{ap, subst, sym, ◌∙◌, arith}
-use Rattle.std.proofs.lemmas.List.{length-map, length-replicate, get_or-map}
+use Rattle.std.proofs.lemmas.List.{length-map, get_or-map}
 use Rattle.std.proofs.lemmas.List.FromFn.{get_or-enumerate_from, length-enumerate_from}
 use Rattle.std.proofs.lemmas.Nat.{div-add-mod', mod_below}
-use Rattle.std.proofs.Math.Nat.{mul_comm, mul_assoc}
+use Rattle.std.proofs.Math.Nat.{mul_comm}
 use Rattle.places.specs.declared.piece.Piece.{Piece}
 use Rattle.places.specs.Touched.{is_touched}
-use Rattle.instrument.specs.Counters.{HeatCounts, IsInside, next, granules_of, no_heat, warmed_blob, warmed, heated_by}
+use Rattle.instrument.specs.Counters.{HeatCounts, IsInside, next, granules_of, warmed_blob, warmed, heated_by}
 
 -- a function of each entry and its number
 length_numbered : {X Y : Type 0} (f : ℕ × X → Y) (xs : List X) → length (map f (enumerate_from 0 xs)) ≡ length xs
@@ -53,19 +53,3 @@ inside_kept heat pieces piece inside =
 pub bytes-in_granules : (granule bytes : ℕ) → 1 ≤ granule → bytes ≤ granule * granules_of granule bytes
 bytes-in_granules granule bytes some =
     omega (arith, div-add-mod' (bytes + (granule - 1)) granule, mod_below (bytes + (granule - 1)) granule (omega arith), mul_comm ((bytes + (granule - 1)) / granule) granule)
-
-pub inside_new : (granule : ℕ) (bytes : List ℕ) (piece : Piece) → 1 ≤ granule → piece.blob < length bytes → 0 < piece.bits → piece.bit + piece.bits ≤ 8 * slice_index bytes piece.blob
-    → piece.bit + piece.bits < 2 ^ 64 → IsInside (no_heat granule bytes) piece
-inside_new granule bytes piece granule_some blob_in some within bound =
-    let many = length-map bytes (λ (len : ℕ). replicate {A = ℕ} (granules_of granule len) 0) in
-    let long : length (get_or (no_heat granule bytes).blobs piece.blob []) ≡ granules_of granule (get_or bytes piece.blob 0) =
-    ap length (get_or-map (λ (len : ℕ). replicate {A = ℕ} (granules_of granule len) 0) bytes piece.blob 0 [] blob_in) ∙ length-replicate {A = ℕ} (granules_of granule (get_or bytes piece.blob 0)) 0 in
-    let covered = bytes-in_granules granule (get_or bytes piece.blob 0) granule_some in
-    let whole : piece.bit + piece.bits ≤ 8 * granule * granules_of granule (get_or bytes piece.blob 0) =
-    omega (arith, covered, mul_assoc 8 granule (granules_of granule (get_or bytes piece.blob 0))) in
-    record {
-      blob_in = omega (arith, many);
-      some = some;
-      within = subst (λ n. piece.bit + piece.bits ≤ 8 * granule * n) (sym long) whole;
-      bound = bound;
-    }

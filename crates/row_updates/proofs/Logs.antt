@@ -1,5 +1,5 @@
 -- Accesses one after another: of an expression, of the right sides of a row, and of its stores.
-use Rattle.std.proofs.Common.{◌≡◌, ℕ, zero, suc, ◌+◌, ◌<◌, List, [], ◌∷◌, ◌++◌, length, map, take, get_or, ℤ, Bool, true, false, Option, Result, Ok, Err, MutBor, refl, ap, sym, ◌∙◌, arith}
+use Rattle.std.proofs.Common.{◌≡◌, ℕ, zero, suc, ◌+◌, ◌<◌, List, [], ◌∷◌, ◌++◌, length, map, take, get_or, ℤ, Bool, true, false, Option, Some, None, Result, Ok, Err, MutBor, refl, ap, sym, ◌∙◌, arith}
 use Rattle.std.specs.List.{fold}
 use Rattle.std.proofs.lemmas.List.{append-nil, append_assoc, map-append, take_more}
 use Rattle.expr_lang.specs.Terms.{Term}
@@ -9,8 +9,9 @@ use Rattle.views.specs.Tallies.{Access, Read, Write}
 use Rattle.views.specs.TallyLaws.{after_log-append, after_reads, logs_more}
 use Rattle.views.specs.Tables.{Table, answer_of, after_log, after_read}
 use Rattle.row_updates.specs.declared.fault.UpdateFault.{UpdateFault}
-use Rattle.row_updates.specs.Rows.{Setting, each, passes, new_value}
-use Rattle.row_updates.specs.Logs.{value_log, filter_log, if_ok, if_passes, sides_log, stores_log, row_log, count_log}
+use Rattle.row_updates.specs.Rows.{Setting, each, passes, new_value, tried_row}
+use Rattle.row_updates.specs.Logs.{value_log, filter_log, if_ok, if_passes, sides_log, stores_log, tried_log, if_given, row_log, count_log}
+use Rattle.row_updates.specs.TriedLaws.{log_as_tried}
 use Rattle.row_updates.proofs.Each.{parted}
 
 -- reads through a row that is borrowed
@@ -67,30 +68,36 @@ pub log_more : (old view after : Table) (log : List Access) (more : Answer → L
 log_more old view after log more so_far last =
     last ∙ ap (λ (s : Table). after_log s (more (answer_of s) s.rows)) so_far ∙ after_log-append old log (more (answer_of old) old.rows)
 
--- the accesses of a row by what its filter gives: it is left out, or has a fault, or its right sides have one, or it is updated
+-- the accesses of a row that is tried: its filter leaves it out, or has a fault, or lets its right sides be read
 abbrev tested_log : Answer → Option (Term ℕ) → List Setting → ℕ → List ℤ → List ℕ → Result Bool UpdateFault → List Access
-tested_log answer filter sets number row index test =
-    filter_log number row index filter ++ if_passes test (sides_log answer number row index sets ++ if_ok (each (new_value answer number row index) sets) (stores_log number sets))
+tested_log answer filter sets number row index test = filter_log number row index filter ++ if_passes test (sides_log answer number row index sets)
 
-pub row_log_left : (answer : Answer) (filter : Option (Term ℕ)) (sets : List Setting) (number : ℕ) (row : List ℤ) (index : List ℕ) → Ok false ≡ passes number row index filter → row_log answer filter sets number row index ≡ filter_log number row index filter
-row_log_left answer filter sets number row index test = ap (tested_log answer filter sets number row index) (sym test) ∙ append-nil (filter_log number row index filter)
+pub tried_log_left : (answer : Answer) (filter : Option (Term ℕ)) (sets : List Setting) (number : ℕ) (row : List ℤ) (index : List ℕ) → Ok false ≡ passes number row index filter → tried_log answer filter sets number row index ≡ filter_log number row index filter
+tried_log_left answer filter sets number row index test = ap (tested_log answer filter sets number row index) (sym test) ∙ append-nil (filter_log number row index filter)
 
-pub row_log_fault : (answer : Answer) (filter : Option (Term ℕ)) (sets : List Setting) (number : ℕ) (row : List ℤ) (index : List ℕ) (fault : UpdateFault) → Err fault ≡ passes number row index filter → row_log answer filter sets number row index ≡ filter_log number row index filter
-row_log_fault answer filter sets number row index fault test = ap (tested_log answer filter sets number row index) (sym test) ∙ append-nil (filter_log number row index filter)
+pub tried_log_fault : (answer : Answer) (filter : Option (Term ℕ)) (sets : List Setting) (number : ℕ) (row : List ℤ) (index : List ℕ) (fault : UpdateFault) → Err fault ≡ passes number row index filter → tried_log answer filter sets number row index ≡ filter_log number row index filter
+tried_log_fault answer filter sets number row index fault test = ap (tested_log answer filter sets number row index) (sym test) ∙ append-nil (filter_log number row index filter)
 
-pub row_log_stop : (answer : Answer) (filter : Option (Term ℕ)) (sets : List Setting) (number : ℕ) (row : List ℤ) (index : List ℕ) (fault : UpdateFault) → Ok true ≡ passes number row index filter → each (new_value answer number row index) sets ≡ Err fault → row_log answer filter sets number row index ≡ filter_log number row index filter ++ sides_log answer number row index sets
-row_log_stop answer filter sets number row index fault test stop =
-    let sides = sides_log answer number row index sets in
-    ap (tested_log answer filter sets number row index) (sym test)
-    ∙ ap (λ (r : Result (List ℤ) UpdateFault). filter_log number row index filter ++ (sides ++ if_ok r (stores_log number sets))) stop
-    ∙ ap (λ (log : List Access). filter_log number row index filter ++ log) (append-nil sides)
+pub tried_log_done : (answer : Answer) (filter : Option (Term ℕ)) (sets : List Setting) (number : ℕ) (row : List ℤ) (index : List ℕ) → Ok true ≡ passes number row index filter → tried_log answer filter sets number row index ≡ filter_log number row index filter ++ sides_log answer number row index sets
+tried_log_done answer filter sets number row index test = ap (tested_log answer filter sets number row index) (sym test)
 
-pub row_log_done : (answer : Answer) (filter : Option (Term ℕ)) (sets : List Setting) (number : ℕ) (row : List ℤ) (index : List ℕ) (values : List ℤ) → Ok true ≡ passes number row index filter → each (new_value answer number row index) sets ≡ Ok values → row_log answer filter sets number row index ≡ filter_log number row index filter ++ sides_log answer number row index sets ++ stores_log number sets
-row_log_done answer filter sets number row index values test done =
-    let sides = sides_log answer number row index sets in
-    ap (tested_log answer filter sets number row index) (sym test)
-    ∙ ap (λ (r : Result (List ℤ) UpdateFault). filter_log number row index filter ++ (sides ++ if_ok r (stores_log number sets))) done
-    ∙ sym (append_assoc (filter_log number row index filter) sides (stores_log number sets))
+-- those of a row that is given nothing, of one with a fault, and of one that is updated
+pub row_log_left : (answer : Answer) (filter : Option (Term ℕ)) (sets : List Setting) (number : ℕ) (row : List ℤ) (index : List ℕ) → tried_row answer filter sets number row index ≡ Ok None → row_log answer filter sets number row index ≡ tried_log answer filter sets number row index
+row_log_left answer filter sets number row index tried =
+    log_as_tried answer filter sets number row index
+    ∙ ap (λ (given : Result (Option (List ℤ)) UpdateFault). tried_log answer filter sets number row index ++ if_given given (stores_log number sets)) tried
+    ∙ append-nil (tried_log answer filter sets number row index)
+
+pub row_log_stop : (answer : Answer) (filter : Option (Term ℕ)) (sets : List Setting) (number : ℕ) (row : List ℤ) (index : List ℕ) (fault : UpdateFault) → tried_row answer filter sets number row index ≡ Err fault → row_log answer filter sets number row index ≡ tried_log answer filter sets number row index
+row_log_stop answer filter sets number row index fault tried =
+    log_as_tried answer filter sets number row index
+    ∙ ap (λ (given : Result (Option (List ℤ)) UpdateFault). tried_log answer filter sets number row index ++ if_given given (stores_log number sets)) tried
+    ∙ append-nil (tried_log answer filter sets number row index)
+
+pub row_log_done : (answer : Answer) (filter : Option (Term ℕ)) (sets : List Setting) (number : ℕ) (row : List ℤ) (index : List ℕ) (values : List ℤ) → tried_row answer filter sets number row index ≡ Ok (Some values) → row_log answer filter sets number row index ≡ tried_log answer filter sets number row index ++ stores_log number sets
+row_log_done answer filter sets number row index values tried =
+    log_as_tried answer filter sets number row index
+    ∙ ap (λ (given : Result (Option (List ℤ)) UpdateFault). tried_log answer filter sets number row index ++ if_given given (stores_log number sets)) tried
 
 -- the reads of one row more that is counted
 pub count_push : (old view after : Table) (filter : Term ℕ) (row : ℕ) → view ≡ after_log old (count_log filter old.extents old.rows row) → after ≡ after_log view (value_log row (get_or view.rows row []) (index_at old.extents row) filter) → after ≡ after_log old (count_log filter old.extents old.rows (row + 1))

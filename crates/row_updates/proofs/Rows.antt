@@ -1,5 +1,5 @@
 -- Updates of rows, step by step.
-use Rattle.std.proofs.Common.{◌≡◌, ℕ, suc, ◌+◌, ◌<◌, ◌≤◌, List, [], ◌∷◌, ◌++◌, length, map, get_or, take, drop, set, ℤ, pos, Bool, true, false, Option, Some, Result, Ok, Err, is_ok, refl, sym, ap, ◌∙◌, arith, count_by, cond}
+use Rattle.std.proofs.Common.{◌≡◌, ℕ, suc, ◌+◌, ◌<◌, ◌≤◌, List, [], ◌∷◌, ◌++◌, length, map, get_or, take, drop, set, ℤ, pos, Bool, true, false, Option, Some, None, Result, Ok, Err, is_ok, refl, sym, ap, ◌∙◌, arith, count_by, cond}
 use Rattle.std.specs.List.{range_with_len, slice_get}
 use Rattle.std.specs.Prelude.{slice_set}
 use Rattle.std.proofs.lemmas.List.{take_more, take_more_set, drop-set-lt, drop_more, get_or-drop, get_or-set_same, set-set, get_or-map, length-set, length-map, get_or-take}
@@ -16,7 +16,8 @@ use Rattle.views.specs.declared.fault.StoreFault.{StoreFault}
 use Rattle.row_updates.specs.declared.fault.UpdateFault.{UpdateFault}
 use Rattle.row_updates.specs.declared.update.Assign.{Assign}
 use Rattle.views.specs.Stores.{Answer, Keeping, told}
-use Rattle.row_updates.specs.Rows.{Setting, setting_of, each, in_row, store_kind, value_of, passes, new_value, with_values, updated_row, updated_rows, counted, ◌>>=◌}
+use Rattle.row_updates.specs.Rows.{Setting, setting_of, each, in_row, store_kind, value_of, passes, new_value, with_values, tried_row, updated_row, updated_rows, counted, ◌>>=◌}
+use Rattle.row_updates.specs.TriedLaws.{updated_as_tried}
 use Rattle.row_updates.specs.Logs.{value_log, sides_log, stores_log, row_log, update_log}
 use Rattle.views.specs.TallyLaws.{after_stores-append}
 use Rattle.row_updates.proofs.Logs.{sides_push, sides_stop, stores_push}
@@ -119,15 +120,25 @@ taken_at answer number row index sets values place other long small all =
 pub index_is : (extents e : List ℕ) (row : ℕ) (items slice : List ℕ) → e ≡ extents → slice_get (indices e) row ≡ Some items → slice ≡ items → slice ≡ index_at extents row
 index_is extents e row items slice same entry is = is ∙ sym (get_or_from_slice_get (indices e) row items [] entry) ∙ ap (λ (x : List ℕ). index_at x row) same
 
--- a row that does not pass the filter, one with a fault, and one that is updated
-pub row_left : (answer : Answer) (keep : Keeping) (filter : Option (Term ℕ)) (sets : List Setting) (number : ℕ) (row : List ℤ) (index : List ℕ) → Ok false ≡ passes number row index filter → updated_row answer keep filter sets number row index ≡ Ok row
-row_left answer keep filter sets number row index test = rw (← test) refl
+-- a row that is given nothing, one with a fault, and one that is updated
+pub row_left : (answer : Answer) (keep : Keeping) (filter : Option (Term ℕ)) (sets : List Setting) (number : ℕ) (row : List ℤ) (index : List ℕ) → tried_row answer filter sets number row index ≡ Ok None → updated_row answer keep filter sets number row index ≡ Ok row
+row_left answer keep filter sets number row index tried = updated_as_tried answer filter sets number row index keep ∙ rw tried refl
 
-pub row_stop : (answer : Answer) (keep : Keeping) (filter : Option (Term ℕ)) (sets : List Setting) (number : ℕ) (row : List ℤ) (index : List ℕ) (fault : UpdateFault) → Ok true ≡ passes number row index filter → each (new_value answer number row index) sets ≡ Err fault → updated_row answer keep filter sets number row index ≡ Err fault
-row_stop answer keep filter sets number row index fault test stop = rw (← test, stop) refl
+pub row_stop : (answer : Answer) (keep : Keeping) (filter : Option (Term ℕ)) (sets : List Setting) (number : ℕ) (row : List ℤ) (index : List ℕ) (fault : UpdateFault) → tried_row answer filter sets number row index ≡ Err fault → updated_row answer keep filter sets number row index ≡ Err fault
+row_stop answer keep filter sets number row index fault tried = updated_as_tried answer filter sets number row index keep ∙ rw tried refl
 
-pub row_done : (answer : Answer) (keep : Keeping) (filter : Option (Term ℕ)) (sets : List Setting) (number : ℕ) (row : List ℤ) (index : List ℕ) (values : List ℤ) → Ok true ≡ passes number row index filter → each (new_value answer number row index) sets ≡ Ok values → updated_row answer keep filter sets number row index ≡ Ok (with_values keep sets values row)
-row_done answer keep filter sets number row index values test done = rw (← test, done) refl
+pub row_done : (answer : Answer) (keep : Keeping) (filter : Option (Term ℕ)) (sets : List Setting) (number : ℕ) (row : List ℤ) (index : List ℕ) (values : List ℤ) → tried_row answer filter sets number row index ≡ Ok (Some values) → updated_row answer keep filter sets number row index ≡ Ok (with_values keep sets values row)
+row_done answer keep filter sets number row index values tried = updated_as_tried answer filter sets number row index keep ∙ rw tried refl
+
+-- what a row is given: nothing, a fault of its filter or of its right sides, or their values
+pub tried_left : (answer : Answer) (filter : Option (Term ℕ)) (sets : List Setting) (number : ℕ) (row : List ℤ) (index : List ℕ) → Ok false ≡ passes number row index filter → tried_row answer filter sets number row index ≡ Ok None
+tried_left answer filter sets number row index test = rw (← test) refl
+
+pub tried_stop : (answer : Answer) (filter : Option (Term ℕ)) (sets : List Setting) (number : ℕ) (row : List ℤ) (index : List ℕ) (fault : UpdateFault) → Ok true ≡ passes number row index filter → each (new_value answer number row index) sets ≡ Err fault → tried_row answer filter sets number row index ≡ Err fault
+tried_stop answer filter sets number row index fault test stop = rw (← test, stop) refl
+
+pub tried_done : (answer : Answer) (filter : Option (Term ℕ)) (sets : List Setting) (number : ℕ) (row : List ℤ) (index : List ℕ) (values : List ℤ) → Ok true ≡ passes number row index filter → each (new_value answer number row index) sets ≡ Ok values → tried_row answer filter sets number row index ≡ Ok (Some values)
+tried_done answer filter sets number row index values test done = rw (← test, done) refl
 
 -- rows from a place on that are the same
 same_at : {A : Type 0} (xs ys : List A) (n : ℕ) (d : A) → drop n xs ≡ drop n ys → get_or xs n d ≡ get_or ys n d

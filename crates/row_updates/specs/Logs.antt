@@ -39,6 +39,15 @@ sides_log answer number row index (set ∷ sets) =
 abbrev pub stores_log : ℕ → List Setting → List Access
 stores_log number sets = map (λ set. Write number set.leaf) sets
 
+-- those of a row that is tried: its filter, then its right sides
+abbrev pub tried_log : Answer → Option (Term ℕ) → List Setting → ℕ → List ℤ → List ℕ → List Access
+tried_log answer filter sets number row index = filter_log number row index filter ++ if_passes (passes number row index filter) (sides_log answer number row index sets)
+
+-- the stores of a row that is given something
+abbrev pub if_given : Result (Option (List ℤ)) UpdateFault → List Access → List Access
+if_given (Ok (Some values)) log = log
+if_given _ log = []
+
 -- those of a row: its filter, then its right sides, and then its stores
 abbrev pub row_log : Answer → Option (Term ℕ) → List Setting → ℕ → List ℤ → List ℕ → List Access
 row_log answer filter sets number row index =

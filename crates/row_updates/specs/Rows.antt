@@ -75,10 +75,23 @@ new_value answer number row index set = do
   kept ← in_row number (store_kind set.leaf) (answer set.leaf value)
   Ok value
 
+-- what a row is given by an update before anything is stored: nothing where it does not pass the filter, and else the values of the right sides
+abbrev pub tried_row : Answer → Option (Term ℕ) → List Setting → ℕ → List ℤ → List ℕ → Result (Option (List ℤ)) UpdateFault
+tried_row answer filter sets number row index = do
+  test ← passes number row index filter
+  if test then (do
+    values ← each (new_value answer number row index) sets
+    Ok (Some values)) else Ok None
+
 -- a row with the numbers in the leaves that are set that are kept of these values
 abbrev pub with_values : Keeping → List Setting → List ℤ → List ℤ → List ℤ
 with_values keep (set ∷ sets) (value ∷ values) row = with_values keep sets values (slice_set row set.leaf (keep set.leaf value))
 with_values keep _ _ row = row
+
+-- a row with what it is given
+abbrev pub given_row : Keeping → List Setting → Option (List ℤ) → List ℤ → List ℤ
+given_row keep sets None row = row
+given_row keep sets (Some values) row = with_values keep sets values row
 
 -- a row after the update: its right sides are evaluated and tested on the row as it stands, and only then stored
 abbrev pub updated_row : Answer → Keeping → Option (Term ℕ) → List Setting → ℕ → List ℤ → List ℕ → Result (List ℤ) UpdateFault

@@ -8,5 +8,5 @@ mod value;
 
 pub use count::count_where;
 pub use fault::{UpdateFault, UpdateKind};
-pub use update::{Assign, update_rows};
+pub use update::{Assign, try_row, update_rows};
 pub use value::value_on;

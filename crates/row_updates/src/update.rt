@@ -1,10 +1,10 @@
 // New values of leaves, row by row.
-ghost use Rattle.std.specs.Prelude.{◌≡◌, ◌<◌, ◌≤◌, ◌+◌, ℕ, ℤ, pos, true, is_ok, Ok, OnOk, OnErr, IfErr, IfSome, All, [], List, length, map, take, drop, slice_index_or, slice_set};
+ghost use Rattle.std.specs.Prelude.{◌≡◌, ◌<◌, ◌≤◌, ◌+◌, ℕ, ℤ, pos, true, is_ok, Ok, OnOk, OnErr, IfOk, IfErr, IfSome, Some, None, if◌then◌else◌, All, [], List, length, map, take, drop, slice_index_or, slice_set};
 ghost use Rattle.expr_lang.specs.Bounds.{bound_term};
 ghost use Rattle.views.specs.Tables.{answer_of, kept_of, after_log, after_stores};
 ghost use Rattle.linearize.specs.Slots.{index_at};
-ghost use Rattle.row_updates.specs.Rows.{IsOver, IsSetOf, Setting, setting_of, filter_term, each, store_kind, new_value, with_values, updated_row, updated_of};
-ghost use Rattle.row_updates.specs.Logs.{value_log, sides_log, stores_log, row_log, update_log};
+ghost use Rattle.row_updates.specs.Rows.{IsOver, IsSetOf, Setting, setting_of, filter_term, each, store_kind, new_value, with_values, tried_row, updated_row, updated_of};
+ghost use Rattle.row_updates.specs.Logs.{value_log, sides_log, stores_log, tried_log, row_log, update_log};
 
 use crate::fault::{UpdateFault, UpdateKind};
 use crate::value::{passes, value_of};
@@ -72,13 +72,41 @@ fn update_row<L: Ledger>(
     ensures kept { OnErr result (view.new ≡ after_log view.old (row_log (answer_of view.old) (filter_term filter.entry)
         (map setting_of sets.now) row (slice_index_or view.old.rows row []) (index_at view.old.extents row))) }
 {
-    let index = view.extents().index_of(row);
-    if !passes(view, row, index.as_slice(), filter, steps)? {
+    if !try_row(view, row, filter, sets, values, steps)? {
         return Ok(());
     }
-    new_values(view, row, index.as_slice(), sets, values, steps)?;
     store_values(view, row, sets, values, steps);
     Ok(())
+}
+
+/// Whether a row passes the filter, and if it does, what the right sides give on it, each tested for its leaf: those are the first of
+/// `values`. It stores nothing. What was read counts, also before a fault, and no memory is taken.
+pub fn try_row<L: Ledger>(
+    view: &mut View,
+    row: u64,
+    filter: Option<&Bound>,
+    sets: &[Assign],
+    values: &mut [i128; 64],
+    steps: &mut Steps<L>,
+) -> Result<bool, UpdateFault>
+    requires row_in { row < length view.old.rows }
+    requires filter { IfSome filter (λ bound. IsOver view.old bound.now) }
+    requires sets { All (IsSetOf view.old) sets.now }
+    requires few { length sets.now ≤ 64 }
+    ensures tried { IfOk result (λ passed. tried_row (answer_of view.old) (filter_term filter.entry) (map setting_of sets.now)
+        row (slice_index_or view.old.rows row []) (index_at view.old.extents row) ≡ Ok (if passed then Some (take (length sets.now) values.new) else None)) }
+    ensures refused { IfErr result (λ fault. tried_row (answer_of view.old) (filter_term filter.entry) (map setting_of sets.now)
+        row (slice_index_or view.old.rows row []) (index_at view.old.extents row) ≡ Err fault) }
+    ensures named { IfErr result (λ fault. fault.row ≡ row) }
+    ensures same { view.new ≡ after_log view.old (tried_log (answer_of view.old) (filter_term filter.entry)
+        (map setting_of sets.now) row (slice_index_or view.old.rows row []) (index_at view.old.extents row)) }
+{
+    let index = view.extents().index_of(row);
+    if !passes(view, row, index.as_slice(), filter, steps)? {
+        return Ok(false);
+    }
+    new_values(view, row, index.as_slice(), sets, values, steps)?;
+    Ok(true)
 }
 
 // The values of all right sides on the row as it stands, each tested for its leaf.

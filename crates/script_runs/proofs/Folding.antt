@@ -4,7 +4,7 @@ use Rattle.std.proofs.lemmas.Bool.Decides.{nat_tests}
 use Rattle.std.proofs.lemmas.List.{append-nil, take-append-le}
 use Rattle.std.specs.Prelude.{⊤, ◌⊎◌}
 use Rattle.layout_io.specs.Writing.{with_bytes, Wrote, Writes}
-use Rattle.layout_io.specs.WritingLaws.{Wrote-append, Stopped-second, with_bytes-append, Writes-last, take_past, Wrote-nil, Stopped-front}
+use Rattle.layout_io.specs.WritingLaws.{Wrote-append, Stopped-second, with_bytes-append, Writes-last, take_past, Stopped-front}
 use Rattle.worlds.specs.Worlds.{World}
 use Rattle.worlds.specs.Outcomes.{Outcome, Goes, Faults, CannotRead, Left}
 use Rattle.worlds.specs.FaultTexts.{fault_text, unread_text}
@@ -32,16 +32,6 @@ pub record SoFar {K : Type 0} (Stands : World → Type 0) (taken : K → Option 
   pub stands : Stands world
   pub wrote : Wrote taken faults old now written
   pub goes : GoesOn outcome run number world lines written
-
--- before the first line
-pub at_first : {K : Type 0} (Stands : World → Type 0) (taken : K → Option (List ℕ)) (faults : K → ℕ) (old : K) (outcome : World → List ℕ → Bool → Outcome Left) (world : World) (lines : List (List ℕ)) → Stands world → SoFar Stands taken faults old old outcome (run_from outcome 1 world lines) 1 lines
-at_first Stands taken faults old outcome world lines stands = record {
-  world = world;
-  written = [];
-  stands = stands;
-  wrote = Wrote-nil taken faults old;
-  goes = record { on = λ unread ahead. refl };
-}
 
 -- reading does not fail at a line before the one where it fails
 not_here : (number : ℕ) (unread : Option ℕ) → IsAhead (number + 1) unread → fails_at unread number ≡ false

@@ -1,9 +1,9 @@
 -- Reductions of a column.
-use Rattle.std.proofs.Common.{◌≡◌, ℕ, zero, suc, ◌+◌, ◌-◌, ◌<◌, ◌≤◌, ◌^◌, List, [], ◌∷◌, ◌++◌, length, take, get_or, ℤ, pos, neg_ℤ, ◌+ℤ◌, ◌≤ℤ◌, refl, sym, ap, ◌∙◌, arith, fold, map}
+use Rattle.std.proofs.Common.{◌≡◌, ℕ, zero, suc, ◌+◌, ◌-◌, ◌<◌, ◌≤◌, List, [], ◌∷◌, ◌++◌, length, take, get_or, ℤ, pos, ◌+ℤ◌, refl, sym, ap, ◌∙◌, arith, fold, map}
 use Rattle.std.specs.Int.{int_min, int_max}
 use Rattle.std.specs.List.{range_with_len}
 use Rattle.std.proofs.lemmas.List.FromFn.{map-range_with_len_more}
-use Rattle.std.proofs.lemmas.Int.{ints, int_min_is, int_max_is}
+use Rattle.std.proofs.lemmas.Int.{ints}
 use Rattle.std.proofs.lemmas.List.{get_or-map, length-map, take_more}
 use Rattle.places.specs.Image.{entry}
 use Rattle.places.specs.declared.piece.Hold.{Hold}
@@ -59,15 +59,6 @@ declared_small I64 value d = record { least = omega (arith, ints, d.0); greatest
 
 pub fits_small : (kind : LeafType) (hold : Hold) (value : ℤ) → Fits kind hold value → IsSmall 1 value
 fits_small kind hold value fits = declared_small kind value fits.declared
-
--- what is small stays so
-pub combined_small : (kind : ReduceKind) (rows : ℕ) (value next : ℤ) → IsSmall rows value → IsSmall 1 next → IsSmall (rows + 1) (combined kind value next)
-combined_small Sum rows value next a b = record { least = omega (arith, ints, a.least, b.least); greatest = omega (arith, ints, a.greatest, b.greatest) }
-combined_small Min rows value next a b = record { least = omega (arith, ints, a.least, b.least, int_min_is value next); greatest = omega (arith, ints, a.greatest, b.greatest, int_min_is value next) }
-combined_small Max rows value next a b = record { least = omega (arith, ints, a.least, b.least, int_max_is value next); greatest = omega (arith, ints, a.greatest, b.greatest, int_max_is value next) }
-
-pub sum_fits : (rows : ℕ) (value next : ℤ) → rows < 2 ^ 24 → IsSmall rows value → IsSmall 1 next → (neg_ℤ (pos (2 ^ 126)) ≤ℤ (value +ℤ next)) × ((value +ℤ next) ≤ℤ pos (2 ^ 126))
-sum_fits rows value next few a b = (omega (arith, ints, a.least, b.least), omega (arith, ints, a.greatest, b.greatest))
 
 -- the first value alone
 reduced_one : (kind : ReduceKind) (x : ℤ) → reduced kind (x ∷ []) ≡ Goes x

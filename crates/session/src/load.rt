@@ -29,7 +29,7 @@ use views::View;
 use worlds::CommandFault;
 
 /// The most bytes of a dataset.
-const DATASET_BYTES: usize = 1 << 28;
+const MAX_DATASET_BYTES: usize = 1 << 28;
 
 impl Session {
     ghost use Rattle.session.specs.Stands.{left_of, world_of};
@@ -85,7 +85,7 @@ fn loaded_view<H: Shelf, L: Ledger>(
     ensures unread { UnreadOnly (Some file.now) (loaded_table (world_in records.now mappings.now views.now) (new_of new.now) file.now) result }
 {
     let found = named(alloc, records, mappings, views, new)?;
-    match read_all(alloc, shelf, file.as_str(), DATASET_BYTES) {
+    match read_all(alloc, shelf, file.as_str(), MAX_DATASET_BYTES) {
         Ok(bytes) => filled_view(alloc, views, &found, new.words, bytes.as_slice(), steps),
         Err(end) => match end {
             ReadEnd::Failed => Err(StepFault::Source),
