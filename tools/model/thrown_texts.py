@@ -52,13 +52,13 @@ class Exprs:
 
     def prod(self):
         text = self.unary()
-        while self.goes_on(5):
+        while self.goes_on(4):
             operator = self.dice.choice('*/%')
-            text += f' {operator} ' + (self.unary() if operator == '*' or one_in(self.dice, 8) else str(self.dice.randint(1, 9)))
+            text += f' {operator} ' + (self.unary() if operator == '*' or one_in(self.dice, 8) else self.dice.choice(['', '-']) + str(self.dice.randint(1, 9)))
         return text
 
     def unary(self):
-        return f'-{self.unary()}' if self.goes_on(8) else self.atom()
+        return f'-{self.unary()}' if self.goes_on(4) else self.atom()
 
     def atom(self):
         if self.goes_on(3):
