@@ -1,6 +1,7 @@
 -- What a mapping keeps, as its calls use it.
-use Rattle.std.proofs.Common.{◌≡◌, ℕ, ◌*◌, ◌<◌, List, [], length, get_or, sym, ap, ◌∙◌, arith}
-use Rattle.std.proofs.lemmas.List.{get_or-map, length-map}
+use Rattle.std.proofs.Common.{◌≡◌, ℕ, ◌*◌, ◌<◌, ◌≤◌, List, [], length, get_or, ⊎_elim, sym, ap, ◌∙◌, arith}
+use Rattle.std.proofs.lemmas.Bool.{cases_lt}
+use Rattle.std.proofs.lemmas.List.{get_or-map, get_or_past, length-map}
 use Rattle.record_dim.specs.Trees.{Fields}
 use Rattle.record_dim.specs.Leaves.{kinds_of}
 use Rattle.places.specs.Layout.{Owner}
@@ -22,6 +23,20 @@ bytes_at layout lengths blob d sized inside =
     sym (get_or-map (λ (bytes : ℕ). 8 * bytes) lengths blob d 0 (omega arith))
     ∙ ap (λ (ns : List ℕ). get_or ns blob 0) sized
     ∙ get_or-map (length {A = Owner}) layout blob [] 0 inside
+
+-- the bytes of any blob, where those outside of the list have none
+pub bytes_of : (layout : List (List Owner)) (lengths : List ℕ) (blob bytes : ℕ) → HasLengths layout lengths → 8 * bytes ≡ length (get_or layout blob [])
+    → bytes ≡ get_or lengths blob 0
+bytes_of layout lengths blob bytes sized is =
+    let count : length lengths ≡ length layout = length-sized layout lengths sized in
+    ⊎_elim
+    (λ (inside : blob < length layout). omega (arith, bytes_at layout lengths blob 0 sized inside))
+    (λ (outside : length layout ≤ blob).
+    let none : get_or layout blob [] ≡ [] = get_or_past layout blob [] outside in
+    let empty : length (get_or layout blob []) ≡ 0 = ap (length {A = Owner}) none in
+    let zero : get_or lengths blob 0 ≡ 0 = get_or_past lengths blob 0 (omega (arith, count, outside)) in
+    omega (arith, empty, zero))
+    (cases_lt blob (length layout))
 
 -- each leaf has a hold
 pub hold_in : (term : Term) (fields : Fields) (holds : List Hold) (cell : ℕ) → holds ≡ holds_by term fields → cell < length (leaf_cells (kinds_of fields)) → cell < length holds

@@ -8,6 +8,7 @@ use Rattle.places.specs.declared.piece.Hold.{Hold}
 use Rattle.map_plans.specs.Ruled.{EachWith, IsRuleOf, IsSameRule}
 use Rattle.short_rules.specs.Shorts.{IsShortOf}
 use Rattle.short_rules.specs.Walks.{leads}
+use Rattle.short_rules.specs.Wides.{IsWide}
 use Rattle.map_any.specs.declared.leaf_rule.LeafRule.{LeafRule}
 use Rattle.map_plans.specs.declared.rule.Rule.{Rule}
 
@@ -24,6 +25,10 @@ pub record IsLeafRule (kind : LeafType) (extents : List ℕ) (hold : Hold) (leaf
   pub short : leads leaf.short.walk ≡ true → IsShortOf leaf.rule.order extents leaf.rule.pieces.items hold leaf.short
   pub sign : leads leaf.short.walk ≡ true → hold.signed ≡ is_signed kind
   pub taken : (value : ℤ) → leaf.least ≤ℤ value → value ≤ℤ leaf.greatest → IsDeclared kind value × IsIn hold.signed hold.width value
+
+-- so many of its rows are read by one load of eight bytes, where blobs have so many bytes; outside of the list a blob has none
+abbrev pub IsWideIn : List ℕ → LeafRule → Type 0
+IsWideIn lengths leaf = IsWide leaf.short (slice_index_or lengths leaf.short.blob 0) leaf.wide
 
 -- those of leaves of these types, which are stored so and lie there
 pub record AreLeafRules (kinds : List LeafType) (extents : List ℕ) (holds : List Hold) (rules : List Rule) (leaves : List LeafRule) : Type 0 where

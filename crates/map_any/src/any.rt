@@ -4,7 +4,7 @@ ghost use Rattle.record_dim.specs.Schemas.{schema_fields};
 ghost use Rattle.map_expr.specs.Terms.{term_of};
 ghost use Rattle.map_expr.specs.Checks.{bad_number};
 ghost use Rattle.map_any.specs.Counters.{is_counted};
-ghost use Rattle.map_any.specs.LeafRules.{AreRuled};
+ghost use Rattle.map_any.specs.LeafRules.{AreRuled, IsWideIn};
 ghost use Rattle.map_checks.specs.Mappings.{layout_by, holds_by, leaf_cells, not_full, IsBuiltTerm};
 ghost use Rattle.map_checks.specs.Orders.{IsBuiltTerm-prop};
 ghost use Rattle.map_plans.specs.Ruled.{EachWith, HasLengths};
@@ -35,5 +35,6 @@ pub struct AnyMap {
     ghost held: { holds ≡ holds_by (term_of expr) (schema_fields schema) },
     ghost sized: { HasLengths (layout_by (term_of expr) extents (schema_fields schema)) lengths },
     ghost ruled: { AreRuled (layout_by (term_of expr) extents (schema_fields schema)) extents (kinds_of (schema_fields schema)) holds rules },
+    ghost wide: { EachWith (λ k leaf. IsWideIn lengths leaf) rules },
     ghost uncounted: { is_counted (term_of expr) ≡ true → EachWith (λ k leaf. leads leaf.short.walk ≡ false) rules },
 }

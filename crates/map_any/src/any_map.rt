@@ -1,4 +1,4 @@
-ghost use Rattle.std.specs.Prelude.{ℕ, ◌≡◌, ◌<◌, ◌∷◌, List, [], true, false, IfOk, OnOk, IfErr, IfSome, Ok, length, map, slice_index};
+ghost use Rattle.std.specs.Prelude.{ℕ, ◌≡◌, ◌<◌, ◌*◌, ◌∷◌, List, [], true, false, IfOk, OnOk, IfErr, IfSome, Ok, length, map, slice_index, slice_index_or};
 ghost use Rattle.extents.specs.Indices.{indices};
 ghost use Rattle.record_dim.specs.LeafTypes.{is_signed, IsIn, IsDeclared};
 ghost use Rattle.record_dim.specs.Schemas.{schema_fields};
@@ -8,11 +8,12 @@ ghost use Rattle.map_expr.specs.Terms.{term_of};
 ghost use Rattle.map_checks.specs.Mappings.{leaf_cells, layout_by, holds_by, accepted, IsBuiltTerm, IsTooBigFor, IsRefusal};
 ghost use Rattle.map_any.specs.AnyLaws.{any_laws, holds_cells};
 ghost use Rattle.map_any.specs.Counters.{is_counted};
-ghost use Rattle.map_any.specs.LeafRules.{kind_in, hold_in, IsLeafRule};
+ghost use Rattle.map_any.specs.LeafRules.{kind_in, hold_in, IsLeafRule, IsWideIn};
 ghost use Rattle.map_any.specs.Maps.{extents_of, term_of_map};
 ghost use Rattle.map_plans.specs.Ruled.{IsRuleOf};
 ghost use Rattle.short_rules.specs.Shorts.{IsShortIn};
 ghost use Rattle.short_rules.specs.Walks.{leads};
+ghost use Rattle.short_rules.specs.Wides.{IsWide};
 
 use crate::any::AnyMap;
 use crate::leaf_rule::LeafRule;
@@ -65,6 +66,7 @@ impl AnyMap {
             extents,
             plan.holds.as_slice(),
             plan.rules.as_slice(),
+            plan.lengths.as_slice(),
             is_counted(expr),
         )?;
         let schema = schema.copy(alloc)?;
@@ -98,6 +100,8 @@ impl AnyMap {
             (hold_in (⟦<AnyMap as Mapping>⟧.hold_list self.now) leaf) result.now.rule.pieces.items result.now.short }
         ensures sign { leads result.now.short.walk ≡ true → (hold_in (⟦<AnyMap as Mapping>⟧.hold_list self.now) leaf).signed
             ≡ is_signed (kind_in (map (λ cell. cell.kind) (⟦<AnyMap as Mapping>⟧.cell_list self.now)) leaf) }
+        ensures wide { (bytes : ℕ) → 8 * bytes ≡ length (slice_index_or (⟦<AnyMap as Mapping>⟧.layout self.now) result.now.short.blob [])
+            → IsWide result.now.short bytes result.now.wide }
         ensures uncounted { leads result.now.short.walk ≡ true → is_counted (term_of_map self.now) ≡ false }
     {
         self.leaf_rule(leaf)
@@ -135,6 +139,7 @@ impl AnyMap {
         ensures places { IsRuleOf (⟦<AnyMap as Mapping>⟧.layout self.now) self.now.extents leaf
             (slice_index (map (λ h. h.width) self.now.holds) leaf) result.now.rule }
         ensures whole { IsLeafRule (kind_in (kinds_of (schema_fields self.now.schema)) leaf) self.now.extents (hold_in self.now.holds leaf) result.now }
+        ensures wide { IsWideIn self.now.lengths result.now }
         ensures uncounted { is_counted (term_of_map self.now) ≡ true → leads result.now.short.walk ≡ false }
     {
         &self.rules.as_slice()[leaf]

@@ -1,6 +1,6 @@
 use lists::Sequence;
 use map_plans::Rule;
-use short_rules::ShortRule;
+use short_rules::{ShortRule, Wide};
 
 /// Where a leaf lies in every row, with what is worked out once for all accesses to it.
 #[derive(Drop)]
@@ -8,6 +8,8 @@ pub struct LeafRule {
     pub rule: Rule,
     /// The short form of the rule, where it has one.
     pub short: ShortRule,
+    /// The rows whose value is one load of eight bytes.
+    pub wide: Wide,
     /// From this value to the greatest, a value is declared and is held. Where none is sure to be, the least is above the greatest.
     pub least: i128,
     pub greatest: i128,

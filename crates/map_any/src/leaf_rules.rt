@@ -1,8 +1,8 @@
-ghost use Rattle.std.specs.Prelude.{ℤ, ◌≡◌, ◌≤ℤ◌, true, false, IfOk, length};
+ghost use Rattle.std.specs.Prelude.{ℤ, ◌≡◌, ◌≤ℤ◌, true, false, IfOk, length, slice_index_or};
 ghost use Rattle.record_dim.specs.LeafTypes.{is_signed, IsIn, IsDeclared};
 ghost use Rattle.record_dim.specs.Schemas.{schema_fields};
 ghost use Rattle.record_dim.specs.Leaves.{kinds_of};
-ghost use Rattle.map_any.specs.LeafRules.{IsLeafRule, AreLeafRules};
+ghost use Rattle.map_any.specs.LeafRules.{IsLeafRule, AreLeafRules, IsWideIn};
 ghost use Rattle.map_plans.specs.Ruled.{EachWith, IsSameRule};
 ghost use Rattle.short_rules.specs.Shorts.{IsShortOf};
 ghost use Rattle.short_rules.specs.Walks.{leads};
@@ -16,33 +16,44 @@ use record_dim::{LeafType, Schema};
 use short_rules::ShortRule;
 use std::alloc::{AllocError as NoMemory, Global};
 
-/// What the accesses to each leaf of a schema over an array go by, given how each is stored and where. Where accesses are counted there is
-/// no short form.
+/// What the accesses to each leaf of a schema over an array go by, given how each is stored and where, and the bytes of each blob. Where
+/// accesses are counted there is no short form.
 pub fn leaf_rules(
     alloc: Global,
     schema: &Schema,
     extents: &Extents,
     holds: &[Hold],
     rules: &[Rule],
+    lengths: &[u64],
     counted: bool,
 ) -> Result<RuleList, NoMemory>
     requires holds { length holds.now ≡ length (kinds_of (schema_fields schema.now)) }
     requires rules { length rules.now ≡ length (kinds_of (schema_fields schema.now)) }
     ensures whole { IfOk result (AreLeafRules (kinds_of (schema_fields schema.now)) extents.now holds.now rules.now) }
+    ensures wide { IfOk result (EachWith (λ k leaf. IsWideIn lengths.now leaf)) }
     ensures uncounted { IfOk result (λ leaves. counted ≡ true → EachWith (λ k leaf. leads leaf.short.walk ≡ false) leaves) }
 {
     let mut leaves = RuleList::new(alloc);
     for leaf in 0..schema.leaf_count() {
         let hold = hold_at(holds, leaf);
-        leaves.push(leaf_rule(schema.leaf_type(leaf), extents, hold, &rules[leaf], counted))?;
+        let kind = schema.leaf_type(leaf);
+        leaves.push(leaf_rule(kind, extents, hold, &rules[leaf], lengths, counted))?;
     }
     Ok(leaves)
 }
 
 /// What the accesses to a leaf go by, given its type, how it is stored and where.
-fn leaf_rule(kind: LeafType, extents: &Extents, hold: Hold, rule: &Rule, counted: bool) -> LeafRule
+fn leaf_rule(
+    kind: LeafType,
+    extents: &Extents,
+    hold: Hold,
+    rule: &Rule,
+    lengths: &[u64],
+    counted: bool,
+) -> LeafRule
     ensures rule { IsSameRule rule.now result.rule }
     ensures whole { IsLeafRule kind extents.now hold result }
+    ensures wide { IsWideIn lengths.now result }
     ensures uncounted { counted ≡ true → leads result.short.walk ≡ false }
 {
     let short = if counted {
@@ -54,6 +65,7 @@ fn leaf_rule(kind: LeafType, extents: &Extents, hold: Hold, rule: &Rule, counted
     LeafRule {
         rule: rule.copy(),
         short,
+        wide: short.wide(bytes_of(lengths, short.blob)),
         least,
         greatest,
     }
@@ -68,6 +80,16 @@ fn short_rule(kind: LeafType, extents: &Extents, hold: Hold, rule: &Rule) -> Sho
         ShortRule::of(rule.order, extents, rule.pieces.as_slice(), hold)
     } else {
         ShortRule::none()
+    }
+}
+
+/// The bytes of a blob, and none where there is no such blob.
+fn bytes_of(lengths: &[u64], blob: usize) -> u64
+    ensures { result ≡ slice_index_or lengths.now blob 0 }
+{
+    match lengths.get(blob) {
+        Some(bytes) => *bytes,
+        None => 0,
     }
 }
 

@@ -12,4 +12,4 @@ pub use leaf_rule::{LeafRule, RuleList};
 pub use map_checks::{HoldList, MakeMap};
 pub use map_expr::{BadMapping, MapExpr};
 pub use map_plans::{LengthList, Rule};
-pub use short_rules::{Field, ShortRule, Walk, Word};
+pub use short_rules::{Field, ShortRule, Walk, Wide, Word};

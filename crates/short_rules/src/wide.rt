@@ -2,8 +2,7 @@
 ghost use Rattle.std.specs.Prelude.{ℕ, ◌≡◌, ◌+◌, ◌/◌, ◌<◌, ◌≤◌, true, IfSome};
 ghost use Rattle.piece_bits.specs.declared.word.Word.TheVariants.{Field as FieldWord};
 ghost use Rattle.short_rules.specs.Shorts.{place_by};
-ghost use Rattle.short_rules.specs.Stands.{IsWhole, IsTurned};
-ghost use Rattle.short_rules.specs.Wides.{IsWide};
+ghost use Rattle.short_rules.specs.Wides.{IsAsWhole, IsAsTurned, IsWide};
 
 use crate::short::ShortRule;
 use crate::walk::Walk;
@@ -59,7 +58,7 @@ impl ShortRule {
 
     /// Whether whole bytes stand there, as the field says.
     fn is_whole(&self) -> bool
-        ensures { result ≡ true → IsWhole self.now.word self.now.field.signed self.now.field.width }
+        ensures { result ≡ true → IsAsWhole self.now.word self.now.field }
     {
         let signed = self.field.signed;
         let width = self.field.width;
@@ -78,7 +77,7 @@ impl ShortRule {
 
     /// Whether they stand there in reverse order.
     fn is_turned(&self) -> bool
-        ensures { result ≡ true → IsTurned self.now.word self.now.field.signed self.now.field.width }
+        ensures { result ≡ true → IsAsTurned self.now.word self.now.field }
     {
         let signed = self.field.signed;
         let width = self.field.width;

@@ -9,7 +9,7 @@ use Rattle.record_dim.specs.declared.leaf_type.LeafType.TheVariants.{Bool as Tru
 use Rattle.places.specs.declared.piece.Hold.{Hold}
 use Rattle.map_any.specs.declared.leaf_rule.LeafRule.{LeafRule}
 use Rattle.map_plans.specs.declared.rule.Rule.{Rule}
-use Rattle.map_any.specs.LeafRules.{kind_in, hold_in, IsLeafRule}
+use Rattle.map_any.specs.LeafRules.{kind_in, hold_in, IsLeafRule, IsWideIn}
 use Rattle.map_plans.specs.Ruled.{IsSameRule}
 use Rattle.short_rules.specs.Walks.{leads}
 use Rattle.map_plans.specs.RuledLaws.{each_push}
@@ -35,19 +35,21 @@ loop-leaf-preserved c =
     let low : leaf < length rules = omega (arith, kind_count (schema_fields c.args.schema.now)) in
     let Same : ℕ → LeafRule → Type 0 = λ k l. IsSameRule (get_or rules k l.rule) l.rule in
     let Whole : ℕ → LeafRule → Type 0 = λ k l. IsLeafRule (kind_in kinds k) extents (hold_in holds k) l in
+    let Wide : ℕ → LeafRule → Type 0 = λ k l. IsWideIn c.args.lengths.now l in
     let Without : ℕ → LeafRule → Type 0 = λ k l. leads l.short.walk ≡ false in
     let read : from ≡ get_or rules leaf made.rule = c.index-rules-leaf.is ∙ get_or_default rules leaf from made.rule low in
     let same : Same leaf made = subst (λ (r : Rule). IsSameRule r made.rule) read c.leaf_rule.ensures.rule in
-    let kind : kind_in kinds leaf ≡ c.leaf_type.result = get_or_from_slice_get kinds leaf c.leaf_type.result Truth c.leaf_type.ensures in
+    let kind : kind_in kinds leaf ≡ c.leaf_type-kind.result = get_or_from_slice_get kinds leaf c.leaf_type-kind.result Truth c.leaf_type-kind.ensures in
     let hold : hold_in holds leaf ≡ c.hold_at-hold.result =
     get_or_from_slice_get holds leaf c.hold_at-hold.result (record { signed = false; width = 0 }) c.hold_at-hold.ensures in
     let whole : Whole leaf made =
     subst (λ (k : LeafType). IsLeafRule k extents (hold_in holds leaf) made) (sym kind)
-    (subst (λ (h : Hold). IsLeafRule c.leaf_type.result extents h made) (sym hold) c.leaf_rule.ensures.whole) in
+    (subst (λ (h : Hold). IsLeafRule c.leaf_type-kind.result extents h made) (sym hold) c.leaf_rule.ensures.whole) in
     let pushed : c.push.new.self ≡ c.loop-leaf.leaves ++ made ∷ [] = c.in_ok-push.ensures.ok in
     record {
       each = ap (λ (ls : List LeafRule). length ls) pushed ∙ length-append c.loop-leaf.leaves (made ∷ []) ∙ ap (λ (n : ℕ). n + 1) so_far.each;
       same = each_push Same c.loop-leaf.leaves c.push.new.self made pushed so_far.same (subst (λ (n : ℕ). Same n made) (sym so_far.each) same);
       whole = each_push Whole c.loop-leaf.leaves c.push.new.self made pushed so_far.whole (subst (λ (n : ℕ). Whole n made) (sym so_far.each) whole);
+      wide = each_push Wide c.loop-leaf.leaves c.push.new.self made pushed so_far.wide c.leaf_rule.ensures.wide;
       uncounted = λ is. each_push Without c.loop-leaf.leaves c.push.new.self made pushed (so_far.uncounted is) (c.leaf_rule.ensures.uncounted is);
     }

@@ -2,7 +2,7 @@
 use Rattle.std.proofs.Common.{◌≡◌, true, false, length, get_or}
 use Rattle.record_dim.specs.Schemas.{schema_fields}
 use Rattle.record_dim.specs.Leaves.{kinds_of}
-use Rattle.map_any.specs.LeafRules.{kind_in, hold_in, IsLeafRule}
+use Rattle.map_any.specs.LeafRules.{kind_in, hold_in, IsLeafRule, IsWideIn}
 use Rattle.map_plans.specs.Ruled.{EachWith, IsSameRule}
 use Rattle.short_rules.specs.Walks.{leads}
 use Rattle.map_any.proofs.leaf_rules.leaf_rules.Given as goal
@@ -12,5 +12,6 @@ invariant-loop-leaf l = record {
   each : length l.leaves ≡ l.leaf;
   same : EachWith (λ k leaf. IsSameRule (get_or l.rules k leaf.rule) leaf.rule) l.leaves;
   whole : EachWith (λ k leaf. IsLeafRule (kind_in (kinds_of (schema_fields l.schema)) k) l.extents (hold_in l.holds k) leaf) l.leaves;
+  wide : EachWith (λ k leaf. IsWideIn l.lengths leaf) l.leaves;
   uncounted : l.counted ≡ true → EachWith (λ k leaf. leads leaf.short.walk ≡ false) l.leaves;
 }

@@ -1,10 +1,11 @@
-use Rattle.std.proofs.Common.{◌≡◌, ◌<◌, ◌∙◌, ℕ, List, length, get_or, refl, ap, arith}
+use Rattle.std.proofs.Common.{◌≡◌, ◌<◌, ◌∙◌, ℕ, List, length, get_or, refl, sym, ap, subst, arith}
 use Rattle.record_dim.specs.Schemas.{schema_fields}
 use Rattle.record_dim.specs.Leaves.{kinds_of}
 use Rattle.map_expr.specs.Terms.{term_of}
 use Rattle.map_any.specs.declared.any.AnyMap.{AnyMap}
 use Rattle.map_any.specs.declared.leaf_rule.LeafRule.{LeafRule}
 use Rattle.map_any.specs.AnyLaws.{length-leaf_cells}
+use Rattle.map_any.specs.LeafRules.{IsWideIn}
 use Rattle.map_checks.specs.Mappings.{leaf_cells, layout_by}
 use Rattle.short_rules.specs.Walks.{leads}
 use Rattle.map_any.proofs.LeafLaws.{leaf_placed, leaf_whole}
@@ -41,6 +42,13 @@ returns-clause-whole c =
     let read : item ≡ get_or m.rules c.args.leaf item = c.index-as_slice-leaf.is ∙ ap (λ (rs : List LeafRule). get_or rs c.args.leaf item) c.as_slice.ensures in
     leaf_whole (layout_by (term_of m.expr) m.extents (schema_fields m.schema)) m.extents (kinds_of (schema_fields m.schema)) m.holds m.rules c.args.leaf item m.ruled
     (in_kinds m c.args.leaf c.requires) read
+
+pub returns-clause-wide : goal.returns-clause-wide
+returns-clause-wide c =
+    let m = c.args.self.now in
+    let item : LeafRule = c.index-as_slice-leaf.result in
+    let read : item ≡ get_or m.rules c.args.leaf item = c.index-as_slice-leaf.is ∙ ap (λ (rs : List LeafRule). get_or rs c.args.leaf item) c.as_slice.ensures in
+    subst (λ (l : LeafRule). IsWideIn m.lengths l) (sym read) (m.wide c.args.leaf item (inside m m.rules c.args.leaf refl c.requires))
 
 pub returns-clause-uncounted : goal.returns-clause-uncounted
 returns-clause-uncounted c = λ counted.

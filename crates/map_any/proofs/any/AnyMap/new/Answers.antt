@@ -8,8 +8,8 @@ use Rattle.map_expr.specs.Terms.{Term, term_of}
 use Rattle.map_expr.specs.Checks.{checked, bad_number}
 use Rattle.map_checks.specs.Mappings.{leaf_cells, layout_by, not_full, IsBuiltTerm}
 use Rattle.map_any.specs.Counters.{is_counted}
-use Rattle.map_any.specs.LeafRules.{AreLeafRules}
-use Rattle.map_plans.specs.Ruled.{IsRuled}
+use Rattle.map_any.specs.LeafRules.{AreLeafRules, IsWideIn}
+use Rattle.map_plans.specs.Ruled.{EachWith, IsRuled}
 use Rattle.map_plans.specs.declared.rule.Rule.{Rule}
 use Rattle.map_plans.specs.Plans.{IsPlanOf}
 use Rattle.map_checks.specs.TermLaws.{good_numbers}
@@ -68,5 +68,6 @@ invariant_of-result c =
           (subst (λ (hs : List Hold). AreLeafRules (kinds_of (schema_fields c.args.schema.now)) extents hs plan.rules c.in_ok-rules.rules) c.as_slice.ensures
           (subst (λ (rs : List Rule). AreLeafRules (kinds_of (schema_fields c.args.schema.now)) extents c.as_slice.result.now rs c.in_ok-rules.rules) c.as_slice-2.ensures
           c.in_ok-rules.ensures.whole)));
+      wide = subst (λ (ls : List ℕ). EachWith (λ k leaf. IsWideIn ls leaf) c.in_ok-rules.rules) c.as_slice-3.ensures c.in_ok-rules.ensures.wide;
       uncounted = λ counted. c.in_ok-rules.ensures.uncounted (c.is_counted.ensures ∙ ap is_counted (sym same) ∙ counted);
     }

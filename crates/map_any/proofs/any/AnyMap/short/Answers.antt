@@ -1,6 +1,12 @@
+use Rattle.std.proofs.Common.{ℕ, sym, subst}
 use Rattle.record_dim.specs.Schemas.{schema_fields}
 use Rattle.record_dim.specs.Leaves.{kinds_of}
+use Rattle.map_expr.specs.Terms.{term_of}
 use Rattle.map_checks.specs.LeafCells.{leaf_cells_kinds}
+use Rattle.map_checks.specs.Mappings.{layout_by}
+use Rattle.short_rules.specs.Wides.{IsWide}
+use Rattle.map_any.specs.declared.leaf_rule.LeafRule.{LeafRule}
+use Rattle.map_any.proofs.AnyFacts.{bytes_of}
 use Rattle.map_any.proofs.LeafLaws.{leaf_short, short_uncounted}
 use Rattle.map_any.proofs.any.AnyMap.short.Goals as goal
 
@@ -12,3 +18,10 @@ returns-clause-sign c = λ some. rw (leaf_cells_kinds (kinds_of (schema_fields c
 
 pub returns-clause-uncounted : goal.returns-clause-uncounted
 returns-clause-uncounted c = short_uncounted _ _ c.leaf_rule.ensures.uncounted
+
+pub returns-clause-wide : goal.returns-clause-wide
+returns-clause-wide c = λ bytes is.
+    let m = c.args.self.now in
+    let leaf : LeafRule = c.leaf_rule.result.now in
+    subst (λ (n : ℕ). IsWide leaf.short n leaf.wide)
+    (sym (bytes_of (layout_by (term_of m.expr) m.extents (schema_fields m.schema)) m.lengths leaf.short.blob bytes m.sized is)) c.leaf_rule.ensures.wide
