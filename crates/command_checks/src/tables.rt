@@ -19,17 +19,17 @@ use views::{MakeView, View};
 use worlds::CommandFault;
 
 /// The most live views.
-const MOST_VIEWS: usize = 64;
+const MAX_VIEWS: usize = 64;
 
 /// The most bytes of the blobs of all live views.
-const MOST_BYTES: u128 = 1 << 30;
+const MAX_LIVE_BYTES: u128 = 1 << 30;
 
 /// That a view more may live.
 pub fn has_room(views: &[ViewEntry]) -> Result<(), StepFault>
     ensures room { Gives (λ done. tt) result (room (map view_of views.now)) }
     ensures few { OnOk result (length views.now < 64) }
 {
-    if views.len() >= MOST_VIEWS {
+    if views.len() >= MAX_VIEWS {
         return Err(StepFault::Command(CommandFault::TooManyViews));
     }
     Ok(())
@@ -103,7 +103,7 @@ pub fn made(
     match View::new(alloc, schema, extents, expr) {
         Ok(view) => {
             let bytes = live_bytes(views) + u128::from(view.blob_bytes());
-            if bytes > MOST_BYTES {
+            if bytes > MAX_LIVE_BYTES {
                 return Err(StepFault::Command(CommandFault::TooBig));
             }
             Ok(view)
