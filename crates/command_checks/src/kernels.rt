@@ -18,7 +18,7 @@ use views::View;
 use worlds::{BadKernel, CommandFault};
 
 /// The most bits of the type of a leaf.
-const MOST_BITS: u32 = 32;
+const MAX_LEAF_BITS: u32 = 32;
 
 /// The least constant.
 const LEAST: i128 = -(1 << 31);
@@ -137,7 +137,7 @@ fn is_wide(view: &View, leaf: usize) -> bool
     ensures wide { result ≡ is_wide view.now.fields leaf }
     ensures narrow { result ≡ false → IsNarrowLeaf view.now leaf }
 {
-    view.schema().leaf_type(leaf).width() > MOST_BITS
+    view.schema().leaf_type(leaf).width() > MAX_LEAF_BITS
 }
 
 fn is_factor(a: i128) -> bool

@@ -18,9 +18,11 @@ use Rattle.instrument.specs.CounterTexts.{counts_text}
 use Rattle.views.specs.declared.fault.StoreFault.{StoreFault}
 use Rattle.views.specs.declared.fault.StoreFault.TheVariants as store
 use Rattle.expr_lang.specs.Terms.{Term}
-use Rattle.line_grammar.specs.Sentences.{Value, Assignment}
+use Rattle.line_grammar.specs.Sentences.{Value, Assignment, Show}
 use Rattle.line_grammar.specs.declared.line.KernelText.{KernelText}
 use Rattle.line_grammar.specs.declared.line.ReduceKind.{ReduceKind}
+use Rattle.line_grammar.specs.declared.line.ShowKind.{ShowKind}
+use Rattle.line_grammar.specs.declared.line.ShowKind.TheVariants as show
 use Rattle.views.specs.Tables.{Table, leaf_count_of, answer_of, kept_of, after_stores}
 use Rattle.row_updates.specs.Rows.{Setting, updated_rows, counted}
 use Rattle.row_updates.specs.Logs.{value_log, count_log, rows_log}
@@ -42,9 +44,10 @@ use Rattle.worlds.specs.Update.{updated, update_fault, kind_fault}
 use Rattle.worlds.specs.Reduce.{reduction, reduced, column, counting}
 use Rattle.worlds.specs.Copy.{are_alike, all_read, copied, copy}
 use Rattle.worlds.specs.Kernel.{run, fit_kernel, kernel_run, number_text, run_fault}
-use Rattle.worlds.specs.Show.{print, counts, drop_view}
+use Rattle.worlds.specs.Show.{print, counts, showing, drop_view}
 use Rattle.worlds.specs.declared.fault.CommandFault.TheVariants.{Mismatch, NotCounted}
 use Rattle.equal_runs.specs.Endings.{is_of_layout}
+use Rattle.equal_runs.specs.Lines.{shows_layout}
 use Rattle.equal_runs.proofs.Agreeing.{Agree, go, first, second, bind, before, both_told, Both}
 use Rattle.equal_runs.proofs.Answers.{Answers, is_narrow, store_answers, Given, ok_agree, by_agree}
 use Rattle.equal_runs.proofs.Entries.{At, known_agree, entries_replaced, entries_removed}
@@ -166,12 +169,12 @@ module _ (m o : Bool) (table : Table) (mapping : MapTerm) (tally : Tally) where
       before m o SameDone (bound table.fields (length table.extents) filter) _ _ (λ term.
       before m o SameDone (ok_or (update_fault table.fields) (counted term table.extents table.rows)) _ _ (λ rows. go _ _ refl))
 
-  pub print_agree : Same m o (print table) (print (under table mapping tally))
+  print_agree : Same m o (print table) (print (under table mapping tally))
   unfolding print
   print_agree = go _ _ refl
 
   -- one that does not count has such a fault
-  pub counts_agree : SameCounts table.tally.counts tally.counts → Same m o (counts table) (counts (under table mapping tally))
+  counts_agree : SameCounts table.tally.counts tally.counts → Same m o (counts table) (counts (under table mapping tally))
   unfolding counts
   counts_agree same = of_counts table.tally.counts tally.counts same where
     of_counts : (x y : Option LeafCounts) → SameCounts x y
@@ -180,6 +183,14 @@ module _ (m o : Bool) (table : Table) (mapping : MapTerm) (tally : Tally) where
     of_counts None y same = first NotCounted _ refl
     of_counts (Some x) None same = second _ NotCounted refl
     of_counts (Some x) (Some y) same = go _ _ (ap (λ (numbers : LeafCounts). tells table (counts_text (texts_of table.fields) numbers)) same)
+
+  -- what shows no layout
+  pub showing_agree : SameCounts table.tally.counts tally.counts → (kind : ShowKind) (name : List ℕ) → shows_layout (Show kind name) ≡ false
+      → Same m o (showing kind table) (showing kind (under table mapping tally))
+  showing_agree same show.Print name plain = print_agree
+  showing_agree same show.Counts name plain = counts_agree same
+  showing_agree same show.Heat name plain = absurd (cc)
+  showing_agree same show.Layout name plain = absurd (cc)
 
 -- tables that are left, and texts
 record AlikeDone (done other : LeftOf Table) : Type 0 where

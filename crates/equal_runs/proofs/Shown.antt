@@ -5,7 +5,7 @@ use Rattle.layout_io.specs.Files.{File}
 use Rattle.map_expr.specs.Terms.{Term}
 use Rattle.places.specs.Layout.{Owner}
 use Rattle.record_dim.specs.Leaves.{texts_of}
-use Rattle.line_grammar.specs.Sentences.{Sentence, Counts, Heat}
+use Rattle.line_grammar.specs.Sentences.{Sentence}
 use Rattle.line_grammar.specs.declared.version.Version.{Version}
 use Rattle.instrument.specs.Counters.{LeafCounts, HeatCounts}
 use Rattle.instrument.specs.CounterTexts.{counts_text, heat_text}
@@ -80,9 +80,9 @@ module _ (told : AreTold) (files : List File) (unread : Option ℕ) (lines : Lis
       (bind (λ (done : Done). CountsTold table done.text) (some_or NotCounted table.tally.counts) _ (λ numbers is. to _ (numbers, known_found _ table.tally.counts numbers is, refl)))
       (λ done is. to _ is)
 
-  pub shows_counts : (fails : Bool) → IfGoes (λ (left : Left). ShowsCounts now name left.text) (step now.world (Counts name) files fails)
-  unfolding step on_view
-  shows_counts fails =
+  pub shows_counts : IfGoes (λ (left : Left). ShowsCounts now name left.text) (on_view now.world name counts)
+  unfolding on_view
+  shows_counts =
       let P : Left → Type 0 = λ left. ShowsCounts now name left.text in
       bind P (known name now.world.views) _ (λ table t.
       let t_is : found name now.world.views ≡ Some table = known_found _ (found name now.world.views) table t in
@@ -106,9 +106,9 @@ module _ (told : AreTold) (files : List File) (unread : Option ℕ) (lines : Lis
       (bind (λ (done : Done). HeatTold table done.text) (some_or NotCounted table.tally.heat) _ (λ numbers is. to _ (numbers, known_found _ table.tally.heat numbers is, refl)))
       (λ done is. to _ is)
 
-  pub shows_heat : (fails : Bool) → IfGoes (λ (left : Left). ShowsHeat now name left.text) (step now.world (Heat name) files fails)
-  unfolding step on_view
-  shows_heat fails =
+  pub shows_heat : IfGoes (λ (left : Left). ShowsHeat now name left.text) (on_view now.world name heat)
+  unfolding on_view
+  shows_heat =
       let P : Left → Type 0 = λ left. ShowsHeat now name left.text in
       bind P (known name now.world.views) _ (λ table t.
       let t_is : found name now.world.views ≡ Some table = known_found _ (found name now.world.views) table t in
@@ -122,10 +122,11 @@ module _ (told : AreTold) (files : List File) (unread : Option ℕ) (lines : Lis
       })))
 
 pub shows_entries : AreTold → (version : Version) (files : List File) (outcome : World → List ℕ → Bool → Outcome Left) → DoesLines version files outcome → ShowsEntries version files outcome
+unfolding step
 shows_entries told version files outcome does = record {
   runs = λ texts more lines unread now are comes. comes_on version files outcome does unread 1 at_first now lines comes texts more are ∙ ap (λ (n : ℕ). prepend now.text (run_from outcome n now.world more unread)) (order (length lines));
-  counts = λ lines unread now name fails left comes is. gone _ _ left (shows_counts told files unread lines now comes name fails) is;
-  heat = λ lines unread now name fails left comes is. gone _ _ left (shows_heat told files unread lines now comes name fails) is;
+  counts = λ lines unread now name fails left comes is. gone _ _ left (shows_counts told files unread lines now comes name) is;
+  heat = λ lines unread now name fails left comes is. gone _ _ left (shows_heat told files unread lines now comes name) is;
 } where
   order : (n : ℕ) → 1 + n ≡ n + 1
   order n = omega arith

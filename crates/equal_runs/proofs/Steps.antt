@@ -8,7 +8,7 @@ use Rattle.worlds.specs.Step.{step}
 use Rattle.equal_runs.specs.Lines.{with_term, shows_layout}
 use Rattle.equal_runs.specs.Endings.{misses_mapping}
 use Rattle.equal_runs.proofs.Agreeing.{Agree, go}
-use Rattle.equal_runs.proofs.Commands.{view_agree, assigned_agree, updated_agree, reduction_agree, counting_agree, ran_agree, copy_agree, print_agree, counts_agree, drop_agree}
+use Rattle.equal_runs.proofs.Commands.{view_agree, assigned_agree, updated_agree, reduction_agree, counting_agree, ran_agree, copy_agree, showing_agree, drop_agree}
 use Rattle.equal_runs.proofs.News.{define_agree, mapping_agree, view_agree as new_agree, load_agree, relayout_agree}
 use Rattle.equal_runs.proofs.Tables.{AlikeWorlds, AlikeLefts}
 
@@ -28,9 +28,6 @@ module _ (world other : World) (alike : AlikeWorlds world other) (term : MapTerm
   step_agree (line.Count name filter) plain = view_agree false false world other alike name _ (λ table mapping tally same. counting_agree false false table mapping tally filter)
   step_agree (line.Copy name target) plain = copy_agree false false world other alike name target
   step_agree (line.Relayout name old) plain = relayout_agree world other alike name old term
-  step_agree (line.Print name) plain = view_agree false false world other alike name _ (λ table mapping tally same. print_agree false false table mapping tally)
-  step_agree (line.Counts name) plain = view_agree false false world other alike name _ (λ table mapping tally same. counts_agree false false table mapping tally same)
+  step_agree (line.Show kind name) plain = view_agree false false world other alike name _ (λ table mapping tally same. showing_agree false false table mapping tally same kind name plain)
   step_agree (line.Drop name) plain = drop_agree false false world other alike name
-  step_agree (line.Heat name) plain = absurd (cc)
-  step_agree (line.Layout name) plain = absurd (cc)
   step_agree (line.Bytes name blob) plain = absurd (cc)

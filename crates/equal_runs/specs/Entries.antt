@@ -2,7 +2,8 @@
 use Rattle.std.specs.Prelude.{ℕ, ◌+◌, ◌≡◌, Bool, List, ◌++◌, length, Option, Some}
 use Rattle.layout_io.specs.Files.{File}
 use Rattle.record_dim.specs.Leaves.{texts_of}
-use Rattle.line_grammar.specs.Sentences.{Sentence, Counts, Heat}
+use Rattle.line_grammar.specs.Sentences.{Sentence, Show}
+use Rattle.line_grammar.specs.declared.line.ShowKind.TheVariants.{Counts, Heat}
 use Rattle.line_grammar.specs.declared.version.Version.{Version}
 use Rattle.instrument.specs.Counters.{LeafCounts, HeatCounts}
 use Rattle.instrument.specs.CounterTexts.{counts_text, heat_text}
@@ -37,6 +38,6 @@ pub record ShowsEntries (version : Version) (files : List File) (outcome : World
   pub runs : (texts more : List (List ℕ)) (lines : List Sentence) (unread : Option ℕ) (now : SoFar) → AreLines version texts lines → Comes files unread 1 at_first lines now
       → run_from outcome 1 empty (texts ++ more) unread ≡ prepend now.text (run_from outcome (length lines + 1) now.world more unread)
   pub counts : (lines : List Sentence) (unread : Option ℕ) (now : SoFar) (name : List ℕ) (fails : Bool) (left : Left) → Comes files unread 1 at_first lines now
-      → step now.world (Counts name) files fails ≡ Goes left → ShowsCounts now name left.text
+      → step now.world (Show Counts name) files fails ≡ Goes left → ShowsCounts now name left.text
   pub heat : (lines : List Sentence) (unread : Option ℕ) (now : SoFar) (name : List ℕ) (fails : Bool) (left : Left) → Comes files unread 1 at_first lines now
-      → step now.world (Heat name) files fails ≡ Goes left → ShowsHeat now name left.text
+      → step now.world (Show Heat name) files fails ≡ Goes left → ShowsHeat now name left.text

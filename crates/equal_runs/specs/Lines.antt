@@ -1,7 +1,8 @@
 -- Lines that differ in their mapping expressions alone, and the texts that are lines.
 use Rattle.std.specs.Prelude.{ℕ, ◌≡◌, ◌≤◌, ⊤, Bool, true, false, List, [], ◌∷◌, length, Ok}
 use Rattle.map_expr.specs.Terms.{Term as MapTerm}
-use Rattle.line_grammar.specs.Sentences.{Sentence, Mapping, View, Load, Relayout, Heat, Layout, Bytes, deepest}
+use Rattle.line_grammar.specs.Sentences.{Sentence, Mapping, View, Load, Relayout, Show, Bytes, deepest}
+use Rattle.line_grammar.specs.declared.line.ShowKind.TheVariants as show
 use Rattle.line_grammar.specs.declared.version.Version.{Version}
 use Rattle.schema_lang.specs.LineOf.{line_of}
 
@@ -21,8 +22,8 @@ AgreeButTerms _ _ = ⊥
 
 -- the commands that write how a table lies
 abbrev pub shows_layout : Sentence → Bool
-shows_layout (Heat view) = true
-shows_layout (Layout view) = true
+shows_layout (Show show.Heat view) = true
+shows_layout (Show show.Layout view) = true
 shows_layout (Bytes view blob) = true
 shows_layout _ = false
 

@@ -20,6 +20,8 @@ use Rattle.worlds.specs.declared.fault.UnknownName.TheVariants.{Name}
 use Rattle.csv_rows.specs.Datasets.{records_of, rows_of}
 use Rattle.record_dim.specs.declared.path.PathStep.{PathStep}
 use Rattle.line_grammar.specs.Sentences.{Value}
+use Rattle.line_grammar.specs.declared.line.ShowKind.{ShowKind}
+use Rattle.line_grammar.specs.declared.line.ShowKind.TheVariants as show
 use Rattle.line_grammar.specs.declared.line.ReduceKind.{ReduceKind}
 use Rattle.line_grammar.specs.declared.line.ReduceKind.TheVariants.{Sum, Min, Max}
 use Rattle.line_grammar.specs.declared.line.KernelText.{KernelText}
@@ -39,7 +41,7 @@ use Rattle.worlds.specs.Update.{updated}
 use Rattle.worlds.specs.Reduce.{reduction, reduced, counting, column}
 use Rattle.worlds.specs.Copy.{copy, relayout, with_rows, copied, laid_anew, all_read}
 use Rattle.worlds.specs.Kernel.{kernel_run, fit_kernel, fits, fit_leaf, run, is_wide, is_factor, is_constant, are_bounds, are_lanes}
-use Rattle.worlds.specs.Show.{print, counts, heat, layout, bytes, drop_view, small}
+use Rattle.worlds.specs.Show.{print, counts, heat, layout, showing, bytes, drop_view, small}
 use Rattle.worlds.specs.Tables.{made, resolved, room, shaped, zeros_of, blob_bits, live_bits}
 use Rattle.worlds.specs.Names.{nameless, leaf_of, bound, bound_filter, bound_set, bound_sets, each_once, leaves_of}
 use Rattle.worlds.specs.Values.{value_on, storable}
@@ -274,6 +276,12 @@ layout_reads : (table : Table) → IsReadable (layout table)
 unfolding layout
 layout_reads table = next (small_reads table) (λ few. goes _)
 
+showing_reads : (kind : ShowKind) (table : Table) → IsReadable (showing kind table)
+showing_reads show.Print = print_reads
+showing_reads show.Counts = counts_reads
+showing_reads show.Heat = heat_reads
+showing_reads show.Layout = layout_reads
+
 bytes_reads : (table : Table) (blob : ℕ) → IsReadable (bytes table blob)
 unfolding bytes
 bytes_reads table blob = next (tested _ _) (λ there. next (small_reads table) (λ few. goes _))
@@ -312,9 +320,6 @@ step_reads world (line.Count name filter) files dataset is = view_works world na
 step_reads world (line.Kernel name kernel lanes) files dataset is = view_works world name _ (λ table. kernel_reads table kernel lanes)
 step_reads world (line.Copy name target) files dataset is = copy_reads world name target
 step_reads world (line.Relayout name term) files dataset is = relayout_reads world name term
-step_reads world (line.Print name) files dataset is = view_works world name _ print_reads
+step_reads world (line.Show kind name) files dataset is = view_works world name _ (showing_reads kind)
 step_reads world (line.Bytes name blob) files dataset is = view_works world name _ (λ table. bytes_reads table blob)
 step_reads world (line.Drop name) files dataset is = drop_reads world name
-step_reads world (line.Counts name) files dataset is = view_works world name _ counts_reads
-step_reads world (line.Heat name) files dataset is = view_works world name _ heat_reads
-step_reads world (line.Layout name) files dataset is = view_works world name _ layout_reads

@@ -13,15 +13,12 @@ ghost use Rattle.layout_cli.specs.Steps.{step_text, TellsFile};
 
 use layout_io::{Shelf, Sink};
 use record_dim::Text;
-use schema_lang::{FileName, Line, LineFault, Version, parse_line_in};
+use schema_lang::{FileName, Line, LineFault, MAX_LINE_BYTES, Version, parse_line_in};
 use script_runs::{LineEnd, Stepper};
 use session::{CommandFault, Session, StepFault};
 use std::alloc::{AllocError as NoMemory, Global};
 use std::sync::ledger::Ledger;
 use steps::Steps;
-
-// The most bytes of a line.
-const LINE_BYTES: usize = 4096;
 
 /// A session that does the lines of a script.
 #[derive(Drop)]
@@ -72,7 +69,7 @@ fn do_line<H: Shelf, K: Sink, L: Ledger>(
     ensures cause { StepCause ending_of (H.files shelf.old) (H.faults shelf.old) (H.faults shelf.new)
         (K.faults sink.old) (K.faults sink.new) result }
 {
-    if text.len() > LINE_BYTES {
+    if text.len() > MAX_LINE_BYTES {
         return Err(LineEnd::Command(CommandFault::LineTooLong));
     }
     match parse_line_in(alloc, version, text) {

@@ -25,7 +25,7 @@ use views::View;
 use worlds::CommandFault;
 
 /// The most bytes of a view whose blobs are shown.
-const MOST_BYTES: u64 = 65_536;
+const MAX_SHOWN_BYTES: u64 = 65_536;
 
 /// Writes the table.
 #[derive(Drop)]
@@ -159,7 +159,7 @@ fn shown(view: &View, blob: u32) -> Result<&Blob, StepFault>
 fn check_small(view: &View) -> Result<(), StepFault>
     ensures { Gives (λ done. tt) result (small view.now) }
 {
-    if view.blob_bytes() > MOST_BYTES {
+    if view.blob_bytes() > MAX_SHOWN_BYTES {
         return Err(StepFault::Command(CommandFault::TooBig));
     }
     Ok(())

@@ -6,6 +6,8 @@ use Rattle.places.specs.declared.piece.Run.{Run}
 use Rattle.places.specs.Image.{image}
 use Rattle.record_dim.specs.Leaves.{texts_of}
 use Rattle.map_any.specs.Runs.{runs_of}
+use Rattle.line_grammar.specs.declared.line.ShowKind.{ShowKind}
+use Rattle.line_grammar.specs.declared.line.ShowKind.TheVariants as show
 use Rattle.instrument.specs.BlobTexts.{bytes_of, bytes_text}
 use Rattle.instrument.specs.CounterTexts.{counts_text, heat_text, runs_text}
 use Rattle.views.specs.Tables.{Table, owners_of, leaf_count_of}
@@ -43,6 +45,13 @@ unfoldable pub layout : Table → Outcome Done
 layout table = do
   few ← small table
   Goes (tells table (runs_text (texts_of table.fields) (all_runs (owners_of table))))
+
+-- what is shown of a table by the name of its view alone
+abbrev pub showing : ShowKind → Table → Outcome Done
+showing show.Print = print
+showing show.Counts = counts
+showing show.Heat = heat
+showing show.Layout = layout
 
 -- the image of the table, blob by blob, each a list of bits
 abbrev pub image_of : Table → List (List ℕ)

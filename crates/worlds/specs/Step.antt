@@ -14,7 +14,7 @@ use Rattle.worlds.specs.Update.{updated}
 use Rattle.worlds.specs.Reduce.{reduction, counting}
 use Rattle.worlds.specs.Copy.{copy, relayout}
 use Rattle.worlds.specs.Kernel.{kernel_run}
-use Rattle.worlds.specs.Show.{print, counts, heat, layout, bytes, drop_view}
+use Rattle.worlds.specs.Show.{showing, bytes, drop_view}
 
 -- what a line does that works on one view
 abbrev pub work_of : line.Sentence → Option Work
@@ -23,10 +23,7 @@ work_of (line.Update name filter sets) = Some (record { view = name; does = λ t
 work_of (line.Kernel name text lanes) = Some (record { view = name; does = λ table. kernel_run table text lanes })
 work_of (line.Reduce name kind path) = Some (record { view = name; does = λ table. reduction table kind path })
 work_of (line.Count name filter) = Some (record { view = name; does = λ table. counting table filter })
-work_of (line.Print name) = Some (record { view = name; does = print })
-work_of (line.Counts name) = Some (record { view = name; does = counts })
-work_of (line.Heat name) = Some (record { view = name; does = heat })
-work_of (line.Layout name) = Some (record { view = name; does = layout })
+work_of (line.Show kind name) = Some (record { view = name; does = showing kind })
 work_of (line.Bytes name blob) = Some (record { view = name; does = λ table. bytes table blob })
 work_of _ = None
 

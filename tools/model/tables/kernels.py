@@ -26,7 +26,7 @@ ROWS = [case for lanes in LANES for case in (
 FIELDS = 'record P { x:u32 } | view V : P [19] as bitsoa(32, row) | update V set x = 4294967295 - i0 | '
 
 
-# over 22 rows x is 1, and y 200, but for 1 and 100 in row 10, and 500 and 100 in row 13, which stands in a block for each number of lanes
+# over 22 rows x is 1, and y 200, but for 1 and 100 in record 10, and 500 and 100 in record 13, which stands in a block for each number of lanes
 def faults(form):
     return f'record P {{ x:u16, y:u8 }} | view V : P [22] as {form} | update V set x = 1, y = 200 | set V[10].y = 100 | set V[13].x = 500 | set V[13].y = 100 | '
 
