@@ -3,3 +3,4 @@ pub mod AnyFacts
 pub mod LeafLaws
 pub mod RunLaws
 pub mod Filling
+pub mod ArrayLaws

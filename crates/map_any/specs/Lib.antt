@@ -4,7 +4,13 @@ pub mod Maps
 pub mod Counters
 pub mod Runs
 pub mod Filling
+pub mod LeafArrays
+pub mod ArraySlots
+pub mod Strategies
+pub mod ArrayRuns
+pub mod ArrayRunLaws
 pub use Rattle.map_checks.specs.Mappings
 pub use Rattle.map_checks.specs.LeafCells
 pub use Rattle.map_checks.specs.TermLaws
 pub use Rattle.map_plans.specs.Ruled
+pub use Rattle.map_plans.specs.Arrays

@@ -1,9 +1,11 @@
 ghost use Rattle.std.specs.Prelude.{◌≡◌, true, false, None};
+ghost use Rattle.std.proofs.Props.{props};
 ghost use Rattle.record_dim.specs.Leaves.{kinds_of};
 ghost use Rattle.record_dim.specs.Schemas.{schema_fields};
 ghost use Rattle.map_expr.specs.Terms.{term_of};
 ghost use Rattle.map_expr.specs.Checks.{bad_number};
 ghost use Rattle.map_any.specs.Counters.{is_counted};
+ghost use Rattle.map_any.specs.LeafArrays.{HaveArrays};
 ghost use Rattle.map_any.specs.LeafRules.{AreRuled, IsWideIn};
 ghost use Rattle.map_checks.specs.Mappings.{layout_by, holds_by, leaf_cells, not_full, IsBuiltTerm};
 ghost use Rattle.map_checks.specs.Orders.{IsBuiltTerm-prop};
@@ -36,5 +38,6 @@ pub struct AnyMap {
     ghost sized: { HasLengths (layout_by (term_of expr) extents (schema_fields schema)) lengths },
     ghost ruled: { AreRuled (layout_by (term_of expr) extents (schema_fields schema)) extents (kinds_of (schema_fields schema)) holds rules },
     ghost wide: { EachWith (λ k leaf. IsWideIn lengths leaf) rules },
+    ghost arrays: { HaveArrays (term_of expr) extents (leaf_cells (kinds_of (schema_fields schema))) rules } by { Prim.hlevel props },
     ghost uncounted: { is_counted (term_of expr) ≡ true → EachWith (λ k leaf. leads leaf.short.walk ≡ false) rules },
 }

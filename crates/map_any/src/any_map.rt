@@ -10,6 +10,7 @@ ghost use Rattle.map_any.specs.AnyLaws.{any_laws, holds_cells};
 ghost use Rattle.map_any.specs.Counters.{is_counted};
 ghost use Rattle.map_any.specs.LeafRules.{kind_in, hold_in, IsLeafRule, IsWideIn};
 ghost use Rattle.map_any.specs.Maps.{extents_of, term_of_map};
+ghost use Rattle.map_plans.specs.Arrays.{IsArrayOf};
 ghost use Rattle.map_plans.specs.Ruled.{IsRuleOf};
 ghost use Rattle.short_rules.specs.Shorts.{IsShortIn};
 ghost use Rattle.short_rules.specs.Walks.{leads};
@@ -134,12 +135,13 @@ impl AnyMap {
 
     /// What the accesses to a leaf go by.
     #[inline(always)]
-    fn leaf_rule(&self, leaf: usize) -> &LeafRule
+    pub(crate) fn leaf_rule(&self, leaf: usize) -> &LeafRule
         requires { leaf < length (⟦<AnyMap as Mapping>⟧.cell_list self.now) }
         ensures places { IsRuleOf (⟦<AnyMap as Mapping>⟧.layout self.now) self.now.extents leaf
             (slice_index (map (λ h. h.width) self.now.holds) leaf) result.now.rule }
         ensures whole { IsLeafRule (kind_in (kinds_of (schema_fields self.now.schema)) leaf) self.now.extents (hold_in self.now.holds leaf) result.now }
         ensures wide { IsWideIn self.now.lengths result.now }
+        ensures array { IsArrayOf (term_of_map self.now) (extents_of self.now) (leaf_cells (kinds_of (schema_fields self.now.schema))) leaf result.now.rule }
         ensures uncounted { is_counted (term_of_map self.now) ≡ true → leads result.now.short.walk ≡ false }
     {
         &self.rules.as_slice()[leaf]

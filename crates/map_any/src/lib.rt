@@ -3,13 +3,17 @@
 
 mod any;
 mod any_map;
+mod arrays;
 mod leaf_rule;
 mod leaf_rules;
 mod runs;
+mod strategy;
 
 pub use any::AnyMap;
+pub use arrays::{ArraySlots, BytePlace};
 pub use leaf_rule::{LeafRule, RuleList};
 pub use map_checks::{HoldList, MakeMap};
 pub use map_expr::{BadMapping, MapExpr};
 pub use map_plans::{LengthList, Rule};
 pub use short_rules::{Field, ShortRule, Walk, Wide, Word};
+pub use strategy::Strategy;

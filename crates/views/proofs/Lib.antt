@@ -9,3 +9,6 @@ pub mod TouchLaws
 pub mod RowLaws
 pub mod ColumnLaws
 pub mod StoredLaws
+pub mod AllLaws
+pub mod MoveLaws
+pub mod RunMoveLaws

@@ -9,3 +9,6 @@ pub mod TallyLaws
 pub mod OrderLaws
 pub mod Entries
 pub mod Columns
+pub mod Moves
+pub mod MovesLaws
+pub mod UncountedLaws

@@ -5,6 +5,7 @@ mod access;
 mod fault;
 mod fresh;
 mod laws;
+mod moves;
 mod row;
 mod rows;
 mod store;

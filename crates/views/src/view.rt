@@ -25,6 +25,7 @@ use std::sync::ledger::Ledger;
 use steps::Steps;
 
 mod columns;
+mod moves;
 mod touch;
 
 /// The blobs of a view, in the order of its mapping.

@@ -8,6 +8,7 @@ use Rattle.map_any.specs.AnyLaws.{length-leaf_cells}
 use Rattle.map_any.specs.LeafRules.{IsWideIn}
 use Rattle.map_checks.specs.Mappings.{leaf_cells, layout_by}
 use Rattle.short_rules.specs.Walks.{leads}
+use Rattle.map_any.proofs.ArrayLaws.{leaf_array}
 use Rattle.map_any.proofs.LeafLaws.{leaf_placed, leaf_whole}
 use Rattle.map_any.proofs.any.AnyMap.leaf_rule.Goals as goal
 
@@ -56,3 +57,10 @@ returns-clause-uncounted c = λ counted.
     let item : LeafRule = c.index-as_slice-leaf.result in
     let read : item ≡ get_or m.rules c.args.leaf item = c.index-as_slice-leaf.is ∙ ap (λ (rs : List LeafRule). get_or rs c.args.leaf item) c.as_slice.ensures in
     ap (λ (l : LeafRule). leads l.short.walk) read ∙ m.uncounted counted c.args.leaf item (inside m m.rules c.args.leaf refl c.requires)
+
+pub returns-clause-array : goal.returns-clause-array
+returns-clause-array c =
+    let m = c.args.self.now in
+    let item : LeafRule = c.index-as_slice-leaf.result in
+    let read : item ≡ get_or m.rules c.args.leaf item = c.index-as_slice-leaf.is ∙ ap (λ (rs : List LeafRule). get_or rs c.args.leaf item) c.as_slice.ensures in
+    leaf_array (term_of m.expr) m.extents (leaf_cells (kinds_of (schema_fields m.schema))) m.rules c.args.leaf item (inside m m.rules c.args.leaf refl c.requires) read m.arrays

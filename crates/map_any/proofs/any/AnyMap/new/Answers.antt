@@ -9,10 +9,12 @@ use Rattle.map_expr.specs.Checks.{checked, bad_number}
 use Rattle.map_checks.specs.Mappings.{leaf_cells, layout_by, not_full, IsBuiltTerm}
 use Rattle.map_any.specs.Counters.{is_counted}
 use Rattle.map_any.specs.LeafRules.{AreLeafRules, IsWideIn}
+use Rattle.map_plans.specs.Arrays.{HasArrays}
 use Rattle.map_plans.specs.Ruled.{EachWith, IsRuled}
 use Rattle.map_plans.specs.declared.rule.Rule.{Rule}
 use Rattle.map_plans.specs.Plans.{IsPlanOf}
 use Rattle.map_checks.specs.TermLaws.{good_numbers}
+use Rattle.map_any.proofs.ArrayLaws.{leaves_arrays}
 use Rattle.map_any.proofs.LeafLaws.{leaves_ruled, whole_holds, whole_rules}
 use Rattle.map_any.proofs.Built.{accepted_numbers, built_nameless}
 use Rattle.map_any.proofs.any.AnyMap.new.Goals as goal
@@ -69,5 +71,12 @@ invariant_of-result c =
           (subst (λ (rs : List Rule). AreLeafRules (kinds_of (schema_fields c.args.schema.now)) extents c.as_slice.result.now rs c.in_ok-rules.rules) c.as_slice-2.ensures
           c.in_ok-rules.ensures.whole)));
       wide = subst (λ (ls : List ℕ). EachWith (λ k leaf. IsWideIn ls leaf) c.in_ok-rules.rules) c.as_slice-3.ensures c.in_ok-rules.ensures.wide;
+      arrays = leaves_arrays copy extents (leaf_cells (kinds_of fields)) (kinds_of (schema_fields c.args.schema.now)) c.as_slice.result.now plan.rules c.in_ok-rules.rules
+          (whole_rules term extents (schema_fields c.args.schema.now) c.in_ok-cells.cells plan c.in_ok-plan.ensures.plan c.in_ok-cells.ensures)
+          (subst (λ (rs : List Rule). AreLeafRules (kinds_of (schema_fields c.args.schema.now)) extents c.as_slice.result.now rs c.in_ok-rules.rules) c.as_slice-2.ensures
+          c.in_ok-rules.ensures.whole)
+          (subst (λ (t : Term). HasArrays t extents (leaf_cells (kinds_of fields)) plan.rules) (sym same)
+          (subst (λ (f : Fields). HasArrays term extents (leaf_cells (kinds_of f)) plan.rules) trees
+          (subst (λ (cs : List Cell). HasArrays term extents cs plan.rules) c.in_ok-cells.ensures c.in_ok-plan.ensures.arrays)));
       uncounted = λ counted. c.in_ok-rules.ensures.uncounted (c.is_counted.ensures ∙ ap is_counted (sym same) ∙ counted);
     }

@@ -1,0 +1,145 @@
+-- The slots of an array's block are a run; what runs say of the bits of rows.
+use Rattle.std.proofs.Common.{◌≡◌, ⊎_elim, ℕ, ◌+◌, ◌-◌, ◌*◌, ◌/◌, ◌%◌, ◌<◌, ◌≤◌, List, [], ◌∷◌, map, length, get_or, refl, sym, ap, ◌∙◌, subst, arith}
+use Rattle.std.specs.Prelude.{Option, Some, None, IfSome}
+use Rattle.std.specs.List.{flat_map, range_with_len}
+use Rattle.std.proofs.lemmas.List.{append-nil}
+use Rattle.std.proofs.lemmas.List.Concat.{flat_map-cons}
+use Rattle.std.proofs.lemmas.Nat.{row_fits, div-add-mod', mul-le}
+use Rattle.std.proofs.lemmas.Bool.{cases_lt}
+use Rattle.extents.specs.Indices.{indices}
+use Rattle.extents.specs.declared.order.Order.{Order}
+use Rattle.linearize.specs.Slots.{slot_at, row_at}
+use Rattle.linearize.specs.SlotsLaws.{row_at-slot_at, slot_at-row_at}
+use Rattle.places.specs.Layout.{Owner, Pad, Bit, owner_at}
+use Rattle.places.specs.Rules.{renamed, in_rows, bit_in_row}
+use Rattle.places.specs.Laws.{IsLocated, IsPiece, owners_in}
+use Rattle.places.specs.ComposeLaws.{owner_relabel}
+use Rattle.places.specs.PlacesLaws.{ranges_at}
+use Rattle.places.specs.declared.piece.Piece.{Piece}
+use Rattle.piece_rules.specs.PieceRules.{begin_in, piece_in, pieces_in}
+use Rattle.piece_rules.specs.declared.rule.PieceRule.{PieceRule}
+use Rattle.record_dim.specs.Trees.{Fields}
+use Rattle.places.specs.Holds.{full_holds}
+use Rattle.places.specs.declared.piece.Cell.{Cell}
+use Rattle.map_expr.specs.Terms.{Term, Aos, Soa, Aosoa, BitAos, BitSoa, Split, Byteswap, Bytesplit, Change, Count, Heat, Named}
+use Rattle.map_checks.specs.Mappings.{holds_of}
+use Rattle.map_plans.specs.Arrays.{array_of, IsArray}
+use Rattle.map_any.specs.ArrayRuns.{IsArrayRun}
+use Rattle.map_checks.specs.RowsLaws.{length-in_rows, length-blob}
+use Rattle.map_plans.specs.declared.rule.Rule.{Rule}
+
+-- the owners of the bits of one piece
+pub piece_owner : (layout : List (List Owner)) (slot cell width k : ℕ) (piece : Piece) → IsLocated layout slot cell width (piece ∷ []) → piece.bits ≡ width → k < width
+    → owner_at layout piece.blob (piece.bit + k) ≡ Bit slot cell k
+piece_owner layout slot cell width k piece h bits inside =
+    let one : flat_map (owners_in layout) (piece ∷ []) ≡ owners_in layout piece = flat_map-cons (owners_in layout) piece [] ∙ append-nil (owners_in layout piece) in
+    let spelled : map (owner_at layout piece.blob) (range_with_len piece.bit width) ≡ map (Bit slot cell) (range_with_len 0 width) =
+    subst (λ (n : ℕ). map (owner_at layout piece.blob) (range_with_len piece.bit n) ≡ map (Bit slot cell) (range_with_len 0 width)) bits (sym one ∙ h.spelled) in
+    let none : 0 + k ≡ k = omega arith in
+    ranges_at Pad (owner_at layout piece.blob) (Bit slot cell) piece.bit 0 width k spelled inside ∙ ap (Bit slot cell) none
+
+-- one item
+one_item : {X : Type 0} (xs : List X) (d : X) → length xs ≡ 1 → xs ≡ get_or xs 0 d ∷ []
+one_item [] d one = absurd (omega arith)
+one_item (x ∷ []) d one = refl
+one_item (x ∷ y ∷ xs) d one = absurd (omega arith)
+
+-- slots of one block of an array, by rows
+pub array_run : (order : Order) (extents : List ℕ) (layout : List (List Owner)) (slots lanes cell width slot count : ℕ) (rule : Rule) (d : PieceRule)
+    → IsArray layout slots lanes cell width rule → 0 < count → slot + count ≤ slots → slot % lanes + count ≤ lanes
+    → IsArrayRun (in_rows (row_at order extents) layout) order extents cell width slot count (get_or rule.pieces.items 0 d).blob (begin_in (get_or rule.pieces.items 0 d) slot)
+array_run order extents layout slots lanes cell width slot count rule d h some inside block =
+    let piece : PieceRule = get_or rule.pieces.items 0 d in
+    let rows : List (List Owner) = in_rows (row_at order extents) layout in
+    let one : rule.pieces.items ≡ piece ∷ [] = one_item rule.pieces.items d h.alone in
+    let located : (j : ℕ) → j < count → IsLocated layout (slot + j) cell width (piece_in piece (slot + j) ∷ []) = λ j l.
+    subst (λ (ps : List PieceRule). IsLocated layout (slot + j) cell width (pieces_in ps (slot + j))) one (h.places (slot + j) (omega arith)) in
+    let begins : (j : ℕ) → j < count → begin_in piece (slot + j) ≡ begin_in piece slot + j * width = λ j l.
+    (h.dense d).next slot j (omega arith) ∙ ap (λ (w : ℕ). begin_in piece slot + j * w) (h.bits d) in
+    let last : IsPiece layout (piece_in piece (slot + (count - 1))) = (located (count - 1) (omega arith)).each 0 (piece_in piece slot) (let l : 0 < 1 = omega arith in l) in
+    let blob : piece.blob < length layout = last.blob_in in
+    let size : length rows ≡ length layout = length-in_rows (row_at order extents) layout in
+    let long : length (get_or rows piece.blob []) ≡ length (get_or layout piece.blob []) = length-blob (row_at order extents) layout piece.blob blob in
+    record {
+      blob_in = omega arith;
+      within =
+          let end : begin_in piece (slot + (count - 1)) + piece.bits ≤ length (get_or layout piece.blob []) = last.bits_in in
+          let from : begin_in piece (slot + (count - 1)) ≡ begin_in piece slot + (count - 1) * width = begins (count - 1) (omega arith) in
+          let product : (count - 1) * width + width ≡ count * width = let e : (count - 1) + 1 ≡ count = omega arith in let p : ((count - 1) + 1) * width ≡ (count - 1) * width + width = grind arith in sym p ∙ ap (λ (n : ℕ). n * width) e in
+          let bits : piece.bits ≡ width = h.bits d in
+          omega arith;
+      owners = λ j k l m.
+          let place : begin_in piece slot + (j * width + k) ≡ begin_in piece (slot + j) + k = (let b : begin_in piece (slot + j) ≡ begin_in piece slot + j * width = begins j l in omega arith) in
+          ap (owner_at rows piece.blob) place
+          ∙ owner_relabel (λ s c b. bit_in_row (row_at order extents s) c b) layout piece.blob (begin_in piece (slot + j) + k)
+          ∙ ap (renamed (λ s c b. bit_in_row (row_at order extents s) c b)) (piece_owner layout (slot + j) cell width k (piece_in piece (slot + j)) (located j l) (h.bits d) m);
+    }
+
+-- the row and the cell of a bit by rows
+of_row : (row : Option ℕ) (c k r c' k' : ℕ) → bit_in_row row c k ≡ Bit r c' k' → (row ≡ Some r) × (c ≡ c')
+of_row None c k r c' k' e = cc
+of_row (Some row) c k r c' k' e =
+    let same : row ≡ r = cc in
+    let cell : c ≡ c' = cc in
+    (ap Some same, cell)
+
+-- the bits of a row whose slot lies in a run
+module _ (layout : List (List Owner)) (order : Order) (extents : List ℕ) (cell width slot count blob bit : ℕ) (run : IsArrayRun layout order extents cell width slot count blob bit) where
+  pub run_row : (row k : ℕ) → row < length (indices extents) → slot ≤ slot_at order extents row → slot_at order extents row < slot + count → k < width
+      → (i : ℕ) × (i < count * width) × (owner_at layout blob (bit + i) ≡ Bit row cell k)
+  run_row row k inside low high l =
+      let j : ℕ = slot_at order extents row - slot in
+      let in_run : j < count = omega arith in
+      let same : slot + j ≡ slot_at order extents row = omega arith in
+      let inside_all : j * width + width ≤ count * width = row_fits j width count width in_run (omega arith) in (
+        j * width + k,
+        (let l : j * width + k < count * width = omega arith in l),
+        run.owners j k in_run l ∙ ap (λ (s : ℕ). bit_in_row (row_at order extents s) cell k) same
+            ∙ ap (λ (r : Option ℕ). bit_in_row r cell k) (row_at-slot_at order extents row inside),
+      )
+
+  -- and of any other bit none lies there
+  pub run_other : (row c i k : ℕ) → 0 < width → i < count * width → owner_at layout blob (bit + i) ≡ Bit row c k → (c ≡ cell) × (slot ≤ slot_at order extents row) × (slot_at order extents row < slot + count)
+  run_other row c i k some inside is =
+      let j : ℕ = i / width in
+      let parts : j * width + i % width ≡ i = div-add-mod' i width in
+      let low : i % width < width = omega arith in
+      let in_run : j < count =
+      ⊎_elim (λ (l : j < count). l)
+      (λ (l : count ≤ j). let more : count * width ≤ j * width = mul-le count width j width l (omega arith) in absurd (omega arith))
+      (cases_lt j count) in
+      let here : bit_in_row (row_at order extents (slot + j)) cell (i % width) ≡ Bit row c k =
+      sym (run.owners j (i % width) in_run low) ∙ ap (λ (n : ℕ). owner_at layout blob (bit + n)) parts ∙ is in
+      let of = of_row (row_at order extents (slot + j)) cell (i % width) row c k here in
+      let at = (slot_at-row_at order extents (slot + j) row of.0).1 in
+      (sym of.1, (let l : slot ≤ slot_at order extents row = omega arith in l), (let l : slot_at order extents row < slot + count = omega arith in l))
+
+-- two runs of the same slots have the same owners
+pub runs_alike : (layout other : List (List Owner)) (order : Order) (extents : List ℕ) (cell width slot count blob bit source from : ℕ) → 0 < width
+    → IsArrayRun layout order extents cell width slot count blob bit → IsArrayRun other order extents cell width slot count source from
+    → (i : ℕ) → i < count * width → owner_at layout blob (bit + i) ≡ owner_at other source (from + i)
+runs_alike layout other order extents cell width slot count blob bit source from some one two i inside =
+    let j : ℕ = i / width in
+    let parts : j * width + i % width ≡ i = div-add-mod' i width in
+    let low : i % width < width = omega arith in
+    let in_run : j < count =
+    ⊎_elim (λ (l : j < count). l)
+    (λ (l : count ≤ j). let more : count * width ≤ j * width = mul-le count width j width l (omega arith) in absurd (omega arith))
+    (cases_lt j count) in
+    ap (λ (n : ℕ). owner_at layout blob (bit + n)) (sym parts) ∙ one.owners j (i % width) in_run low
+    ∙ sym (two.owners j (i % width) in_run low) ∙ ap (λ (n : ℕ). owner_at other source (from + n)) parts
+
+-- where cells lie in arrays, each is stored as its type is
+pub array_holds : (term : Term) (fields : Fields) (cells : List Cell) → IfSome (array_of term) (λ array. holds_of term fields cells ≡ full_holds cells)
+array_holds (Aos form order) fields cells = tt
+array_holds (Soa form order) fields cells = refl
+array_holds (Aosoa lanes order) fields cells = refl
+array_holds (BitAos width order) fields cells = tt
+array_holds (BitSoa width order) fields cells = tt
+array_holds (Split path first rest) fields cells = tt
+array_holds (Byteswap inner) fields cells = tt
+array_holds (Bytesplit inner) fields cells = tt
+array_holds (Change from to inner) fields cells = tt
+array_holds (Count inner) fields cells = array_holds inner fields cells
+array_holds (Heat granule inner) fields cells = array_holds inner fields cells
+array_holds (Named name) fields cells = tt

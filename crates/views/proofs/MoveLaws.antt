@@ -1,0 +1,125 @@
+-- What blobs hold under one expression they hold under another that lays them out the same.
+use Rattle.std.proofs.Common.{◌≡◌, ◌⊎◌, ⊎_elim, ℕ, suc, ◌*◌, ◌/◌, ◌+◌, ◌%◌, ◌<◌, ◌≤◌, ℤ, List, [], ◌∷◌, map, length, get_or, refl, sym, ap, ◌∙◌, subst, arith}
+use Rattle.std.specs.Prelude.{sum_by}
+use Rattle.std.proofs.lemmas.List.Sums.{sum_by-cons}
+use Rattle.extents.specs.Indices.{indices}
+use Rattle.record_dim.specs.Trees.{Fields}
+use Rattle.record_dim.specs.Leaves.{kinds_of}
+use Rattle.places.specs.Holds.{IsTooBig}
+use Rattle.places.specs.Image.{entry}
+use Rattle.places.specs.Laws.{IsLaidOut}
+use Rattle.places.specs.Layout.{Owner}
+use Rattle.places.specs.declared.piece.Cell.{Cell}
+use Rattle.places.specs.declared.piece.Hold.{Hold}
+use Rattle.blobs.specs.Moves.{blocks}
+use Rattle.piece_bits.specs.Tables.{AreLaid, AreSized, table_in, hold_at}
+use Rattle.map_expr.specs.Terms.{Term, uncounted, term_of}
+use Rattle.map_checks.specs.Mappings.{leaf_cells, layout_by, holds_by, most_slots, IsTooBigFor}
+use Rattle.map_expr.specs.declared.expr.MapExpr.{MapExpr}
+use Rattle.record_dim.specs.Schemas.{schema_fields}
+use Rattle.record_dim.specs.declared.schema.Schema.{Schema}
+use Rattle.views.proofs.Opened.{seen_from}
+use Rattle.views.specs.Kept.{IsKept, table_under}
+use Rattle.views.specs.Tables.{Table}
+use Rattle.views.specs.UncountedLaws.{layout_uncounted, holds_uncounted, slots_uncounted}
+use Rattle.views.specs.Tallies.{Tally}
+use Rattle.views.specs.Moves.{blob_steps}
+use Rattle.views.specs.Stores.{AllFit}
+
+-- the bytes of blobs of a layout's lengths, and the blocks that they are
+sized_blocks : (layout : List (List Owner)) (blobs : List (List ℕ)) → length blobs ≡ length layout
+    → ((b : ℕ) → b < length layout → 8 * length (get_or blobs b []) ≡ length (get_or layout b []))
+    → sum_by (λ (blob : List ℕ). blocks (length blob)) blobs ≡ blob_steps layout
+sized_blocks [] [] count each = refl
+sized_blocks [] (blob ∷ blobs) count each = absurd (omega arith)
+sized_blocks (owners ∷ layout) [] count each = absurd (omega arith)
+sized_blocks (owners ∷ layout) (blob ∷ blobs) count each =
+    let first : 8 * length blob ≡ length owners = each 0 (omega arith) in
+    let bytes : length blob ≡ length owners / 8 = omega arith in
+    let here : blocks (length blob) ≡ blocks (length owners / 8) = ap blocks bytes in
+    let rest : sum_by (λ (b : List ℕ). blocks (length b)) blobs ≡ blob_steps layout = sized_blocks layout blobs (omega arith) (λ b l. each (suc b) (omega arith)) in
+    sum_by-cons (λ (b : List ℕ). blocks (length b)) blob blobs
+    ∙ ap (λ (n : ℕ). n + sum_by (λ (b : List ℕ). blocks (length b)) blobs) here
+    ∙ ap (λ (n : ℕ). blocks (length owners / 8) + n) rest
+    ∙ sym (sum_by-cons (λ (o : List Owner). blocks (length o / 8)) owners layout)
+
+pub blocks_are : (layout : List (List Owner)) (blobs : List (List ℕ)) → AreSized layout blobs → sum_by (λ (blob : List ℕ). blocks (length blob)) blobs ≡ blob_steps layout
+blocks_are layout blobs sized = sized_blocks layout blobs sized.count sized.lengths
+
+lengths_in : (layout : List (List Owner)) (blobs : List (List ℕ)) → length blobs ≡ length layout
+    → ((b : ℕ) → b < length layout → 8 * length (get_or blobs b []) ≡ length (get_or layout b [])) → map (length {A = ℕ}) blobs ≡ map (λ (owners : List Owner). length owners / 8) layout
+lengths_in [] [] count each = refl
+lengths_in [] (blob ∷ blobs) count each = absurd (omega arith)
+lengths_in (owners ∷ layout) [] count each = absurd (omega arith)
+lengths_in (owners ∷ layout) (blob ∷ blobs) count each =
+    let first : 8 * length blob ≡ length owners = each 0 (omega arith) in
+    let bytes : length blob ≡ length owners / 8 = omega arith in
+    ap (λ (n : ℕ). n ∷ map (length {A = ℕ}) blobs) bytes
+    ∙ ap (λ (ns : List ℕ). length owners / 8 ∷ ns) (lengths_in layout blobs (omega arith) (λ b l. each (suc b) (omega arith)))
+
+pub same_lengths : (layout : List (List Owner)) (one two : List (List ℕ)) → AreSized layout one → AreSized layout two → map (length {A = ℕ}) one ≡ map (length {A = ℕ}) two
+same_lengths layout one two first second = lengths_in layout one first.count first.lengths ∙ sym (lengths_in layout two second.count second.lengths)
+
+-- two expressions that are one without their counters, over one array
+module _ (a b : Term) (extents others : List ℕ) (fields trees : Fields) (same : uncounted a ≡ uncounted b) (alike : (fields ≡ trees) × (extents ≡ others)) where
+  pub layouts_same : layout_by b others trees ≡ layout_by a extents fields
+  layouts_same =
+      ap (λ (f : Fields). layout_by b others f) (sym alike.0) ∙ ap (λ (e : List ℕ). layout_by b e fields) (sym alike.1)
+      ∙ sym (layout_uncounted b extents fields (leaf_cells (kinds_of fields))) ∙ ap (λ (t : Term). layout_by t extents fields) (sym same)
+      ∙ layout_uncounted a extents fields (leaf_cells (kinds_of fields))
+
+  holds_same : holds_by b trees ≡ holds_by a fields
+  holds_same =
+      ap (holds_by b) (sym alike.0) ∙ sym (holds_uncounted b fields (leaf_cells (kinds_of fields))) ∙ ap (λ (t : Term). holds_by t fields) (sym same)
+      ∙ holds_uncounted a fields (leaf_cells (kinds_of fields))
+
+  slots_same : most_slots b others ≡ most_slots a extents
+  slots_same = ap (most_slots b) (sym alike.1) ∙ sym (slots_uncounted b extents) ∙ ap (λ (t : Term). most_slots t extents) (sym same) ∙ slots_uncounted a extents
+
+  rows_same : length (indices others) ≡ length (indices extents)
+  rows_same = ap (λ (e : List ℕ). length (indices e)) (sym alike.1)
+
+  -- the table that blobs hold
+  pub moved_table : (blobs : List (List ℕ)) → table_under a extents fields blobs ≡ table_under b others trees blobs
+  moved_table blobs =
+      ap (λ (l : List (List Owner)). table_in l (length (indices extents)) (holds_by a fields) blobs) (sym layouts_same)
+      ∙ ap (λ (n : ℕ). table_in (layout_by b others trees) n (holds_by a fields) blobs) (sym rows_same)
+      ∙ ap (λ (hs : List Hold). table_in (layout_by b others trees) (length (indices others)) hs blobs) (sym holds_same)
+
+  -- what is kept of the blobs
+  pub moved_kept : (blobs : List (List ℕ)) → IsKept b others trees blobs → IsKept a extents fields blobs
+  moved_kept blobs kept = record {
+    lawful =
+        subst (λ (hs : List Hold). IsLaidOut (layout_by a extents fields) (length (indices extents)) (map (λ (h : Hold). h.width) hs)) holds_same
+        (subst (λ (n : ℕ). IsLaidOut (layout_by a extents fields) n (map (λ (h : Hold). h.width) (holds_by b trees))) rows_same
+        (subst (λ (l : List (List Owner)). IsLaidOut l (length (indices others)) (map (λ (h : Hold). h.width) (holds_by b trees))) layouts_same kept.lawful));
+    paired = ap (λ (hs : List Hold). length hs) (sym holds_same) ∙ kept.paired ∙ ap (λ (f : Fields). length (kinds_of f)) (sym alike.0);
+    within = λ big.
+        kept.within (subst (λ (l : List (List Owner)). IsTooBig (most_slots b others) l) (sym layouts_same)
+        (subst (λ (n : ℕ). IsTooBig n (layout_by a extents fields)) (sym slots_same) big));
+    laid = subst (λ (l : List (List Owner)). AreLaid l blobs) layouts_same kept.laid;
+    fit =
+        subst (λ (t : List (List ℤ)). AllFit (length (indices extents)) (kinds_of fields) (holds_by a fields) t) (sym (moved_table blobs))
+        (subst (λ (hs : List Hold). AllFit (length (indices extents)) (kinds_of fields) hs (table_under b others trees blobs)) holds_same
+        (subst (λ (n : ℕ). AllFit n (kinds_of fields) (holds_by b trees) (table_under b others trees blobs)) rows_same
+        (subst (λ (f : Fields). AllFit (length (indices others)) (kinds_of f) (holds_by b trees) (table_under b others trees blobs)) (sym alike.0) kept.fit)));
+  }
+
+-- two views over one array, by their fields
+pub views_alike : (one two : Table) {seen others : Table} → seen ≡ one → others ≡ two → (one.fields ≡ two.fields) × (one.extents ≡ two.extents)
+    → (seen.fields ≡ others.fields) × (seen.extents ≡ others.extents)
+views_alike one two is are alike = (
+  ap (λ (t : Table). t.fields) is ∙ alike.0 ∙ sym (ap (λ (t : Table). t.fields) are),
+  ap (λ (t : Table). t.extents) is ∙ alike.1 ∙ sym (ap (λ (t : Table). t.extents) are),
+)
+
+pub views_one : (one two : Table) {seen others : Table} → seen ≡ one → others ≡ two → uncounted one.mapping ≡ uncounted two.mapping → uncounted seen.mapping ≡ uncounted others.mapping
+views_one one two is are same = ap (λ (t : Table). uncounted t.mapping) is ∙ same ∙ sym (ap (λ (t : Table). uncounted t.mapping) are)
+
+-- what callers see once other blobs stand there
+pub seen_moved : (schema : Schema) (extents : List ℕ) (expr : MapExpr) (old new : List (List ℕ)) (tally : Tally) (seen : Table) (rows : List (List ℤ))
+    → seen_from schema extents expr old tally ≡ seen → table_under (term_of expr) extents (schema_fields schema) new ≡ rows
+    → seen_from schema extents expr new tally ≡ (let t : Table = record seen { rows = rows } in t)
+seen_moved schema extents expr old new tally seen rows is table =
+    ap (λ (t : List (List ℤ)). let s : Table = record (seen_from schema extents expr old tally) { rows = t } in s) table
+    ∙ ap (λ (s : Table). let t : Table = record s { rows = rows } in t) is

@@ -1,0 +1,344 @@
+-- Runs of slots that are moved between the blobs of two views.
+use Rattle.std.proofs.Common.{◌≡◌, ◌⊎◌, ⊎_elim, inl, ℕ, ◌+◌, ◌*◌, ◌/◌, ◌%◌, ◌^◌, ◌<◌, ◌≤◌, ℤ, List, [], false, map, length, get_or, slice_index, Option, Some, None, refl, sym, ap, ◌∙◌, subst, arith}
+use Rattle.std.specs.Prelude.{⊤, IfSome, IsSomeAnd}
+use Rattle.std.proofs.lemmas.Bool.{cases_lt, cases_eq}
+use Rattle.std.proofs.lemmas.List.{get_or-map, length-map}
+use Rattle.extents.specs.Indices.{indices}
+use Rattle.extents.specs.declared.order.Order.{Order}
+use Rattle.linearize.specs.Slots.{slot_at, slot_count}
+use Rattle.record_dim.specs.declared.leaf_type.LeafType.{LeafType}
+use Rattle.record_dim.specs.declared.leaf_type.LeafType.TheVariants.{Bool as Truth, U8, U16, U32, U64, I8, I16, I32, I64}
+use Rattle.record_dim.specs.LeafTypes.{width_of}
+use Rattle.record_dim.specs.Trees.{Fields}
+use Rattle.record_dim.specs.Leaves.{kinds_of}
+use Rattle.places.specs.Holds.{full_holds, hold_of}
+use Rattle.places.specs.Image.{entry}
+use Rattle.places.specs.Laws.{IsLaidOut}
+use Rattle.places.specs.Layout.{Owner}
+use Rattle.places.specs.declared.piece.Cell.{Cell}
+use Rattle.places.specs.declared.piece.Hold.{Hold}
+use Rattle.piece_bits.specs.MovedLaws.{AreMoved}
+use Rattle.piece_bits.specs.Tables.{AreLaid, AreSized, table_in, hold_at}
+use Rattle.map_expr.specs.Terms.{Term, Aos, Soa, Aosoa, BitAos, BitSoa, Split, Byteswap, Bytesplit, Change, Count, Heat, Named}
+use Rattle.map_checks.specs.LeafCells.{leaf_cells_kinds, holds_by_kind}
+use Rattle.map_checks.specs.Mappings.{leaf_cells, layout_by, holds_by, most_slots, IsTooBigFor}
+use Rattle.map_plans.specs.Arrays.{array_of, lanes_in}
+use Rattle.map_any.specs.ArrayRuns.{IsArrayRun}
+use Rattle.map_any.specs.ArrayRunLaws.{array_holds}
+use Rattle.map_any.specs.Strategies.{AreRuns}
+use Rattle.views.specs.Kept.{IsKept, IsMappingOf, table_under}
+use Rattle.views.specs.Moves.{size_of, IsInBlock, IsInRun, IsRunMoved}
+use Rattle.views.specs.Tables.{Table, leaf_count_of}
+use Rattle.views.specs.MovesLaws.{run_laid, run_moved}
+use Rattle.views.specs.Stores.{kind_at, Fits, AllFit}
+
+-- what is said of a value three times says another thing of it
+if_three : {X : Type 0} (o : Option X) (P Q R S : X → Type 0) → ((x : X) → P x → Q x → R x → S x) → IfSome o P → IfSome o Q → IfSome o R → IfSome o S
+if_three None P Q R S f p q r = tt
+if_three (Some x) P Q R S f p q r = f x p q r
+
+-- two values that go with each other, and what is said of each
+record AreTwo {X : Type 0} (o p : Option X) (R : X → X → Type 0) (P Q : X → Type 0) : Type 0 where
+  one : X
+  two : X
+  is_one : o ≡ Some one
+  both : R one two
+  of_one : P one
+  of_two : Q two
+
+two_of : {X : Type 0} (o p : Option X) (R : X → X → Type 0) (P Q : X → Type 0) → IsSomeAnd o (λ x. IsSomeAnd p (R x)) → IfSome o P → IfSome p Q → AreTwo o p R P Q
+two_of None p R P Q are a b = absurd are
+two_of (Some x) None R P Q are a b = absurd are
+two_of (Some x) (Some y) R P Q are a b = record { one = x; two = y; is_one = refl; both = are; of_one = a; of_two = b }
+
+-- the hold and the width of a leaf that is stored as its type is
+full_kinds : (kinds : List LeafType) → full_holds (leaf_cells kinds) ≡ map hold_of kinds
+full_kinds kinds = holds_by_kind (leaf_cells kinds) ∙ ap (map hold_of) (leaf_cells_kinds kinds)
+
+pub full_hold : (kinds : List LeafType) (holds : List Hold) (leaf : ℕ) → leaf < length kinds → holds ≡ full_holds (leaf_cells kinds) → hold_at holds leaf ≡ hold_of (kind_at kinds leaf)
+full_hold kinds holds leaf inside full =
+    ap (λ (hs : List Hold). hold_at hs leaf) (full ∙ full_kinds kinds) ∙ get_or-map hold_of kinds leaf Truth (record { signed = false; width = 0 }) inside
+
+full_width : (kinds : List LeafType) (holds : List Hold) (leaf : ℕ) → leaf < length kinds → holds ≡ full_holds (leaf_cells kinds)
+    → slice_index (map (λ (h : Hold). h.width) holds) leaf ≡ width_of (kind_at kinds leaf)
+full_width kinds holds leaf inside full =
+    let none : Hold = record { signed = false; width = 0 } in
+    let same : length holds ≡ length kinds = ap (λ (hs : List Hold). length hs) (full ∙ full_kinds kinds) ∙ length-map kinds hold_of in
+    get_or-map (λ (h : Hold). h.width) holds leaf none 0 (omega arith) ∙ ap (λ (h : Hold). h.width) (full_hold kinds holds leaf inside full)
+
+-- widths are whole bytes
+pub whole_width : (kind : LeafType) → 8 * size_of kind ≡ width_of kind
+whole_width Truth = refl
+whole_width U8 = refl
+whole_width U16 = refl
+whole_width U32 = refl
+whole_width U64 = refl
+whole_width I8 = refl
+whole_width I16 = refl
+whole_width I32 = refl
+whole_width I64 = refl
+
+pub few_bits : (kind : LeafType) → width_of kind ≤ 64
+few_bits Truth = omega arith
+few_bits U8 = omega arith
+few_bits U16 = omega arith
+few_bits U32 = omega arith
+few_bits U64 = omega arith
+few_bits I8 = omega arith
+few_bits I16 = omega arith
+few_bits I32 = omega arith
+few_bits I64 = omega arith
+
+some_width : (kind : LeafType) → 0 < width_of kind
+some_width Truth = omega arith
+some_width U8 = omega arith
+some_width U16 = omega arith
+some_width U32 = omega arith
+some_width U64 = omega arith
+some_width I8 = omega arith
+some_width I16 = omega arith
+some_width I32 = omega arith
+some_width I64 = omega arith
+
+-- where a run of a mapping begins
+abbrev pub HasRun : Term → List (List Owner) → List ℕ → ℕ → ℕ → ℕ → ℕ → ℕ → Type 0
+HasRun term layout extents leaf width slot blob byte = IfSome (array_of term) (λ array. (count : ℕ) → 0 < count → slot + count ≤ slot_count array.0 extents
+    → slot % lanes_in array.1 (slot_count array.0 extents) + count ≤ lanes_in array.1 (slot_count array.0 extents)
+    → IsArrayRun layout array.0 extents leaf width slot count blob (8 * byte))
+
+-- what is said of a leaf's slots in a view
+pub record IsRunOf (term : Term) (extents : List ℕ) (fields : Fields) (leaf slot count blob byte : ℕ) (array : Order × Option ℕ) : Type 0 where
+  pub run : IsArrayRun (layout_by term extents fields) array.0 extents leaf (width_of (kind_at (kinds_of fields) leaf)) slot count blob (8 * byte)
+  pub full : holds_by term fields ≡ full_holds (leaf_cells (kinds_of fields))
+
+-- that of a view's mapping, in the view's own words
+pub run_there : {term : Term} {extents : List ℕ} {fields : Fields} {mapped : Term} {inside : List ℕ} {layout : List (List Owner)} {slots : ℕ} {cells : List Cell} {holds : List Hold}
+    → IsMappingOf term extents fields mapped inside layout slots cells holds → (leaf slot count blob byte : ℕ) → leaf < length (kinds_of fields) → 0 < count
+    → IsInBlock term extents slot count → HasRun mapped layout inside leaf (slice_index (map (λ (h : Hold). h.width) holds) leaf) slot blob byte
+    → IfSome (array_of term) (IsRunOf term extents fields leaf slot count blob byte)
+run_there {term} {extents} {fields} {mapped} {inside} {layout} {slots} {cells} {holds} mapping leaf slot count blob byte leaf_in some within has =
+    let width : ℕ = slice_index (map (λ (h : Hold). h.width) (holds_by term fields)) leaf in
+    let here : HasRun term (layout_by term extents fields) extents leaf width slot blob byte =
+    subst (λ (t : Term). HasRun t (layout_by term extents fields) extents leaf width slot blob byte) mapping.term_is
+    (subst (λ (l : List (List Owner)). HasRun mapped l extents leaf width slot blob byte) mapping.layout_is
+    (subst (λ (e : List ℕ). HasRun mapped layout e leaf width slot blob byte) mapping.extents_are
+    (subst (λ (hs : List Hold). HasRun mapped layout inside leaf (slice_index (map (λ (h : Hold). h.width) hs) leaf) slot blob byte) mapping.holds_are has))) in
+    if_three (array_of term) _ _ _ _
+    (λ array run block full. let found : IsRunOf term extents fields leaf slot count blob byte array = record {
+      run = subst (λ (w : ℕ). IsArrayRun (layout_by term extents fields) array.0 extents leaf w slot count blob (8 * byte))
+          (full_width (kinds_of fields) (holds_by term fields) leaf leaf_in full) (run count some block.0 block.1);
+      full = full;
+    } in found)
+    here within (array_holds term fields (leaf_cells (kinds_of fields)))
+
+-- a run that is moved between the blobs of two views
+module _ (a b : Term) (extents others_extents : List ℕ) (fields trees : Fields) (old others new : List (List ℕ)) (leaf slot count target at source from len : ℕ)
+    (alike : (fields ≡ trees) × (extents ≡ others_extents)) (arrays : AreRuns a b) (leaf_in : leaf < length (kinds_of fields)) (some : 0 < count)
+    (len_is : len ≡ count * size_of (kind_at (kinds_of fields) leaf))
+    (one : IfSome (array_of a) (IsRunOf a extents fields leaf slot count target at)) (two : IfSome (array_of b) (IsRunOf b others_extents trees leaf slot count source from))
+    (kept : IsKept a extents fields old) (others_kept : IsKept b others_extents trees others) where
+  abbrev OneOrder : Order × Option ℕ → Order × Option ℕ → Type 0
+  OneOrder x y = x.0 ≡ y.0
+
+  both : AreTwo (array_of a) (array_of b) OneOrder (IsRunOf a extents fields leaf slot count target at) (IsRunOf b extents fields leaf slot count source from)
+  both =
+      two_of (array_of a) (array_of b) OneOrder _ _ arrays one
+      (subst (λ (f : Fields). IfSome (array_of b) (IsRunOf b extents f leaf slot count source from)) (sym alike.0)
+      (subst (λ (e : List ℕ). IfSome (array_of b) (IsRunOf b e trees leaf slot count source from)) (sym alike.1) two))
+
+  there : IsKept b extents fields others
+  there = subst (λ (f : Fields). IsKept b extents f others) (sym alike.0) (subst (λ (e : List ℕ). IsKept b e trees others) (sym alike.1) others_kept)
+
+  abbrev width : ℕ
+  width = width_of (kind_at (kinds_of fields) leaf)
+
+  abbrev order : Order
+  order = both.one.0
+
+  abbrev layout : List (List Owner)
+  layout = layout_by a extents fields
+
+  abbrev other : List (List Owner)
+  other = layout_by b extents fields
+
+  abbrev holds : List Hold
+  holds = holds_by a fields
+
+  bits : 8 * len ≡ count * width
+  bits =
+      let size : ℕ = size_of (kind_at (kinds_of fields) leaf) in
+      let product : 8 * (count * size) ≡ count * (8 * size) = grind arith in
+      ap (λ (n : ℕ). 8 * n) len_is ∙ product ∙ ap (λ (n : ℕ). count * n) (whole_width (kind_at (kinds_of fields) leaf))
+
+  other_run : IsArrayRun other order extents leaf width slot count source (8 * from)
+  other_run = subst (λ (o : Order). IsArrayRun other o extents leaf width slot count source (8 * from)) (sym both.both) both.of_two.run
+
+  holds_same : holds_by b fields ≡ holds
+  holds_same = both.of_two.full ∙ sym both.of_one.full
+
+  -- the bytes are there
+  pub target_in : target < length old
+  target_in = omega (arith, both.of_one.run.blob_in, kept.laid.sized.count)
+
+  pub target_room : at + len ≤ length (get_or old target [])
+  target_room = omega (arith, both.of_one.run.within, kept.laid.sized.lengths target both.of_one.run.blob_in, bits)
+
+  pub source_in : source < length others
+  source_in = omega (arith, other_run.blob_in, there.laid.sized.count)
+
+  pub source_room : from + len ≤ length (get_or others source [])
+  source_room = omega (arith, other_run.within, there.laid.sized.lengths source other_run.blob_in, bits)
+
+  module _ (moved : AreMoved others old new source (8 * from) target (8 * at) (8 * len)) where
+    moved_bits : AreMoved others old new source (8 * from) target (8 * at) (count * width)
+    moved_bits = subst (λ (n : ℕ). AreMoved others old new source (8 * from) target (8 * at) n) bits moved
+
+    other_lawful : IsLaidOut other (length (indices extents)) (map (λ (h : Hold). h.width) holds)
+    other_lawful = subst (λ (hs : List Hold). IsLaidOut other (length (indices extents)) (map (λ (h : Hold). h.width) hs)) holds_same there.lawful
+
+    in_holds : leaf < length holds
+    in_holds = omega (arith, kept.paired)
+
+    width_is : (hold_at holds leaf).width ≡ width
+    width_is = ap (λ (h : Hold). h.width) (full_hold (kinds_of fields) holds leaf leaf_in both.of_one.full)
+
+    is_moved : IsRunMoved order extents (length (indices extents)) (length holds) leaf slot count
+        (table_in other (length (indices extents)) holds others) (table_under a extents fields old) (table_under a extents fields new)
+    is_moved =
+        run_moved layout other order extents holds others old new leaf width slot count source (8 * from) target (8 * at) kept.lawful other_lawful in_holds width_is
+        (some_width (kind_at (kinds_of fields) leaf)) both.of_one.run other_run moved_bits
+
+    same_table : table_in other (length (indices extents)) holds others ≡ table_under b extents fields others
+    same_table = ap (λ (hs : List Hold). table_in other (length (indices extents)) hs others) (sym holds_same)
+
+    source_fits : AllFit (length (indices extents)) (kinds_of fields) holds (table_in other (length (indices extents)) holds others)
+    source_fits =
+        subst (λ (hs : List Hold). AllFit (length (indices extents)) (kinds_of fields) hs (table_in other (length (indices extents)) hs others)) holds_same there.fit
+
+    -- what is kept of the blobs then
+    pub run_kept : IsKept a extents fields new
+    run_kept = record {
+      lawful = kept.lawful;
+      paired = kept.paired;
+      within = kept.within;
+      laid =
+          run_laid layout other order extents holds others old new leaf width slot count source (8 * from) target (8 * at) kept.lawful other_lawful in_holds width_is
+          (some_width (kind_at (kinds_of fields) leaf)) both.of_one.run other_run moved_bits kept.laid there.laid;
+      fit = λ row c row_in c_in.
+          let Fit : ℤ → Type 0 = λ value. Fits (kind_at (kinds_of fields) c) (hold_at holds c) value in
+          let in_table : c < length holds = omega (arith, kept.paired) in
+          let stands : ((c ≡ leaf) → IsInRun order extents slot count row → ⊥) → Fit (entry (table_under a extents fields new) row c) =
+          λ apart. subst Fit (sym (is_moved.stands row c row_in in_table apart)) (kept.fit row c row_in c_in) in
+          ⊎_elim
+          (λ (same : c ≡ leaf).
+          ⊎_elim (λ (low : slot_at order extents row < slot). stands (λ e run. absurd (let l : slot ≤ slot_at order extents row = run.0 in omega arith)))
+          (λ (from_slot : slot ≤ slot_at order extents row).
+          ⊎_elim
+          (λ (before : slot_at order extents row < slot + count).
+          subst Fit (sym (ap (entry (table_under a extents fields new) row) same ∙ is_moved.moved row row_in (from_slot, before) ∙ ap (entry (table_in other (length (indices extents)) holds others) row) (sym same)))
+          (source_fits row c row_in c_in))
+          (λ (past : slot + count ≤ slot_at order extents row). stands (λ e run. absurd (let l : slot_at order extents row < slot + count = run.1 in omega arith)))
+          (cases_lt (slot_at order extents row) (slot + count)))
+          (cases_lt (slot_at order extents row) slot))
+          (λ (other_leaf : c ≡ leaf → ⊥). stands (λ e run. other_leaf e))
+          (cases_eq c leaf);
+    }
+
+    -- and what the table is
+    pub run_table : IfSome (array_of a) (λ array. IsRunMoved array.0 extents (length (indices extents)) (length (kinds_of fields)) leaf slot count
+        (table_under b others_extents trees others) (table_under a extents fields old) (table_under a extents fields new))
+    run_table =
+        let Moved : List (List ℤ) → Type 0 = λ t. IsRunMoved order extents (length (indices extents)) (length (kinds_of fields)) leaf slot count t
+        (table_under a extents fields old) (table_under a extents fields new) in
+        let here : Moved (table_in other (length (indices extents)) holds others) =
+        subst (λ (n : ℕ). IsRunMoved order extents (length (indices extents)) n leaf slot count (table_in other (length (indices extents)) holds others)
+        (table_under a extents fields old) (table_under a extents fields new)) kept.paired is_moved in
+        let far : Moved (table_under b others_extents trees others) =
+        subst (λ (f : Fields). Moved (table_under b others_extents f others)) alike.0
+        (subst (λ (e : List ℕ). Moved (table_under b e fields others)) alike.1 (subst Moved same_table here)) in
+        subst (λ (o : Option (Order × Option ℕ)). IfSome o (λ array. IsRunMoved array.0 extents (length (indices extents)) (length (kinds_of fields)) leaf slot count
+        (table_under b others_extents trees others) (table_under a extents fields old) (table_under a extents fields new))) (sym both.is_one) far
+
+-- a mapping that lays out arrays over few slots, as those of views are
+slots_are : (term : Term) (extents : List ℕ) → IfSome (array_of term) (λ array. slot_count array.0 extents ≡ most_slots term extents)
+slots_are (Aos form by) extents = tt
+slots_are (Soa form by) extents = refl
+slots_are (Aosoa lanes by) extents = refl
+slots_are (BitAos most by) extents = tt
+slots_are (BitSoa most by) extents = tt
+slots_are (Split path first rest) extents = tt
+slots_are (Byteswap inner) extents = tt
+slots_are (Bytesplit inner) extents = tt
+slots_are (Change from to inner) extents = tt
+slots_are (Count inner) extents = slots_are inner extents
+slots_are (Heat granule inner) extents = slots_are inner extents
+slots_are (Named name) extents = tt
+
+few_in : (o : Option (Order × Option ℕ)) (P : Order × Option ℕ → Type 0) (extents : List ℕ) (slot count most : ℕ) → IsSomeAnd o P
+    → IfSome o (λ array. (slot + count ≤ slot_count array.0 extents) × (slot % lanes_in array.1 (slot_count array.0 extents) + count ≤ lanes_in array.1 (slot_count array.0 extents)))
+    → IfSome o (λ array. slot_count array.0 extents ≡ most) → most ≤ 2 ^ 24 → count ≤ 2 ^ 24
+few_in None P extents slot count most some within slots few = absurd some
+few_in (Some array) P extents slot count most some within slots few = omega (arith, within.0, slots)
+
+pub few_slots : (a b : Term) (extents : List ℕ) (fields : Fields) (slot count : ℕ) → AreRuns a b → IsInBlock a extents slot count
+    → (IsTooBigFor a extents fields (leaf_cells (kinds_of fields)) → ⊥) → count ≤ 2 ^ 24
+few_slots a b extents fields slot count arrays block small =
+    few_in (array_of a) (λ x. IsSomeAnd (array_of b) (λ y. x.0 ≡ y.0)) extents slot count (most_slots a extents) arrays block (slots_are a extents)
+    (⊎_elim (λ (many : 2 ^ 24 < most_slots a extents). absurd (small (inl many))) (λ (few : most_slots a extents ≤ 2 ^ 24). few) (cases_lt (2 ^ 24) (most_slots a extents)))
+
+-- the slot that a mapping is asked for
+slot_in : (o : Option (Order × Option ℕ)) (P : Order × Option ℕ → Type 0) (extents : List ℕ) (slot count : ℕ) → IsSomeAnd o P
+    → IfSome o (λ array. (slot + count ≤ slot_count array.0 extents) × (slot % lanes_in array.1 (slot_count array.0 extents) + count ≤ lanes_in array.1 (slot_count array.0 extents)))
+    → 0 < count → IsSomeAnd o (λ array. slot < slot_count array.0 extents)
+slot_in None P extents slot count some within more = absurd some
+slot_in (Some array) P extents slot count some within more = omega (arith, within.0)
+
+pub slot_there : {term : Term} {extents : List ℕ} {fields : Fields} {mapped : Term} {inside : List ℕ} {layout : List (List Owner)} {slots : ℕ} {cells : List Cell} {holds : List Hold}
+    → IsMappingOf term extents fields mapped inside layout slots cells holds → (P : Order × Option ℕ → Type 0) (slot count : ℕ) → IsSomeAnd (array_of term) P
+    → IsInBlock term extents slot count → 0 < count → IsSomeAnd (array_of mapped) (λ array. slot < slot_count array.0 inside)
+slot_there {term} {extents} {fields} {mapped} {inside} mapping P slot count some within more =
+    subst (λ (t : Term). IsSomeAnd (array_of t) (λ array. slot < slot_count array.0 inside)) (sym mapping.term_is)
+    (subst (λ (e : List ℕ). IsSomeAnd (array_of term) (λ array. slot < slot_count array.0 e)) (sym mapping.extents_are)
+    (slot_in (array_of term) P extents slot count some within more))
+
+-- of two that lay out arrays the other does
+other_array : (o p : Option (Order × Option ℕ)) → IsSomeAnd o (λ x. IsSomeAnd p (λ y. x.0 ≡ y.0)) → IsSomeAnd p (λ y. ⊤)
+other_array None p are = absurd are
+other_array (Some x) None are = absurd are
+other_array (Some x) (Some y) are = tt
+
+pub other_is : (a b : Term) → AreRuns a b → IsSomeAnd (array_of b) (λ y. ⊤)
+other_is a b are = other_array (array_of a) (array_of b) are
+
+-- no slot is moved
+none_moved : (o : Option (Order × Option ℕ)) (extents : List ℕ) (rows leaves leaf slot count : ℕ) (source old : List (List ℤ)) → count ≡ 0
+    → IfSome o (λ array. IsRunMoved array.0 extents rows leaves leaf slot count source old old)
+none_moved None extents rows leaves leaf slot count source old none = tt
+none_moved (Some array) extents rows leaves leaf slot count source old none = record {
+  moved = λ row inside run. absurd (let low : slot ≤ slot_at array.0 extents row = run.0 in let high : slot_at array.0 extents row < slot + count = run.1 in omega arith);
+  stands = λ row other inside c_in apart. refl;
+}
+
+pub nothing_moved : (seen : Table) (leaf slot count : ℕ) (source : List (List ℤ)) → count ≡ 0
+    → IfSome (array_of seen.mapping) (λ array. IsRunMoved array.0 seen.extents (length seen.rows) (leaf_count_of seen) leaf slot count source seen.rows seen.rows)
+nothing_moved seen leaf slot count source none = none_moved (array_of seen.mapping) seen.extents (length seen.rows) (leaf_count_of seen) leaf slot count source seen.rows none
+
+-- in the words of callers
+pub runs_seen : (one two : Table) {seen others : Table} → seen ≡ one → others ≡ two → AreRuns one.mapping two.mapping → AreRuns seen.mapping others.mapping
+runs_seen one two {seen} {others} is are runs =
+    subst (λ (t : Table). AreRuns t.mapping others.mapping) (sym is) (subst (λ (t : Table). AreRuns one.mapping t.mapping) (sym are) runs)
+
+pub one_seen : (one : Table) {seen : Table} (other : Term) → seen ≡ one → AreRuns one.mapping other → AreRuns seen.mapping other
+one_seen one other is runs = subst (λ (t : Table). AreRuns t.mapping other) (sym is) runs
+
+pub block_seen : (one : Table) {seen : Table} (slot count : ℕ) → seen ≡ one → IsInBlock one.mapping one.extents slot count → IsInBlock seen.mapping seen.extents slot count
+block_seen one slot count is block = subst (λ (t : Table). IsInBlock t.mapping t.extents slot count) (sym is) block
+
+pub moved_seen : (one two : Table) {seen others : Table} (leaf slot count leaves : ℕ) (new : List (List ℤ)) → seen ≡ one → others ≡ two → leaves ≡ leaf_count_of seen → length (indices seen.extents) ≡ length seen.rows
+    → IfSome (array_of seen.mapping) (λ array. IsRunMoved array.0 seen.extents (length (indices seen.extents)) leaves leaf slot count others.rows seen.rows new)
+    → IfSome (array_of one.mapping) (λ array. IsRunMoved array.0 one.extents (length one.rows) (leaf_count_of one) leaf slot count two.rows one.rows new)
+moved_seen one two {seen} {others} leaf slot count leaves new is are leaves_are rows h =
+    subst (λ (t : Table). IfSome (array_of t.mapping) (λ array. IsRunMoved array.0 t.extents (length t.rows) (leaf_count_of t) leaf slot count two.rows t.rows new)) is
+    (subst (λ (t : Table). IfSome (array_of seen.mapping) (λ array. IsRunMoved array.0 seen.extents (length seen.rows) (leaf_count_of seen) leaf slot count t.rows seen.rows new)) are
+    (subst (λ (n : ℕ). IfSome (array_of seen.mapping) (λ array. IsRunMoved array.0 seen.extents (length seen.rows) n leaf slot count others.rows seen.rows new)) leaves_are
+    (subst (λ (n : ℕ). IfSome (array_of seen.mapping) (λ array. IsRunMoved array.0 seen.extents n leaves leaf slot count others.rows seen.rows new)) rows h)))

@@ -1,0 +1,62 @@
+use Rattle.std.proofs.Common.{◌≡◌, ◌∙◌, ◌+◌, ◌≤◌, ℕ, List, length, sum_by, sym, ap, subst, arith}
+use Rattle.record_dim.specs.Schemas.{schema_fields}
+use Rattle.places.specs.Layout.{Owner}
+use Rattle.blobs.specs.Moves.{blocks}
+use Rattle.map_expr.specs.Terms.{term_of, uncounted}
+use Rattle.map_checks.specs.Mappings.{layout_by}
+use Rattle.piece_bits.specs.Tables.{AreSized}
+use Rattle.views.specs.Kept.{IsKept, tally_of, table_under}
+use Rattle.views.specs.Moves.{blob_steps}
+use Rattle.views.specs.Tables.{Table, owners_of}
+use Rattle.views.proofs.MoveLaws.{blocks_are, same_lengths, moved_table, moved_kept, views_alike, views_one, seen_moved}
+use Rattle.views.proofs.view.View.move_blobs.Goals as goal
+
+pub move_all-requires : goal.move_all-requires
+move_all-requires g c =
+    let a = c.self.inside in
+    let b = c.source.inside in
+    let layout : List (List Owner) = layout_by (term_of a.expr) a.extents (schema_fields a.schema) in
+    let alike : (schema_fields a.schema ≡ schema_fields b.schema) × (a.extents ≡ b.extents) = views_alike c.args.self.now c.args.source.now c.self.view_is c.source.view_is c.requires.alike in
+    let same : uncounted (term_of a.expr) ≡ uncounted (term_of b.expr) = views_one c.args.self.now c.args.source.now c.self.view_is c.source.view_is c.requires.blobs in
+    let kept = moved_kept (term_of a.expr) (term_of b.expr) a.extents b.extents (schema_fields a.schema) (schema_fields b.schema) same alike b.blobs.items c.source.invariant.1 in
+    record {
+      lengths = same_lengths layout a.blobs.items c.as_slice.result.now c.self.invariant.1.laid.sized
+          (subst (λ (bs : List (List ℕ)). AreSized layout bs) (sym c.as_slice.ensures.value) kept.laid.sized);
+    }
+
+pub invariant_of-self : goal.invariant_of-self
+invariant_of-self g c =
+    let a = c.self.inside in
+    let b = c.source.inside in
+    let alike : (schema_fields a.schema ≡ schema_fields b.schema) × (a.extents ≡ b.extents) = views_alike c.args.self.now c.args.source.now c.self.view_is c.source.view_is c.requires.alike in
+    let same : uncounted (term_of a.expr) ≡ uncounted (term_of b.expr) = views_one c.args.self.now c.args.source.now c.self.view_is c.source.view_is c.requires.blobs in
+    let kept = moved_kept (term_of a.expr) (term_of b.expr) a.extents b.extents (schema_fields a.schema) (schema_fields b.schema) same alike b.blobs.items c.source.invariant.1 in (
+      c.self.invariant.0,
+      subst (λ (bs : List (List ℕ)). IsKept (term_of a.expr) a.extents (schema_fields a.schema) bs) (sym (c.move_all.ensures.blobs ∙ c.as_slice.ensures.value)) kept,
+      c.self.invariant.2,
+    )
+
+pub returns-clause-rows : goal.returns-clause-rows
+returns-clause-rows g c =
+    let a = c.self.inside in
+    let b = c.source.inside in
+    let alike : (schema_fields a.schema ≡ schema_fields b.schema) × (a.extents ≡ b.extents) = views_alike c.args.self.now c.args.source.now c.self.view_is c.source.view_is c.requires.alike in
+    let same : uncounted (term_of a.expr) ≡ uncounted (term_of b.expr) = views_one c.args.self.now c.args.source.now c.self.view_is c.source.view_is c.requires.blobs in
+    let blobs : c.move_all.new.blobs.items ≡ b.blobs.items = c.move_all.ensures.blobs ∙ c.as_slice.ensures.value in
+    seen_moved a.schema a.extents a.expr a.blobs.items c.move_all.new.blobs.items (tally_of a.counts a.heat) c.args.self.now c.args.source.now.rows c.self.view_is
+    (moved_table (term_of a.expr) (term_of b.expr) a.extents b.extents (schema_fields a.schema) (schema_fields b.schema) same alike c.move_all.new.blobs.items
+    ∙ ap (λ (bs : List (List ℕ)). table_under (term_of b.expr) b.extents (schema_fields b.schema) bs) blobs
+    ∙ ap (λ (s : Table). s.rows) c.source.view_is)
+
+pub returns-clause-steps : goal.returns-clause-steps
+returns-clause-steps g c =
+    let a = c.self.inside in
+    let b = c.source.inside in
+    let layout : List (List Owner) = layout_by (term_of a.expr) a.extents (schema_fields a.schema) in
+    let alike : (schema_fields a.schema ≡ schema_fields b.schema) × (a.extents ≡ b.extents) = views_alike c.args.self.now c.args.source.now c.self.view_is c.source.view_is c.requires.alike in
+    let same : uncounted (term_of a.expr) ≡ uncounted (term_of b.expr) = views_one c.args.self.now c.args.source.now c.self.view_is c.source.view_is c.requires.blobs in
+    let kept = moved_kept (term_of a.expr) (term_of b.expr) a.extents b.extents (schema_fields a.schema) (schema_fields b.schema) same alike b.blobs.items c.source.invariant.1 in
+    let count : sum_by (λ (blob : List ℕ). blocks (length blob)) c.as_slice.result.now ≡ blob_steps (owners_of c.args.self.now) =
+    ap (λ (bs : List (List ℕ)). sum_by (λ (blob : List ℕ). blocks (length blob)) bs) c.as_slice.ensures.value
+    ∙ blocks_are layout b.blobs.items kept.laid.sized ∙ ap (λ (s : Table). blob_steps (owners_of s)) c.self.view_is in
+    omega (arith, c.move_all.ensures.steps, count)

@@ -1,0 +1,35 @@
+-- What a table is after bytes were moved from another, and what that takes.
+use Rattle.std.specs.Prelude.{ℕ, ℤ, ◌≡◌, ◌+◌, ◌%◌, ◌/◌, ◌<◌, ◌≤◌, List, length, map, sum_by, IfSome}
+use Rattle.extents.specs.declared.order.Order.{Order}
+use Rattle.linearize.specs.Slots.{slot_at, slot_count}
+use Rattle.record_dim.specs.Leaves.{kinds_of}
+use Rattle.record_dim.specs.LeafTypes.{width_of}
+use Rattle.record_dim.specs.Trees.{Fields}
+use Rattle.record_dim.specs.declared.leaf_type.LeafType.{LeafType}
+use Rattle.places.specs.Image.{entry}
+use Rattle.places.specs.Layout.{Owner}
+use Rattle.blobs.specs.Moves.{blocks}
+use Rattle.map_expr.specs.Terms.{Term}
+use Rattle.map_plans.specs.Arrays.{array_of, lanes_in}
+
+-- the blocks of at most 64 bytes that all blobs of a layout are
+abbrev pub blob_steps : List (List Owner) → ℕ
+blob_steps layout = sum_by (λ blob. blocks (length blob / 8)) layout
+
+-- the bytes of a leaf
+abbrev pub size_of : LeafType → ℕ
+size_of kind = width_of kind / 8
+
+-- slots from one on are slots of one block of a mapping that lays out arrays
+abbrev pub IsInBlock : Term → List ℕ → ℕ → ℕ → Type 0
+IsInBlock term extents slot count = IfSome (array_of term) (λ array. let slots = slot_count array.0 extents in
+    (slot + count ≤ slots) × (slot % lanes_in array.1 slots + count ≤ lanes_in array.1 slots))
+
+-- a row has one of these slots
+abbrev pub IsInRun : Order → List ℕ → ℕ → ℕ → ℕ → Type 0
+IsInRun order extents slot count row = (slot ≤ slot_at order extents row) × (slot_at order extents row < slot + count)
+
+-- the entries of a leaf in the rows of these slots are those of another table, and all others stand
+pub record IsRunMoved (order : Order) (extents : List ℕ) (rows leaves leaf slot count : ℕ) (source old new : List (List ℤ)) : Type 0 where
+  pub moved : (row : ℕ) → row < rows → IsInRun order extents slot count row → entry new row leaf ≡ entry source row leaf
+  pub stands : (row other : ℕ) → row < rows → other < leaves → (other ≡ leaf → IsInRun order extents slot count row → ⊥) → entry new row other ≡ entry old row other
