@@ -8,7 +8,7 @@ use Rattle.std.proofs.lemmas.Bool.{cases_lt, cases_eq}
 use Rattle.std.proofs.Math.Pow.{pow_mono}
 use Rattle.std.proofs.Math.Nat.{mul_comm}
 use Rattle.places.specs.Image.{number}
-use Rattle.places.specs.NumbersLaws.{number_same, number_split, number_bits, number_lt}
+use Rattle.places.specs.NumbersLaws.{number_same, number_split, number_bits, number_lt, bit_number}
 use Rattle.blobs.specs.Bits.{bit_of}
 
 -- the low bits of a number are those of what is left of it under a power of two
@@ -32,6 +32,12 @@ number_of_byte bytes at index low n e within =
     number_same (λ k. bit_of bytes (at + k)) (λ k. (byte / 2 ^ low / 2 ^ k) % 2) n
     (λ k l. bit_of_byte bytes (at + k) index (low + k) (omega arith) (omega arith) ∙ ap (λ (w : ℕ). w % 2) (sym (shr-shr byte low k)))
     ∙ number_bits (byte / 2 ^ low) n
+
+-- the bits of a number that was read
+pub bit_read : (bytes : List ℕ) (at n value : ℕ) → value ≡ number (λ k. bit_of bytes (at + k)) n → (k : ℕ) → k < n → bit_at value k ≡ bit_of bytes (at + k)
+bit_read bytes at n value is k h =
+    ap (λ (w : ℕ). bit_at w k) is
+    ∙ bit_number (λ k. bit_of bytes (at + k)) n k (λ j l. bit_at-lt (get_or bytes ((at + j) / 8) 0) ((at + j) % 8)) h
 
 -- bits read so far, and those of one more byte
 pub number_more : (bytes : List ℕ) (at done index low n : ℕ) → at + done ≡ 8 * index + low → low + n ≤ 8 →
