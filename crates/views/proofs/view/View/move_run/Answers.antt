@@ -1,7 +1,6 @@
 use Rattle.std.proofs.Common.{◌≡◌, ◌∙◌, ◌+◌, ◌*◌, ◌/◌, ◌^◌, ◌<◌, ◌≤◌, ℕ, List, [], length, get_or, refl, sym, ap, subst, arith}
 use Rattle.std.proofs.lemmas.Nat.{mul-le}
 use Rattle.std.proofs.lemmas.Option.{get_or_from_slice_get}
-use Rattle.extents.specs.Indices.{indices}
 use Rattle.record_dim.specs.LeafTypes.{width_of}
 use Rattle.record_dim.specs.Leaves.{kinds_of}
 use Rattle.record_dim.specs.Schemas.{schema_fields}
@@ -12,7 +11,7 @@ use Rattle.blobs.specs.Moves.{blocks}
 use Rattle.piece_bits.specs.MovedLaws.{AreMoved}
 use Rattle.map_expr.specs.Terms.{term_of}
 use Rattle.map_any.specs.Strategies.{AreRuns}
-use Rattle.views.specs.Kept.{IsKept, tally_of, table_under}
+use Rattle.views.specs.Kept.{tally_of, table_under}
 use Rattle.views.specs.Moves.{size_of, IsInBlock}
 use Rattle.views.specs.Stores.{kind_at}
 use Rattle.views.specs.Tables.{Table, leaf_type_of}
