@@ -1,4 +1,4 @@
-use Rattle.std.proofs.Common.{◌≡◌, ◌∙◌, ℕ, List, [], get_or, subst, sym}
+use Rattle.std.proofs.Common.{◌≡◌, ◌∙◌, ℕ, List, [], get_or, subst}
 use Rattle.std.proofs.lemmas.List.{get_or_default}
 use Rattle.blobs.specs.Moves.{IsMoved}
 use Rattle.piece_bits.specs.MovedBytesLaws.{moved_bits}

@@ -1,4 +1,4 @@
-use Rattle.std.proofs.Common.{◌≡◌, ◌∙◌, ◌+◌, ◌≤◌, ℕ, List, length, sum_by, sym, ap, subst, arith}
+use Rattle.std.proofs.Common.{◌≡◌, ◌∙◌, ℕ, List, length, sum_by, sym, ap, subst, arith}
 use Rattle.record_dim.specs.Schemas.{schema_fields}
 use Rattle.places.specs.Layout.{Owner}
 use Rattle.blobs.specs.Moves.{blocks}

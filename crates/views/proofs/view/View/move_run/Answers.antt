@@ -1,7 +1,6 @@
 use Rattle.std.proofs.Common.{◌≡◌, ◌∙◌, ◌+◌, ◌*◌, ◌/◌, ◌^◌, ◌<◌, ◌≤◌, ℕ, List, [], length, get_or, refl, sym, ap, subst, arith}
 use Rattle.std.proofs.lemmas.Nat.{mul-le}
 use Rattle.std.proofs.lemmas.Option.{get_or_from_slice_get}
-use Rattle.extents.specs.Indices.{indices}
 use Rattle.record_dim.specs.LeafTypes.{width_of}
 use Rattle.record_dim.specs.Leaves.{kinds_of}
 use Rattle.record_dim.specs.Schemas.{schema_fields}
@@ -12,7 +11,7 @@ use Rattle.blobs.specs.Moves.{blocks}
 use Rattle.piece_bits.specs.MovedLaws.{AreMoved}
 use Rattle.map_expr.specs.Terms.{term_of}
 use Rattle.map_any.specs.Strategies.{AreRuns}
-use Rattle.views.specs.Kept.{IsKept, tally_of, table_under}
+use Rattle.views.specs.Kept.{tally_of, table_under}
 use Rattle.views.specs.Moves.{size_of, IsInBlock}
 use Rattle.views.specs.Stores.{kind_at}
 use Rattle.views.specs.Tables.{Table, leaf_type_of}
@@ -164,11 +163,10 @@ invariant_of-self g c =
     let bytes : n * (c.width.result / 8) ≡ n * size_of (kind_at (kinds_of (schema_fields a.schema)) c.args.leaf) =
     ap (λ (w : ℕ). n * (w / 8)) c.width.ensures ∙ ap (λ (k : LeafType). n * size_of k) (sym kind) in
     let moved : AreMoved b.blobs.items a.blobs.items c.move_between.new.blobs.items c.place_of-from.result.blob (8 * c.place_of-from.result.byte) c.place_of-to.result.blob (8 * c.place_of-to.result.byte) (8 * (n * (c.width.result / 8))) =
-    subst (λ (bs : List (List ℕ)). AreMoved bs a.blobs.items c.move_between.new.blobs.items c.place_of-from.result.blob (8 * c.place_of-from.result.byte) c.place_of-to.result.blob (8 * c.place_of-to.result.byte) (8 * (n * (c.width.result / 8)))) c.as_slice.ensures.value c.move_between.ensures.moved in
-    (
+    subst (λ (bs : List (List ℕ)). AreMoved bs a.blobs.items c.move_between.new.blobs.items c.place_of-from.result.blob (8 * c.place_of-from.result.byte) c.place_of-to.result.blob (8 * c.place_of-to.result.byte) (8 * (n * (c.width.result / 8)))) c.as_slice.ensures.value c.move_between.ensures.moved in (
       c.self.invariant.0,
       run_kept (term_of a.expr) (term_of b.expr) a.extents b.extents (schema_fields a.schema) (schema_fields b.schema) a.blobs.items b.blobs.items c.move_between.new.blobs.items c.args.leaf c.args.slot n
-    c.place_of-to.result.blob c.place_of-to.result.byte c.place_of-from.result.blob c.place_of-from.result.byte (n * (c.width.result / 8)) alike arrays leaf_in some bytes one two c.self.invariant.1 c.source.invariant.1 moved,
+          c.place_of-to.result.blob c.place_of-to.result.byte c.place_of-from.result.blob c.place_of-from.result.byte (n * (c.width.result / 8)) alike arrays leaf_in some bytes one two c.self.invariant.1 c.source.invariant.1 moved,
       c.self.invariant.2,
     )
 
