@@ -1,7 +1,7 @@
 -- The laws of a layout by rows, for any order: its bits and places are those of the layout by slots.
 use Rattle.std.proofs.Common.{◌≡◌, ℕ, ◌%◌, ◌<◌, List, [], ◌∷◌, map, length, sum_by, get_or, All, refl, sym, ap, ◌∙◌, subst, arith}
 use Rattle.std.specs.Prelude.{Option, Some, None}
-use Rattle.std.proofs.lemmas.List.{length-map}
+use Rattle.std.proofs.lemmas.List.{get_or-map, length-map}
 use Rattle.std.proofs.lemmas.List.Sums.{sum_by-cons}
 use Rattle.std.proofs.lemmas.List.Elements.{All-map}
 use Rattle.extents.specs.Indices.{indices}
@@ -53,6 +53,13 @@ back_in_slots order extents widths = record {
 -- blobs keep their lengths
 pub length-in_rows : (row : ℕ → Option ℕ) (layout : List (List Owner)) → length (in_rows row layout) ≡ length layout
 length-in_rows row layout = length-map layout (map (renamed (λ slot cell bit. bit_in_row (row slot) cell bit)))
+
+pub length-blob : (row : ℕ → Option ℕ) (layout : List (List Owner)) (blob : ℕ) → blob < length layout
+    → length (get_or (in_rows row layout) blob []) ≡ length (get_or layout blob [])
+length-blob row layout blob inside =
+    let name : Owner → Owner = renamed (λ slot cell bit. bit_in_row (row slot) cell bit) in
+    ap (λ (owners : List Owner). length owners) (get_or-map (map name) layout blob [] [] inside)
+    ∙ length-map (get_or layout blob []) name
 
 pub sum-blobs : (row : ℕ → Option ℕ) (layout : List (List Owner)) → sum_by length (in_rows row layout) ≡ sum_by length layout
 sum-blobs row [] = refl
