@@ -1,5 +1,5 @@
 // Kernels that can run on a view.
-ghost use Rattle.std.specs.Prelude.{◌≡◌, ◌≤ℤ◌, ◌<ℤ◌, ◌^◌, ◌<◌, IfOk, OnOk, true, false, pos, neg_ℤ};
+ghost use Rattle.std.specs.Prelude.{◌≡◌, ◌≤◌, ◌≤ℤ◌, ◌<ℤ◌, ◌^◌, ◌<◌, IfOk, OnOk, true, false, pos, neg_ℤ};
 ghost use Rattle.record_dim.specs.Schemas.{schema_fields};
 ghost use Rattle.lane_kernels.specs.Kernels.{IsFactor, IsKernelOf, IsNarrow};
 ghost use Rattle.views.specs.Columns.{IsNarrowLeaf};
@@ -37,6 +37,7 @@ pub fn fit_kernel(
 ) -> Result<Kernel, StepFault>
     ensures fit { Gives (λ kernel. kernel) result (fit_kernel view.now.fields text.now lanes) }
     ensures able { IfOk result (IsKernelOf view.now) }
+    ensures lanes { OnOk result ((1 ≤ lanes) × (lanes ≤ 16)) }
 {
     match text {
         KernelText::Axpy { a, x, y } => fit_axpy(alloc, view, *a, x, y, lanes),
@@ -76,6 +77,7 @@ fn fit_axpy(
 ) -> Result<Kernel, StepFault>
     ensures fit { Gives (λ kernel. kernel) result (fit_kernel view.now.fields (KernelText.Axpy a x.now y.now) lanes) }
     ensures able { IfOk result (IsKernelOf view.now) }
+    ensures lanes { OnOk result ((1 ≤ lanes) × (lanes ≤ 16)) }
 {
     let x = leaf_of(alloc, view, x)?;
     let y = leaf_of(alloc, view, y)?;
@@ -94,6 +96,7 @@ fn fit_leaf(
 ) -> Result<usize, StepFault>
     ensures leaf { Gives (λ leaf. leaf) result (fit_leaf view.now.fields path.now lanes constants) }
     ensures narrow { IfOk result (IsNarrowLeaf view.now) }
+    ensures lanes { OnOk result ((1 ≤ lanes) × (lanes ≤ 16)) }
     ensures constants { OnOk result (constants ≡ true) }
 {
     let leaf = leaf_of(alloc, view, path)?;
@@ -104,6 +107,7 @@ fn fit_leaf(
 // That no cause of three refuses a kernel.
 fn fits(lanes: u32, wide: bool, constants: bool) -> Result<(), StepFault>
     ensures fits { Gives (λ done. tt) result (fits lanes wide constants) }
+    ensures lanes { OnOk result ((1 ≤ lanes) × (lanes ≤ 16)) }
     ensures narrow { OnOk result (wide ≡ false) }
     ensures constants { OnOk result (constants ≡ true) }
 {
@@ -126,7 +130,8 @@ fn bad_kernel(bad: BadKernel) -> StepFault
 }
 
 fn are_lanes(lanes: u32) -> bool
-    ensures { result ≡ are_lanes lanes }
+    ensures lanes { result ≡ are_lanes lanes }
+    ensures range { result ≡ true → (1 ≤ lanes) × (lanes ≤ 16) }
 {
     matches!(lanes, 1 | 2 | 4 | 8 | 16)
 }

@@ -1,16 +1,18 @@
 // `kernel V .. lanes N`.
+ghost use Rattle.std.specs.Prelude.{◌+◌, ◌≤◌, Some, length};
 ghost use Rattle.layout_io.specs.Writing.{Writes};
-ghost use Rattle.lane_kernels.specs.Kernels.{IsKernelOf};
+ghost use Rattle.lane_kernels.specs.Kernels.{IsKernelOf, kernel_cost};
 ghost use Rattle.record_dim.specs.Schemas.{schema_fields};
 ghost use Rattle.worlds.specs.OnView.{done_to};
 ghost use Rattle.worlds.specs.Kernel.{kernel_run, number_text, run, run_fault};
 ghost use Rattle.command_checks.specs.Gives.{Gives};
+ghost use Rattle.session.specs.Bounds.{kernel_steps};
 ghost use Rattle.session.specs.Changes.{Tells, left_with};
 
 use crate::numbers::write_number;
 use crate::work::Work;
 use command_checks::{StepFault, fit_kernel, leaf_text};
-use lane_kernels::{Kernel, KernelFault, run_plain};
+use lane_kernels::{Kernel, KernelFault, run_lanes};
 use layout_io::{Failed, Sink};
 use line_grammar::KernelText;
 use std::alloc::Global;
@@ -28,6 +30,8 @@ pub(crate) struct RunKernel<'a> {
 
 impl Work for RunKernel<'_> {
     ghost does = { λ this table. kernel_run table this.kernel.now this.lanes };
+
+    ghost most = { λ this table. Some (kernel_steps table this.kernel.now this.lanes) };
 
     fn run<K: Sink, L: Ledger>(
         &self,
@@ -50,11 +54,12 @@ fn kernel_run<L: Ledger>(
     lanes: u32,
     steps: &mut Steps<L>,
 ) -> Result<Option<i64>, StepFault>
-    ensures { Gives (λ number. left_with view.new (number_text number)) result
+    ensures number { Gives (λ number. left_with view.new (number_text number)) result
         (done_to view.old (kernel_run view.old text.now lanes)) }
+    ensures steps { steps.new ≤ steps.old + kernel_steps view.old text.now lanes }
 {
     let kernel = fit_kernel(alloc, view, text, lanes)?;
-    let number = run(alloc, view, &kernel, steps)?;
+    let number = run(alloc, view, &kernel, lanes as usize, steps)?;
     Ok(number)
 }
 
@@ -63,13 +68,17 @@ fn run<L: Ledger>(
     alloc: Global,
     view: &mut View,
     kernel: &Kernel,
+    lanes: usize,
     steps: &mut Steps<L>,
 ) -> Result<Option<i64>, StepFault>
-    requires { IsKernelOf view.old kernel.now }
-    ensures { Gives (λ number. left_with view.new (number_text number)) result
+    requires kernel { IsKernelOf view.old kernel.now }
+    requires some { 1 ≤ lanes }
+    requires few { lanes ≤ 16 }
+    ensures number { Gives (λ number. left_with view.new (number_text number)) result
         (done_to view.old (run view.old kernel.now)) }
+    ensures steps { steps.new ≤ steps.old + kernel_cost kernel.now lanes (length view.old.rows) }
 {
-    match run_plain(view, kernel, steps) {
+    match run_lanes(view, kernel, lanes, steps) {
         Ok(number) => Ok(number),
         Err(fault) => Err(run_fault(alloc, view, fault)?.into()),
     }

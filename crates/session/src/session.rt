@@ -5,7 +5,7 @@ ghost use Rattle.line_grammar.specs.Sentences.{sentence_of, file_of};
 ghost use Rattle.worlds.specs.Answers.{StepsTo, StepCause};
 ghost use Rattle.worlds.specs.OnView.{on_view};
 ghost use Rattle.worlds.specs.Step.{step, command};
-ghost use Rattle.worlds.specs.Worlds.{empty};
+ghost use Rattle.worlds.specs.Worlds.{empty, found};
 
 use crate::assign::Assign;
 use crate::kernel::RunKernel;
@@ -36,6 +36,7 @@ pub struct Session {
 impl Session {
     ghost use Rattle.session.specs.Stands.{Stands, world_of};
     ghost use Rattle.session.specs.Answers.{Answers, TookNone, IsFit, ending_of};
+    ghost use Rattle.session.specs.Bounds.{Within, WithinSteps, most_on};
     ghost use Rattle.session.specs.Loads.{UnreadOnly, ToldFor};
 
     /// A session that holds nothing.
@@ -69,6 +70,7 @@ impl Session {
         ensures cause { StepCause (ending_of (file_of (sentence_of line.now))) (H.files shelf.old) (H.faults shelf.old) (H.faults shelf.new) (K.faults out.old) (K.faults out.new) result }
         ensures unread { UnreadOnly (file_of (sentence_of line.now)) (step (world_of self) (sentence_of line.now)) result }
         ensures untaken { TookNone K.taken out.old out.new result }
+        ensures bound { WithinSteps (world_of self) (sentence_of line.now) steps.old steps.new }
     {
         match line {
             Line::Load {
@@ -101,8 +103,9 @@ impl Session {
     ) -> Result<Session, StepFault>
         requires fit { IsFit line.now }
         requires no_file { file_of (sentence_of line.now) ≡ None }
-        ensures { (files : List File) (unread : Bool) → Answers Stands K.taken K.faults out.old out.new
+        ensures answers { (files : List File) (unread : Bool) → Answers Stands K.taken K.faults out.old out.new
             (command (world_of self) (sentence_of line.now) files unread) result }
+        ensures bound { WithinSteps (world_of self) (sentence_of line.now) steps.old steps.new }
     {
         match line {
             Line::Blank => Ok(self),
@@ -172,7 +175,8 @@ impl Session {
         out: &mut K,
         steps: &mut Steps<L>,
     ) -> Result<Session, StepFault>
-        ensures { Answers Stands K.taken K.faults out.old out.new (on_view (world_of self) name (W.does work.now)) result }
+        ensures answers { Answers Stands K.taken K.faults out.old out.new (on_view (world_of self) name (W.does work.now)) result }
+        ensures bound { Within (most_on (found name (world_of self).views) (W.most work.now)) steps.old steps.new }
     {
         let place = known_view(self.views.as_slice(), name)?;
         let view = &mut self.views[place].view;

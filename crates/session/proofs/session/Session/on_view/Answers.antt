@@ -8,18 +8,18 @@ use Rattle.session.proofs.Exits.{gave_up, known_at}
 use Rattle.session.proofs.Views.{view_stops, view_done}
 use Rattle.session.proofs.session.Session.on_view.Goals as goal
 
-pub returns-in_err-run : goal.returns-in_err-run
-returns-in_err-run g c =
+pub returns-in_err-run-clause-answers : goal.returns-in_err-run-clause-answers
+returns-in_err-run-clause-answers g c =
     let items = c.args.self.views.items in
     let at : IsAt view_of c.args.name items c.in_ok-place.place = rw c.as_slice.ensures.value at c.in_ok-place.ensures.at in
     let entry = c.index_mut.result.now in
     view_stops g.K.Sink.taken g.K.Sink.faults c.args.out.now c.run.new.out (world_of c.args.self) c.args.name c.run.new.view entry.view (g.W.Work.does c.args.work.now) c.in_err-run.field-0.0 _ (search rules)
-    (known_at c.args.name items c.in_ok-place.place entry at c.index_mut.ensures.value) c.in_err-run.ensures
+    (known_at c.args.name items c.in_ok-place.place entry at c.index_mut.ensures.value) c.in_err-run.ensures.answers
 
-pub returns : goal.returns
-returns g c =
+pub returns-clause-answers : goal.returns-clause-answers
+returns-clause-answers g c =
     let items = c.args.self.views.items in
     let at : IsAt view_of c.args.name items c.in_ok-place.place = rw c.as_slice.ensures.value at c.in_ok-place.ensures.at in
     let entry = c.index_mut.result.now in
     let changed : ViewEntry = record { name = entry.name; view = c.run.new.view } in
-    view_done g.K.Sink.taken g.K.Sink.faults c.args.out.now c.run.new.out c.args.self _ c.args.name c.in_ok-place.place entry changed (g.W.Work.does c.args.work.now) at c.index_mut.ensures.value refl refl c.in_ok-run.ensures
+    view_done g.K.Sink.taken g.K.Sink.faults c.args.out.now c.run.new.out c.args.self _ c.args.name c.in_ok-place.place entry changed (g.W.Work.does c.args.work.now) at c.index_mut.ensures.value refl refl c.in_ok-run.ensures.answers

@@ -41,14 +41,14 @@ returns-in-Load-clause-untaken g c = untaken_quiet g.K.Sink.taken c.args.out.now
 
 pub returns-in_default-clause-step : goal.returns-in_default-clause-step
 returns-in_default-clause-step g c = λ files told.
-    steps_shown g.K.Sink.taken g.K.Sink.faults c.args.out.now c.command.new.out (world_of c.args.self) (sentence_of c.args.line.now) (file_of (sentence_of c.args.line.now)) files _ c.command.result (c.command.ensures files false)
+    steps_shown g.K.Sink.taken g.K.Sink.faults c.args.out.now c.command.new.out (world_of c.args.self) (sentence_of c.args.line.now) (file_of (sentence_of c.args.line.now)) files _ c.command.result (c.command.ensures.answers files false)
 
 pub returns-in_default-clause-cause : goal.returns-in_default-clause-cause
 returns-in_default-clause-cause g c =
-    cause_shown g.K.Sink.taken g.K.Sink.faults c.args.out.now c.command.new.out _ (file_of (sentence_of c.args.line.now)) (g.H.Shelf.files c.args.shelf.now) (g.H.Shelf.faults c.args.shelf.now) c.command.result (c.command.ensures [] false)
+    cause_shown g.K.Sink.taken g.K.Sink.faults c.args.out.now c.command.new.out _ (file_of (sentence_of c.args.line.now)) (g.H.Shelf.files c.args.shelf.now) (g.H.Shelf.faults c.args.shelf.now) c.command.result (c.command.ensures.answers [] false)
 
 pub returns-in_default-clause-unread : goal.returns-in_default-clause-unread
-returns-in_default-clause-unread g c = unread_shown g.K.Sink.taken g.K.Sink.faults c.args.out.now c.command.new.out _ _ (step (world_of c.args.self) (sentence_of c.args.line.now)) c.command.result (c.command.ensures [] false)
+returns-in_default-clause-unread g c = unread_shown g.K.Sink.taken g.K.Sink.faults c.args.out.now c.command.new.out _ _ (step (world_of c.args.self) (sentence_of c.args.line.now)) c.command.result (c.command.ensures.answers [] false)
 
 pub returns-in_default-clause-untaken : goal.returns-in_default-clause-untaken
-returns-in_default-clause-untaken g c = untaken_shown g.K.Sink.taken g.K.Sink.faults c.args.out.now c.command.new.out _ c.command.result (c.command.ensures [] false)
+returns-in_default-clause-untaken g c = untaken_shown g.K.Sink.taken g.K.Sink.faults c.args.out.now c.command.new.out _ c.command.result (c.command.ensures.answers [] false)

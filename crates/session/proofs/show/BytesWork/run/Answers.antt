@@ -9,20 +9,20 @@ use Rattle.session.proofs.Exits.{gave_up}
 use Rattle.session.proofs.Views.{tells_left, then_broke, then_wrote}
 use Rattle.session.proofs.show.BytesWork.run.Goals as goal
 
-pub returns-in_err-blob : goal.returns-in_err-blob
-returns-in_err-blob g c =
+pub returns-in_err-blob-clause-answers : goal.returns-in_err-blob-clause-answers
+returns-in_err-blob-clause-answers g c =
     let fault = c.in_err-blob.field-0.0 in
     gave_up (IsLeft c.args.view.now) g.K.Sink.taken g.K.Sink.faults c.args.out.now _ fault _ (search rules) (GivesUp-then _ _ fault c.in_err-blob.ensures)
 
-pub returns-in_err-write_bytes : goal.returns-in_err-write_bytes
-returns-in_err-write_bytes g c =
+pub returns-in_err-write_bytes-clause-answers : goal.returns-in_err-write_bytes-clause-answers
+returns-in_err-write_bytes-clause-answers g c =
     let table = c.args.view.now in
     let text = bytes_text (bytes_of (bits_of c.in_ok-blob.blob.now)) in
     then_broke g.K.Sink.taken g.K.Sink.faults c.args.out.now c.write_bytes.new.sink c.args.view.now _ (left_with table text) _ (search rules)
     (ap (λ (outcome : Outcome Done). done_to table outcome) c.in_ok-blob.ensures ∙ tells_left table text) c.in_err-write_bytes.ensures
 
-pub returns : goal.returns
-returns g c =
+pub returns-clause-answers : goal.returns-clause-answers
+returns-clause-answers g c =
     let table = c.args.view.now in
     let text = bytes_text (bytes_of (bits_of c.in_ok-blob.blob.now)) in
     then_wrote g.K.Sink.taken g.K.Sink.faults c.args.out.now c.write_bytes.new.sink c.args.view.now _ text

@@ -10,16 +10,16 @@ use Rattle.session.specs.Changes.{left_with}
 use Rattle.session.proofs.Views.{then_broke, then_wrote}
 use Rattle.session.proofs.show.PrintWork.run.Goals as goal
 
-pub returns-in_err-print_rows : goal.returns-in_err-print_rows
+pub returns-in_err-print_rows-clause-answers : goal.returns-in_err-print_rows-clause-answers
 unfolding print
-returns-in_err-print_rows g c =
+returns-in_err-print_rows-clause-answers g c =
     let view = c.args.view.now in
     let text = print_text (texts_of view.fields) view.rows in
     then_broke g.K.Sink.taken g.K.Sink.faults c.args.out.now c.print_rows.new.sink c.print_rows.new.view _ (left_with ((after_log view (all_accesses Read (leaf_count_of view) (length view.rows)))) text) _ (search rules) refl c.in_err-print_rows.ensures.writes
 
-pub returns : goal.returns
+pub returns-clause-answers : goal.returns-clause-answers
 unfolding print
-returns g c =
+returns-clause-answers g c =
     let view = c.args.view.now in
     let text = print_text (texts_of view.fields) view.rows in
     then_wrote g.K.Sink.taken g.K.Sink.faults c.args.out.now c.print_rows.new.sink c.print_rows.new.view _ text (ap (λ (seen : Table). Goes (left_with seen text)) (sym c.in_ok-print_rows.ensures.read)) c.in_ok-print_rows.ensures.writes

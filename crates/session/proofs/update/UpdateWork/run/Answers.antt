@@ -3,5 +3,5 @@ use Rattle.session.specs.Changes.{IsLeft}
 use Rattle.session.proofs.Exits.{answers_quiet}
 use Rattle.session.proofs.update.UpdateWork.run.Goals as goal
 
-pub returns : goal.returns
-returns g c = answers_quiet (IsLeft c.updated.new.view) (λ done. c.updated.new.view) g.K.Sink.taken g.K.Sink.faults c.args._out.now _ c.updated.result (λ done. refl) c.updated.ensures
+pub returns-clause-answers : goal.returns-clause-answers
+returns-clause-answers g c = answers_quiet (IsLeft c.updated.new.view) (λ done. c.updated.new.view) g.K.Sink.taken g.K.Sink.faults c.args._out.now _ c.updated.result (λ done. refl) c.updated.ensures
