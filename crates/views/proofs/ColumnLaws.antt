@@ -1,5 +1,5 @@
 -- The values of one leaf that have at most 32 bits, a lane at a time.
-use Rattle.std.proofs.Common.{◌≡◌, ℕ, zero, suc, ◌+◌, ◌-◌, ◌<◌, ◌≤◌, ◌^◌, List, [], ◌∷◌, ◌++◌, length, map, take, drop, set, get_or, replicate, ℤ, pos, refl, sym, ap, ◌∙◌, subst, arith, length-append, length-take, length-drop, get_or-drop, to_z, of_z, w64}
+use Rattle.std.proofs.Common.{◌≡◌, ℕ, zero, suc, ◌+◌, ◌-◌, ◌<◌, ◌≤◌, List, [], ◌∷◌, ◌++◌, length, take, drop, set, get_or, replicate, ℤ, pos, refl, sym, ap, ◌∙◌, subst, arith, length-append, length-take, length-drop, get_or-drop, to_z, of_z, w64}
 use Rattle.std.proofs.lemmas.Int.{ints, to_z-of_z}
 use Rattle.std.proofs.lemmas.List.{get_or-map, length-map, length-replicate}
 use Rattle.std.proofs.lemmas.Simd.{Each1-replicate}

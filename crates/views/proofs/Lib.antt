@@ -3,6 +3,7 @@ pub mod StoreLaws
 pub mod Opened
 pub mod ZeroBlobs
 pub mod AccessLaws
+pub mod WideLaws
 pub mod Counted
 pub mod CountLaws
 pub mod TouchLaws

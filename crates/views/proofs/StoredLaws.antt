@@ -8,7 +8,7 @@ use Rattle.std.proofs.lemmas.List.FromFn.{map-range_with_len_more}
 use Rattle.piece_bits.specs.Tables.{hold_at, with_entry}
 use Rattle.views.specs.Stores.{Answer, told}
 use Rattle.views.specs.AnswerLaws.{answer_keeps, told_err, kept_of-same}
-use Rattle.views.specs.Tables.{Table, answer_of, kept_of, leaf_type_of, table_holds, after_log, after_stores, after_write}
+use Rattle.views.specs.Tables.{Table, answer_of, kept_of, leaf_type_of, table_holds, after_stores, after_write}
 use Rattle.views.specs.Tallies.{Write}
 use Rattle.views.specs.TallyLaws.{after_log-none, after_stores-append}
 use Rattle.views.specs.Columns.{column_writes, with_column, lane_fault, first_lane_fault}

@@ -1,11 +1,11 @@
 -- The order of accesses carries no meaning: what is counted of some is counted of them in any order.
-use Rattle.std.proofs.Common.{◌≡◌, ℕ, zero, suc, ◌+◌, Bool, true, false, List, [], ◌∷◌, ◌++◌, map, append_assoc, refl, ap, sym, ◌∙◌, arith}
+use Rattle.std.proofs.Common.{◌≡◌, ℕ, zero, suc, ◌+◌, Bool, true, false, List, [], ◌∷◌, ◌++◌, map, append_assoc, refl, ap, sym, ◌∙◌}
 use Rattle.std.specs.Prelude.{Option, Some, None, option_map, if◌then◌else◌}
 use Rattle.std.specs.List.{fold, flat_map, enumerate_from}
 use Rattle.std.proofs.lemmas.List.{append-nil}
 use Rattle.std.proofs.lemmas.List.Concat.{flat_map-cons}
 use Rattle.places.specs.Layout.{Owner}
-use Rattle.instrument.specs.Counters.{LeafCounts, HeatCounts, counted, next, warmed, warmed_blob}
+use Rattle.instrument.specs.Counters.{LeafCounts, HeatCounts, counted, next, warmed_blob}
 use Rattle.places.specs.Touched.{is_hot}
 use Rattle.views.specs.Tallies.{Access, Read, Write, Tally, counts_touched, heat_touched, touched, tallied}
 use Rattle.views.specs.TallyLaws.{tallied-append}

@@ -9,10 +9,42 @@ use crate::view::BlobList;
 use blobs::Blob;
 use map_any::{AnyMap, Word};
 use piece_bits::{
-    read_entry, read_piece, read_scattered, read_word, write_entry, write_piece, write_scattered,
-    write_word,
+    field_wide, read_entry, read_piece, read_scattered, read_word, turned_wide, whole_wide,
+    write_entry, write_piece, write_scattered, write_word,
 };
 use places::{Mapping, laws_of};
+
+/// The value of a leaf in a row that is one load of eight bytes, by what stands there: one test finds whole bytes, one more those in blocks.
+#[inline(always)]
+pub fn wide_read(map: &AnyMap, blobs: &[Blob], row: u64, leaf: usize) -> Option<i128>
+    requires row_in { row < ⟦<AnyMap as Mapping>⟧.slot_count map.now }
+    requires leaf_in { leaf < length (⟦<AnyMap as Mapping>⟧.cell_list map.now) }
+    requires laid { AreLaid (⟦<AnyMap as Mapping>⟧.layout map.now) blobs.now }
+    ensures value { IfSome result (λ value. value ≡ entry (table_in (⟦<AnyMap as Mapping>⟧.layout map.now) (⟦<AnyMap as Mapping>⟧.slot_count map.now)
+        (⟦<AnyMap as Mapping>⟧.hold_list map.now) blobs.now) row leaf) }
+    ensures uncounted { is_some result ≡ true → is_counted (term_of_map map.now) ≡ false }
+{
+    laws_of(map);
+    let rule = map.short(leaf);
+    let short = &rule.short;
+    if row < rule.wide.whole {
+        let start = short.plain_start(row);
+        return Some(whole_wide(&blobs[short.blob], start, &short.field));
+    }
+    if row < rule.wide.blocks {
+        let start = short.block_start(row);
+        return Some(whole_wide(&blobs[short.blob], start, &short.field));
+    }
+    if row < rule.wide.field {
+        let start = short.plain_start(row);
+        return Some(field_wide(&blobs[short.blob], start, &short.field));
+    }
+    if row < rule.wide.turned {
+        let start = short.plain_start(row);
+        return Some(turned_wide(&blobs[short.blob], start, &short.field));
+    }
+    None
+}
 
 /// The value of a leaf in a row where its rule has a short form. A mapping that counts has none.
 #[inline(always)]
@@ -52,6 +84,31 @@ pub fn read_by_rule(map: &AnyMap, blobs: &[Blob], row: u64, leaf: usize) -> i128
         Some(piece) => read_piece(map, blobs, row, leaf, piece),
         None => read_entry(map, blobs, row, leaf),
     }
+}
+
+/// Makes the value of a leaf in a row this one where rows go by rows and no bytes are scattered, and says whether it is so.
+#[inline(always)]
+pub fn near_write(map: &AnyMap, blobs: &mut BlobList, row: u64, leaf: usize, value: i128) -> bool
+    requires row_in { row < ⟦<AnyMap as Mapping>⟧.slot_count map.now }
+    requires leaf_in { leaf < length (⟦<AnyMap as Mapping>⟧.cell_list map.now) }
+    requires laid { AreLaid (⟦<AnyMap as Mapping>⟧.layout map.now) blobs.old.items }
+    requires held { let hold = hold_at (⟦<AnyMap as Mapping>⟧.hold_list map.now) leaf in IsIn hold.signed hold.width value }
+    ensures table { result ≡ true → table_in (⟦<AnyMap as Mapping>⟧.layout map.now) (⟦<AnyMap as Mapping>⟧.slot_count map.now)
+        (⟦<AnyMap as Mapping>⟧.hold_list map.now) blobs.new.items
+        ≡ with_entry (table_in (⟦<AnyMap as Mapping>⟧.layout map.now) (⟦<AnyMap as Mapping>⟧.slot_count map.now)
+        (⟦<AnyMap as Mapping>⟧.hold_list map.now) blobs.old.items) row leaf value }
+    ensures still_laid { result ≡ true → AreLaid (⟦<AnyMap as Mapping>⟧.layout map.now) blobs.new.items }
+    ensures uncounted { result ≡ true → is_counted (term_of_map map.now) ≡ false }
+    ensures none { result ≡ false → blobs.new.items ≡ blobs.old.items }
+{
+    laws_of(map);
+    let short = &map.short(leaf).short;
+    let Some(start) = short.near_start(row) else {
+        return false;
+    };
+    let word = short.word;
+    write_word(&mut blobs[short.blob], start, word, &short.field, value);
+    true
 }
 
 /// Makes the value of a leaf in a row this one where its rule has a short form, and says whether it has.

@@ -9,7 +9,7 @@ ghost use Rattle.places.specs.Image.{entry};
 ghost use Rattle.blobs.specs.Bits.{bits_of};
 ghost use Rattle.piece_bits.specs.Tables.{zeros, with_entry};
 
-use crate::access::{read_by_rule, short_read, short_write, write_by_rule};
+use crate::access::{near_write, read_by_rule, short_read, short_write, wide_read, write_by_rule};
 use crate::fault::{MakeView, StoreFault};
 use crate::fresh::{new_counts, new_heat, zeroed_blobs};
 use crate::store::answer;
@@ -183,6 +183,7 @@ impl View {
     }
 
     /// The value of a leaf in a row. It takes one step.
+    #[inline(always)]
     pub fn get<L: Ledger>(&mut self, row: u64, leaf: usize, steps: &mut Steps<L>) -> i128
         requires row_in { row < length self.old.rows }
         requires leaf_in { leaf < leaf_count_of self.old }
@@ -198,6 +199,21 @@ impl View {
     // The same, and no step.
     #[inline(always)]
     fn value(&mut self, row: u64, leaf: usize) -> i128
+        requires row_in { row < length self.old.rows }
+        requires leaf_in { leaf < leaf_count_of self.old }
+        ensures value { result ≡ entry self.old.rows row leaf }
+        ensures fits { Fits (leaf_type_of self.old leaf) (hold_at (table_holds self.old) leaf) result }
+        ensures same { self.new ≡ after_read self.old row leaf }
+    {
+        match wide_read(&self.map, self.blobs.as_slice(), row, leaf) {
+            Some(value) => value,
+            None => self.far_value(row, leaf),
+        }
+    }
+
+    // The same by all of the short form, and else by the whole rule. It stands apart, so that a loop holds the near way alone.
+    #[inline(never)]
+    fn far_value(&mut self, row: u64, leaf: usize) -> i128
         requires row_in { row < length self.old.rows }
         requires leaf_in { leaf < leaf_count_of self.old }
         ensures value { result ≡ entry self.old.rows row leaf }
@@ -272,6 +288,7 @@ impl View {
     }
 
     /// Stores a value in a leaf of a row. It takes one step, also where the value does not fit; then the table stands.
+    #[inline(always)]
     pub fn set<L: Ledger>(
         &mut self,
         row: u64,
@@ -295,6 +312,20 @@ impl View {
     // The same, of a value that is kept as it is.
     #[inline(always)]
     fn store(&mut self, row: u64, leaf: usize, value: i128)
+        requires row_in { row < length self.old.rows }
+        requires leaf_in { leaf < leaf_count_of self.old }
+        requires kept { answer_of self.old leaf value ≡ Ok value }
+        ensures { self.new ≡ after_write self.old row leaf value }
+    {
+        if near_write(&self.map, &mut self.blobs, row, leaf, value) {
+            return;
+        }
+        self.store_far(row, leaf, value);
+    }
+
+    // The same by all of the short form, and else by the whole rule.
+    #[inline(never)]
+    fn store_far(&mut self, row: u64, leaf: usize, value: i128)
         requires row_in { row < length self.old.rows }
         requires leaf_in { leaf < leaf_count_of self.old }
         requires kept { answer_of self.old leaf value ≡ Ok value }

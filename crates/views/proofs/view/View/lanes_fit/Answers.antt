@@ -1,4 +1,4 @@
-use Rattle.std.proofs.Common.{◌≡◌, ℤ, pos, get_or, SFits, w64, sym, ap, ◌∙◌, arith, rules}
+use Rattle.std.proofs.Common.{ℤ, pos, get_or, SFits, w64, sym, ap, ◌∙◌, arith, rules}
 use Rattle.views.specs.Stores.{told}
 use Rattle.views.specs.Tables.{answer_of}
 use Rattle.views.proofs.StoredLaws.{fault_later, fault_here, passed}

@@ -1,4 +1,4 @@
-use Rattle.std.proofs.Common.{◌≡◌, ◌+◌, ◌-◌, ◌<◌, ◌≤◌, ◌++◌, List, ℤ, pos, ℕ, length, take, drop, replicate, sym, ap, subst, ◌∙◌, arith}
+use Rattle.std.proofs.Common.{◌≡◌, ◌-◌, ◌++◌, List, ℤ, pos, ℕ, length, take, drop, replicate, sym, ap, subst, ◌∙◌, arith}
 use Rattle.std.specs.Simd.Lanes.{Each1}
 use Rattle.lanes.specs.Blocks.{IsBlock, IsNarrow}
 use Rattle.lanes.specs.BlockLaws.{same}

@@ -55,24 +55,24 @@ returns-clause-tally c =
 pub invariant_of-map-in_err-expr : goal.invariant_of-map-in_err-expr
 invariant_of-map-in_err-expr c =
     let m = c.in_ok-map.map in
-    record { built = m.built; numbers = m.numbers; full = m.full; held = m.held; sized = m.sized; ruled = m.ruled; arrays = m.arrays; uncounted = m.uncounted }
+    record { built = m.built; numbers = m.numbers; full = m.full; held = m.held; sized = m.sized; ruled = m.ruled; wide = m.wide; arrays = m.arrays; uncounted = m.uncounted }
 
 pub invariant_of-map-in_err-blobs : goal.invariant_of-map-in_err-blobs
 invariant_of-map-in_err-blobs c =
     let m = c.in_ok-map.map in
-    record { built = m.built; numbers = m.numbers; full = m.full; held = m.held; sized = m.sized; ruled = m.ruled; arrays = m.arrays; uncounted = m.uncounted }
+    record { built = m.built; numbers = m.numbers; full = m.full; held = m.held; sized = m.sized; ruled = m.ruled; wide = m.wide; arrays = m.arrays; uncounted = m.uncounted }
 
 pub invariant_of-map-in_err-counts : goal.invariant_of-map-in_err-counts
 invariant_of-map-in_err-counts c =
     let m = c.in_ok-map.map in
-    record { built = m.built; numbers = m.numbers; full = m.full; held = m.held; sized = m.sized; ruled = m.ruled; arrays = m.arrays; uncounted = m.uncounted }
+    record { built = m.built; numbers = m.numbers; full = m.full; held = m.held; sized = m.sized; ruled = m.ruled; wide = m.wide; arrays = m.arrays; uncounted = m.uncounted }
 
 pub invariant_of-map-in_err-schema : goal.invariant_of-map-in_err-schema
 invariant_of-map-in_err-schema c =
     let m = c.in_ok-map.map in
-    record { built = m.built; numbers = m.numbers; full = m.full; held = m.held; sized = m.sized; ruled = m.ruled; arrays = m.arrays; uncounted = m.uncounted }
+    record { built = m.built; numbers = m.numbers; full = m.full; held = m.held; sized = m.sized; ruled = m.ruled; wide = m.wide; arrays = m.arrays; uncounted = m.uncounted }
 
 pub invariant_of-map : goal.invariant_of-map
 invariant_of-map c =
     let m = c.in_ok-map.map in
-    record { built = m.built; numbers = m.numbers; full = m.full; held = m.held; sized = m.sized; ruled = m.ruled; arrays = m.arrays; uncounted = m.uncounted }
+    record { built = m.built; numbers = m.numbers; full = m.full; held = m.held; sized = m.sized; ruled = m.ruled; wide = m.wide; arrays = m.arrays; uncounted = m.uncounted }

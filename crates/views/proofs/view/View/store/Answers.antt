@@ -9,27 +9,25 @@ use Rattle.map_any.specs.Counters.{is_counted}
 use Rattle.map_checks.specs.Mappings.{holds_by}
 use Rattle.piece_bits.specs.Tables.{hold_at, with_entry}
 use Rattle.views.specs.Kept.{table_under, tally_of}
-use Rattle.views.specs.Tables.{Table, answer_of, leaf_type_of, table_holds}
-use Rattle.views.specs.Stores.{told}
-use Rattle.views.specs.AnswerLaws.{answer_keeps}
+use Rattle.views.specs.Tables.{Table, answer_of}
 use Rattle.views.specs.Tallies.{Write}
 use Rattle.views.proofs.CountLaws.{idle_tallied}
 use Rattle.views.proofs.Opened.{rows_seen, leaf_seen, cell_count, fits_seen, kept_after, table_same, laid_there, seen_from, seen_written}
 use Rattle.views.proofs.view.View.store.Goals as goal
-use Rattle.views.proofs.view.View.store.Goals.{After-short_write}
+use Rattle.views.proofs.view.View.store.Goals.{After-near_write}
 
-pub short_write-requires-clause-row_in : goal.short_write-requires-clause-row_in
-short_write-requires-clause-row_in c =
+pub near_write-requires-clause-row_in : goal.near_write-requires-clause-row_in
+near_write-requires-clause-row_in c =
     let a = c.self.inside in
     omega (arith, c.requires.row_in, c.self.invariant.0.slots_are, rows_seen a.schema a.extents a.expr a.blobs.items c.self.invariant.1 c.args.self.now c.self.view_is)
 
-pub short_write-requires-clause-leaf_in : goal.short_write-requires-clause-leaf_in
-short_write-requires-clause-leaf_in c =
+pub near_write-requires-clause-leaf_in : goal.near_write-requires-clause-leaf_in
+near_write-requires-clause-leaf_in c =
     let a = c.self.inside in
     omega (arith, cell_count c.self.invariant.0, leaf_seen a.schema a.extents a.expr a.blobs.items c.self.invariant.1 c.args.self.now c.self.view_is c.args.leaf c.requires.leaf_in)
 
-pub short_write-requires-clause-held : goal.short_write-requires-clause-held
-short_write-requires-clause-held c =
+pub near_write-requires-clause-held : goal.near_write-requires-clause-held
+near_write-requires-clause-held c =
     let a = c.self.inside in
     let fits : SFits w128 c.args.value = search rules in
     let holds = holds_by (term_of a.expr) (schema_fields a.schema) in
@@ -38,13 +36,13 @@ short_write-requires-clause-held c =
     (subst (λ (v : ℤ). IsIn (hold_at holds c.args.leaf).signed (hold_at holds c.args.leaf).width v) (sym (to_z-of_z w128 c.args.value fits)) held)
 
 -- what is stored then
-stored : (c : goal.After-short_write) → c.short_write.result ≡ true → table_under (term_of c.self.inside.expr) c.self.inside.extents (schema_fields c.self.inside.schema) c.short_write.new.blobs.items
+stored : (c : goal.After-near_write) → c.near_write.result ≡ true → table_under (term_of c.self.inside.expr) c.self.inside.extents (schema_fields c.self.inside.schema) c.near_write.new.blobs.items
     ≡ with_entry (table_under (term_of c.self.inside.expr) c.self.inside.extents (schema_fields c.self.inside.schema) c.self.inside.blobs.items) c.args.row c.args.leaf c.args.value
 stored c wrote =
     let mapping = c.self.invariant.0 in
     let fits : SFits w128 c.args.value = search rules in
     let old = table_under (term_of c.self.inside.expr) c.self.inside.extents (schema_fields c.self.inside.schema) c.self.inside.blobs.items in
-    sym (table_same mapping c.short_write.new.blobs.items) ∙ c.short_write.ensures.table wrote
+    sym (table_same mapping c.near_write.new.blobs.items) ∙ c.near_write.ensures.table wrote
     ∙ ap (λ (t : List (List ℤ)). with_entry t c.args.row c.args.leaf (to_z w128 (of_z w128 c.args.value))) (table_same mapping c.self.inside.blobs.items)
     ∙ ap (with_entry old c.args.row c.args.leaf) (to_z-of_z w128 c.args.value fits)
 
@@ -52,29 +50,29 @@ pub invariant_of-self : goal.invariant_of-self
 invariant_of-self c =
     let a = c.self.inside in
     let mapping = c.self.invariant.0 in
-    let new = c.short_write.new.blobs.items in (
+    let new = c.near_write.new.blobs.items in (
       mapping,
       kept_after a.schema a.extents a.expr a.blobs.items c.self.invariant.1 c.args.self.now c.self.view_is c.args.row c.args.leaf c.args.value new
-          c.requires.row_in c.requires.leaf_in c.requires.kept (laid_there mapping new (c.short_write.ensures.still_laid c.if-short_write.true))
-          (stored (goal.at.invariant_of-self c).After-short_write c.if-short_write.true),
+          c.requires.row_in c.requires.leaf_in c.requires.kept (laid_there mapping new (c.near_write.ensures.still_laid c.if-near_write.true))
+          (stored (goal.at.invariant_of-self c).After-near_write c.if-near_write.true),
       c.self.invariant.2,
     )
 
-pub returns-then-short_write : goal.returns-then-short_write
-returns-then-short_write c =
+pub returns-then-near_write : goal.returns-then-near_write
+returns-then-near_write c =
     let a = c.self.inside in
-    let wrote = c.if-short_write.true in
+    let wrote = c.if-near_write.true in
     let access = Write c.args.row c.args.leaf in
-    let idle : is_counted (term_of a.expr) ≡ false = ap is_counted (sym c.self.invariant.0.term_is) ∙ c.short_write.ensures.uncounted wrote in
-    seen_written a.schema a.extents a.expr a.blobs.items c.self.view_is c.args.row c.args.leaf c.args.value c.short_write.new.blobs.items (tally_of a.counts a.heat)
-    (stored (goal.at.returns-then-short_write c).After-short_write wrote)
+    let idle : is_counted (term_of a.expr) ≡ false = ap is_counted (sym c.self.invariant.0.term_is) ∙ c.near_write.ensures.uncounted wrote in
+    seen_written a.schema a.extents a.expr a.blobs.items c.self.view_is c.args.row c.args.leaf c.args.value c.near_write.new.blobs.items (tally_of a.counts a.heat)
+    (stored (goal.at.returns-then-near_write c).After-near_write wrote)
     (sym (idle_tallied access idle c.self.invariant.2))
 
-pub set_by_rule-requires-clause-kept : goal.set_by_rule-requires-clause-kept
-set_by_rule-requires-clause-kept c =
+pub store_far-requires-clause-kept : goal.store_far-requires-clause-kept
+store_far-requires-clause-kept c =
     let a = c.self.inside in
     let leaf = c.args.leaf in
     let fits : SFits w128 c.args.value = search rules in
-    let lent = seen_from a.schema a.extents a.expr c.short_write.new.blobs.items (tally_of a.counts a.heat) in
+    let lent = seen_from a.schema a.extents a.expr c.near_write.new.blobs.items (tally_of a.counts a.heat) in
     subst (λ (v : ℤ). answer_of lent leaf v ≡ Ok v) (sym (to_z-of_z w128 c.args.value fits))
     (ap (λ (t : Table). answer_of t leaf c.args.value) c.self.view_is ∙ c.requires.kept)

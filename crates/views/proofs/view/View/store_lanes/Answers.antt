@@ -1,4 +1,4 @@
-use Rattle.std.proofs.Common.{◌≡◌, ◌≤◌, List, ℤ, ℕ, Some, None, length, map, take, OnOk, IfErr, subst, sym, ap, ◌∙◌, arith}
+use Rattle.std.proofs.Common.{◌≡◌, List, ℤ, ℕ, Some, None, map, take, OnOk, IfErr, subst, sym, ◌∙◌, arith}
 use Rattle.lanes.specs.Blocks.{IsBlock}
 use Rattle.lanes.specs.BlockLaws.{same}
 use Rattle.views.specs.Columns.{first_lane_fault, with_column, column_writes}

@@ -1,7 +1,6 @@
-use Rattle.std.proofs.Common.{◌≡◌, ◌+◌, ◌<◌, List, ℤ, pos, ℕ, None, Some, Ok, get_or, length, take, SFits, FitsSigned, to_z, of_z, w64, refl, sym, ap, subst, ◌∙◌, arith, rules}
+use Rattle.std.proofs.Common.{◌≡◌, ℤ, pos, Ok, get_or, length, take, SFits, to_z, of_z, w64, sym, ap, subst, ◌∙◌, arith, rules}
 use Rattle.std.specs.Int.{w128}
-use Rattle.views.specs.Columns.{first_lane_fault, with_column, column_writes}
-use Rattle.views.specs.Tables.{Table, answer_of, after_stores}
+use Rattle.views.specs.Tables.{Table, answer_of}
 use Rattle.views.proofs.StoredLaws.{nothing_stored, stored_more, lane_kept, length-with_column, passed, all_stored}
 use Rattle.views.proofs.view.View.store_values.Goals as goal
 

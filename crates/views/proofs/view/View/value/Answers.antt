@@ -14,18 +14,18 @@ use Rattle.views.proofs.KeptLaws.{kind_count}
 use Rattle.views.proofs.Opened.{rows_seen, table_seen, leaf_seen, cell_count, laid_here, entry_seen, seen_touched}
 use Rattle.views.proofs.view.View.value.Goals as goal
 
-pub short_read-requires-clause-row_in : goal.short_read-requires-clause-row_in
-short_read-requires-clause-row_in c =
+pub wide_read-requires-clause-row_in : goal.wide_read-requires-clause-row_in
+wide_read-requires-clause-row_in c =
     let a = c.self.inside in
     omega (arith, c.requires.row_in, c.self.invariant.0.slots_are, rows_seen a.schema a.extents a.expr a.blobs.items c.self.invariant.1 c.args.self.now c.self.view_is)
 
-pub short_read-requires-clause-leaf_in : goal.short_read-requires-clause-leaf_in
-short_read-requires-clause-leaf_in c =
+pub wide_read-requires-clause-leaf_in : goal.wide_read-requires-clause-leaf_in
+wide_read-requires-clause-leaf_in c =
     let a = c.self.inside in
     omega (arith, cell_count c.self.invariant.0, leaf_seen a.schema a.extents a.expr a.blobs.items c.self.invariant.1 c.args.self.now c.self.view_is c.args.leaf c.requires.leaf_in)
 
-pub short_read-requires-clause-laid : goal.short_read-requires-clause-laid
-short_read-requires-clause-laid c =
+pub wide_read-requires-clause-laid : goal.wide_read-requires-clause-laid
+wide_read-requires-clause-laid c =
     laid_here c.self.invariant.0 c.as_slice.result.now c.self.inside.blobs.items c.as_slice.ensures.value c.self.invariant.1.laid
 
 pub returns-in-Some-clause-fits : goal.returns-in-Some-clause-fits

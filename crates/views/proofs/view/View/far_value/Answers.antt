@@ -1,0 +1,51 @@
+use Rattle.std.proofs.Common.{ℤ, ◌≡◌, ◌<◌, false, length, refl, sym, ap, ◌∙◌, subst, arith, rules, SFits, to_z, of_z}
+use Rattle.std.specs.Int.{w128}
+use Rattle.std.proofs.lemmas.Int.{to_z-of_z}
+use Rattle.places.specs.Image.{entry}
+use Rattle.piece_bits.specs.Tables.{hold_at}
+use Rattle.map_expr.specs.Terms.{term_of}
+use Rattle.map_any.specs.Counters.{is_counted}
+use Rattle.views.specs.Kept.{tally_of}
+use Rattle.views.specs.Tables.{leaf_types_of, leaf_type_of, table_holds}
+use Rattle.views.specs.Stores.{Fits}
+use Rattle.views.specs.Tallies.{Read}
+use Rattle.views.proofs.CountLaws.{idle_tallied}
+use Rattle.views.proofs.KeptLaws.{kind_count}
+use Rattle.views.proofs.Opened.{rows_seen, table_seen, leaf_seen, cell_count, laid_here, entry_seen, seen_touched}
+use Rattle.views.proofs.view.View.far_value.Goals as goal
+
+pub short_read-requires-clause-row_in : goal.short_read-requires-clause-row_in
+short_read-requires-clause-row_in c =
+    let a = c.self.inside in
+    omega (arith, c.requires.row_in, c.self.invariant.0.slots_are, rows_seen a.schema a.extents a.expr a.blobs.items c.self.invariant.1 c.args.self.now c.self.view_is)
+
+pub short_read-requires-clause-leaf_in : goal.short_read-requires-clause-leaf_in
+short_read-requires-clause-leaf_in c =
+    let a = c.self.inside in
+    omega (arith, cell_count c.self.invariant.0, leaf_seen a.schema a.extents a.expr a.blobs.items c.self.invariant.1 c.args.self.now c.self.view_is c.args.leaf c.requires.leaf_in)
+
+pub short_read-requires-clause-laid : goal.short_read-requires-clause-laid
+short_read-requires-clause-laid c =
+    laid_here c.self.invariant.0 c.as_slice.result.now c.self.inside.blobs.items c.as_slice.ensures.value c.self.invariant.1.laid
+
+pub returns-in-Some-clause-fits : goal.returns-in-Some-clause-fits
+returns-in-Some-clause-fits c =
+    let a = c.self.inside in
+    let seen = c.args.self.now in
+    let row = c.args.row in
+    let leaf = c.args.leaf in
+    let read : c.in-Some.value ≡ entry seen.rows row leaf =
+    c.in-Some.ensures.value ∙ entry_seen a.schema a.extents a.expr a.blobs.items c.self.invariant.0 c.self.view_is c.as_slice.result.now c.as_slice.ensures.value row leaf in
+    let table = table_seen a.schema a.extents a.expr a.blobs.items c.self.invariant.1 seen c.self.view_is in
+    let leaf_in : leaf < length (leaf_types_of seen) = omega (arith, kind_count seen.fields, c.requires.leaf_in) in
+    let fits : SFits w128 c.in-Some.value = search rules in
+    let is : entry seen.rows row leaf ≡ to_z w128 (of_z w128 c.in-Some.value) = sym read ∙ sym (to_z-of_z w128 c.in-Some.value fits) in
+    subst (λ (v : ℤ). Fits (leaf_type_of seen leaf) (hold_at (table_holds seen) leaf) v) is (table.fits row leaf c.requires.row_in leaf_in)
+
+pub returns-in-Some-clause-same : goal.returns-in-Some-clause-same
+returns-in-Some-clause-same c =
+    let a = c.self.inside in
+    let access = Read c.args.row c.args.leaf in
+    let idle : is_counted (term_of a.expr) ≡ false = ap is_counted (sym c.self.invariant.0.term_is) ∙ c.in-Some.ensures.uncounted refl in
+    sym c.self.view_is
+    ∙ seen_touched a.schema a.extents a.expr a.blobs.items c.self.view_is access (tally_of a.counts a.heat) (sym (idle_tallied access idle c.self.invariant.2))
