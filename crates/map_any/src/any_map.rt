@@ -116,7 +116,10 @@ impl AnyMap {
         ensures held { result ≡ true → let hold = hold_in (⟦<AnyMap as Mapping>⟧.hold_list self.now) leaf in IsIn hold.signed hold.width value }
     {
         let rule = self.leaf_rule(leaf);
-        rule.least <= value && value <= rule.greatest
+        match i64::try_from(value) {
+            Ok(near) => rule.least <= near && near <= rule.greatest,
+            Err(_) => false,
+        }
     }
 
     /// The one piece of a leaf in a row, where it has one. None where there may be several.

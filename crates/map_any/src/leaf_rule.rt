@@ -10,9 +10,10 @@ pub struct LeafRule {
     pub short: ShortRule,
     /// The rows whose value is one load of eight bytes.
     pub wide: Wide,
-    /// From this value to the greatest, a value is declared and is held. Where none is sure to be, the least is above the greatest.
-    pub least: i128,
-    pub greatest: i128,
+    /// From this value to the greatest, a value is declared and is held: those of 64 bits, which are compared at once. Where none is sure to
+    /// be, the least is above the greatest.
+    pub least: i64,
+    pub greatest: i64,
 }
 
 /// A rule for each leaf, in order.

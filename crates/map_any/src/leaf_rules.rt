@@ -93,8 +93,16 @@ fn bytes_of(lengths: &[u64], blob: usize) -> u64
     }
 }
 
+/// The least and the greatest value of 64 bits that are declared and held.
+fn taken_range(kind: LeafType, hold: Hold) -> (i64, i64)
+    ensures { (value : ℤ) → result.0 ≤ℤ value → value ≤ℤ result.1 → IsDeclared kind value × IsIn hold.signed hold.width value }
+{
+    let (least, greatest) = whole_range(kind, hold);
+    in_words(least, greatest)
+}
+
 /// The least and the greatest value that are declared and held. Where no hold is so wide, none is sure to be.
-fn taken_range(kind: LeafType, hold: Hold) -> (i128, i128)
+fn whole_range(kind: LeafType, hold: Hold) -> (i128, i128)
     ensures { (value : ℤ) → result.0 ≤ℤ value → value ≤ℤ result.1 → IsDeclared kind value × IsIn hold.signed hold.width value }
 {
     if hold.width == 0 || hold.width > 64 {
@@ -104,4 +112,17 @@ fn taken_range(kind: LeafType, hold: Hold) -> (i128, i128)
         kind.least().max(hold.least()),
         kind.greatest().min(hold.greatest()),
     )
+}
+
+/// From the least to the greatest value of 64 bits that lie between two numbers.
+fn in_words(least: i128, greatest: i128) -> (i64, i64)
+    ensures { (value : ℤ) → result.0 ≤ℤ value → value ≤ℤ result.1 → (least ≤ℤ value) × (value ≤ℤ greatest) }
+{
+    let Ok(low) = i64::try_from(least) else {
+        return (1, 0);
+    };
+    let Ok(high) = i64::try_from(greatest.min(i128::from(i64::MAX))) else {
+        return (1, 0);
+    };
+    (low, high)
 }

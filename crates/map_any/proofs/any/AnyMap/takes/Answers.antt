@@ -4,10 +4,12 @@ use Rattle.record_dim.specs.Leaves.{kinds_of}
 use Rattle.map_checks.specs.LeafCells.{leaf_cells_kinds}
 use Rattle.map_any.proofs.any.AnyMap.takes.Goals as goal
 
-pub returns-then-rule-value-clause-declared : goal.returns-then-rule-value-clause-declared
-returns-then-rule-value-clause-declared c = λ high. rw (leaf_cells_kinds (kinds_of (schema_fields c.args.self.now.schema))) (search rules)
+pub returns-then-rule-near-clause-declared : goal.returns-then-rule-near-clause-declared
+returns-then-rule-near-clause-declared c = λ high.
+    let taken = c.leaf_rule-rule.ensures.whole.taken in
+    rw (leaf_cells_kinds (kinds_of (schema_fields c.args.self.now.schema))) ((taken c.args.value (search rules) (search rules)).0)
 
-pub returns-then-rule-value-clause-held : goal.returns-then-rule-value-clause-held
-returns-then-rule-value-clause-held c = λ high.
+pub returns-then-rule-near-clause-held : goal.returns-then-rule-near-clause-held
+returns-then-rule-near-clause-held c = λ high.
     let taken = c.leaf_rule-rule.ensures.whole.taken in
     (taken c.args.value (search rules) (search rules)).1
