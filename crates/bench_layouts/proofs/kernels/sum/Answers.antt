@@ -4,4 +4,4 @@ use Rattle.bench_layouts.proofs.kernels.sum.Goals as goal
 pub invariant_of-view-inside : goal.invariant_of-view-inside
 invariant_of-view-inside c =
     let m = c.view.inside.map in
-    record { built = m.built; numbers = m.numbers; full = m.full; held = m.held; sized = m.sized; ruled = m.ruled; uncounted = m.uncounted }
+    record { built = m.built; numbers = m.numbers; full = m.full; held = m.held; sized = m.sized; ruled = m.ruled; wide = m.wide; uncounted = m.uncounted }

@@ -42,4 +42,4 @@ returns g c = λ d.
 pub invariant_of-entry : goal.invariant_of-entry
 invariant_of-entry g c =
     let m = c.drop.inside.map in
-    record { built = m.built; numbers = m.numbers; full = m.full; held = m.held; sized = m.sized; ruled = m.ruled; uncounted = m.uncounted }
+    record { built = m.built; numbers = m.numbers; full = m.full; held = m.held; sized = m.sized; ruled = m.ruled; wide = m.wide; uncounted = m.uncounted }
