@@ -9,7 +9,8 @@ use Rattle.views.specs.declared.fault.StoreFault.{StoreFault}
 use Rattle.views.specs.Tables.{Table, answer_of, after_stores}
 use Rattle.views.specs.Tallies.{Write}
 use Rattle.bench_layouts.specs.Tables.{value, entry_after, row_sum, round_sum, sum_read}
-use Rattle.bench_layouts.specs.Rounds.{IsRewritten, AreSmall, HasEntries, HasValues, OthersStand, IsRefusedInRow}
+use Rattle.bench_layouts.specs.Rounds.{IsMeasured, IsRewritten, AreSmall, HasEntries, HasValues, OthersStand, IsRefusedInRow}
+use Rattle.bench_layouts.proofs.Counted.{still_with}
 use Rattle.bench_layouts.proofs.TableSums.{same_sums}
 
 module _ (old mid new : Table) (row leaf : ℕ) (number : ℤ) (still : IsRewritten old mid) (row_in : row < length old.rows) (leaf_in : leaf < 4)
@@ -54,6 +55,18 @@ module _ (old mid new : Table) (row leaf : ℕ) (number : ℤ) (still : IsRewrit
 
   pub others_on : OthersStand row old mid → OthersStand row old new
   others_on others r l apart = stands r l (λ e. apart e.0) ∙ others r l apart
+
+-- a view is rewritten as it stands
+pub still_here : (view : Table) → IsMeasured view → IsRewritten view view
+still_here view measured = record { same = refl; rows = refl; measured = measured }
+
+-- a rewriting after another
+pub rewritten_more : (old mid new : Table) → IsRewritten old mid → IsRewritten mid new → IsRewritten old new
+rewritten_more old mid new one two = record {
+  same = still_with old mid new mid.rows new.rows one.same two.same;
+  rows = two.rows ∙ one.rows;
+  measured = two.measured;
+}
 
 -- it changes no answer to a store
 pub refused_before : (old mid : Table) (round row : ℕ) (refusal : StoreFault) → IsRewritten old mid →

@@ -1,4 +1,4 @@
-ghost use Rattle.std.specs.Prelude.{◌≡◌, ◌<◌, ◌≤◌, IfOk, IfErr, OnOk, Ok, length};
+ghost use Rattle.std.specs.Prelude.{◌≡◌, ◌+◌, ◌<◌, ◌≤◌, IfOk, IfErr, OnOk, Ok, length};
 ghost use Rattle.extents.specs.Indices.{product};
 ghost use Rattle.record_dim.specs.Schemas.{schema_fields};
 ghost use Rattle.map_expr.specs.Terms.{term_of};
@@ -10,7 +10,7 @@ ghost use Rattle.bench_layouts.specs.Faults.{IsFaultOf};
 ghost use Rattle.bench_layouts.specs.Forms.{form_term, table_extents};
 ghost use Rattle.bench_layouts.specs.Modes.{checksum_of};
 ghost use Rattle.bench_layouts.specs.Rounds.{AreSmall, HasEntries, IsMeasured, IsRewritten, IsRefused, IsRefusedInRound, IsRefusedInRow, OthersStand, HasValues};
-ghost use Rattle.bench_layouts.specs.Tables.{entry_after, measured_fields, round_sum, row_sum, sum_read, value};
+ghost use Rattle.bench_layouts.specs.Tables.{entry_after, measured_fields, round_sum, row_sum, sum_read, sum_to, value};
 
 use crate::fault::BenchFault;
 use crate::tables::table_view;
@@ -20,8 +20,6 @@ use std::marker::Brand;
 use std::sync::ledger::{Blank, Ledger};
 use steps::Steps;
 use views::{StoreFault, View};
-
-const LEAVES: usize = 4;
 
 /// The sum of all that is read of a table after it was written.
 pub fn sum(alloc: Global, work: Work) -> Result<i128, BenchFault>
@@ -95,7 +93,7 @@ fn write_round<L: Ledger>(
     Ok(())
 }
 
-// Writes the leaves of a row.
+// Writes the leaves of a row, each by a call of its own, as the peers' loops are unrolled.
 #[inline]
 fn write_row<L: Ledger>(
     view: &mut View,
@@ -110,9 +108,31 @@ fn write_row<L: Ledger>(
     ensures others { OnOk result (OthersStand row view.old view.new) }
     ensures refused { IfErr result (IsRefusedInRow (answer_of view.old) round row) }
 {
-    for leaf in 0..LEAVES {
-        view.set(u64::from(row), leaf, value(round, row, leaf), steps)?;
-    }
+    write_leaf(view, round, row, 0, steps)?;
+    write_leaf(view, round, row, 1, steps)?;
+    write_leaf(view, round, row, 2, steps)?;
+    write_leaf(view, round, row, 3, steps)?;
+    Ok(())
+}
+
+// Writes a leaf of a row behind the first ones.
+#[inline(always)]
+fn write_leaf<L: Ledger>(
+    view: &mut View,
+    round: u32,
+    row: u32,
+    leaf: usize,
+    steps: &mut Steps<L>,
+) -> Result<(), StoreFault>
+    requires measured { IsMeasured view.old }
+    requires row_in { row < length view.old.rows }
+    requires leaf_in { leaf < 4 }
+    ensures rewritten { OnOk result (IsRewritten view.old view.new) }
+    ensures values { HasValues leaf round row view.old → OnOk result (HasValues (leaf + 1) round row view.new) }
+    ensures others { OnOk result (OthersStand row view.old view.new) }
+    ensures refused { IfErr result (IsRefusedInRow (answer_of view.old) round row) }
+{
+    view.set(u64::from(row), leaf, value(round, row, leaf), steps)?;
     Ok(())
 }
 
@@ -157,7 +177,7 @@ fn read_round<L: Ledger>(view: &mut View, rows: u32, steps: &mut Steps<L>) -> i1
     total
 }
 
-// The sum of the entries of a row.
+// The sum of the entries of a row, each by a call of its own, as the peers' loops are unrolled.
 #[inline]
 fn read_row<L: Ledger>(view: &mut View, row: u32, steps: &mut Steps<L>) -> i128
     requires leaves { leaf_count_of view.old ≡ 4 }
@@ -166,9 +186,28 @@ fn read_row<L: Ledger>(view: &mut View, row: u32, steps: &mut Steps<L>) -> i128
     ensures sum { result ≡ row_sum (entry view.old.rows) row }
     ensures same { view.new ≡ record view.old { tally = view.new.tally } }
 {
-    let mut total = 0i128;
-    for leaf in 0..LEAVES {
-        total += view.get(u64::from(row), leaf, steps);
-    }
-    total
+    let one = read_leaf(view, row, 0, 0, steps);
+    let two = read_leaf(view, row, 1, one, steps);
+    let three = read_leaf(view, row, 2, two, steps);
+    read_leaf(view, row, 3, three, steps)
+}
+
+// The sum of the first entries of a row, with one entry more.
+#[inline(always)]
+fn read_leaf<L: Ledger>(
+    view: &mut View,
+    row: u32,
+    leaf: usize,
+    total: i128,
+    steps: &mut Steps<L>,
+) -> i128
+    requires leaves { leaf_count_of view.old ≡ 4 }
+    requires row_in { row < length view.old.rows }
+    requires leaf_in { leaf < 4 }
+    requires small { AreSmall view.old }
+    requires sum { total ≡ sum_to (entry view.old.rows row) leaf }
+    ensures sum { result ≡ sum_to (entry view.old.rows row) (leaf + 1) }
+    ensures same { view.new ≡ record view.old { tally = view.new.tally } }
+{
+    total + view.get(u64::from(row), leaf, steps)
 }
