@@ -65,7 +65,10 @@ array_run order extents layout slots lanes cell width slot count rule d h some i
       within =
           let end : begin_in piece (slot + (count - 1)) + piece.bits ≤ length (get_or layout piece.blob []) = last.bits_in in
           let from : begin_in piece (slot + (count - 1)) ≡ begin_in piece slot + (count - 1) * width = begins (count - 1) (omega arith) in
-          let product : (count - 1) * width + width ≡ count * width = let e : (count - 1) + 1 ≡ count = omega arith in let p : ((count - 1) + 1) * width ≡ (count - 1) * width + width = grind arith in sym p ∙ ap (λ (n : ℕ). n * width) e in
+          let product : (count - 1) * width + width ≡ count * width =
+              let e : (count - 1) + 1 ≡ count = omega arith in
+              let p : ((count - 1) + 1) * width ≡ (count - 1) * width + width = grind arith in
+              sym p ∙ ap (λ (n : ℕ). n * width) e in
           let bits : piece.bits ≡ width = h.bits d in
           omega arith;
       owners = λ j k l m.
@@ -99,7 +102,8 @@ module _ (layout : List (List Owner)) (order : Order) (extents : List ℕ) (cell
       )
 
   -- and of any other bit none lies there
-  pub run_other : (row c i k : ℕ) → 0 < width → i < count * width → owner_at layout blob (bit + i) ≡ Bit row c k → (c ≡ cell) × (slot ≤ slot_at order extents row) × (slot_at order extents row < slot + count)
+  pub run_other : (row c i k : ℕ) → 0 < width → i < count * width → owner_at layout blob (bit + i) ≡ Bit row c k
+      → (c ≡ cell) × (slot ≤ slot_at order extents row) × (slot_at order extents row < slot + count)
   run_other row c i k some inside is =
       let j : ℕ = i / width in
       let parts : j * width + i % width ≡ i = div-add-mod' i width in
