@@ -66,9 +66,9 @@ array_run order extents layout slots lanes cell width slot count rule d h some i
           let end : begin_in piece (slot + (count - 1)) + piece.bits ≤ length (get_or layout piece.blob []) = last.bits_in in
           let from : begin_in piece (slot + (count - 1)) ≡ begin_in piece slot + (count - 1) * width = begins (count - 1) (omega arith) in
           let product : (count - 1) * width + width ≡ count * width =
-              let e : (count - 1) + 1 ≡ count = omega arith in
-              let p : ((count - 1) + 1) * width ≡ (count - 1) * width + width = grind arith in
-              sym p ∙ ap (λ (n : ℕ). n * width) e in
+          let e : (count - 1) + 1 ≡ count = omega arith in
+          let p : ((count - 1) + 1) * width ≡ (count - 1) * width + width = grind arith in
+          sym p ∙ ap (λ (n : ℕ). n * width) e in
           let bits : piece.bits ≡ width = h.bits d in
           omega arith;
       owners = λ j k l m.
