@@ -44,6 +44,13 @@ one_item [] d one = absurd (omega arith)
 one_item (x ∷ []) d one = refl
 one_item (x ∷ y ∷ xs) d one = absurd (omega arith)
 
+-- all but one of so many widths, and one more
+one_more : (count width : ℕ) → 0 < count → (count - 1) * width + width ≡ count * width
+one_more count width some =
+    let e : (count - 1) + 1 ≡ count = omega arith in
+    let p : ((count - 1) + 1) * width ≡ (count - 1) * width + width = grind arith in
+    sym p ∙ ap (λ (n : ℕ). n * width) e
+
 -- slots of one block of an array, by rows
 pub array_run : (order : Order) (extents : List ℕ) (layout : List (List Owner)) (slots lanes cell width slot count : ℕ) (rule : Rule) (d : PieceRule)
     → IsArray layout slots lanes cell width rule → 0 < count → slot + count ≤ slots → slot % lanes + count ≤ lanes
@@ -65,10 +72,7 @@ array_run order extents layout slots lanes cell width slot count rule d h some i
       within =
           let end : begin_in piece (slot + (count - 1)) + piece.bits ≤ length (get_or layout piece.blob []) = last.bits_in in
           let from : begin_in piece (slot + (count - 1)) ≡ begin_in piece slot + (count - 1) * width = begins (count - 1) (omega arith) in
-          let product : (count - 1) * width + width ≡ count * width =
-          let e : (count - 1) + 1 ≡ count = omega arith in
-          let p : ((count - 1) + 1) * width ≡ (count - 1) * width + width = grind arith in
-          sym p ∙ ap (λ (n : ℕ). n * width) e in
+          let product : (count - 1) * width + width ≡ count * width = one_more count width some in
           let bits : piece.bits ≡ width = h.bits d in
           omega arith;
       owners = λ j k l m.
