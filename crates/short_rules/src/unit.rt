@@ -6,7 +6,7 @@ use piece_bits::Word;
 use piece_rules::PieceRule;
 
 /// The most bits that lie in the eight bytes from their first one on, wherever they begin.
-const MAX_FIELD: u32 = 57;
+pub(crate) const MAX_FIELD: u32 = 57;
 
 /// The power of two that a number is.
 fn power_of(lanes: u64) -> Option<u32>

@@ -5,11 +5,9 @@ ghost use Rattle.short_rules.specs.Shorts.{place_by};
 ghost use Rattle.short_rules.specs.Wides.{IsAsWhole, IsAsTurned, IsWide};
 
 use crate::short::ShortRule;
+use crate::unit::MAX_FIELD;
 use crate::walk::Walk;
 use piece_bits::Word;
-
-/// The most bits that lie in the eight bytes from their first one on, wherever they begin.
-const MAX_FIELD: u32 = 57;
 
 /// How many rows, from the first on, are read by one load of the eight bytes from their place on, which lie within the blob: by what stands
 /// there. At most one of these is not 0, so one test finds both.

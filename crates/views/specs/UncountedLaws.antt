@@ -1,49 +1,32 @@
 -- What counters leave as it is.
-use Rattle.std.proofs.Common.{◌≡◌, ℕ, List, refl}
+use Rattle.std.proofs.Common.{◌≡◌, ℕ, List, refl, ◌∙◌}
 use Rattle.record_dim.specs.Trees.{Fields}
 use Rattle.places.specs.declared.piece.Cell.{Cell}
 use Rattle.map_expr.specs.Terms.{Term, Aos, Soa, Aosoa, BitAos, BitSoa, Split, Byteswap, Bytesplit, Change, Count, Heat, Named, uncounted}
 use Rattle.map_checks.specs.Mappings.{layout_of, holds_of, most_slots}
 
+-- what no counter changes is that of the expression without the counters at its top
+same_uncounted : {A : Type 0} (f : Term → A) → ((inner : Term) → f inner ≡ f (Count inner)) → ((granule : ℕ) (inner : Term) → f inner ≡ f (Heat granule inner))
+    → (term : Term) → f (uncounted term) ≡ f term
+same_uncounted f count heat (Count inner) = same_uncounted f count heat inner ∙ count inner
+same_uncounted f count heat (Heat granule inner) = same_uncounted f count heat inner ∙ heat granule inner
+same_uncounted f count heat (Aos form order) = refl
+same_uncounted f count heat (Soa form order) = refl
+same_uncounted f count heat (Aosoa lanes order) = refl
+same_uncounted f count heat (BitAos width order) = refl
+same_uncounted f count heat (BitSoa width order) = refl
+same_uncounted f count heat (Split path first rest) = refl
+same_uncounted f count heat (Byteswap inner) = refl
+same_uncounted f count heat (Bytesplit inner) = refl
+same_uncounted f count heat (Change from to inner) = refl
+same_uncounted f count heat (Named name) = refl
+
 -- counters lay out nothing
 pub layout_uncounted : (term : Term) (extents : List ℕ) (fields : Fields) (cells : List Cell) → layout_of (uncounted term) extents fields cells ≡ layout_of term extents fields cells
-layout_uncounted (Count inner) extents fields cells = layout_uncounted inner extents fields cells
-layout_uncounted (Heat granule inner) extents fields cells = layout_uncounted inner extents fields cells
-layout_uncounted (Aos form order) extents fields cells = refl
-layout_uncounted (Soa form order) extents fields cells = refl
-layout_uncounted (Aosoa lanes order) extents fields cells = refl
-layout_uncounted (BitAos width order) extents fields cells = refl
-layout_uncounted (BitSoa width order) extents fields cells = refl
-layout_uncounted (Split path first rest) extents fields cells = refl
-layout_uncounted (Byteswap inner) extents fields cells = refl
-layout_uncounted (Bytesplit inner) extents fields cells = refl
-layout_uncounted (Change from to inner) extents fields cells = refl
-layout_uncounted (Named name) extents fields cells = refl
+layout_uncounted term extents fields cells = same_uncounted (λ t. layout_of t extents fields cells) (λ inner. refl) (λ granule inner. refl) term
 
 pub holds_uncounted : (term : Term) (fields : Fields) (cells : List Cell) → holds_of (uncounted term) fields cells ≡ holds_of term fields cells
-holds_uncounted (Count inner) fields cells = holds_uncounted inner fields cells
-holds_uncounted (Heat granule inner) fields cells = holds_uncounted inner fields cells
-holds_uncounted (Aos form order) fields cells = refl
-holds_uncounted (Soa form order) fields cells = refl
-holds_uncounted (Aosoa lanes order) fields cells = refl
-holds_uncounted (BitAos width order) fields cells = refl
-holds_uncounted (BitSoa width order) fields cells = refl
-holds_uncounted (Split path first rest) fields cells = refl
-holds_uncounted (Byteswap inner) fields cells = refl
-holds_uncounted (Bytesplit inner) fields cells = refl
-holds_uncounted (Change from to inner) fields cells = refl
-holds_uncounted (Named name) fields cells = refl
+holds_uncounted term fields cells = same_uncounted (λ t. holds_of t fields cells) (λ inner. refl) (λ granule inner. refl) term
 
 pub slots_uncounted : (term : Term) (extents : List ℕ) → most_slots (uncounted term) extents ≡ most_slots term extents
-slots_uncounted (Count inner) extents = slots_uncounted inner extents
-slots_uncounted (Heat granule inner) extents = slots_uncounted inner extents
-slots_uncounted (Aos form order) extents = refl
-slots_uncounted (Soa form order) extents = refl
-slots_uncounted (Aosoa lanes order) extents = refl
-slots_uncounted (BitAos width order) extents = refl
-slots_uncounted (BitSoa width order) extents = refl
-slots_uncounted (Split path first rest) extents = refl
-slots_uncounted (Byteswap inner) extents = refl
-slots_uncounted (Bytesplit inner) extents = refl
-slots_uncounted (Change from to inner) extents = refl
-slots_uncounted (Named name) extents = refl
+slots_uncounted term extents = same_uncounted (λ t. most_slots t extents) (λ inner. refl) (λ granule inner. refl) term
