@@ -288,9 +288,14 @@ def new_view(world, line):
 
 
 def read_file(world, name):
+    """The bytes of a file. Its name is taken from the folder and not joined with it, which may make it too long."""
     try:
-        with open(os.path.join(world.folder, name), 'rb') as file:
-            return file.read()
+        folder = os.open(world.folder, os.O_RDONLY)
+        try:
+            with open(name, 'rb', opener=lambda path, flags: os.open(path, flags, dir_fd=folder)) as file:
+                return file.read()
+        finally:
+            os.close(folder)
     except OSError:
         raise CannotRead(name) from None
 

@@ -9,8 +9,9 @@ use std::fs::File;
 use std::io::{ErrorKind, Read, Seek, SeekFrom, Write};
 use std::rt::Files;
 
-// The longest name, in bytes, of a file that stays open between two reads: it is kept whole.
-const NAME_BYTES: usize = 128;
+// The longest name, in bytes, of a file that stays open between two reads: it is kept whole. Linux
+// opens none of a longer one.
+const NAME_BYTES: usize = 4096;
 
 // One read, tried again where a signal interrupted it.
 fn read_some<F: Read>(file: &mut F, into: &mut [u8]) -> Result<usize, Failed>
@@ -44,48 +45,57 @@ fn write_some<W: Write>(writer: &mut W, bytes: &[u8]) -> Result<usize, Failed>
 }
 
 /// The files of a runtime. Each error that it meets is counted. The file of the last read stays
-/// open, so that the next piece of it costs neither an open nor a seek.
+/// open, so that the next piece of it costs neither an open nor a seek, and a pipe is read whole.
 #[derive(Drop)]
 pub struct FileShelf<R: Files + Drop> {
     files: R,
     opened: Option<Opened<R::File>>,
+    // The name of the open file. It stays in its place, since it is too long to be moved at each
+    // read.
+    name: OpenedName,
     faults: u64,
 }
 
-// An open file, its name (the front of a longer one) and where the next read of it begins.
+// An open file, and where the next read of it begins.
 #[derive(Drop)]
 struct Opened<F> {
     file: F,
-    name: [u8; 128],
-    length: usize,
     at: u64,
-    ghost named: { length ≤ 128 },
 }
 
 impl<F: Read> Opened<F> {
-    fn new(file: F, name: &str, at: u64) -> Opened<F> {
-        let mut kept = [0; NAME_BYTES];
-        let length = name.len().min(NAME_BYTES);
-        kept[..length].copy_from_slice(&name.as_bytes()[..length]);
-        Opened {
-            file,
-            name: kept,
-            length,
-            at,
-        }
-    }
-
-    // Whether a read of this file from this place is the next one.
-    fn goes_on(&self, name: &str, at: u64) -> bool {
-        self.at == at && &self.name[..self.length] == name.as_bytes()
-    }
-
     fn read(&mut self, into: &mut [u8]) -> Result<usize, Failed>
         ensures { ReadsAtMost result into.new }
     {
         let count = read_some(&mut self.file, into)?;
         self.at = self.at.saturating_add(count as u64);
         Ok(count)
+    }
+}
+
+// A name, kept whole where it has at most `NAME_BYTES`. No name is a longer one.
+#[derive(Drop)]
+struct OpenedName {
+    bytes: [u8; 4096],
+    length: usize,
+}
+
+impl OpenedName {
+    fn new() -> OpenedName {
+        OpenedName {
+            bytes: [0; NAME_BYTES],
+            length: 0,
+        }
+    }
+
+    fn set(&mut self, name: &str) {
+        let kept = name.len().min(NAME_BYTES);
+        self.bytes[..kept].copy_from_slice(&name.as_bytes()[..kept]);
+        self.length = name.len();
+    }
+
+    fn is(&self, name: &str) -> bool {
+        self.length <= NAME_BYTES && &self.bytes[..self.length] == name.as_bytes()
     }
 }
 
@@ -97,7 +107,7 @@ fn open_anew<R: Files>(files: &R, name: &str, at: u64) -> Result<Opened<R::File>
     if at > 0 && file.seek(SeekFrom::Start(at)).is_err() {
         return Err(Failed);
     }
-    Ok(Opened::new(file, name, at))
+    Ok(Opened { file, at })
 }
 
 impl<R: Files + Drop> FileShelf<R> {
@@ -108,6 +118,7 @@ impl<R: Files + Drop> FileShelf<R> {
         FileShelf {
             files,
             opened: None,
+            name: OpenedName::new(),
             faults: 0,
         }
     }
@@ -117,8 +128,11 @@ impl<R: Files + Drop> FileShelf<R> {
         ensures { self.new.faults ≡ self.old.faults }
     {
         match self.opened.take() {
-            Some(opened) if opened.goes_on(name, at) => Ok(opened),
-            _ => open_anew(&self.files, name, at),
+            Some(opened) if opened.at == at && self.name.is(name) => Ok(opened),
+            _ => {
+                self.name.set(name);
+                open_anew(&self.files, name, at)
+            }
         }
     }
 
@@ -128,7 +142,7 @@ impl<R: Files + Drop> FileShelf<R> {
     {
         let mut opened = self.open_at(name, at)?;
         let count = opened.read(into)?;
-        if count > 0 && name.len() <= NAME_BYTES {
+        if count > 0 {
             self.opened = Some(opened);
         }
         Ok(count)

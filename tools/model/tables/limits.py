@@ -156,14 +156,26 @@ TOKENS = [
          "line 2: cannot read  !#$%&'()*+,-.:;<=>?@[]^_`{|}~"),
 ]
 
+def pipe(name, text):
+    """A shell script that makes a pipe: it can be read once, from its beginning on."""
+    return f"mkfifo {name}\ntimeout 20 sh -c \"printf '{text}' >{name}\" >/dev/null 2>&1 &\n"
+
+
 def piped(size):
-    """A dataset that a pipe of a name of so many bytes gives: it can be read once, from its beginning on."""
+    """A dataset that a pipe of a name of so many bytes gives."""
     name = 'd' * size
     return Case(f'limit_pipe_of_a_name_of_{size}_bytes', PAIR + f'load V : P [?] as soa(multi, row) from "{name}" | print V', 'a,b | 1,2',
-                make=f"mkfifo {name}\ntimeout 20 sh -c \"printf 'a,b\\\\n1,2\\\\n' >{name}\" >/dev/null 2>&1 &\n")
+                make=pipe(name, 'a,b\\\\n1,2\\\\n'))
 
 
-PIPES = [piped(1), piped(128)]
+# The longest word that is the name of a file has 4,095 bytes.
+LONG = './' * 2047
+PIPES = [
+    piped(1), piped(128), piped(129), piped(200),
+    Case('limit_pipe_of_a_script_of_a_name_of_4095_bytes', None, 'line 2: Unknown V', words=['run', LONG + 's'],
+         make=pipe('s', 'record P { a:u8 }\\\\nprint V\\\\n')),
+    Case('limit_script_of_a_name_of_4096_bytes', None, f'line 0: cannot read {LONG}ss', words=['run', LONG + 'ss'], files={'ss': b'print V\n'}),
+]
 
 AFTER = b'\nprint V\n'
 LINES = [
