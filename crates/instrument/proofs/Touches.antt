@@ -1,4 +1,4 @@
--- One access to pieces, step by step.
+-- Accesses to pieces, step by step.
 use Rattle.std.proofs.Common.{◌≡◌, ℕ, ◌+◌, ◌-◌, ◌*◌, ◌/◌, ◌<◌, ◌≤◌, Bool, true, false, nat_eq, nat_lt, nat_le, List, [], length, get_or, set, map, take, sym, ap, refl, ◌∙◌, arith, ⊎_elim}
 use Rattle.std.specs.Prelude.{◌&&◌, ◌||◌, not}
 use Rattle.std.proofs.lemmas.Bool.{eq-eqb, ne_eqb, le-leb, lt-leb, lt-ltb, le-ltb, and_left, and_right, cases_eq, cases_lt}
@@ -7,41 +7,41 @@ use Rattle.std.proofs.lemmas.List.Folds.{list_any_more}
 use Rattle.std.proofs.Math.Nat.{mul-le-mul_left}
 use Rattle.places.specs.declared.piece.Piece.{Piece}
 use Rattle.places.specs.Touched.{is_in_granule, is_touched}
-use Rattle.instrument.specs.Counters.{HeatCounts, next, counted, warmed, heated_by}
+use Rattle.instrument.specs.Counters.{HeatCounts, raised, counted_times, warmed_times, heated_times}
 use Rattle.instrument.specs.Touching.{warmed_at, heated_besides}
 use Rattle.instrument.proofs.Rounding.{reaches, row_begin}
 use Rattle.instrument.proofs.Warming.{warmed-same, warmed-none, warmed-besides, warmed-more}
 
 -- a count that is written back into its list
-pub written : {X : Type 0} (lists : List X) (items : X → List ℕ) (blob at : ℕ) (counts new : X) (count more : ℕ) → blob < length (map items lists) → at < length (get_or (map items lists) blob [])
-    → counts ≡ get_or lists blob counts → count ≡ get_or (items counts) at count → more ≡ next count → items new ≡ set (items counts) at more
-    → map items (set lists blob new) ≡ set (map items lists) blob (counted (get_or (map items lists) blob []) at)
-written lists items blob at counts new count more blob_in at_in counts_is count_is more_is new_is =
+pub written : {X : Type 0} (times : ℕ) (lists : List X) (items : X → List ℕ) (blob at : ℕ) (counts new : X) (count more : ℕ) → blob < length (map items lists) → at < length (get_or (map items lists) blob [])
+    → counts ≡ get_or lists blob counts → count ≡ get_or (items counts) at count → more ≡ raised times count → items new ≡ set (items counts) at more
+    → map items (set lists blob new) ≡ set (map items lists) blob (counted_times (get_or (map items lists) blob []) at times)
+written times lists items blob at counts new count more blob_in at_in counts_is count_is more_is new_is =
     let inside : blob < length lists = omega (arith, length-map lists items) in
     let is = ap items counts_is ∙ sym (get_or-map items lists blob counts [] inside) in
     let small : at < length (items counts) = omega (arith, ap length is) in
     map-set items lists blob new
     ∙ ap (λ counts. set (map items lists) blob counts)
-    (new_is ∙ ap (λ n. set (items counts) at n) (more_is ∙ ap next (get_or_read (items counts) at count small count_is 0)) ∙ ap (λ counts. counted counts at) is)
+    (new_is ∙ ap (λ n. set (items counts) at n) (more_is ∙ ap (raised times) (get_or_read (items counts) at count small count_is 0)) ∙ ap (λ counts. counted_times counts at times) is)
 
 -- the granules of a piece from `first` on and below `past`, but for those that others touch
 abbrev pub is_anew : ℕ → List Piece → Piece → ℕ → ℕ → ℕ → ℕ → Bool
 is_anew granule others piece first past blob at = (nat_eq piece.blob blob && (nat_le first at && nat_lt at past)) && not (is_touched granule others blob at)
 
-abbrev pub heated_until : ℕ → ℕ → List Piece → Piece → HeatCounts → HeatCounts
-heated_until first past others piece heat = record heat { blobs = warmed (is_anew heat.granule others piece first past) heat.blobs }
+abbrev pub heated_until : ℕ → ℕ → ℕ → List Piece → Piece → HeatCounts → HeatCounts
+heated_until times first past others piece heat = record heat { blobs = warmed_times times (is_anew heat.granule others piece first past) heat.blobs }
 
 -- none at the start
 none_between : (first at : ℕ) → (nat_le first at && nat_lt at first) ≡ false
 none_between first at =
     ⊎_elim (λ (low : at < first). and_left (nat_le first at) (nat_lt at first) (lt-leb first at low)) (λ (high : first ≤ at). and_right (nat_le first at) (nat_lt at first) (le-ltb at first high)) (cases_lt at first)
 
-pub until-start : (first : ℕ) (others : List Piece) (piece : Piece) (heat : HeatCounts) → heat ≡ heated_until first first others piece heat
-until-start first others piece heat =
+pub until-start : (times : ℕ) (first : ℕ) (others : List Piece) (piece : Piece) (heat : HeatCounts) → heat ≡ heated_until times first first others piece heat
+until-start times first others piece heat =
     let none : (blob at : ℕ) → false ≡ is_anew heat.granule others piece first first blob at =
     λ blob at. sym (and_left (nat_eq piece.blob blob && (nat_le first at && nat_lt at first)) (not (is_touched heat.granule others blob at))
     (and_right (nat_eq piece.blob blob) (nat_le first at && nat_lt at first) (none_between first at))) in
-    ap (λ (blobs : List (List ℕ)). record heat { blobs = blobs }) (sym (warmed-none heat.blobs) ∙ warmed-same (λ blob at. false) (is_anew heat.granule others piece first first) heat.blobs none)
+    ap (λ (blobs : List (List ℕ)). record heat { blobs = blobs }) (sym (warmed-none times heat.blobs) ∙ warmed-same times (λ blob at. false) (is_anew heat.granule others piece first first) heat.blobs none)
 
 -- one granule more
 other_place : (first number at : ℕ) → (at ≡ number → ⊥) → (nat_le first at && nat_lt at (number + 1)) ≡ (nat_le first at && nat_lt at number)
@@ -60,9 +60,9 @@ other_blob granule first past past' others piece blob at other =
     ap (λ b. (b && (nat_le first at && nat_lt at past)) && not (is_touched granule others blob at)) no ∙ ap (λ b. (b && (nat_le first at && nat_lt at past')) && not (is_touched granule others blob at)) (sym no)
 
 -- one that others touch stays
-pub until-touched : (first number : ℕ) (others : List Piece) (piece : Piece) (heat : HeatCounts) → is_touched heat.granule others piece.blob number ≡ true
-    → heated_until first number others piece heat ≡ heated_until first (number + 1) others piece heat
-until-touched first number others piece heat touched =
+pub until-touched : (times : ℕ) (first number : ℕ) (others : List Piece) (piece : Piece) (heat : HeatCounts) → is_touched heat.granule others piece.blob number ≡ true
+    → heated_until times first number others piece heat ≡ heated_until times first (number + 1) others piece heat
+until-touched times first number others piece heat touched =
     let same : (blob at : ℕ) → is_anew heat.granule others piece first number blob at ≡ is_anew heat.granule others piece first (number + 1) blob at =
     λ blob at. ⊎_elim
     (λ (here : piece.blob ≡ blob). ⊎_elim
@@ -75,12 +75,12 @@ until-touched first number others piece heat touched =
     (cases_eq at number))
     (λ (other : piece.blob ≡ blob → ⊥). other_blob heat.granule first number (number + 1) others piece blob at other)
     (cases_eq piece.blob blob) in
-    ap (λ (blobs : List (List ℕ)). record heat { blobs = blobs }) (warmed-same (is_anew heat.granule others piece first number) (is_anew heat.granule others piece first (number + 1)) heat.blobs same)
+    ap (λ (blobs : List (List ℕ)). record heat { blobs = blobs }) (warmed-same times (is_anew heat.granule others piece first number) (is_anew heat.granule others piece first (number + 1)) heat.blobs same)
 
 -- and another one gets one more
-pub until-more : (first number : ℕ) (others : List Piece) (piece : Piece) (heat : HeatCounts) → piece.blob < length heat.blobs → number < length (get_or heat.blobs piece.blob []) → first ≤ number
-    → is_touched heat.granule others piece.blob number ≡ false → warmed_at piece.blob number (heated_until first number others piece heat) ≡ heated_until first (number + 1) others piece heat
-until-more first number others piece heat blob_in at_in from untouched =
+pub until-more : (times : ℕ) (first number : ℕ) (others : List Piece) (piece : Piece) (heat : HeatCounts) → piece.blob < length heat.blobs → number < length (get_or heat.blobs piece.blob []) → first ≤ number
+    → is_touched heat.granule others piece.blob number ≡ false → warmed_at times piece.blob number (heated_until times first number others piece heat) ≡ heated_until times first (number + 1) others piece heat
+until-more times first number others piece heat blob_in at_in from untouched =
     let was : is_anew heat.granule others piece first number piece.blob number ≡ false =
     and_left (nat_eq piece.blob piece.blob && (nat_le first number && nat_lt number number)) (not (is_touched heat.granule others piece.blob number))
     (and_right (nat_eq piece.blob piece.blob) (nat_le first number && nat_lt number number) (and_right (nat_le first number) (nat_lt number number) (le-ltb number number (omega arith)))) in
@@ -90,19 +90,19 @@ until-more first number others piece heat blob_in at_in from untouched =
     ∙ ap (λ b. b && not (is_touched heat.granule others piece.blob number)) (lt-ltb number (number + 1) (omega arith))
     ∙ ap not untouched in
     ap (λ (blobs : List (List ℕ)). record heat { blobs = blobs })
-    (warmed-more (is_anew heat.granule others piece first number) (is_anew heat.granule others piece first (number + 1)) heat.blobs piece.blob number blob_in at_in was is
+    (warmed-more times (is_anew heat.granule others piece first number) (is_anew heat.granule others piece first (number + 1)) heat.blobs piece.blob number blob_in at_in was is
     (λ k other. beside_place heat.granule first number others piece piece.blob k other)
     (λ blob other k. other_blob heat.granule first (number + 1) number others piece blob k (λ same. other (sym same))))
 
 -- all granules of a piece
-pub until-end : (others : List Piece) (piece : Piece) (heat : HeatCounts) → 0 < piece.bits → 1 ≤ heat.granule
-    → heated_until (piece.bit / (8 * heat.granule)) ((piece.bit + piece.bits - 1) / (8 * heat.granule) + 1) others piece heat ≡ heated_besides others piece heat
-until-end others piece heat some granule =
+pub until-end : (times : ℕ) (others : List Piece) (piece : Piece) (heat : HeatCounts) → 0 < piece.bits → 1 ≤ heat.granule
+    → heated_until times (piece.bit / (8 * heat.granule)) ((piece.bit + piece.bits - 1) / (8 * heat.granule) + 1) others piece heat ≡ heated_besides times others piece heat
+until-end times others piece heat some granule =
     let same : (blob at : ℕ) → is_anew heat.granule others piece (piece.bit / (8 * heat.granule)) ((piece.bit + piece.bits - 1) / (8 * heat.granule) + 1) blob at
     ≡ (is_in_granule heat.granule blob at piece && not (is_touched heat.granule others blob at)) =
     λ blob at. ap (λ b. (nat_eq piece.blob blob && b) && not (is_touched heat.granule others blob at)) (sym (reaches piece.bit piece.bits (8 * heat.granule) at some (omega arith))) in
     ap (λ (blobs : List (List ℕ)). record heat { blobs = blobs })
-    (warmed-same (is_anew heat.granule others piece (piece.bit / (8 * heat.granule)) ((piece.bit + piece.bits - 1) / (8 * heat.granule) + 1))
+    (warmed-same times (is_anew heat.granule others piece (piece.bit / (8 * heat.granule)) ((piece.bit + piece.bits - 1) / (8 * heat.granule) + 1))
     (λ blob at. is_in_granule heat.granule blob at piece && not (is_touched heat.granule others blob at)) heat.blobs same)
 
 -- a granule of a piece is one that is counted
@@ -116,15 +116,15 @@ granule_inside end wide at len some wide_some within small =
     (cases_lt at len)
 
 -- no piece, and one piece more
-pub heated-none : (heat : HeatCounts) → heat ≡ heated_by [] heat
-heated-none heat = ap (λ (blobs : List (List ℕ)). record heat { blobs = blobs }) (sym (warmed-none heat.blobs))
+pub heated-none : (times : ℕ) (heat : HeatCounts) → heat ≡ heated_times times [] heat
+heated-none times heat = ap (λ (blobs : List (List ℕ)). record heat { blobs = blobs }) (sym (warmed-none times heat.blobs))
 
-pub heated-more : (pieces : List Piece) (at : ℕ) (piece : Piece) (heat : HeatCounts) → at < length pieces → piece ≡ get_or pieces at piece
-    → heated_besides (take at pieces) piece (heated_by (take at pieces) heat) ≡ heated_by (take (at + 1) pieces) heat
-heated-more pieces at piece heat small is =
+pub heated-more : (times : ℕ) (pieces : List Piece) (at : ℕ) (piece : Piece) (heat : HeatCounts) → at < length pieces → piece ≡ get_or pieces at piece
+    → heated_besides times (take at pieces) piece (heated_times times (take at pieces) heat) ≡ heated_times times (take (at + 1) pieces) heat
+heated-more times pieces at piece heat small is =
     let same : (blob k : ℕ) → (is_touched heat.granule (take at pieces) blob k || is_in_granule heat.granule blob k piece) ≡ is_touched heat.granule (take (at + 1) pieces) blob k =
     λ blob k. ap (λ p. is_touched heat.granule (take at pieces) blob k || is_in_granule heat.granule blob k p) is
     ∙ sym (list_any_more (is_in_granule heat.granule blob k) pieces at piece small) in
     ap (λ (blobs : List (List ℕ)). record heat { blobs = blobs })
-    (warmed-besides (is_touched heat.granule (take at pieces)) (λ blob k. is_in_granule heat.granule blob k piece) heat.blobs
-    ∙ warmed-same (λ blob k. is_touched heat.granule (take at pieces) blob k || is_in_granule heat.granule blob k piece) (is_touched heat.granule (take (at + 1) pieces)) heat.blobs same)
+    (warmed-besides times (is_touched heat.granule (take at pieces)) (λ blob k. is_in_granule heat.granule blob k piece) heat.blobs
+    ∙ warmed-same times (λ blob k. is_touched heat.granule (take at pieces) blob k || is_in_granule heat.granule blob k piece) (is_touched heat.granule (take (at + 1) pieces)) heat.blobs same)

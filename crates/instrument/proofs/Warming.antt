@@ -1,4 +1,4 @@
--- Counts by granule: what one more in some of them is, and one more in some and then in others.
+-- Counts by granule: what more in some of them is, and more in some and then in others.
 use Rattle.std.proofs.Common.{◌≡◌, ℕ, ◌+◌, ◌<◌, Bool, true, false, List, [], ◌∷◌, ◌++◌, length, get_or, set, map, take, replicate, sym, ap, refl, ◌∙◌, arith, ⊎_elim}
 use Rattle.std.specs.Prelude.{◌&&◌, ◌||◌, not, if◌then◌else◌}
 use Rattle.std.specs.List.{enumerate_from}
@@ -6,99 +6,99 @@ use Rattle.std.proofs.Math.Path.{fun_ext}
 use Rattle.std.proofs.lemmas.Bool.{cases_eq}
 use Rattle.std.proofs.lemmas.List.{length-set, get_or-set_same, get_or-set_other, ext_get_or, map_push, map_more}
 use Rattle.instrument.specs.WarmingLaws.{length-warmed_blob, length-warmed, get-warmed_blob, get-warmed}
-use Rattle.instrument.specs.Counters.{next, counted, granules_of, warmed_blob, warmed}
+use Rattle.instrument.specs.Counters.{raised, counted_times, granules_of, warmed_blob, warmed_times}
 
 -- tests that agree
-pub warmed-same : (hot hot' : ℕ → ℕ → Bool) (blobs : List (List ℕ)) → ((blob at : ℕ) → hot blob at ≡ hot' blob at) → warmed hot blobs ≡ warmed hot' blobs
-warmed-same hot hot' blobs same = ap (λ test. warmed test blobs) (fun_ext (λ blob. fun_ext (same blob)))
+pub warmed-same : (times : ℕ) (hot hot' : ℕ → ℕ → Bool) (blobs : List (List ℕ)) → ((blob at : ℕ) → hot blob at ≡ hot' blob at) → warmed_times times hot blobs ≡ warmed_times times hot' blobs
+warmed-same times hot hot' blobs same = ap (λ test. warmed_times times test blobs) (fun_ext (λ blob. fun_ext (same blob)))
 
 -- no granule
-blob_none : (n : ℕ) (counts : List ℕ) → map (λ (at : ℕ × ℕ). if false then next at.1 else at.1) (enumerate_from n counts) ≡ counts
-blob_none n [] = refl
-blob_none n (count ∷ counts) = ap (λ rest. count ∷ rest) (blob_none (n + 1) counts)
+blob_none : (times : ℕ) (n : ℕ) (counts : List ℕ) → map (λ (at : ℕ × ℕ). if false then raised times at.1 else at.1) (enumerate_from n counts) ≡ counts
+blob_none times n [] = refl
+blob_none times n (count ∷ counts) = ap (λ rest. count ∷ rest) (blob_none times (n + 1) counts)
 
-none_from : (n : ℕ) (blobs : List (List ℕ)) → map (λ (blob : ℕ × List ℕ). warmed_blob (λ at. false) blob.1) (enumerate_from n blobs) ≡ blobs
-none_from n [] = refl
-none_from n (counts ∷ blobs) =
-    ap (λ first. first ∷ map (λ (blob : ℕ × List ℕ). warmed_blob (λ at. false) blob.1) (enumerate_from (n + 1) blobs)) (blob_none 0 counts)
-    ∙ ap (λ rest. counts ∷ rest) (none_from (n + 1) blobs)
+none_from : (times : ℕ) (n : ℕ) (blobs : List (List ℕ)) → map (λ (blob : ℕ × List ℕ). warmed_blob times (λ at. false) blob.1) (enumerate_from n blobs) ≡ blobs
+none_from times n [] = refl
+none_from times n (counts ∷ blobs) =
+    ap (λ first. first ∷ map (λ (blob : ℕ × List ℕ). warmed_blob times (λ at. false) blob.1) (enumerate_from (n + 1) blobs)) (blob_none times 0 counts)
+    ∙ ap (λ rest. counts ∷ rest) (none_from times (n + 1) blobs)
 
-pub warmed-none : (blobs : List (List ℕ)) → warmed (λ blob at. false) blobs ≡ blobs
-warmed-none blobs = none_from 0 blobs
+pub warmed-none : (times : ℕ) (blobs : List (List ℕ)) → warmed_times times (λ blob at. false) blobs ≡ blobs
+warmed-none times blobs = none_from times 0 blobs
 
 -- some granules, and then others
-count_twice : (hot more : Bool) (count : ℕ) →
-    (if more && not hot then next (if hot then next count else count) else (if hot then next count else count)) ≡ (if hot || more then next count else count)
-count_twice true true count = refl
-count_twice true false count = refl
-count_twice false true count = refl
-count_twice false false count = refl
+count_twice : (times : ℕ) (hot more : Bool) (count : ℕ) →
+    (if more && not hot then raised times (if hot then raised times count else count) else (if hot then raised times count else count)) ≡ (if hot || more then raised times count else count)
+count_twice times true true count = refl
+count_twice times true false count = refl
+count_twice times false true count = refl
+count_twice times false false count = refl
 
-blob_twice : (hot more : ℕ → Bool) (n : ℕ) (counts : List ℕ) →
-    map (λ (at : ℕ × ℕ). if more at.0 && not (hot at.0) then next at.1 else at.1) (enumerate_from n (map (λ (at : ℕ × ℕ). if hot at.0 then next at.1 else at.1) (enumerate_from n counts)))
-    ≡ map (λ (at : ℕ × ℕ). if hot at.0 || more at.0 then next at.1 else at.1) (enumerate_from n counts)
-blob_twice hot more n [] = refl
-blob_twice hot more n (count ∷ counts) =
-    let first = count_twice (hot n) (more n) count in
-    let rest = blob_twice hot more (n + 1) counts in
+blob_twice : (times : ℕ) (hot more : ℕ → Bool) (n : ℕ) (counts : List ℕ) →
+    map (λ (at : ℕ × ℕ). if more at.0 && not (hot at.0) then raised times at.1 else at.1) (enumerate_from n (map (λ (at : ℕ × ℕ). if hot at.0 then raised times at.1 else at.1) (enumerate_from n counts)))
+    ≡ map (λ (at : ℕ × ℕ). if hot at.0 || more at.0 then raised times at.1 else at.1) (enumerate_from n counts)
+blob_twice times hot more n [] = refl
+blob_twice times hot more n (count ∷ counts) =
+    let first = count_twice times (hot n) (more n) count in
+    let rest = blob_twice times hot more (n + 1) counts in
     cc
 
-twice_from : (hot more : ℕ → ℕ → Bool) (n : ℕ) (blobs : List (List ℕ)) →
-    map (λ (blob : ℕ × List ℕ). warmed_blob (λ at. more blob.0 at && not (hot blob.0 at)) blob.1) (enumerate_from n (map (λ (blob : ℕ × List ℕ). warmed_blob (hot blob.0) blob.1) (enumerate_from n blobs)))
-    ≡ map (λ (blob : ℕ × List ℕ). warmed_blob (λ at. hot blob.0 at || more blob.0 at) blob.1) (enumerate_from n blobs)
-twice_from hot more n [] = refl
-twice_from hot more n (counts ∷ blobs) =
-    let first = blob_twice (hot n) (more n) 0 counts in
-    let rest = twice_from hot more (n + 1) blobs in
+twice_from : (times : ℕ) (hot more : ℕ → ℕ → Bool) (n : ℕ) (blobs : List (List ℕ)) →
+    map (λ (blob : ℕ × List ℕ). warmed_blob times (λ at. more blob.0 at && not (hot blob.0 at)) blob.1) (enumerate_from n (map (λ (blob : ℕ × List ℕ). warmed_blob times (hot blob.0) blob.1) (enumerate_from n blobs)))
+    ≡ map (λ (blob : ℕ × List ℕ). warmed_blob times (λ at. hot blob.0 at || more blob.0 at) blob.1) (enumerate_from n blobs)
+twice_from times hot more n [] = refl
+twice_from times hot more n (counts ∷ blobs) =
+    let first = blob_twice times (hot n) (more n) 0 counts in
+    let rest = twice_from times hot more (n + 1) blobs in
     cc
 
-pub warmed-besides : (hot more : ℕ → ℕ → Bool) (blobs : List (List ℕ)) → warmed (λ blob at. more blob at && not (hot blob at)) (warmed hot blobs) ≡ warmed (λ blob at. hot blob at || more blob at) blobs
-warmed-besides hot more blobs = twice_from hot more 0 blobs
+pub warmed-besides : (times : ℕ) (hot more : ℕ → ℕ → Bool) (blobs : List (List ℕ)) → warmed_times times (λ blob at. more blob at && not (hot blob at)) (warmed_times times hot blobs) ≡ warmed_times times (λ blob at. hot blob at || more blob at) blobs
+warmed-besides times hot more blobs = twice_from times hot more 0 blobs
 
--- one granule more
-blob_more : (hot hot' : ℕ → Bool) (counts : List ℕ) (at : ℕ) → at < length counts → hot at ≡ false → hot' at ≡ true → ((k : ℕ) → (k ≡ at → ⊥) → hot' k ≡ hot k) →
-    counted (warmed_blob hot counts) at ≡ warmed_blob hot' counts
-blob_more hot hot' counts at small was is others =
-    let long = length-warmed_blob hot counts in
-    let long' = length-warmed_blob hot' counts in
-    let set_long = length-set (warmed_blob hot counts) at (next (get_or (warmed_blob hot counts) at 0)) in
-    ext_get_or 0 (counted (warmed_blob hot counts) at) (warmed_blob hot' counts) (set_long ∙ long ∙ sym long') (λ k within.
+-- one granule with more
+blob_more : (times : ℕ) (hot hot' : ℕ → Bool) (counts : List ℕ) (at : ℕ) → at < length counts → hot at ≡ false → hot' at ≡ true → ((k : ℕ) → (k ≡ at → ⊥) → hot' k ≡ hot k) →
+    counted_times (warmed_blob times hot counts) at times ≡ warmed_blob times hot' counts
+blob_more times hot hot' counts at small was is others =
+    let long = length-warmed_blob times hot counts in
+    let long' = length-warmed_blob times hot' counts in
+    let set_long = length-set (warmed_blob times hot counts) at (raised times (get_or (warmed_blob times hot counts) at 0)) in
+    ext_get_or 0 (counted_times (warmed_blob times hot counts) at times) (warmed_blob times hot' counts) (set_long ∙ long ∙ sym long') (λ k within.
     let inside : k < length counts = omega (arith, set_long, long) in
-    let before = get-warmed_blob hot counts k inside in
-    let after = get-warmed_blob hot' counts k inside in
+    let before = get-warmed_blob times hot counts k inside in
+    let after = get-warmed_blob times hot' counts k inside in
     ⊎_elim
     (λ (here : k ≡ at).
-    let set_here = get_or-set_same (warmed_blob hot counts) at (next (get_or (warmed_blob hot counts) at 0)) 0 (omega (arith, long)) in
-    let first = get-warmed_blob hot counts at small in
-    let second = get-warmed_blob hot' counts at small in
-    let cold = ap (λ (b : Bool). if b then next (get_or counts at 0) else get_or counts at 0) was in
-    let warm = ap (λ (b : Bool). if b then next (get_or counts at 0) else get_or counts at 0) is in
-    ap (λ j. get_or (counted (warmed_blob hot counts) at) j 0) here ∙ set_here ∙ ap next (first ∙ cold) ∙ sym (second ∙ warm) ∙ ap (λ j. get_or (warmed_blob hot' counts) j 0) (sym here))
+    let set_here = get_or-set_same (warmed_blob times hot counts) at (raised times (get_or (warmed_blob times hot counts) at 0)) 0 (omega (arith, long)) in
+    let first = get-warmed_blob times hot counts at small in
+    let second = get-warmed_blob times hot' counts at small in
+    let cold = ap (λ (b : Bool). if b then raised times (get_or counts at 0) else get_or counts at 0) was in
+    let warm = ap (λ (b : Bool). if b then raised times (get_or counts at 0) else get_or counts at 0) is in
+    ap (λ j. get_or (counted_times (warmed_blob times hot counts) at times) j 0) here ∙ set_here ∙ ap (raised times) (first ∙ cold) ∙ sym (second ∙ warm) ∙ ap (λ j. get_or (warmed_blob times hot' counts) j 0) (sym here))
     (λ (other : k ≡ at → ⊥).
-    get_or-set_other (warmed_blob hot counts) at k (next (get_or (warmed_blob hot counts) at 0)) 0 other ∙ before
-    ∙ ap (λ (b : Bool). if b then next (get_or counts k 0) else get_or counts k 0) (sym (others k other)) ∙ sym after)
+    get_or-set_other (warmed_blob times hot counts) at k (raised times (get_or (warmed_blob times hot counts) at 0)) 0 other ∙ before
+    ∙ ap (λ (b : Bool). if b then raised times (get_or counts k 0) else get_or counts k 0) (sym (others k other)) ∙ sym after)
     (cases_eq k at))
 
-pub warmed-more : (hot hot' : ℕ → ℕ → Bool) (blobs : List (List ℕ)) (blob at : ℕ) → blob < length blobs → at < length (get_or blobs blob []) → hot blob at ≡ false → hot' blob at ≡ true
+pub warmed-more : (times : ℕ) (hot hot' : ℕ → ℕ → Bool) (blobs : List (List ℕ)) (blob at : ℕ) → blob < length blobs → at < length (get_or blobs blob []) → hot blob at ≡ false → hot' blob at ≡ true
     → ((k : ℕ) → (k ≡ at → ⊥) → hot' blob k ≡ hot blob k) → ((b : ℕ) → (b ≡ blob → ⊥) → (k : ℕ) → hot' b k ≡ hot b k)
-    → set (warmed hot blobs) blob (counted (get_or (warmed hot blobs) blob []) at) ≡ warmed hot' blobs
-warmed-more hot hot' blobs blob at blob_in at_in was is beside others =
-    let new = counted (get_or (warmed hot blobs) blob []) at in
-    let long = length-warmed hot blobs in
-    let long' = length-warmed hot' blobs in
-    let set_long = length-set (warmed hot blobs) blob new in
-    ext_get_or [] (set (warmed hot blobs) blob new) (warmed hot' blobs) (set_long ∙ long ∙ sym long') (λ b within.
+    → set (warmed_times times hot blobs) blob (counted_times (get_or (warmed_times times hot blobs) blob []) at times) ≡ warmed_times times hot' blobs
+warmed-more times hot hot' blobs blob at blob_in at_in was is beside others =
+    let new = counted_times (get_or (warmed_times times hot blobs) blob []) at times in
+    let long = length-warmed times hot blobs in
+    let long' = length-warmed times hot' blobs in
+    let set_long = length-set (warmed_times times hot blobs) blob new in
+    ext_get_or [] (set (warmed_times times hot blobs) blob new) (warmed_times times hot' blobs) (set_long ∙ long ∙ sym long') (λ b within.
     let inside : b < length blobs = omega (arith, set_long, long) in
     ⊎_elim
     (λ (here : b ≡ blob).
-    let set_here = get_or-set_same (warmed hot blobs) blob new [] (omega (arith, long)) in
-    let first = get-warmed hot blobs blob blob_in in
-    let second = get-warmed hot' blobs blob blob_in in
-    ap (λ j. get_or (set (warmed hot blobs) blob new) j []) here ∙ set_here ∙ ap (λ counts. counted counts at) first
-    ∙ blob_more (hot blob) (hot' blob) (get_or blobs blob []) at at_in was is beside ∙ sym second ∙ ap (λ j. get_or (warmed hot' blobs) j []) (sym here))
+    let set_here = get_or-set_same (warmed_times times hot blobs) blob new [] (omega (arith, long)) in
+    let first = get-warmed times hot blobs blob blob_in in
+    let second = get-warmed times hot' blobs blob blob_in in
+    ap (λ j. get_or (set (warmed_times times hot blobs) blob new) j []) here ∙ set_here ∙ ap (λ counts. counted_times counts at times) first
+    ∙ blob_more times (hot blob) (hot' blob) (get_or blobs blob []) at at_in was is beside ∙ sym second ∙ ap (λ j. get_or (warmed_times times hot' blobs) j []) (sym here))
     (λ (other : b ≡ blob → ⊥).
-    get_or-set_other (warmed hot blobs) blob b new [] other ∙ get-warmed hot blobs b inside
-    ∙ ap (λ test. warmed_blob test (get_or blobs b [])) (fun_ext (λ k. sym (others b other k))) ∙ sym (get-warmed hot' blobs b inside))
+    get_or-set_other (warmed_times times hot blobs) blob b new [] other ∙ get-warmed times hot blobs b inside
+    ∙ ap (λ test. warmed_blob times test (get_or blobs b [])) (fun_ext (λ k. sym (others b other k))) ∙ sym (get-warmed times hot' blobs b inside))
     (cases_eq b blob))
 
 -- the counts of one blob more

@@ -75,7 +75,7 @@ count-from_zero leaves touches leaf small =
 -- a granule after one access
 warmed_at : (hot : ℕ → ℕ → Bool) (blobs : List (List ℕ)) (blob at : ℕ) → blob < length blobs → at < length (get_or blobs blob [])
     → get_or (get_or (warmed hot blobs) blob []) at 0 ≡ (if hot blob at then next (get_or (get_or blobs blob []) at 0) else get_or (get_or blobs blob []) at 0)
-warmed_at hot blobs blob at blob_in at_in = ap (λ counts. get_or counts at 0) (get-warmed hot blobs blob blob_in) ∙ get-warmed_blob (hot blob) (get_or blobs blob []) at at_in
+warmed_at hot blobs blob at blob_in at_in = ap (λ counts. get_or counts at 0) (get-warmed 1 hot blobs blob blob_in) ∙ get-warmed_blob 1 (hot blob) (get_or blobs blob []) at at_in
 
 -- the same for a granule, where each access is the test of the granules that it touches
 pub heat-after : (accesses : List (ℕ → ℕ → Bool)) (blobs : List (List ℕ)) (blob at : ℕ) → blob < length blobs → at < length (get_or blobs blob [])
@@ -86,7 +86,7 @@ heat-after [] blobs blob at blob_in at_in bound = capped_none (get_or (get_or bl
 heat-after (hot ∷ accesses) blobs blob at blob_in at_in bound =
     let count = get_or (get_or blobs blob []) at 0 in
     let new = warmed_at hot blobs blob at blob_in at_in in
-    heat-after accesses (warmed hot blobs) blob at (omega (arith, length-warmed hot blobs)) (omega (arith, length-heated hot blobs blob blob_in))
+    heat-after accesses (warmed hot blobs) blob at (omega (arith, length-warmed 1 hot blobs)) (omega (arith, length-heated 1 hot blobs blob blob_in))
     (new_bound (hot blob at) count (get_or (get_or (warmed hot blobs) blob []) at 0) bound new)
     ∙ counts_by (λ hot. hot blob at) hot accesses count (get_or (get_or (warmed hot blobs) blob []) at 0) new
 

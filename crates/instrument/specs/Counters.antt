@@ -7,13 +7,21 @@ use Rattle.places.specs.Touched.{is_touched}
 use Rattle.instrument.specs.declared.counts.Counts.{Counts}
 use Rattle.instrument.specs.declared.heat.Heat.{Heat}
 
--- one more; a count stands still at the end of its type
+-- so many more; a count stands still at the end of its type
+abbrev pub raised : ℕ → ℕ → ℕ
+raised times count = min (count + times) (2 ^ 64 - 1)
+
+-- one more
 abbrev pub next : ℕ → ℕ
-next count = min (count + 1) (2 ^ 64 - 1)
+next count = raised 1 count
+
+-- so many more in a place
+abbrev pub counted_times : List ℕ → ℕ → ℕ → List ℕ
+counted_times counts place times = slice_set counts place (raised times (slice_index counts place))
 
 -- one more in a place
 abbrev pub counted : List ℕ → ℕ → List ℕ
-counted counts place = slice_set counts place (next (slice_index counts place))
+counted counts place = counted_times counts place 1
 
 -- the reads and the writes of each leaf
 pub record LeafCounts : Type 0 where
@@ -54,17 +62,25 @@ granules_in granule bytes = sum_by (granules_of granule) bytes
 abbrev pub no_heat : ℕ → List ℕ → HeatCounts
 no_heat granule bytes = record { granule = granule; blobs = map (λ len. replicate (granules_of granule len) 0) bytes }
 
--- one more in each granule that is hot; a granule has the number of its blob and its own
-abbrev pub warmed_blob : (ℕ → Bool) → List ℕ → List ℕ
-warmed_blob hot counts = map (λ at. if hot at.0 then next at.1 else at.1) (enumerate_from 0 counts)
+-- so many more in each granule that is hot; a granule has the number of its blob and its own
+abbrev pub warmed_blob : ℕ → (ℕ → Bool) → List ℕ → List ℕ
+warmed_blob times hot counts = map (λ at. if hot at.0 then raised times at.1 else at.1) (enumerate_from 0 counts)
 
 -- the same in each blob
-abbrev pub warmed : (ℕ → ℕ → Bool) → List (List ℕ) → List (List ℕ)
-warmed hot blobs = map (λ blob. warmed_blob (hot blob.0) blob.1) (enumerate_from 0 blobs)
+abbrev pub warmed_times : ℕ → (ℕ → ℕ → Bool) → List (List ℕ) → List (List ℕ)
+warmed_times times hot blobs = map (λ blob. warmed_blob times (hot blob.0) blob.1) (enumerate_from 0 blobs)
 
--- the counts after one access to all of these pieces
+-- one more in each granule that is hot
+abbrev pub warmed : (ℕ → ℕ → Bool) → List (List ℕ) → List (List ℕ)
+warmed hot blobs = warmed_times 1 hot blobs
+
+-- the counts after so many accesses to all of these pieces
+abbrev pub heated_times : ℕ → List Piece → HeatCounts → HeatCounts
+heated_times times pieces heat = record heat { blobs = warmed_times times (is_touched heat.granule pieces) heat.blobs }
+
+-- the counts after one
 abbrev pub heated_by : List Piece → HeatCounts → HeatCounts
-heated_by pieces heat = record heat { blobs = warmed (is_touched heat.granule pieces) heat.blobs }
+heated_by pieces heat = heated_times 1 pieces heat
 
 -- a piece that is not empty, whose bytes lie in granules that are counted
 pub record IsInside (heat : HeatCounts) (piece : Piece) : Type 0 where

@@ -1,14 +1,14 @@
--- What the steps of one access leave.
+-- What the steps of so many accesses at once leave.
 use Rattle.std.specs.Prelude.{ℕ, ◌&&◌, not, List, [], slice_index_or, slice_set}
 use Rattle.places.specs.declared.piece.Piece.{Piece}
 use Rattle.places.specs.Touched.{is_in_granule, is_touched}
-use Rattle.instrument.specs.Counters.{HeatCounts, counted, warmed}
+use Rattle.instrument.specs.Counters.{HeatCounts, counted_times, warmed_times}
 
--- one more in one granule of a blob
-abbrev pub warmed_at : ℕ → ℕ → HeatCounts → HeatCounts
-warmed_at blob at heat = record heat { blobs = slice_set heat.blobs blob (counted (slice_index_or heat.blobs blob []) at) }
+-- so many more in one granule of a blob
+abbrev pub warmed_at : ℕ → ℕ → ℕ → HeatCounts → HeatCounts
+warmed_at times blob at heat = record heat { blobs = slice_set heat.blobs blob (counted_times (slice_index_or heat.blobs blob []) at times) }
 
--- one more in each granule that holds a bit of a piece and none of these others
-abbrev pub heated_besides : List Piece → Piece → HeatCounts → HeatCounts
-heated_besides others piece heat =
-    record heat { blobs = warmed (λ blob at. is_in_granule heat.granule blob at piece && not (is_touched heat.granule others blob at)) heat.blobs }
+-- so many more in each granule that holds a bit of a piece and none of these others
+abbrev pub heated_besides : ℕ → List Piece → Piece → HeatCounts → HeatCounts
+heated_besides times others piece heat =
+    record heat { blobs = warmed_times times (λ blob at. is_in_granule heat.granule blob at piece && not (is_touched heat.granule others blob at)) heat.blobs }

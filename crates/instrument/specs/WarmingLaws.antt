@@ -1,4 +1,4 @@
--- Laws of counts by granule: their number stays, and which of them have one more.
+-- Laws of counts by granule: their number stays, and which of them have more.
 use Rattle.std.specs.Prelude.{◌≡◌, ℕ, ◌+◌, ◌-◌, ◌*◌, ◌/◌, ◌<◌, ◌≤◌, Bool, List, [], length, get_or, map, if◌then◌else◌}
 use Rattle.std.specs.List.{enumerate_from}
 use Rattle.std.proofs.Common.{ap, subst, sym, ◌∙◌, arith}
@@ -8,7 +8,7 @@ use Rattle.std.proofs.lemmas.Nat.{div-add-mod', mod_below}
 use Rattle.std.proofs.Math.Nat.{mul_comm}
 use Rattle.places.specs.declared.piece.Piece.{Piece}
 use Rattle.places.specs.Touched.{is_touched}
-use Rattle.instrument.specs.Counters.{HeatCounts, IsInside, next, granules_of, warmed_blob, warmed, heated_by}
+use Rattle.instrument.specs.Counters.{HeatCounts, IsInside, raised, granules_of, warmed_blob, warmed_times, heated_times}
 
 -- a function of each entry and its number
 length_numbered : {X Y : Type 0} (f : ℕ × X → Y) (xs : List X) → length (map f (enumerate_from 0 xs)) ≡ length xs
@@ -21,27 +21,27 @@ get_numbered f xs i d e small =
     get_or-map f (enumerate_from 0 xs) i (0, d) e within ∙ ap f (get_or-enumerate_from 0 xs i (0, d) small ∙ ap (λ (n : ℕ). (n, get_or xs i d)) number)
 
 -- as many as before
-pub length-warmed_blob : (hot : ℕ → Bool) (counts : List ℕ) → length (warmed_blob hot counts) ≡ length counts
-length-warmed_blob hot counts = length_numbered (λ at. if hot at.0 then next at.1 else at.1) counts
+pub length-warmed_blob : (times : ℕ) (hot : ℕ → Bool) (counts : List ℕ) → length (warmed_blob times hot counts) ≡ length counts
+length-warmed_blob times hot counts = length_numbered (λ at. if hot at.0 then raised times at.1 else at.1) counts
 
-pub length-warmed : (hot : ℕ → ℕ → Bool) (blobs : List (List ℕ)) → length (warmed hot blobs) ≡ length blobs
-length-warmed hot blobs = length_numbered (λ blob. warmed_blob (hot blob.0) blob.1) blobs
+pub length-warmed : (times : ℕ) (hot : ℕ → ℕ → Bool) (blobs : List (List ℕ)) → length (warmed_times times hot blobs) ≡ length blobs
+length-warmed times hot blobs = length_numbered (λ blob. warmed_blob times (hot blob.0) blob.1) blobs
 
 -- a count, and the counts of a blob
-pub get-warmed_blob : (hot : ℕ → Bool) (counts : List ℕ) (at : ℕ) → at < length counts → get_or (warmed_blob hot counts) at 0 ≡ (if hot at then next (get_or counts at 0) else get_or counts at 0)
-get-warmed_blob hot counts at small = get_numbered (λ at. if hot at.0 then next at.1 else at.1) counts at 0 0 small
+pub get-warmed_blob : (times : ℕ) (hot : ℕ → Bool) (counts : List ℕ) (at : ℕ) → at < length counts → get_or (warmed_blob times hot counts) at 0 ≡ (if hot at then raised times (get_or counts at 0) else get_or counts at 0)
+get-warmed_blob times hot counts at small = get_numbered (λ at. if hot at.0 then raised times at.1 else at.1) counts at 0 0 small
 
-pub get-warmed : (hot : ℕ → ℕ → Bool) (blobs : List (List ℕ)) (blob : ℕ) → blob < length blobs → get_or (warmed hot blobs) blob [] ≡ warmed_blob (hot blob) (get_or blobs blob [])
-get-warmed hot blobs blob small = get_numbered (λ blob. warmed_blob (hot blob.0) blob.1) blobs blob [] [] small
+pub get-warmed : (times : ℕ) (hot : ℕ → ℕ → Bool) (blobs : List (List ℕ)) (blob : ℕ) → blob < length blobs → get_or (warmed_times times hot blobs) blob [] ≡ warmed_blob times (hot blob) (get_or blobs blob [])
+get-warmed times hot blobs blob small = get_numbered (λ blob. warmed_blob times (hot blob.0) blob.1) blobs blob [] [] small
 
 -- what is inside stays inside
-pub length-heated : (hot : ℕ → ℕ → Bool) (blobs : List (List ℕ)) (blob : ℕ) → blob < length blobs → length (get_or (warmed hot blobs) blob []) ≡ length (get_or blobs blob [])
-length-heated hot blobs blob small = ap length (get-warmed hot blobs blob small) ∙ length-warmed_blob (hot blob) (get_or blobs blob [])
+pub length-heated : (times : ℕ) (hot : ℕ → ℕ → Bool) (blobs : List (List ℕ)) (blob : ℕ) → blob < length blobs → length (get_or (warmed_times times hot blobs) blob []) ≡ length (get_or blobs blob [])
+length-heated times hot blobs blob small = ap length (get-warmed times hot blobs blob small) ∙ length-warmed_blob times (hot blob) (get_or blobs blob [])
 
-pub inside_kept : (heat : HeatCounts) (pieces : List Piece) (piece : Piece) → IsInside heat piece → IsInside (heated_by pieces heat) piece
-inside_kept heat pieces piece inside =
-    let blobs = length-warmed (is_touched heat.granule pieces) heat.blobs in
-    let long = length-heated (is_touched heat.granule pieces) heat.blobs piece.blob inside.blob_in in
+pub inside_kept : (times : ℕ) (heat : HeatCounts) (pieces : List Piece) (piece : Piece) → IsInside heat piece → IsInside (heated_times times pieces heat) piece
+inside_kept times heat pieces piece inside =
+    let blobs = length-warmed times (is_touched heat.granule pieces) heat.blobs in
+    let long = length-heated times (is_touched heat.granule pieces) heat.blobs piece.blob inside.blob_in in
     record {
       blob_in = omega (arith, blobs, inside.blob_in);
       some = inside.some;

@@ -1,5 +1,5 @@
 ghost use Rattle.std.specs.Prelude.{◌≡◌, ◌<◌, IfOk, length, slice_index};
-ghost use Rattle.instrument.specs.Counters.{leaf_counts, no_counts, counted};
+ghost use Rattle.instrument.specs.Counters.{leaf_counts, no_counts, counted, counted_times};
 
 use std::alloc::{AllocError as NoMemory, Global};
 
@@ -25,7 +25,7 @@ impl Counts {
         requires { leaf < length (leaf_counts self.old).reads }
         ensures { leaf_counts self.new ≡ record (leaf_counts self.old) { reads = counted (leaf_counts self.old).reads leaf } }
     {
-        self.reads[leaf] = self.reads[leaf].saturating_add(1);
+        self.add_reads(leaf, 1);
     }
 
     /// Counts one write of a leaf.
@@ -33,7 +33,23 @@ impl Counts {
         requires { leaf < length (leaf_counts self.old).writes }
         ensures { leaf_counts self.new ≡ record (leaf_counts self.old) { writes = counted (leaf_counts self.old).writes leaf } }
     {
-        self.writes[leaf] = self.writes[leaf].saturating_add(1);
+        self.add_writes(leaf, 1);
+    }
+
+    /// Counts so many reads of a leaf.
+    pub fn add_reads(&mut self, leaf: usize, times: u64)
+        requires { leaf < length (leaf_counts self.old).reads }
+        ensures { leaf_counts self.new ≡ record (leaf_counts self.old) { reads = counted_times (leaf_counts self.old).reads leaf times } }
+    {
+        self.reads[leaf] = self.reads[leaf].saturating_add(times);
+    }
+
+    /// Counts so many writes of a leaf.
+    pub fn add_writes(&mut self, leaf: usize, times: u64)
+        requires { leaf < length (leaf_counts self.old).writes }
+        ensures { leaf_counts self.new ≡ record (leaf_counts self.old) { writes = counted_times (leaf_counts self.old).writes leaf times } }
+    {
+        self.writes[leaf] = self.writes[leaf].saturating_add(times);
     }
 
     /// The reads of a leaf.

@@ -41,7 +41,7 @@ pub struct Heat {
 }
 
 impl Heat {
-    ghost use Rattle.instrument.specs.Counters.{heat_counts, no_heat, granules_in, heated_by, IsInside};
+    ghost use Rattle.instrument.specs.Counters.{heat_counts, no_heat, granules_in, heated_by, heated_times, IsInside};
     ghost use Rattle.instrument.specs.Touching.{heated_besides, warmed_at};
 
     /// Counts of the granules of blobs of so many bytes, each 0; a granule has `granule` bytes, the last of a blob perhaps fewer. `TooBig`
@@ -68,35 +68,43 @@ impl Heat {
         requires { All (IsInside (heat_counts self.old)) pieces.now.items }
         ensures { heat_counts self.new ≡ heated_by pieces.now.items (heat_counts self.old) }
     {
+        self.touch_times(pieces, 1);
+    }
+
+    /// Counts so many accesses to all of these pieces.
+    pub fn touch_times(&mut self, pieces: &Pieces, times: u64)
+        requires { All (IsInside (heat_counts self.old)) pieces.now.items }
+        ensures { heat_counts self.new ≡ heated_times times pieces.now.items (heat_counts self.old) }
+    {
         for at in 0..pieces.len() {
             let items = pieces.as_slice();
-            self.touch_piece(&items[at], &items[..at]);
+            self.touch_piece(&items[at], &items[..at], times);
         }
     }
 
-    // Counts an access to a piece, but for the granules that earlier pieces touch.
-    fn touch_piece(&mut self, piece: &Piece, earlier: &[Piece])
+    // Counts accesses to a piece, but for the granules that earlier pieces touch.
+    fn touch_piece(&mut self, piece: &Piece, earlier: &[Piece], times: u64)
         requires inside { IsInside (heat_counts self.old) piece.now }
         requires some { All (λ piece. 0 < piece.bits) earlier.now }
         requires bound { All (λ piece. piece.bit + piece.bits < 2 ^ 64) earlier.now }
-        ensures { heat_counts self.new ≡ heated_besides earlier.now piece.now (heat_counts self.old) }
+        ensures { heat_counts self.new ≡ heated_besides times earlier.now piece.now (heat_counts self.old) }
     {
         let (first, past) = granules_of(piece, self.granule);
         for number in first..past {
             if !is_touched(earlier, self.granule, piece.blob, number) {
-                self.warm(piece.blob, number);
+                self.warm(piece.blob, number, times);
             }
         }
     }
 
-    // One more in a granule.
-    fn warm(&mut self, blob: usize, number: u64)
+    // So many more in a granule.
+    fn warm(&mut self, blob: usize, number: u64, times: u64)
         requires blob_in { blob < length (heat_counts self.old).blobs }
         requires granule_in { number < length (slice_index_or (heat_counts self.old).blobs blob []) }
-        ensures { heat_counts self.new ≡ warmed_at blob number (heat_counts self.old) }
+        ensures { heat_counts self.new ≡ warmed_at times blob number (heat_counts self.old) }
     {
         let counts = &mut self.blobs[blob];
-        counts[number as usize] = counts[number as usize].saturating_add(1);
+        counts[number as usize] = counts[number as usize].saturating_add(times);
     }
 
     /// The granules of a blob.

@@ -9,13 +9,13 @@ use Rattle.instrument.proofs.heat.Heat.touch_piece.Goals as goal
 use Rattle.instrument.proofs.heat.Heat.touch_piece.Goals.{then-not-is_touched, else-not-is_touched}
 
 pub loop-number-init : goal.loop-number-init
-loop-number-init c = until-start c.granules_of-first.result.0 c.args.earlier.now c.args.piece.now (heat_counts c.args.self.now)
+loop-number-init c = until-start c.args.times c.granules_of-first.result.0 c.args.earlier.now c.args.piece.now (heat_counts c.args.self.now)
 
 pub warm-requires-clause-blob_in : goal.warm-requires-clause-blob_in
 warm-requires-clause-blob_in c =
     let heat = heat_counts c.args.self.now in
     let hot = is_anew heat.granule c.args.earlier.now c.args.piece.now c.granules_of-first.result.0 c.loop-number.number in
-    let blobs = ap (λ (heat : HeatCounts). length heat.blobs) c.loop-number.invariant ∙ length-warmed hot heat.blobs in
+    let blobs = ap (λ (heat : HeatCounts). length heat.blobs) c.loop-number.invariant ∙ length-warmed c.args.times hot heat.blobs in
     omega (arith, blobs, c.requires.inside.blob_in)
 
 pub warm-requires-clause-granule_in : goal.warm-requires-clause-granule_in
@@ -23,7 +23,7 @@ warm-requires-clause-granule_in c =
     let piece = c.args.piece.now in
     let heat = heat_counts c.args.self.now in
     let hot = is_anew heat.granule c.args.earlier.now piece c.granules_of-first.result.0 c.loop-number.number in
-    let long = ap (λ (heat : HeatCounts). length (get_or heat.blobs piece.blob [])) c.loop-number.invariant ∙ length-heated hot heat.blobs piece.blob c.requires.inside.blob_in in
+    let long = ap (λ (heat : HeatCounts). length (get_or heat.blobs piece.blob [])) c.loop-number.invariant ∙ length-heated c.args.times hot heat.blobs piece.blob c.requires.inside.blob_in in
     let small = granule_inside (piece.bit + piece.bits) (8 * heat.granule) c.loop-number.number (length (get_or heat.blobs piece.blob [])) (omega arith) (omega arith) c.requires.inside.within
     (omega (arith, c.granules_of-first.ensures.past, c.loop-number-test.true)) in
     omega (arith, long, small)
@@ -41,11 +41,11 @@ loop-number-preserved c =
     elim c.if-not-is_touched.branch [
       | then-not-is_touched w ↦
           let untouched : is_touched heat.granule earlier piece.blob number ≡ false = sym granule ∙ sym c.is_touched.ensures ∙ w.if-not-is_touched.true in
-          ap heat_counts w.self-is ∙ w.warm.ensures ∙ ap (warmed_at piece.blob number) c.loop-number.invariant
-          ∙ until-more first number earlier piece heat c.requires.inside.blob_in small c.loop-number.auto.number untouched
+          ap heat_counts w.self-is ∙ w.warm.ensures ∙ ap (warmed_at c.args.times piece.blob number) c.loop-number.invariant
+          ∙ until-more c.args.times first number earlier piece heat c.requires.inside.blob_in small c.loop-number.auto.number untouched
       | else-not-is_touched w ↦
           let touched : is_touched heat.granule earlier piece.blob number ≡ true = sym granule ∙ sym c.is_touched.ensures ∙ w.if-not-is_touched.false in
-          ap heat_counts w.self-is ∙ c.loop-number.invariant ∙ until-touched first number earlier piece heat touched
+          ap heat_counts w.self-is ∙ c.loop-number.invariant ∙ until-touched c.args.times first number earlier piece heat touched
     ]
 
 pub returns : goal.returns
@@ -55,6 +55,6 @@ returns c =
     let earlier = c.args.earlier.now in
     let rises = place_rises piece.bit (piece.bit + piece.bits - 1) (8 * heat.granule) (omega arith) (omega arith) in
     let whole : c.loop-number.number ≡ c.granules_of-first.result.1 = omega (arith, rises, c.granules_of-first.ensures.first, c.granules_of-first.ensures.past) in
-    c.loop-number.invariant ∙ ap (λ (n : ℕ). heated_until c.granules_of-first.result.0 n earlier piece heat) (whole ∙ c.granules_of-first.ensures.past)
-    ∙ ap (λ (n : ℕ). heated_until n ((piece.bit + piece.bits - 1) / (8 * heat.granule) + 1) earlier piece heat) c.granules_of-first.ensures.first
-    ∙ until-end earlier piece heat c.requires.inside.some c.args.self.now.some
+    c.loop-number.invariant ∙ ap (λ (n : ℕ). heated_until c.args.times c.granules_of-first.result.0 n earlier piece heat) (whole ∙ c.granules_of-first.ensures.past)
+    ∙ ap (λ (n : ℕ). heated_until c.args.times n ((piece.bit + piece.bits - 1) / (8 * heat.granule) + 1) earlier piece heat) c.granules_of-first.ensures.first
+    ∙ until-end c.args.times earlier piece heat c.requires.inside.some c.args.self.now.some

@@ -1,15 +1,15 @@
 use Rattle.std.proofs.Common.{arith, ◌<◌, List, length, get_or, take, sym, ap, subst, ◌∙◌}
 use Rattle.std.proofs.lemmas.List.{take_all, get_or_default}
 use Rattle.std.proofs.lemmas.List.Elements.{All-get_or}
-use Rattle.instrument.specs.Counters.{HeatCounts, heat_counts, heated_by, IsInside}
+use Rattle.instrument.specs.Counters.{HeatCounts, heat_counts, heated_times, IsInside}
 use Rattle.instrument.specs.Touching.{heated_besides}
 use Rattle.places.specs.declared.piece.Piece.{Piece}
 use Rattle.instrument.proofs.Touches.{heated-none, heated-more}
 use Rattle.instrument.specs.WarmingLaws.{inside_kept}
-use Rattle.instrument.proofs.heat.Heat.touch.Goals as goal
+use Rattle.instrument.proofs.heat.Heat.touch_times.Goals as goal
 
 pub loop-at-init : goal.loop-at-init
-loop-at-init c = heated-none (heat_counts c.args.self.now)
+loop-at-init c = heated-none c.args.times (heat_counts c.args.self.now)
 
 pub touch_piece-requires-clause-inside : goal.touch_piece-requires-clause-inside
 touch_piece-requires-clause-inside c =
@@ -17,7 +17,7 @@ touch_piece-requires-clause-inside c =
     let at = c.loop-at.at in
     let heat = heat_counts c.args.self.now in
     let nowhere : Piece = record { blob = 0; bit = 0; bits = 0 } in
-    let inside = inside_kept heat (take at items) (get_or items at nowhere) (All-get_or (IsInside heat) items at nowhere (omega arith) c.requires) in
+    let inside = inside_kept c.args.times heat (take at items) (get_or items at nowhere) (All-get_or (IsInside heat) items at nowhere (omega arith) c.requires) in
     subst (λ (pieces : List Piece). IsInside (heat_counts c.loop-at.self) (get_or pieces at nowhere)) (sym c.as_slice-items.ensures.value)
     (subst (λ (heat : HeatCounts). IsInside heat (get_or items at nowhere)) (sym c.loop-at.invariant) inside)
 
@@ -27,11 +27,11 @@ loop-at-preserved c =
     let at = c.loop-at.at in
     let nowhere : Piece = record { blob = 0; bit = 0; bits = 0 } in
     let small : at < length items = omega arith in
-    c.touch_piece.ensures ∙ ap (λ (pieces : List Piece). heated_besides (take at pieces) (get_or pieces at nowhere) (heat_counts c.loop-at.self)) c.as_slice-items.ensures.value
-    ∙ ap (heated_besides (take at items) (get_or items at nowhere)) c.loop-at.invariant
-    ∙ heated-more items at (get_or items at nowhere) (heat_counts c.args.self.now) small (get_or_default items at nowhere (get_or items at nowhere) small)
+    c.touch_piece.ensures ∙ ap (λ (pieces : List Piece). heated_besides c.args.times (take at pieces) (get_or pieces at nowhere) (heat_counts c.loop-at.self)) c.as_slice-items.ensures.value
+    ∙ ap (heated_besides c.args.times (take at items) (get_or items at nowhere)) c.loop-at.invariant
+    ∙ heated-more c.args.times items at (get_or items at nowhere) (heat_counts c.args.self.now) small (get_or_default items at nowhere (get_or items at nowhere) small)
 
 pub returns : goal.returns
 returns c =
     let items = c.args.pieces.now.items in
-    c.loop-at.invariant ∙ ap (λ (pieces : List Piece). heated_by pieces (heat_counts c.args.self.now)) (take_all c.loop-at.at items (omega arith))
+    c.loop-at.invariant ∙ ap (λ (pieces : List Piece). heated_times c.args.times pieces (heat_counts c.args.self.now)) (take_all c.loop-at.at items (omega arith))
