@@ -1,11 +1,13 @@
 -- What being built, and being accepted, say of an expression.
 use Rattle.std.proofs.Common.{◌≡◌, Bool, true, false, Option, None, Some, Ok, Err, refl}
-use Rattle.std.specs.Prelude.{if◌then◌else◌, not, nat_lt}
+use Rattle.std.specs.Prelude.{if◌then◌else◌, not, nat_lt, List, Result}
 use Rattle.map_expr.specs.declared.check.BadMapping.{BadMapping}
-use Rattle.map_expr.specs.declared.check.BadMapping.TheVariants.{TooDeep, Counter}
+use Rattle.map_expr.specs.declared.check.BadMapping.TheVariants.{TooDeep, Counter, Side, NotFull}
 use Rattle.map_expr.specs.Terms.{Term, Aos, Soa, Aosoa, BitAos, BitSoa, Split, Byteswap, Bytesplit, Change, Count, Heat, Named, depth_of}
 use Rattle.map_expr.specs.Checks.{IsNameless, checked, answered, bad_number, counts_once}
-use Rattle.map_checks.specs.Mappings.{IsBuiltTerm}
+use Rattle.map_checks.specs.Mappings.{IsBuiltTerm, accepted, bad_side, else_for, not_full}
+use Rattle.places.specs.declared.piece.Cell.{Cell}
+use Rattle.record_dim.specs.Trees.{Fields}
 
 -- no name stands in it
 pub built_nameless : (term : Term) → IsBuiltTerm term → IsNameless term
@@ -31,3 +33,19 @@ answered_none false false (Some bad) e = cc
 -- its numbers are in their ranges
 pub accepted_numbers : (term : Term) → checked term ≡ Ok tt → bad_number term ≡ None
 accepted_numbers term e = answered_none (nat_lt 8 (depth_of term)) (not (counts_once true true term)) (bad_number term) e
+
+-- neither a cause nor an earlier one
+else_ok : (bad : BadMapping) (holds : Bool) (earlier : Result Unit BadMapping) → else_for bad holds earlier ≡ Ok tt → (holds ≡ false) × (earlier ≡ Ok tt)
+else_ok bad holds (Err why) e = cc
+else_ok bad true (Ok x) e = cc
+else_ok bad false (Ok x) e = (refl, e)
+
+-- over cells, too: its parts under byteswap and bytesplit are full
+module _ (term : Term) (fields : Fields) (cells : List Cell) (ok : accepted term fields cells ≡ Ok tt) where
+  pub good_parts : not_full term fields cells ≡ false
+  good_parts = (else_ok NotFull (not_full term fields cells) (else_for Side (bad_side term fields cells) (checked term)) ok).0
+
+  pub good_number : bad_number term ≡ None
+  good_number =
+      let sides = (else_ok NotFull (not_full term fields cells) (else_for Side (bad_side term fields cells) (checked term)) ok).1 in
+      accepted_numbers term (else_ok Side (bad_side term fields cells) (checked term) sides).1

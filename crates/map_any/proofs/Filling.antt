@@ -31,7 +31,7 @@ abbrev pub width_in : AnyMap → ℕ → ℕ
 width_in m leaf = slice_index (map (λ (h : Hold). h.width) m.holds) leaf
 
 pub laid_in : (m : AnyMap) → IsLaidOut (layout_in m) (length (indices m.extents)) (map (λ (h : Hold). h.width) m.holds)
-laid_in m = any_laws (term_of m.expr) m.extents (schema_fields m.schema) m.holds m.built m.numbers m.full m.held
+laid_in m = any_laws (term_of m.expr) m.extents (schema_fields m.schema) (leaf_cells (kinds_of (schema_fields m.schema))) m.holds m.built m.numbers m.full m.held
 
 -- a leaf is as wide as a number of its type at most
 pub narrow_in : (m : AnyMap) (leaf : ℕ) → leaf < length (leaf_cells (kinds_of (schema_fields m.schema))) → width_in m leaf ≤ 64

@@ -14,10 +14,9 @@ use Rattle.record_dim.specs.Trees.{Fields}
 use Rattle.record_dim.specs.Leaves.{kinds_of}
 use Rattle.places.specs.declared.piece.Cell.{Cell}
 use Rattle.map_expr.specs.Terms.{Term}
-use Rattle.map_any.specs.AnyLaws.{length-leaf_cells}
-use Rattle.map_checks.specs.Mappings.{leaf_cells, layout_of, holds_of, most_slots}
+use Rattle.map_any.specs.AnyLaws.{length-leaf_cells, cell_holds, cell_rules}
+use Rattle.map_checks.specs.Mappings.{leaf_cells}
 use Rattle.map_plans.specs.Plans.{IsPlanOf}
-use Rattle.map_checks.specs.TermLaws.{length-holds}
 use Rattle.map_plans.specs.declared.plan.Plan.{Plan}
 use Rattle.map_any.specs.LeafRules.{kind_in, hold_in, IsLeafRule, AreLeafRules, AreRuled}
 use Rattle.map_plans.specs.Ruled.{IsRuleOf, IsRuled, IsSameRule}
@@ -27,7 +26,6 @@ use Rattle.short_rules.specs.Walks.{leads}
 use Rattle.short_rules.specs.declared.short.ShortRule.{ShortRule}
 use Rattle.map_any.specs.declared.leaf_rule.LeafRule.{LeafRule}
 use Rattle.map_plans.specs.declared.rule.Rule.{Rule}
-use Rattle.map_plans.specs.PlansLaws.{plan_holds, plan_rules}
 
 -- a rule that says the same is a rule of the same cell
 pub rule_same : (layout : List (List Owner)) (extents : List ℕ) (cell width : ℕ) (old new : Rule) → IsSameRule old new
@@ -63,14 +61,14 @@ leaves_ruled layout extents kinds holds rules leaves ruled paired h = record {
 -- a plan of all leaves has as many holds and rules as there are leaves
 module _ (term : Term) (extents : List ℕ) (fields : Fields) (cells : List Cell) (plan : Plan) (h : IsPlanOf term extents fields cells plan)
     (all : cells ≡ leaf_cells (kinds_of fields)) where
-  cell_count : length (holds_of term fields cells) ≡ length (kinds_of fields)
-  cell_count = length-holds term fields cells ∙ ap (λ (cs : List Cell). length cs) all ∙ length-leaf_cells (kinds_of fields)
+  cell_count : length cells ≡ length (kinds_of fields)
+  cell_count = ap (λ (cs : List Cell). length cs) all ∙ length-leaf_cells (kinds_of fields)
 
   pub whole_holds : length plan.holds ≡ length (kinds_of fields)
-  whole_holds = plan_holds (most_slots term extents) (layout_of term extents fields cells) extents (holds_of term fields cells) plan h ∙ cell_count
+  whole_holds = cell_holds term extents fields cells plan h ∙ cell_count
 
   pub whole_rules : length plan.rules ≡ length (kinds_of fields)
-  whole_rules = plan_rules (most_slots term extents) (layout_of term extents fields cells) extents (holds_of term fields cells) plan h ∙ cell_count
+  whole_rules = cell_rules term extents fields cells plan h ∙ cell_count
 
 -- what the accesses to one leaf go by
 module _ (layout : List (List Owner)) (extents : List ℕ) (kinds : List LeafType) (holds : List Hold) (leaves : List LeafRule) (k : ℕ) (leaf : LeafRule)

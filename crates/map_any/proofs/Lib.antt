@@ -4,3 +4,4 @@ pub mod LeafLaws
 pub mod RunLaws
 pub mod Filling
 pub mod ArrayLaws
+pub mod CellFacts

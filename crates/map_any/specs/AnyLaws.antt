@@ -1,4 +1,4 @@
--- The laws of a mapping that keeps how each leaf of its expression is stored.
+-- The laws of a mapping that keeps how each cell of its expression is stored.
 use Rattle.std.proofs.Common.{◌≡◌, ℕ, List, map, length, false, None, sym, ap, ◌∙◌, subst}
 use Rattle.std.proofs.lemmas.List.{length-map}
 use Rattle.extents.specs.Indices.{indices}
@@ -11,15 +11,18 @@ use Rattle.places.specs.declared.piece.Hold.{Hold}
 use Rattle.map_expr.specs.Terms.{Term}
 use Rattle.map_expr.specs.Checks.{bad_number}
 use Rattle.map_checks.specs.LeafCells.{leaf_cells_kinds}
-use Rattle.map_checks.specs.Mappings.{leaf_cells, layout_by, holds_by, not_full, IsBuiltTerm}
+use Rattle.map_checks.specs.Mappings.{leaf_cells, layout_of, holds_of, holds_by, most_slots, not_full, IsBuiltTerm}
 use Rattle.map_checks.specs.TermLaws.{term_laws, good_numbers, length-holds}
+use Rattle.map_plans.specs.Plans.{IsPlanOf}
+use Rattle.map_plans.specs.PlansLaws.{plan_holds, plan_rules}
+use Rattle.map_plans.specs.declared.plan.Plan.{Plan}
 
-pub any_laws : (term : Term) (extents : List ℕ) (fields : Fields) (holds : List Hold) → IsBuiltTerm term → bad_number term ≡ None
-    → not_full term fields (leaf_cells (kinds_of fields)) ≡ false → holds ≡ holds_by term fields
-    → IsLaidOut (layout_by term extents fields) (length (indices extents)) (map (λ (h : Hold). h.width) holds)
-any_laws term extents fields holds built numbers full held =
-    subst (λ (hs : List Hold). IsLaidOut (layout_by term extents fields) (length (indices extents)) (map (λ (h : Hold). h.width) hs)) (sym held)
-    (term_laws term extents fields (leaf_cells (kinds_of fields)) built (good_numbers term numbers) full)
+pub any_laws : (term : Term) (extents : List ℕ) (fields : Fields) (cells : List Cell) (holds : List Hold) → IsBuiltTerm term → bad_number term ≡ None
+    → not_full term fields cells ≡ false → holds ≡ holds_of term fields cells
+    → IsLaidOut (layout_of term extents fields cells) (length (indices extents)) (map (λ (h : Hold). h.width) holds)
+any_laws term extents fields cells holds built numbers full held =
+    subst (λ (hs : List Hold). IsLaidOut (layout_of term extents fields cells) (length (indices extents)) (map (λ (h : Hold). h.width) hs)) (sym held)
+    (term_laws term extents fields cells built (good_numbers term numbers) full)
 
 -- there are as many cells as leaves
 pub length-leaf_cells : (kinds : List LeafType) → length (leaf_cells kinds) ≡ length kinds
@@ -27,3 +30,11 @@ length-leaf_cells kinds = sym (length-map (leaf_cells kinds) (λ (cell : Cell). 
 
 pub holds_cells : (term : Term) (fields : Fields) (holds : List Hold) → holds ≡ holds_by term fields → length holds ≡ length (leaf_cells (kinds_of fields))
 holds_cells term fields holds held = ap (λ (hs : List Hold). length hs) held ∙ length-holds term fields (leaf_cells (kinds_of fields))
+
+-- a plan of an expression has a hold and a rule for each cell
+module _ (term : Term) (extents : List ℕ) (fields : Fields) (cells : List Cell) (plan : Plan) (h : IsPlanOf term extents fields cells plan) where
+  pub cell_holds : length plan.holds ≡ length cells
+  cell_holds = plan_holds (most_slots term extents) (layout_of term extents fields cells) extents (holds_of term fields cells) plan h ∙ length-holds term fields cells
+
+  pub cell_rules : length plan.rules ≡ length cells
+  cell_rules = plan_rules (most_slots term extents) (layout_of term extents fields cells) extents (holds_of term fields cells) plan h ∙ length-holds term fields cells

@@ -19,10 +19,11 @@ ghost use Rattle.short_rules.specs.Wides.{IsWide};
 use crate::any::AnyMap;
 use crate::leaf_rule::LeafRule;
 use crate::leaf_rules::leaf_rules;
+use crate::planned::planned;
 use extents::Extents;
-use map_checks::{MakeMap, cells_of, has_bad_side, has_part_not_full};
-use map_expr::{BadMapping, MapExpr};
-use map_plans::{Rule, make_plan, slot_of_row};
+use map_checks::{MakeMap, cells_of};
+use map_expr::MapExpr;
+use map_plans::{Rule, slot_of_row};
 use piece_rules::pieces_in;
 use places::{Hold, Mapping, Piece, Pieces};
 use record_dim::{LeafType, Schema};
@@ -50,17 +51,8 @@ impl AnyMap {
         ensures fits { OnOk result (IsTooBigFor (term_of expr.now) extents.now (schema_fields schema.now) (leaf_cells (kinds_of (schema_fields schema.now))) → ⊥) }
         ensures refused { IfErr result (IsRefusal (term_of expr.now) extents.now (schema_fields schema.now) (leaf_cells (kinds_of (schema_fields schema.now)))) }
     {
-        if let Err(bad) = expr.check() {
-            return Err(MakeMap::Bad(bad));
-        }
         let cells = cells_of(alloc, schema)?;
-        if has_bad_side(alloc, schema, &cells, expr)? {
-            return Err(MakeMap::Bad(BadMapping::Side));
-        }
-        if has_part_not_full(alloc, schema, &cells, expr)? {
-            return Err(MakeMap::Bad(BadMapping::NotFull));
-        }
-        let plan = make_plan(alloc, schema, &cells, extents, expr)?;
+        let plan = planned(alloc, schema, &cells, extents, expr)?;
         let rules = leaf_rules(
             alloc,
             schema,
@@ -208,7 +200,7 @@ impl Mapping for AnyMap {
         pieces_in(&rule.pieces, slot_of_row(rule.order, &self.extents, slot))
     }
 
-    ghost laws = { λ m. any_laws (term_of m.expr) m.extents (schema_fields m.schema) m.holds m.built m.numbers m.full m.held };
+    ghost laws = { λ m. any_laws (term_of m.expr) m.extents (schema_fields m.schema) (leaf_cells (kinds_of (schema_fields m.schema))) m.holds m.built m.numbers m.full m.held };
 
     ghost holds_cells = { λ m. holds_cells (term_of m.expr) (schema_fields m.schema) m.holds m.held };
 }

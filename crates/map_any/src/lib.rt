@@ -4,13 +4,16 @@
 mod any;
 mod any_map;
 mod arrays;
+mod cell_map;
 mod leaf_rule;
 mod leaf_rules;
+mod planned;
 mod runs;
 mod strategy;
 
 pub use any::AnyMap;
 pub use arrays::{ArraySlots, BytePlace};
+pub use cell_map::CellMap;
 pub use leaf_rule::{LeafRule, RuleList};
 pub use map_checks::{HoldList, MakeMap};
 pub use map_expr::{BadMapping, MapExpr};

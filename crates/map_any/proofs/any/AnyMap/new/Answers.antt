@@ -1,31 +1,22 @@
-use Rattle.std.proofs.Common.{◌≡◌, ◌∙◌, ℕ, List, Ok, false, map, length, refl, ap, subst, sym, rules}
+use Rattle.std.proofs.Common.{◌≡◌, ◌∙◌, ℕ, List, Ok, false, map, length, refl, ap, subst, sym}
 use Rattle.record_dim.specs.Schemas.{schema_fields}
 use Rattle.record_dim.specs.Leaves.{kinds_of}
 use Rattle.record_dim.specs.Trees.{Fields}
 use Rattle.places.specs.declared.piece.Cell.{Cell}
 use Rattle.places.specs.declared.piece.Hold.{Hold}
 use Rattle.map_expr.specs.Terms.{Term, term_of}
-use Rattle.map_expr.specs.Checks.{checked, bad_number}
-use Rattle.map_checks.specs.Mappings.{leaf_cells, layout_by, not_full, IsBuiltTerm}
+use Rattle.map_expr.specs.Checks.{bad_number}
+use Rattle.map_checks.specs.Mappings.{leaf_cells, layout_by, accepted, not_full, IsBuiltTerm}
 use Rattle.map_any.specs.Counters.{is_counted}
 use Rattle.map_any.specs.LeafRules.{AreLeafRules, IsWideIn}
 use Rattle.map_plans.specs.Arrays.{HasArrays}
 use Rattle.map_plans.specs.Ruled.{EachWith, IsRuled}
 use Rattle.map_plans.specs.declared.rule.Rule.{Rule}
 use Rattle.map_plans.specs.Plans.{IsPlanOf}
-use Rattle.map_checks.specs.TermLaws.{good_numbers}
 use Rattle.map_any.proofs.ArrayLaws.{leaves_arrays}
 use Rattle.map_any.proofs.LeafLaws.{leaves_ruled, whole_holds, whole_rules}
-use Rattle.map_any.proofs.Built.{accepted_numbers, built_nameless}
+use Rattle.map_any.proofs.Built.{good_parts, good_number}
 use Rattle.map_any.proofs.any.AnyMap.new.Goals as goal
-
-pub check-requires : goal.check-requires
-check-requires c = record { nameless = built_nameless (term_of c.args.expr.now) c.requires.built }
-
-pub make_plan-requires-clause-numbers : goal.make_plan-requires-clause-numbers
-make_plan-requires-clause-numbers c =
-    let is_checked : checked (term_of c.args.expr.now) ≡ Ok tt = search rules in
-    good_numbers (term_of c.args.expr.now) (accepted_numbers (term_of c.args.expr.now) is_checked)
 
 pub leaf_rules-requires-clause-holds : goal.leaf_rules-requires-clause-holds
 leaf_rules-requires-clause-holds c =
@@ -46,8 +37,9 @@ invariant_of-result c =
     let fields : Fields = schema_fields c.in_ok-schema.schema in
     let extents : List ℕ = c.args.extents.now in
     let plan = c.in_ok-plan.plan in
-    let is_checked : checked term ≡ Ok tt = search rules in
-    let is_full : not_full term (schema_fields c.args.schema.now) c.in_ok-cells.cells ≡ false = search rules in
+    let ok : accepted term (schema_fields c.args.schema.now) c.in_ok-cells.cells ≡ Ok tt = c.in_ok-plan.ensures.accepted in
+    let is_full : not_full term (schema_fields c.args.schema.now) c.in_ok-cells.cells ≡ false =
+    good_parts term (schema_fields c.args.schema.now) c.in_ok-cells.cells ok in
     let same : copy ≡ term = c.in_ok-expr.ensures in
     let trees : schema_fields c.args.schema.now ≡ fields = sym c.in_ok-schema.ensures in
     let one = subst (λ (cs : List Cell). IsPlanOf term extents (schema_fields c.args.schema.now) cs plan) c.in_ok-cells.ensures c.in_ok-plan.ensures.plan in
@@ -56,7 +48,7 @@ invariant_of-result c =
     subst (λ (t : Term). IsPlanOf t extents fields (leaf_cells (kinds_of fields)) plan) (sym same) two in
     record {
       built = subst IsBuiltTerm (sym same) c.requires.built;
-      numbers = ap bad_number same ∙ accepted_numbers term is_checked;
+      numbers = ap bad_number same ∙ good_number term (schema_fields c.args.schema.now) c.in_ok-cells.cells ok;
       full =
           subst (λ (t : Term). not_full t fields (leaf_cells (kinds_of fields)) ≡ false) (sym same)
           (subst (λ (f : Fields). not_full term f (leaf_cells (kinds_of f)) ≡ false) trees

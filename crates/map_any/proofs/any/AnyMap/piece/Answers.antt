@@ -10,6 +10,7 @@ use Rattle.piece_rules.specs.PieceRules.{pieces_in}
 use Rattle.map_expr.specs.Terms.{term_of}
 use Rattle.map_any.specs.declared.any.AnyMap.{AnyMap}
 use Rattle.map_checks.specs.Mappings.{layout_by}
+use Rattle.map_any.proofs.CellFacts.{rule_located}
 use Rattle.map_any.proofs.any.AnyMap.piece.Goals as goal
 use Rattle.map_any.proofs.any.AnyMap.piece.Goals.{After-slot_of_row}
 
@@ -32,12 +33,11 @@ located : (c : goal.After-slot_of_row) → IsLocated (layout_in c.args.self.now)
     (pieces_in (c.piece-item.result ∷ []) c.slot_of_row.result)
 located c =
     let m = c.args.self.now in
-    let Located : List PieceRule → ℕ → Type 0 = λ ps slot. IsLocated (layout_in m) c.args.row c.args.leaf (width_in m c.args.leaf) (pieces_in ps slot) in
     let item : PieceRule = c.piece-item.result in
     let alone = sym c.as_slice.ensures.value ∙ one_item c.as_slice.result.now item c.in-len1.len_at_least c.in-len1.len_below c.piece-item.is in
-    subst (λ (ps : List PieceRule). Located ps c.slot_of_row.result) alone
-    (subst (λ (slot : ℕ). Located c.leaf_rule.result.now.rule.pieces.items slot) (sym c.slot_of_row.ensures.slot)
-    (c.leaf_rule.ensures.places.places c.args.row c.requires.slot_in))
+    subst (λ (ps : List PieceRule). IsLocated (layout_in m) c.args.row c.args.leaf (width_in m c.args.leaf) (pieces_in ps c.slot_of_row.result)) alone
+    (rule_located (layout_in m) m.extents c.args.row c.args.leaf (width_in m c.args.leaf) c.slot_of_row.result c.leaf_rule.result.now.rule c.leaf_rule.ensures.places
+    c.slot_of_row.ensures.slot c.requires.slot_in)
 
 pub piece-requires : goal.piece-requires
 piece-requires c =

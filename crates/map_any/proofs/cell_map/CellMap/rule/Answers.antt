@@ -1,0 +1,27 @@
+use Rattle.std.proofs.Common.{◌≡◌, ◌<◌, ◌∙◌, ℕ, List, length, get_or, ap, arith}
+use Rattle.record_dim.specs.Schemas.{schema_fields}
+use Rattle.map_expr.specs.Terms.{term_of}
+use Rattle.map_plans.specs.declared.rule.Rule.{Rule}
+use Rattle.map_any.specs.declared.cell_map.CellMap.{CellMap}
+use Rattle.map_any.proofs.CellFacts.{has_rule, rule_in}
+use Rattle.map_any.proofs.cell_map.CellMap.rule.Goals as goal
+
+inside : (m : CellMap) (rules : List Rule) (cell : ℕ) → rules ≡ m.plan.rules → cell < length m.cells.items → cell < length rules
+inside m rules cell is low =
+    let same : length rules ≡ length m.plan.rules = ap (λ (rs : List Rule). length rs) is in
+    omega (arith, has_rule (term_of m.expr) m.extents (schema_fields m.schema) m.cells.items m.plan m.made cell low)
+
+pub bounds-as_slice-cell : goal.bounds-as_slice-cell
+bounds-as_slice-cell c = inside c.args.self.now c.as_slice.result.now c.args.cell c.as_slice.ensures c.requires
+
+pub offset_bounds-as_slice-cell : goal.offset_bounds-as_slice-cell
+offset_bounds-as_slice-cell c =
+    let low : c.args.cell < length c.as_slice.result.now = inside c.args.self.now c.as_slice.result.now c.args.cell c.as_slice.ensures c.requires in
+    omega arith
+
+pub returns : goal.returns
+returns c =
+    let m = c.args.self.now in
+    let item : Rule = c.index-as_slice-cell.result in
+    rule_in (term_of m.expr) m.extents (schema_fields m.schema) m.cells.items m.plan m.made c.args.cell c.requires item
+    (c.index-as_slice-cell.is ∙ ap (λ (rs : List Rule). get_or rs c.args.cell item) c.as_slice.ensures)

@@ -1,0 +1,12 @@
+use Rattle.std.proofs.Common.{◌*◌, ◌∙◌, ℕ, List, get_or, ap}
+use Rattle.record_dim.specs.Schemas.{schema_fields}
+use Rattle.map_expr.specs.Terms.{term_of}
+use Rattle.map_checks.specs.Mappings.{layout_of}
+use Rattle.map_any.proofs.AnyFacts.{bytes_at}
+use Rattle.map_any.proofs.cell_map.CellMapMapping.blob_bytes.Goals as goal
+
+pub returns : goal.returns
+returns c =
+    let m = c.args.self.now in
+    ap (λ (ns : List ℕ). 8 * get_or ns c.args.blob 0) c.as_slice.ensures
+    ∙ bytes_at (layout_of (term_of m.expr) m.extents (schema_fields m.schema) m.cells.items) m.plan.lengths c.args.blob 0 m.made.sized c.requires

@@ -1,0 +1,11 @@
+use Rattle.std.proofs.Common.{◌∙◌}
+use Rattle.record_dim.specs.Schemas.{schema_fields}
+use Rattle.map_expr.specs.Terms.{term_of}
+use Rattle.map_checks.specs.Mappings.{layout_of}
+use Rattle.map_any.proofs.AnyFacts.{length-sized}
+use Rattle.map_any.proofs.cell_map.CellMapMapping.blob_count.Goals as goal
+
+pub returns : goal.returns
+returns c =
+    let m = c.args.self.now in
+    c.len.ensures ∙ length-sized (layout_of (term_of m.expr) m.extents (schema_fields m.schema) m.cells.items) m.plan.lengths m.made.sized

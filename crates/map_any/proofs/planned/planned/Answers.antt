@@ -1,0 +1,14 @@
+use Rattle.std.proofs.Common.{◌≡◌, Ok, rules}
+use Rattle.map_expr.specs.Terms.{term_of}
+use Rattle.map_expr.specs.Checks.{checked}
+use Rattle.map_checks.specs.TermLaws.{good_numbers}
+use Rattle.map_any.proofs.Built.{accepted_numbers, built_nameless}
+use Rattle.map_any.proofs.planned.planned.Goals as goal
+
+pub check-requires : goal.check-requires
+check-requires c = record { nameless = built_nameless (term_of c.args.expr.now) c.requires.built }
+
+pub make_plan-requires-clause-numbers : goal.make_plan-requires-clause-numbers
+make_plan-requires-clause-numbers c =
+    let is_checked : checked (term_of c.args.expr.now) ≡ Ok tt = search rules in
+    good_numbers (term_of c.args.expr.now) (accepted_numbers (term_of c.args.expr.now) is_checked)
