@@ -5,7 +5,7 @@ use Rattle.views.specs.TallyLaws.{after_log-none}
 use Rattle.views.specs.Tallies.{Read, row_accesses}
 use Rattle.layout_copy.specs.Copies.{AreAlike}
 use Rattle.layout_copy.proofs.Rows.{reads_after, row_read, none_copied, row_copied, row_refused, steps_more}
-use Rattle.layout_copy.proofs.fieldwise.copy.Goals as goal
+use Rattle.layout_copy.proofs.fieldwise.copy_fields.Goals as goal
 
 pub returns-in-Some-clause-copied : goal.returns-in-Some-clause-copied
 returns-in-Some-clause-copied g c =
