@@ -37,7 +37,7 @@ module _ (rows : ℕ) (widths : List ℕ) (some_rows : 0 < rows) (some_cells : 0
   some_owner layout laid none =
       let wide : 1 ≤ slice_index widths 0 = laid.wide 0 0 some_cells in
       let found = laid.there 0 0 0 (record { slot_in = some_rows; cell_in = some_cells; bit_in = wide }) in
-      let here : Pad ≡ Bit 0 0 0 = sym (none found.0 found.1.0) ∙ found.1.1 in
+      let here : Pad ≡ Bit 0 0 0 = sym (none found.0 found.1) ∙ found.2 in
       absurd (cc here)
 
   some_lanes : (lanes : ℕ) (order : Order) (extents : List ℕ) (fields : Fields) (cells : List Cell) → IsLaidOut (layout_of (Aosoa lanes order) extents fields cells) rows widths → 0 < lanes

@@ -32,7 +32,8 @@ pub fn copy<L: Ledger>(
     if !are_alike(source, target) {
         return Err(CopyFault::Mismatch);
     }
-    match AnyMap::strategy(source.map(), target.map()) {
+    let strategy = AnyMap::strategy(source.map(), target.map());
+    match strategy {
         Strategy::Blobs => target.move_blobs(source, steps),
         Strategy::Runs => copy_runs(source, target, steps),
         Strategy::Fields => return copy_fields(source, target, steps),
