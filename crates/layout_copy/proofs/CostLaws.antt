@@ -1,14 +1,18 @@
 -- Pieces one after another.
-use Rattle.std.proofs.Common.{◌≡◌, ◌⊎◌, ⊎_elim, inl, inr, ℕ, zero, suc, ◌+◌, ◌-◌, ◌*◌, ◌/◌, ◌%◌, ◌<◌, ◌≤◌, Bool, true, false, ◌||◌, min, List, [], ◌∷◌, ◌++◌, map, take, length, get_or, sum_by, if◌then◌else◌, refl, sym, ap, ◌∙◌, subst, arith}
+use Rattle.std.proofs.Common.{◌≡◌, ◌⊎◌, ⊎_elim, inl, inr, ℕ, zero, suc, ◌+◌, ◌-◌, ◌*◌, ◌/◌, ◌%◌, ◌<◌, ◌≤◌, Bool, true, false, ◌||◌, List, [], ◌∷◌, ◌++◌, map, take, length, get_or, sum_by, refl, sym, ap, ◌∙◌, arith}
 use Rattle.std.specs.Prelude.{◌==◌}
 use Rattle.std.specs.List.{range_with_len}
 use Rattle.std.proofs.Math.Nat.{mul-mod_left}
 use Rattle.std.proofs.lemmas.Nat.{div-add-mod'}
 use Rattle.std.proofs.lemmas.Bool.{cases_lt}
-use Rattle.std.proofs.lemmas.List.{take_more}
+use Rattle.std.proofs.lemmas.List.{take_more, take_all, length-map, get_or-map}
 use Rattle.std.proofs.lemmas.List.FromFn.{map-range_with_len_more}
 use Rattle.std.proofs.lemmas.List.Sums.{sum_by-append, sum_by-cons}
+use Rattle.record_dim.specs.declared.leaf_type.LeafType.{LeafType}
+use Rattle.record_dim.specs.declared.leaf_type.LeafType.TheVariants.{Bool as Truth}
 use Rattle.blobs.specs.Moves.{blocks}
+use Rattle.views.specs.Moves.{size_of}
+use Rattle.views.specs.Stores.{kind_at}
 use Rattle.layout_copy.specs.Costs.{is_cut, piece_count, piece_steps, steps_at, steps_before}
 
 range_more : (n : ℕ) → range_with_len 0 (n + 1) ≡ range_with_len 0 n ++ n ∷ []
@@ -91,10 +95,22 @@ is_piece slots one two slot count some_one some_two inside is =
     record { some = omega arith; inside = omega arith; first = omega arith; second = omega arith }
 
 -- the blocks of one leaf more
-pub piece_more : (sizes : List ℕ) (count leaf : ℕ) → leaf < length sizes → piece_steps (take leaf sizes) count + blocks (count * get_or sizes leaf 0) ≡ piece_steps (take (leaf + 1) sizes) count
-piece_more sizes count leaf inside =
+more_sizes : (sizes : List ℕ) (count leaf : ℕ) → leaf < length sizes → piece_steps (take leaf sizes) count + blocks (count * get_or sizes leaf 0) ≡ piece_steps (take (leaf + 1) sizes) count
+more_sizes sizes count leaf inside =
     let f : ℕ → ℕ = λ size. blocks (count * size) in
     let last : sum_by f (get_or sizes leaf 0 ∷ []) ≡ f (get_or sizes leaf 0) + 0 = sum_by-cons f (get_or sizes leaf 0) [] in
     let whole : sum_by f (take (leaf + 1) sizes) ≡ sum_by f (take leaf sizes) + sum_by f (get_or sizes leaf 0 ∷ []) =
     ap (sum_by f) (take_more sizes leaf 0 inside) ∙ sum_by-append f (take leaf sizes) (get_or sizes leaf 0 ∷ []) in
     omega arith
+
+pub leaf_steps : (kinds : List LeafType) (count leaf : ℕ) → leaf < length kinds
+    → piece_steps (take leaf (map size_of kinds)) count + blocks (count * size_of (kind_at kinds leaf)) ≡ piece_steps (take (leaf + 1) (map size_of kinds)) count
+leaf_steps kinds count leaf inside =
+    let size : get_or (map size_of kinds) leaf 0 ≡ size_of (kind_at kinds leaf) = get_or-map size_of kinds leaf Truth 0 inside in
+    ap (λ (n : ℕ). piece_steps (take leaf (map size_of kinds)) count + blocks (count * n)) (sym size)
+    ∙ more_sizes (map size_of kinds) count leaf (let l : leaf < length (map size_of kinds) = omega (arith, inside, length-map kinds size_of) in l)
+
+-- the blocks of all leaves
+pub all_leaves : (kinds : List LeafType) (count leaf : ℕ) → length kinds ≤ leaf → piece_steps (take leaf (map size_of kinds)) count ≡ piece_steps (map size_of kinds) count
+all_leaves kinds count leaf over =
+    ap (λ (sizes : List ℕ). piece_steps sizes count) (take_all leaf (map size_of kinds) (let l : length (map size_of kinds) ≤ leaf = omega (arith, over, length-map kinds size_of) in l))

@@ -1,15 +1,15 @@
 -- Where an array has a row, its blocks have slots.
-use Rattle.std.proofs.Common.{◌≡◌, ℕ, zero, suc, ◌+◌, ◌-◌, ◌/◌, ◌<◌, ◌≤◌, List, [], ◌∷◌, map, length, get_or, slice_index, All, Option, Some, None, option_map, refl, sym, ap, ◌∙◌, subst, arith}
+use Rattle.std.proofs.Common.{◌≡◌, ℕ, zero, suc, ◌+◌, ◌-◌, ◌/◌, ◌<◌, ◌≤◌, List, [], ◌∷◌, map, length, slice_index, Option, Some, None, option_map, refl, sym, ap, ◌∙◌, subst, arith}
 use Rattle.std.specs.Prelude.{IfSome}
 use Rattle.std.specs.List.{flat_map, range_with_len}
 use Rattle.std.proofs.Math.Nat.{div-zero}
-use Rattle.std.proofs.lemmas.List.{length-map, get_or-map}
+use Rattle.std.proofs.lemmas.List.{length-map}
 use Rattle.extents.specs.Indices.{indices}
 use Rattle.extents.specs.declared.order.Order.{Order}
 use Rattle.linearize.specs.Slots.{row_at, slot_at, slot_count}
 use Rattle.linearize.specs.SlotsLaws.{slot_at_below}
 use Rattle.record_dim.specs.Trees.{Fields}
-use Rattle.record_dim.specs.Leaves.{kinds_of}
+use Rattle.record_dim.specs.Leaves.{leaves}
 use Rattle.places.specs.Holds.{widths_of}
 use Rattle.places.specs.Laws.{IsLaidOut}
 use Rattle.places.specs.Layout.{Owner, Pad, Bit, owner_at, aosoa, block_of, cells_of}
@@ -17,10 +17,10 @@ use Rattle.places.specs.Rules.{in_rows}
 use Rattle.places.specs.declared.piece.Cell.{Cell}
 use Rattle.places.specs.declared.piece.Hold.{Hold}
 use Rattle.map_expr.specs.Terms.{Term, Aos, Soa, Aosoa, BitAos, BitSoa, Split, Byteswap, Bytesplit, Change, Count, Heat, Named}
-use Rattle.map_checks.specs.Mappings.{layout_of}
+use Rattle.map_checks.specs.Mappings.{layout_of, leaf_cells}
 use Rattle.map_plans.specs.Arrays.{array_of, lanes_in}
 use Rattle.map_any.specs.ArraySlots.{slots_in}
-use Rattle.map_any.specs.declared.arrays.ArraySlots.{ArraySlots}
+use Rattle.views.specs.Tables.{Table, IsTable, owners_of, table_holds, leaf_count_of, leaf_types_of}
 
 -- blocks of no slots hold no bit
 no_owner : (row : ℕ → Option ℕ) (slots : ℕ) (widths : List ℕ) (blob bit : ℕ) → owner_at (in_rows row (aosoa 0 slots widths)) blob bit ≡ Pad
@@ -64,3 +64,17 @@ pub some_slots : (o : Option (Order × Option ℕ)) (extents : List ℕ) → IfS
     → IfSome (option_map (slots_in extents) o) (λ slots. 0 < slots.lanes)
 some_slots None extents h = tt
 some_slots (Some array) extents h = h
+
+-- the same of a view
+pub lanes_there : (table : Table) (slots : ℕ) (layout : List (List Owner)) (holds : List Hold) → IsTable table → slots ≡ length (indices table.extents) → layout ≡ owners_of table → holds ≡ table_holds table
+    → length (table_holds table) ≡ length (leaf_types_of table) → 1 ≤ leaf_count_of table → IsLaidOut layout slots (map (λ (h : Hold). h.width) holds) → 0 < length table.rows
+    → IfSome (option_map (slots_in table.extents) (array_of table.mapping)) (λ found. 0 < found.lanes)
+lanes_there table slots layout holds is slots_are layout_is holds_are paired some laid rows =
+    let widths : List ℕ = map (λ (h : Hold). h.width) holds in
+    let kinds : length (leaf_types_of table) ≡ leaf_count_of table = length-map (leaves table.fields) (λ leaf. leaf.kind) in
+    let same : length holds ≡ length (table_holds table) = ap (λ (hs : List Hold). length hs) holds_are in
+    let cells : 0 < length widths = omega (arith, length-map holds (λ (h : Hold). h.width), same, paired, kinds, some) in
+    let inside : 0 < slots = omega (arith, rows, is.rows, slots_are) in
+    some_slots (array_of table.mapping) table.extents
+    (blocks_have_slots slots widths inside cells table.mapping table.extents table.fields (leaf_cells (leaf_types_of table)) slots_are
+    (subst (λ (l : List (List Owner)). IsLaidOut l slots widths) layout_is laid))

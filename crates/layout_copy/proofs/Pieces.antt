@@ -1,7 +1,7 @@
 -- Tables that are copied leaf after leaf of a piece of slots, and piece after piece.
-use Rattle.std.proofs.Common.{◌≡◌, ◌⊎◌, ⊎_elim, ℕ, zero, suc, ◌+◌, ◌%◌, ◌<◌, ◌≤◌, ℤ, List, [], length, map, take, get_or, Option, Some, None, option_map, refl, sym, ap, ◌∙◌, subst, arith}
+use Rattle.std.proofs.Common.{◌≡◌, ⊎_elim, ℕ, ◌+◌, ◌%◌, ◌<◌, ◌≤◌, ℤ, List, [], ◌∷◌, length, Option, Some, None, option_map, refl, sym, ap, ◌∙◌, subst, arith}
 use Rattle.std.specs.Prelude.{IfSome, IsSomeAnd}
-use Rattle.std.proofs.lemmas.Bool.{cases_lt, cases_eq}
+use Rattle.std.proofs.lemmas.Bool.{cases_lt}
 use Rattle.extents.specs.Indices.{indices}
 use Rattle.extents.specs.declared.order.Order.{Order}
 use Rattle.linearize.specs.Slots.{slot_at, slot_count}
@@ -14,7 +14,7 @@ use Rattle.map_plans.specs.Arrays.{array_of, lanes_in}
 use Rattle.map_any.specs.ArraySlots.{slots_in}
 use Rattle.map_any.specs.Strategies.{AreRuns}
 use Rattle.map_any.specs.declared.arrays.ArraySlots.{ArraySlots}
-use Rattle.views.specs.Moves.{IsInBlock, IsInRun, IsRunMoved}
+use Rattle.views.specs.Moves.{IsInBlock, IsRunMoved}
 use Rattle.views.specs.Tables.{Table, IsTable, leaf_count_of}
 use Rattle.layout_copy.specs.Copies.{AreAlike}
 use Rattle.layout_copy.specs.Costs.{run_steps, steps_before}
@@ -28,9 +28,9 @@ pub rows_after : (old now new : Table) → now ≡ with_rows old now.rows → ne
 rows_after old now new is more = more ∙ ap (λ (t : Table). with_rows t new.rows) is
 
 -- what is said of the order of an array's slots
-in_order : (o : Option (Order × Option ℕ)) (P : Order → Type 0) {Q : Order × Option ℕ → Type 0} → IsSomeAnd o Q → IfSome o (λ array. P array.0) → P (order_in o)
-in_order None P some h = absurd some
-in_order (Some array) P some h = h
+in_order : (o : Option (Order × Option ℕ)) (P : Order → Type 0) (Q : Order × Option ℕ → Type 0) → IsSomeAnd o Q → IfSome o (λ array. P array.0) → P (order_in o)
+in_order None P Q some h = absurd some
+in_order (Some array) P Q some h = h
 
 -- no leaf was moved yet
 pub no_leaf : (order : Order) (extents : List ℕ) (leaves slot count : ℕ) (source old : List (List ℤ)) → IsPieceMoved order extents leaves 0 slot count source old old
@@ -51,17 +51,17 @@ leaf_more order extents leaves done slot count source old now new inside so_far 
       run.stands row leaf row_in leaf_in (λ same r. apart (omega (arith, same)) r) ∙ so_far.stands row leaf row_in leaf_in (λ less r. apart (omega (arith, less)) r);
 }
 
-pub leaf_moved : (old now : Table) (leaf slot count : ℕ) (source new : List (List ℤ)) {Q : Order × Option ℕ → Type 0} → now ≡ with_rows old now.rows → IsTable now → leaf < leaf_count_of old
-    → IsSomeAnd (array_of old.mapping) Q → IsPieceMoved (order_by old.mapping) old.extents (leaf_count_of old) leaf slot count source old.rows now.rows
+pub leaf_moved : (old now : Table) (leaf slot count : ℕ) (source new : List (List ℤ)) (other : Term) → now ≡ with_rows old now.rows → IsTable now → leaf < leaf_count_of old
+    → AreRuns old.mapping other → IsPieceMoved (order_by old.mapping) old.extents (leaf_count_of old) leaf slot count source old.rows now.rows
     → IfSome (array_of now.mapping) (λ array. IsRunMoved array.0 now.extents (length now.rows) (leaf_count_of now) leaf slot count source now.rows new)
     → IsPieceMoved (order_by old.mapping) old.extents (leaf_count_of old) (leaf + 1) slot count source old.rows new
-leaf_moved old now leaf slot count source new is table inside arrays so_far run =
+leaf_moved old now leaf slot count source new other is table inside arrays so_far run =
     let here : IfSome (array_of old.mapping) (λ array. IsRunMoved array.0 old.extents (length now.rows) (leaf_count_of old) leaf slot count source now.rows new) =
     subst (λ (t : Table). IfSome (array_of t.mapping) (λ array. IsRunMoved array.0 t.extents (length now.rows) (leaf_count_of t) leaf slot count source now.rows new)) is run in
     let rows : length now.rows ≡ length (indices old.extents) = table.rows ∙ ap (λ (t : Table). length (indices t.extents)) is in
     leaf_more (order_by old.mapping) old.extents (leaf_count_of old) leaf slot count source old.rows now.rows new inside so_far
     (subst (λ (n : ℕ). IsRunMoved (order_by old.mapping) old.extents n (leaf_count_of old) leaf slot count source now.rows new) rows
-    (in_order (array_of old.mapping) (λ order. IsRunMoved order old.extents (length now.rows) (leaf_count_of old) leaf slot count source now.rows new) arrays here))
+    (in_order (array_of old.mapping) (λ order. IsRunMoved order old.extents (length now.rows) (leaf_count_of old) leaf slot count source now.rows new) _ arrays here))
 
 -- the entries of all rows whose slots are below one are those of another table
 pub record AreBelow (order : Order) (extents : List ℕ) (leaves slot : ℕ) (source new : List (List ℤ)) : Type 0 where

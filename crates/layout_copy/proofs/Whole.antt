@@ -1,7 +1,9 @@
 -- Tables that are copied whole: what they hold, what is counted, and by which strategy it goes.
-use Rattle.std.proofs.Common.{◌≡◌, ℕ, ℤ, List, [], ◌++◌, append-nil, length, Option, Some, None, Ok, Err, refl, sym, ap, ◌∙◌}
-use Rattle.std.specs.Prelude.{Result, IsErrOf, IfSome, IsSomeAnd, ⊤}
-use Rattle.record_dim.specs.Leaves.{kinds_of}
+use Rattle.std.proofs.Common.{◌≡◌, ◌+◌, ◌*◌, ◌≤◌, ℕ, ℤ, List, [], ◌++◌, append-nil, length, Option, Some, None, Ok, Err, refl, sym, ap, ◌∙◌, subst, arith}
+use Rattle.std.specs.Prelude.{Result, IsErrOf, IfSome, IsSomeAnd}
+use Rattle.extents.specs.declared.order.Order.{Order}
+use Rattle.extents.specs.Indices.{indices}
+use Rattle.record_dim.specs.Leaves.{leaves, kinds_of}
 use Rattle.record_dim.specs.Trees.{Fields}
 use Rattle.places.specs.Holds.{full_holds}
 use Rattle.places.specs.declared.piece.Hold.{Hold}
@@ -13,11 +15,11 @@ use Rattle.map_any.specs.Strategies.{AreRuns, IsStrategy}
 use Rattle.map_any.specs.declared.strategy.Strategy.{Strategy}
 use Rattle.map_any.specs.declared.strategy.Strategy.TheVariants as way
 use Rattle.views.specs.AnswerLaws.{kept_rows-same}
-use Rattle.views.specs.Stores.{kept_rows}
-use Rattle.views.specs.Tables.{Table, IsTable, table_holds, leaf_count_of, answer_of, kept_of, after_log, after_stores}
+use Rattle.views.specs.Tables.{Table, IsTable, table_holds, leaf_count_of, after_log, after_stores}
 use Rattle.views.specs.Tallies.{Access, Read, Write, all_accesses, all_touches}
 use Rattle.views.specs.UncountedLaws.{holds_uncounted}
-use Rattle.layout_copy.specs.Copies.{AreAlike, IsCopied, refused_at, source_log}
+use Rattle.layout_copy.specs.Copies.{AreAlike, IsCopied}
+use Rattle.layout_copy.specs.Costs.{cost}
 use Rattle.layout_copy.specs.OwnLaws.{own_values}
 use Rattle.layout_copy.specs.declared.fault.CopyFault.{CopyFault}
 use Rattle.layout_copy.specs.declared.fault.CopyFault.TheVariants.{Mismatch, Narrow}
@@ -35,6 +37,23 @@ one_strategy one two way.Fields way.Blobs h k = absurd (h.0 k)
 one_strategy one two way.Fields way.Runs h k = absurd (h.1 k.1)
 one_strategy one two way.Fields way.Fields h k = refl
 
+-- that of two views is that of their expressions
+pub strategy_is : (one two : Term) (strategy : Strategy) {a b : Term} {found : Strategy} → a ≡ one → b ≡ two → found ≡ strategy → IsStrategy a b found → IsStrategy one two strategy
+strategy_is one two strategy {a} {b} {found} first second is h =
+    subst (λ (t : Term). IsStrategy t two strategy) first (subst (λ (t : Term). IsStrategy a t strategy) second (subst (λ (s : Strategy). IsStrategy a b s) is h))
+
+-- the steps of a copy field by field
+pub fields_steps : (source target : Table) (before after : ℕ) → IsTable source → AreAlike source target → IsStrategy source.mapping target.mapping way.Fields
+    → after ≤ before + 2 * (length source.rows * leaf_count_of source)
+    → (strategy : Strategy) → IsStrategy source.mapping target.mapping strategy → after ≤ before + cost strategy source.mapping target.mapping target.fields target.extents
+fields_steps source target before after is alike fields bound strategy other =
+    let rows : length source.rows ≡ length (indices target.extents) = is.rows ∙ ap (λ (e : List ℕ). length (indices e)) alike.1 in
+    let count : length source.rows * leaf_count_of source ≡ length (indices target.extents) * length (leaves target.fields) =
+    ap (λ (n : ℕ). n * leaf_count_of source) rows ∙ ap (λ (f : Fields). length (indices target.extents) * length (leaves f)) alike.0 in
+    subst (λ (s : Strategy). after ≤ before + cost s source.mapping target.mapping target.fields target.extents)
+    (one_strategy source.mapping target.mapping way.Fields strategy fields other)
+    (let all : after ≤ before + 2 * (length (indices target.extents) * length (leaves target.fields)) = omega (arith, bound, count) in all)
+
 -- views of one expression, counters left out, store leaves the same
 blob_holds : (one two : Term) (fields : Fields) → uncounted one ≡ uncounted two → holds_by one fields ≡ holds_by two fields
 blob_holds one two fields same =
@@ -42,19 +61,14 @@ blob_holds one two fields same =
     sym (holds_uncounted one fields cells) ∙ ap (λ (t : Term). holds_by t fields) same ∙ holds_uncounted two fields cells
 
 -- and so do those that lay out arrays: as the types are
-array_full : (term : Term) (fields : Fields) {Q : _ → Type 0} → IsSomeAnd (array_of term) Q → holds_by term fields ≡ full_holds (leaf_cells (kinds_of fields))
-array_full term fields some = of (array_of term) some (array_holds term fields (leaf_cells (kinds_of fields))) where
-  of : {X P : Type 0} {Q : X → Type 0} (o : Option X) → IsSomeAnd o Q → IfSome o (λ _. P) → P
-  of None some h = absurd some
-  of (Some x) some h = h
-
-both_there : {X : Type 0} {R : X → X → Type 0} (o p : Option X) → IsSomeAnd o (λ x. IsSomeAnd p (R x)) → IsSomeAnd p (λ _. ⊤)
-both_there None p are = absurd are
-both_there (Some x) None are = absurd are
-both_there (Some x) (Some y) are = tt
-
 run_holds : (one two : Term) (fields : Fields) → AreRuns one two → holds_by one fields ≡ holds_by two fields
-run_holds one two fields are = array_full one fields are ∙ sym (array_full two fields (both_there (array_of one) (array_of two) are))
+run_holds one two fields are =
+    let full : List Hold = full_holds (leaf_cells (kinds_of fields)) in
+    of (array_of one) (array_of two) (holds_by one fields) (holds_by two fields) full are (array_holds one fields (leaf_cells (kinds_of fields))) (array_holds two fields (leaf_cells (kinds_of fields))) where
+      of : (o p : Option (Order × Option ℕ)) (first second full : List Hold) → IsSomeAnd o (λ x. IsSomeAnd p (λ y. x.0 ≡ y.0)) → IfSome o (λ _. first ≡ full) → IfSome p (λ _. second ≡ full) → first ≡ second
+      of None p first second full both is are = absurd both
+      of (Some x) None first second full both is are = absurd both
+      of (Some x) (Some y) first second full both is are = is ∙ sym are
 
 -- accesses of one kind
 only_reads : (leaves rows : ℕ) → all_touches 1 0 leaves rows ≡ all_accesses Read leaves rows
@@ -71,11 +85,13 @@ module _ (source old now new : Table) (is : IsTable source) (alike : AreAlike so
     (counted : new ≡ after_log now (all_touches 0 1 (leaf_count_of now) (length now.rows))) where
   whole_copied : table_holds source ≡ table_holds old → IsCopied source old new (Ok tt)
   whole_copied holds =
-      let log : List Access = all_touches 0 1 (leaf_count_of old) (length source.rows) in
-      (alike, own_values source old is alike.0 holds,
-      counted ∙ ap (λ (t : Table). after_log t (all_touches 0 1 (leaf_count_of t) (length t.rows))) moved
-      ∙ ap (after_stores old source.rows) (only_writes (leaf_count_of old) (length source.rows))
-      ∙ ap (λ (rows : List (List ℤ)). after_stores old rows (all_accesses Write (leaf_count_of old) (length source.rows))) (sym (kept_rows-same old source.rows)))
+      let log : List Access = all_touches 0 1 (leaf_count_of old) (length source.rows) in (
+        alike,
+        own_values source old is alike.0 holds,
+        counted ∙ ap (λ (t : Table). after_log t (all_touches 0 1 (leaf_count_of t) (length t.rows))) moved
+            ∙ ap (after_stores old source.rows) (only_writes (leaf_count_of old) (length source.rows))
+            ∙ ap (λ (rows : List (List ℤ)). after_stores old rows (all_accesses Write (leaf_count_of old) (length source.rows))) (sym (kept_rows-same old source.rows)),
+      )
 
   pub blobs_copied : uncounted source.mapping ≡ uncounted old.mapping → IsCopied source old new (Ok tt)
   blobs_copied same = whole_copied (blob_holds source.mapping old.mapping source.fields same ∙ ap (holds_by old.mapping) alike.0)

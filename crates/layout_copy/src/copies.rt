@@ -12,7 +12,7 @@ use crate::runs::copy_runs;
 use map_any::{AnyMap, Strategy};
 use std::sync::ledger::Ledger;
 use steps::Steps;
-use views::View;
+use views::{View, laws_of_table};
 
 /// Makes the table of a view that of another. `Mismatch` comes exactly where they have other schemas or other extents, and then nothing
 /// changes. `Narrow` comes exactly where a value does not fit the target, and names the first by rows, then leaves; exactly the rows before
@@ -32,6 +32,7 @@ pub fn copy<L: Ledger>(
     if !are_alike(source, target) {
         return Err(CopyFault::Mismatch);
     }
+    laws_of_table(source);
     let strategy = AnyMap::strategy(source.map(), target.map());
     match strategy {
         Strategy::Blobs => target.move_blobs(source, steps),

@@ -9,6 +9,7 @@ use Rattle.layout_copy.proofs.runs.copy_pieces.Given as goal
 -- the rows of the slots so far were copied, and a piece begins here
 abbrev pub invariant-loop-slot : goal.invariant-loop-slot
 invariant-loop-slot g l = record {
+  inside : l.slot ≤ l.from.slots;
   same : l.target ≡ with_rows l.initial.target l.target.rows;
   below : AreBelow (order_by l.initial.target.mapping) l.initial.target.extents (leaf_count_of l.initial.target) l.slot l.source.rows l.target.rows;
   cut : l.slot < l.from.slots → is_cut l.from.lanes l.to.lanes l.slot ≡ true;
