@@ -22,37 +22,42 @@ range_more n =
       same [] = refl
       same (k ∷ ns) = ap (λ (more : List ℕ). k ∷ more) (same ns)
 
--- one slot more
-before_more : (slots one two : ℕ) (sizes : List ℕ) (slot : ℕ) → steps_before slots one two sizes (slot + 1) ≡ steps_before slots one two sizes slot + steps_at slots one two sizes slot
-unfolding steps_before
-before_more slots one two sizes slot =
-    let f : ℕ → ℕ = steps_at slots one two sizes in
-    let last : sum_by f (slot ∷ []) ≡ f slot + 0 = sum_by-cons f slot [] in
-    ap (sum_by f) (range_more slot) ∙ sum_by-append f (range_with_len 0 slot) (slot ∷ []) ∙ (let e : sum_by f (range_with_len 0 slot) + sum_by f (slot ∷ []) ≡ sum_by f (range_with_len 0 slot) + f slot = omega arith in e)
+module _ (slots one two : ℕ) (sizes : List ℕ) where
+  abbrev before : ℕ → ℕ
+  before = steps_before slots one two sizes
 
--- more slots begin no fewer pieces
-before_grows : (slots one two : ℕ) (sizes : List ℕ) (slot more : ℕ) → steps_before slots one two sizes slot ≤ steps_before slots one two sizes (slot + more)
-before_grows slots one two sizes slot zero = let e : steps_before slots one two sizes (slot + zero) ≡ steps_before slots one two sizes slot = ap (steps_before slots one two sizes) (let z : slot + zero ≡ slot = omega arith in z) in omega arith
-before_grows slots one two sizes slot (suc more) =
-    let so_far : steps_before slots one two sizes slot ≤ steps_before slots one two sizes (slot + more) = before_grows slots one two sizes slot more in
-    let next : steps_before slots one two sizes (slot + more + 1) ≡ steps_before slots one two sizes (slot + more) + steps_at slots one two sizes (slot + more) = before_more slots one two sizes (slot + more) in
-    let same : steps_before slots one two sizes (slot + suc more) ≡ steps_before slots one two sizes (slot + more + 1) = ap (steps_before slots one two sizes) (let e : slot + suc more ≡ slot + more + 1 = omega arith in e) in
-    omega arith
+  -- one slot more
+  before_more : (slot : ℕ) → before (slot + 1) ≡ before slot + steps_at slots one two sizes slot
+  unfolding steps_before
+  before_more slot =
+      let f : ℕ → ℕ = steps_at slots one two sizes in
+      let last : sum_by f (slot ∷ []) ≡ f slot + 0 = sum_by-cons f slot [] in
+      let whole : sum_by f (range_with_len 0 (slot + 1)) ≡ sum_by f (range_with_len 0 slot) + sum_by f (slot ∷ []) =
+      ap (sum_by f) (range_more slot) ∙ sum_by-append f (range_with_len 0 slot) (slot ∷ []) in
+      omega arith
 
--- no slot begins no piece
-pub none_before : (slots one two : ℕ) (sizes : List ℕ) → steps_before slots one two sizes 0 ≡ 0
-unfolding steps_before
-none_before slots one two sizes = refl
+  -- more slots begin no fewer pieces
+  before_grows : (slot more : ℕ) → before slot ≤ before (slot + more)
+  before_grows slot zero =
+      let none : slot + zero ≡ slot = omega arith in
+      let same : before (slot + zero) ≡ before slot = ap before none in
+      omega arith
+  before_grows slot (suc more) =
+      let so_far : before slot ≤ before (slot + more) = before_grows slot more in
+      let next : before (slot + more + 1) ≡ before (slot + more) + steps_at slots one two sizes (slot + more) = before_more (slot + more) in
+      let end : slot + suc more ≡ slot + more + 1 = omega arith in
+      let same : before (slot + suc more) ≡ before (slot + more + 1) = ap before end in
+      omega arith
 
--- the piece that begins at a slot is among those that begin before its end
-pub piece_counted : (slots one two : ℕ) (sizes : List ℕ) (slot count : ℕ) → 0 < count → is_cut one two slot ≡ true → count ≡ piece_count slots one two slot
-    → steps_before slots one two sizes slot + piece_steps sizes count ≤ steps_before slots one two sizes (slot + count)
-piece_counted slots one two sizes slot count some cut is =
-    let here : steps_at slots one two sizes slot ≡ piece_steps sizes count = rw (cut, is) refl in
-    let next : steps_before slots one two sizes (slot + 1) ≡ steps_before slots one two sizes slot + steps_at slots one two sizes slot = before_more slots one two sizes slot in
-    let grows : steps_before slots one two sizes (slot + 1) ≤ steps_before slots one two sizes (slot + 1 + (count - 1)) = before_grows slots one two sizes (slot + 1) (count - 1) in
-    let same : steps_before slots one two sizes (slot + 1 + (count - 1)) ≡ steps_before slots one two sizes (slot + count) = ap (steps_before slots one two sizes) (let e : slot + 1 + (count - 1) ≡ slot + count = omega arith in e) in
-    omega arith
+  -- the piece that begins at a slot is among those that begin before its end
+  pub piece_counted : (slot count : ℕ) → 0 < count → is_cut one two slot ≡ true → count ≡ piece_count slots one two slot → before slot + piece_steps sizes count ≤ before (slot + count)
+  piece_counted slot count some cut is =
+      let here : steps_at slots one two sizes slot ≡ piece_steps sizes count = rw (cut, is) refl in
+      let next : before (slot + 1) ≡ before slot + steps_at slots one two sizes slot = before_more slot in
+      let grows : before (slot + 1) ≤ before (slot + 1 + (count - 1)) = before_grows (slot + 1) (count - 1) in
+      let end : slot + 1 + (count - 1) ≡ slot + count = omega arith in
+      let same : before (slot + 1 + (count - 1)) ≡ before (slot + count) = ap before end in
+      omega arith
 
 -- a piece begins at the first slot
 pub first_cut : (one two : ℕ) → 0 < one → is_cut one two 0 ≡ true
@@ -74,10 +79,12 @@ or_true true = refl
 or_true false = refl
 
 -- and behind a piece another one, where there is a slot
-pub next_cut : (slots one two slot count : ℕ) → 0 < one → 0 < two → slot < slots → count ≡ piece_count slots one two slot → slot + count < slots → is_cut one two (slot + count) ≡ true
+pub next_cut : (slots one two slot count : ℕ) → 0 < one → 0 < two → slot < slots → count ≡ piece_count slots one two slot → slot + count < slots
+    → is_cut one two (slot + count) ≡ true
 next_cut slots one two slot count some_one some_two inside is more =
     let step : (count ≡ one - slot % one) ⊎ (count ≡ two - slot % two) =
-    ⊎_elim (λ (l : one - slot % one < two - slot % two). inl (omega arith)) (λ (l : two - slot % two ≤ one - slot % one). inr (omega arith)) (cases_lt (one - slot % one) (two - slot % two)) in
+    ⊎_elim (λ (l : one - slot % one < two - slot % two). inl (omega arith)) (λ (l : two - slot % two ≤ one - slot % one). inr (omega arith))
+    (cases_lt (one - slot % one) (two - slot % two)) in
     ⊎_elim (λ (is_one : count ≡ one - slot % one). rw (next_multiple one slot count some_one is_one) refl)
     (λ (is_two : count ≡ two - slot % two). rw (next_multiple two slot count some_two is_two) (or_true ((slot + count) % one == 0))) step
 
@@ -95,7 +102,8 @@ is_piece slots one two slot count some_one some_two inside is =
     record { some = omega arith; inside = omega arith; first = omega arith; second = omega arith }
 
 -- the blocks of one leaf more
-more_sizes : (sizes : List ℕ) (count leaf : ℕ) → leaf < length sizes → piece_steps (take leaf sizes) count + blocks (count * get_or sizes leaf 0) ≡ piece_steps (take (leaf + 1) sizes) count
+more_sizes : (sizes : List ℕ) (count leaf : ℕ) → leaf < length sizes
+    → piece_steps (take leaf sizes) count + blocks (count * get_or sizes leaf 0) ≡ piece_steps (take (leaf + 1) sizes) count
 more_sizes sizes count leaf inside =
     let f : ℕ → ℕ = λ size. blocks (count * size) in
     let last : sum_by f (get_or sizes leaf 0 ∷ []) ≡ f (get_or sizes leaf 0) + 0 = sum_by-cons f (get_or sizes leaf 0) [] in
@@ -111,6 +119,7 @@ leaf_steps kinds count leaf inside =
     ∙ more_sizes (map size_of kinds) count leaf (let l : leaf < length (map size_of kinds) = omega (arith, inside, length-map kinds size_of) in l)
 
 -- the blocks of all leaves
-pub all_leaves : (kinds : List LeafType) (count leaf : ℕ) → length kinds ≤ leaf → piece_steps (take leaf (map size_of kinds)) count ≡ piece_steps (map size_of kinds) count
+pub all_leaves : (kinds : List LeafType) (count leaf : ℕ) → length kinds ≤ leaf
+    → piece_steps (take leaf (map size_of kinds)) count ≡ piece_steps (map size_of kinds) count
 all_leaves kinds count leaf over =
     ap (λ (sizes : List ℕ). piece_steps sizes count) (take_all leaf (map size_of kinds) (let l : length (map size_of kinds) ≤ leaf = omega (arith, over, length-map kinds size_of) in l))

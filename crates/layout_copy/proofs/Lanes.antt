@@ -40,11 +40,13 @@ module _ (rows : ℕ) (widths : List ℕ) (some_rows : 0 < rows) (some_cells : 0
       let here : Pad ≡ Bit 0 0 0 = sym (none found.0 found.1) ∙ found.2 in
       absurd (cc here)
 
-  some_lanes : (lanes : ℕ) (order : Order) (extents : List ℕ) (fields : Fields) (cells : List Cell) → IsLaidOut (layout_of (Aosoa lanes order) extents fields cells) rows widths → 0 < lanes
+  some_lanes : (lanes : ℕ) (order : Order) (extents : List ℕ) (fields : Fields) (cells : List Cell)
+      → IsLaidOut (layout_of (Aosoa lanes order) extents fields cells) rows widths → 0 < lanes
   some_lanes zero order extents fields cells laid = absurd (some_owner _ laid (no_owner (row_at order extents) (slot_count order extents) (widths_of cells)))
   some_lanes (suc lanes) order extents fields cells laid = omega arith
 
-  pub blocks_have_slots : (term : Term) (extents : List ℕ) (fields : Fields) (cells : List Cell) → rows ≡ length (indices extents) → IsLaidOut (layout_of term extents fields cells) rows widths
+  pub blocks_have_slots : (term : Term) (extents : List ℕ) (fields : Fields) (cells : List Cell) → rows ≡ length (indices extents)
+      → IsLaidOut (layout_of term extents fields cells) rows widths
       → IfSome (array_of term) (λ array. 0 < lanes_in array.1 (slot_count array.0 extents))
   blocks_have_slots (Aos form order) extents fields cells are laid = tt
   blocks_have_slots (Soa form order) extents fields cells are laid = let low : slot_at order extents 0 < slot_count order extents = slot_at_below order extents 0 (omega arith) in omega arith
@@ -66,7 +68,8 @@ some_slots None extents h = tt
 some_slots (Some array) extents h = h
 
 -- the same of a view
-pub lanes_there : (table : Table) (slots : ℕ) (layout : List (List Owner)) (holds : List Hold) → IsTable table → slots ≡ length (indices table.extents) → layout ≡ owners_of table → holds ≡ table_holds table
+pub lanes_there : (table : Table) (slots : ℕ) (layout : List (List Owner)) (holds : List Hold) → IsTable table → slots ≡ length (indices table.extents)
+    → layout ≡ owners_of table → holds ≡ table_holds table
     → length (table_holds table) ≡ length (leaf_types_of table) → 1 ≤ leaf_count_of table → IsLaidOut layout slots (map (λ (h : Hold). h.width) holds) → 0 < length table.rows
     → IfSome (option_map (slots_in table.extents) (array_of table.mapping)) (λ found. 0 < found.lanes)
 lanes_there table slots layout holds is slots_are layout_is holds_are paired some laid rows =

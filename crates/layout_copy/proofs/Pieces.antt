@@ -37,7 +37,8 @@ pub no_leaf : (order : Order) (extents : List ℕ) (leaves slot count : ℕ) (so
 no_leaf order extents leaves slot count source old = record { moved = λ row leaf inside low run. absurd (omega (arith, low)); stands = λ row leaf inside low apart. refl }
 
 -- a leaf more
-leaf_more : (order : Order) (extents : List ℕ) (leaves done slot count : ℕ) (source old now new : List (List ℤ)) → done < leaves → IsPieceMoved order extents leaves done slot count source old now
+leaf_more : (order : Order) (extents : List ℕ) (leaves done slot count : ℕ) (source old now new : List (List ℤ)) → done < leaves
+    → IsPieceMoved order extents leaves done slot count source old now
     → IsRunMoved order extents (length (indices extents)) leaves done slot count source now new → IsPieceMoved order extents leaves (done + 1) slot count source old new
 leaf_more order extents leaves done slot count source old now new inside so_far run = record {
   moved = λ row leaf row_in low in_run.
@@ -51,7 +52,8 @@ leaf_more order extents leaves done slot count source old now new inside so_far 
       run.stands row leaf row_in leaf_in (λ same r. apart (omega (arith, same)) r) ∙ so_far.stands row leaf row_in leaf_in (λ less r. apart (omega (arith, less)) r);
 }
 
-pub leaf_moved : (old now : Table) (leaf slot count : ℕ) (source new : List (List ℤ)) (other : Term) → now ≡ with_rows old now.rows → IsTable now → leaf < leaf_count_of old
+pub leaf_moved : (old now : Table) (leaf slot count : ℕ) (source new : List (List ℤ)) (other : Term) → now ≡ with_rows old now.rows → IsTable now
+    → leaf < leaf_count_of old
     → AreRuns old.mapping other → IsPieceMoved (order_by old.mapping) old.extents (leaf_count_of old) leaf slot count source old.rows now.rows
     → IfSome (array_of now.mapping) (λ array. IsRunMoved array.0 now.extents (length now.rows) (leaf_count_of now) leaf slot count source now.rows new)
     → IsPieceMoved (order_by old.mapping) old.extents (leaf_count_of old) (leaf + 1) slot count source old.rows new
@@ -81,7 +83,8 @@ piece_more order extents leaves slot count source now new so_far piece = record 
       (cases_lt (slot_at order extents row) slot);
 }
 
-pub piece_moved : (old now : Table) (slot count : ℕ) (source new : List (List ℤ)) → now ≡ with_rows old now.rows → AreBelow (order_by old.mapping) old.extents (leaf_count_of old) slot source now.rows
+pub piece_moved : (old now : Table) (slot count : ℕ) (source new : List (List ℤ)) → now ≡ with_rows old now.rows
+    → AreBelow (order_by old.mapping) old.extents (leaf_count_of old) slot source now.rows
     → IsPieceMoved (order_by now.mapping) now.extents (leaf_count_of now) (leaf_count_of now) slot count source now.rows new
     → AreBelow (order_by old.mapping) old.extents (leaf_count_of old) (slot + count) source new
 piece_moved old now slot count source new is so_far piece =
@@ -98,8 +101,10 @@ all_below source old new slot alike is now same below all =
     let source_leaves : leaf_count_of source ≡ leaf_count_of old = ap (λ f. leaf_count_of (let t : Table = record source { fields = f } in t)) (sym alike.0) in
     let new_rows : length new.rows ≡ rows = now.rows ∙ ap (λ (t : Table). length (indices t.extents)) same in
     let new_leaves : leaf_count_of new ≡ leaf_count_of old = ap leaf_count_of same in
-    let one : HasShape rows (leaf_count_of old) new.rows = subst (λ (n : ℕ). HasShape n (leaf_count_of old) new.rows) new_rows (subst (λ (l : ℕ). HasShape (length new.rows) l new.rows) new_leaves now.shape) in
-    let two : HasShape rows (leaf_count_of old) source.rows = subst (λ (n : ℕ). HasShape n (leaf_count_of old) source.rows) source_rows (subst (λ (l : ℕ). HasShape (length source.rows) l source.rows) source_leaves is.shape) in
+    let one : HasShape rows (leaf_count_of old) new.rows =
+    subst (λ (n : ℕ). HasShape n (leaf_count_of old) new.rows) new_rows (subst (λ (l : ℕ). HasShape (length new.rows) l new.rows) new_leaves now.shape) in
+    let two : HasShape rows (leaf_count_of old) source.rows =
+    subst (λ (n : ℕ). HasShape n (leaf_count_of old) source.rows) source_rows (subst (λ (l : ℕ). HasShape (length source.rows) l source.rows) source_leaves is.shape) in
     let table : new.rows ≡ source.rows =
     tables_same rows (leaf_count_of old) new.rows source.rows one two
     (λ row leaf inside leaf_in. below.each row leaf inside leaf_in (let low : slot_at order old.extents row < slot = omega (arith, slot_at_below order old.extents row inside, all) in low)) in
@@ -116,13 +121,15 @@ no_rows source old alike is was none =
       empty [] (y ∷ ys) one two = absurd (omega (arith, two))
 
 -- the slots of a mapping that lays out arrays
-slots_are : (o : Option (Order × Option ℕ)) (extents : List ℕ) (slots : ArraySlots) → option_map (slots_in extents) o ≡ Some slots → slot_count (order_in o) extents ≡ slots.slots
+slots_are : (o : Option (Order × Option ℕ)) (extents : List ℕ) (slots : ArraySlots) → option_map (slots_in extents) o ≡ Some slots
+    → slot_count (order_in o) extents ≡ slots.slots
 slots_are None extents slots is = absurd (cc is)
 slots_are (Some array) extents slots is =
     let same : slots_in extents array ≡ slots = cc is in
     ap (λ (s : ArraySlots). s.slots) same
 
-pub order_slots : (table : Table) (slots : ArraySlots) → option_map (slots_in table.extents) (array_of table.mapping) ≡ Some slots → slot_count (order_by table.mapping) table.extents ≡ slots.slots
+pub order_slots : (table : Table) (slots : ArraySlots) → option_map (slots_in table.extents) (array_of table.mapping) ≡ Some slots
+    → slot_count (order_by table.mapping) table.extents ≡ slots.slots
 order_slots table slots is = slots_are (array_of table.mapping) table.extents slots is
 
 -- slots of one block

@@ -38,7 +38,8 @@ one_strategy one two way.Fields way.Runs h k = absurd (h.1 k.1)
 one_strategy one two way.Fields way.Fields h k = refl
 
 -- that of two views is that of their expressions
-pub strategy_is : (one two : Term) (strategy : Strategy) {a b : Term} {found : Strategy} → a ≡ one → b ≡ two → found ≡ strategy → IsStrategy a b found → IsStrategy one two strategy
+pub strategy_is : (one two : Term) (strategy : Strategy) {a b : Term} {found : Strategy} → a ≡ one → b ≡ two → found ≡ strategy → IsStrategy a b found
+    → IsStrategy one two strategy
 strategy_is one two strategy {a} {b} {found} first second is h =
     subst (λ (t : Term). IsStrategy t two strategy) first (subst (λ (t : Term). IsStrategy a t strategy) second (subst (λ (s : Strategy). IsStrategy a b s) is h))
 
@@ -65,7 +66,8 @@ run_holds : (one two : Term) (fields : Fields) → AreRuns one two → holds_by 
 run_holds one two fields are =
     let full : List Hold = full_holds (leaf_cells (kinds_of fields)) in
     of (array_of one) (array_of two) (holds_by one fields) (holds_by two fields) full are (array_holds one fields (leaf_cells (kinds_of fields))) (array_holds two fields (leaf_cells (kinds_of fields))) where
-      of : (o p : Option (Order × Option ℕ)) (first second full : List Hold) → IsSomeAnd o (λ x. IsSomeAnd p (λ y. x.0 ≡ y.0)) → IfSome o (λ _. first ≡ full) → IfSome p (λ _. second ≡ full) → first ≡ second
+      of : (o p : Option (Order × Option ℕ)) (first second full : List Hold) → IsSomeAnd o (λ x. IsSomeAnd p (λ y. x.0 ≡ y.0)) → IfSome o (λ _. first ≡ full)
+          → IfSome p (λ _. second ≡ full) → first ≡ second
       of None p first second full both is are = absurd both
       of (Some x) None first second full both is are = absurd both
       of (Some x) (Some y) first second full both is are = is ∙ sym are
@@ -77,7 +79,8 @@ only_reads leaves rows = append-nil (all_accesses Read leaves rows ++ []) ∙ ap
 only_writes : (leaves rows : ℕ) → all_touches 0 1 leaves rows ≡ all_accesses Write leaves rows
 only_writes leaves rows = append-nil (all_accesses Write leaves rows)
 
-pub whole_read : (old new : Table) → new ≡ after_log old (all_touches 1 0 (leaf_count_of old) (length old.rows)) → new ≡ after_log old (all_accesses Read (leaf_count_of old) (length old.rows))
+pub whole_read : (old new : Table) → new ≡ after_log old (all_touches 1 0 (leaf_count_of old) (length old.rows))
+    → new ≡ after_log old (all_accesses Read (leaf_count_of old) (length old.rows))
 whole_read old new is = is ∙ ap (after_log old) (only_reads (leaf_count_of old) (length old.rows))
 
 -- a table that has become another one, each of its entries counted

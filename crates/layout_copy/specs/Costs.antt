@@ -22,6 +22,10 @@ is_cut one two slot = (slot % one == 0) || (slot % two == 0)
 abbrev pub piece_count : ℕ → ℕ → ℕ → ℕ → ℕ
 piece_count slots one two slot = min (slots - slot) (min (one - slot % one) (two - slot % two))
 
+-- the bytes of each leaf
+abbrev pub leaf_sizes : Fields → List ℕ
+leaf_sizes fields = map size_of (kinds_of fields)
+
 -- the blocks of a piece of so many slots, of leaves whose sizes in bytes these are
 abbrev pub piece_steps : List ℕ → ℕ → ℕ
 piece_steps sizes count = sum_by (λ size. blocks (count * size)) sizes
@@ -36,12 +40,13 @@ steps_before slots one two sizes slot = sum_by (steps_at slots one two sizes) (r
 
 -- those of all slots of two mappings that lay out arrays, cut at the lanes of each; where one lays out none, nothing is said
 abbrev pub run_steps : Option (Order × Option ℕ) → Option (Order × Option ℕ) → List ℕ → List ℕ → ℕ
-run_steps (Some one) (Some two) extents sizes = let slots = slot_count one.0 extents in steps_before slots (lanes_in one.1 slots) (lanes_in two.1 slots) sizes slots
+run_steps (Some one) (Some two) extents sizes =
+    let slots = slot_count one.0 extents in steps_before slots (lanes_in one.1 slots) (lanes_in two.1 slots) sizes slots
 run_steps _ _ extents sizes = 0
 
 -- the most steps of a copy from a view of one expression to one of another, over these fields and extents: by whole blobs, by runs, or by a
 -- read and a write of each leaf of each row
 abbrev pub cost : Strategy → Term → Term → Fields → List ℕ → ℕ
 cost way.Blobs one two fields extents = blob_steps (layout_by two extents fields)
-cost way.Runs one two fields extents = run_steps (array_of one) (array_of two) extents (map size_of (kinds_of fields))
+cost way.Runs one two fields extents = run_steps (array_of one) (array_of two) extents (leaf_sizes fields)
 cost way.Fields one two fields extents = 2 * (length (indices extents) * length (leaves fields))

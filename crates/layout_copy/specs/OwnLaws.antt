@@ -25,7 +25,8 @@ taken kind hold value declared held =
     ) refl
 
 -- rows of values that are taken are not refused
-row_held : (answer : Answer) (leaf : ℕ) (values : List ℤ) → ((k : ℕ) → k < length values → answer (leaf + k) (get_or values k (pos 0)) ≡ Ok (get_or values k (pos 0))) → refusing answer leaf values ≡ None
+row_held : (answer : Answer) (leaf : ℕ) (values : List ℤ)
+    → ((k : ℕ) → k < length values → answer (leaf + k) (get_or values k (pos 0)) ≡ Ok (get_or values k (pos 0))) → refusing answer leaf values ≡ None
 row_held answer leaf [] all = refl
 row_held answer leaf (value ∷ values) all =
     let here : leaf + 0 ≡ leaf = omega arith in
@@ -34,7 +35,8 @@ row_held answer leaf (value ∷ values) all =
     let next : leaf + suc k ≡ leaf + 1 + k = omega arith in
     subst (λ (n : ℕ). answer n (get_or values k (pos 0)) ≡ Ok (get_or values k (pos 0))) next (all (suc k) (omega (arith, small)))))
 
-rows_held : (answer : Answer) (row : ℕ) (rows : List (List ℤ)) → ((r k : ℕ) → r < length rows → k < length (get_or rows r []) → answer k (entry rows r k) ≡ Ok (entry rows r k)) → refused_at answer row rows ≡ None
+rows_held : (answer : Answer) (row : ℕ) (rows : List (List ℤ))
+    → ((r k : ℕ) → r < length rows → k < length (get_or rows r []) → answer k (entry rows r k) ≡ Ok (entry rows r k)) → refused_at answer row rows ≡ None
 rows_held answer row [] all = refl
 rows_held answer row (values ∷ rows) all =
     let first : refusing answer 0 values ≡ None = row_held answer 0 values (λ k small.
@@ -56,5 +58,7 @@ answers_same table other fields holds =
     let answer : Fields → List Hold → Answer = λ f hs leaf value. store_answer (kind_at (kinds_of f) leaf) (hold_at hs leaf) value in
     ap (λ (f : Fields). answer f (table_holds table)) fields ∙ ap (λ (hs : List Hold). answer other.fields hs) holds
 
-pub own_values : (table other : Table) → IsTable table → table.fields ≡ other.fields → table_holds table ≡ table_holds other → refused_at (answer_of other) 0 table.rows ≡ None
-own_values table other is fields holds = ap (λ (answer : Answer). refused_at answer 0 table.rows) (sym (answers_same table other fields holds)) ∙ own_held table is
+pub own_values : (table other : Table) → IsTable table → table.fields ≡ other.fields → table_holds table ≡ table_holds other
+    → refused_at (answer_of other) 0 table.rows ≡ None
+own_values table other is fields holds =
+    ap (λ (answer : Answer). refused_at answer 0 table.rows) (sym (answers_same table other fields holds)) ∙ own_held table is

@@ -18,5 +18,7 @@ order_by term = order_in (array_of term)
 
 -- in the rows of these slots the entries of the first so many leaves are those of another table, and all others stand
 pub record IsPieceMoved (order : Order) (extents : List ℕ) (leaves done slot count : ℕ) (source old new : List (List ℤ)) : Type 0 where
-  pub moved : (row leaf : ℕ) → row < length (indices extents) → leaf < done → IsInRun order extents slot count row → entry new row leaf ≡ entry source row leaf
-  pub stands : (row leaf : ℕ) → row < length (indices extents) → leaf < leaves → (leaf < done → IsInRun order extents slot count row → ⊥) → entry new row leaf ≡ entry old row leaf
+  pub moved : (row leaf : ℕ) → row < length (indices extents) → leaf < done → IsInRun order extents slot count row
+      → entry new row leaf ≡ entry source row leaf
+  pub stands : (row leaf : ℕ) → row < length (indices extents) → leaf < leaves → (leaf < done → IsInRun order extents slot count row → ⊥)
+      → entry new row leaf ≡ entry old row leaf

@@ -1,12 +1,12 @@
 // A copy that goes by runs of slots, between views that lay out arrays whose slots are in one order.
-ghost use Rattle.std.specs.Prelude.{◌≡◌, ◌+◌, ◌<◌, ◌≤◌, IfSome, Some, length, map, option_map};
+ghost use Rattle.std.specs.Prelude.{◌≡◌, ◌+◌, ◌<◌, ◌≤◌, IfSome, Some, length, option_map};
 ghost use Rattle.map_plans.specs.Arrays.{array_of};
 ghost use Rattle.map_any.specs.ArraySlots.{slots_in};
 ghost use Rattle.map_any.specs.Strategies.{AreRuns};
-ghost use Rattle.views.specs.Moves.{size_of, IsInBlock};
-ghost use Rattle.views.specs.Tables.{leaf_count_of, leaf_types_of};
+ghost use Rattle.views.specs.Moves.{IsInBlock};
+ghost use Rattle.views.specs.Tables.{leaf_count_of};
 ghost use Rattle.layout_copy.specs.Copies.{AreAlike};
-ghost use Rattle.layout_copy.specs.Costs.{piece_count, piece_steps, run_steps};
+ghost use Rattle.layout_copy.specs.Costs.{leaf_sizes, piece_count, piece_steps, run_steps};
 ghost use Rattle.layout_copy.specs.Runs.{order_by, IsPieceMoved};
 
 use map_any::ArraySlots;
@@ -20,7 +20,7 @@ pub(crate) fn copy_runs<L: Ledger>(source: &View, target: &mut View, steps: &mut
     requires alike { AreAlike target.old source.now }
     requires arrays { AreRuns target.old.mapping source.now.mapping }
     ensures rows { target.new ≡ record target.old { rows = source.now.rows } }
-    ensures steps { steps.new ≤ steps.old + run_steps (array_of source.now.mapping) (array_of target.old.mapping) target.old.extents (map size_of (leaf_types_of target.old)) }
+    ensures steps { steps.new ≤ steps.old + run_steps (array_of source.now.mapping) (array_of target.old.mapping) target.old.extents (leaf_sizes target.old.fields) }
 {
     let Some(from) = array_slots(source) else {
         return;
@@ -62,7 +62,7 @@ fn copy_pieces<L: Ledger>(
     requires from_lanes { 0 < from.lanes }
     requires to_lanes { 0 < to.lanes }
     ensures rows { target.new ≡ record target.old { rows = source.now.rows } }
-    ensures steps { steps.new ≤ steps.old + run_steps (array_of source.now.mapping) (array_of target.old.mapping) target.old.extents (map size_of (leaf_types_of target.old)) }
+    ensures steps { steps.new ≤ steps.old + run_steps (array_of source.now.mapping) (array_of target.old.mapping) target.old.extents (leaf_sizes target.old.fields) }
 {
     let mut slot = 0;
     while slot < from.slots {
@@ -98,8 +98,9 @@ fn copy_piece<L: Ledger>(
     requires block { IsInBlock target.old.mapping target.old.extents slot count }
     requires other_block { IsInBlock source.now.mapping source.now.extents slot count }
     ensures same { target.new ≡ record target.old { rows = target.new.rows } }
-    ensures moved { IsPieceMoved (order_by target.old.mapping) target.old.extents (leaf_count_of target.old) (leaf_count_of target.old) slot count source.now.rows target.old.rows target.new.rows }
-    ensures steps { steps.new ≤ steps.old + piece_steps (map size_of (leaf_types_of target.old)) count }
+    ensures moved { IsPieceMoved (order_by target.old.mapping) target.old.extents (leaf_count_of target.old) (leaf_count_of target.old) slot count
+        source.now.rows target.old.rows target.new.rows }
+    ensures steps { steps.new ≤ steps.old + piece_steps (leaf_sizes target.old.fields) count }
 {
     for leaf in 0..target.schema().leaf_count() {
         laws_of_table(target);

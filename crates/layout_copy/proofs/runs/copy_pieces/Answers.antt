@@ -1,8 +1,7 @@
-use Rattle.std.proofs.Common.{◌≡◌, ◌≤◌, ℕ, List, map, ap, arith}
+use Rattle.std.proofs.Common.{◌≡◌, ◌≤◌, ℕ, List, ap, arith}
 use Rattle.linearize.specs.Slots.{slot_count}
-use Rattle.views.specs.Moves.{size_of}
-use Rattle.views.specs.Tables.{Table, leaf_types_of}
-use Rattle.layout_copy.specs.Costs.{piece_steps, steps_before}
+use Rattle.views.specs.Tables.{Table}
+use Rattle.layout_copy.specs.Costs.{leaf_sizes, piece_steps, steps_before}
 use Rattle.layout_copy.specs.Runs.{order_by}
 use Rattle.layout_copy.proofs.CostLaws.{next_cut, piece_counted, is_piece}
 use Rattle.layout_copy.proofs.Pieces.{rows_after, piece_moved, all_below, order_slots, same_slots, all_steps}
@@ -18,8 +17,8 @@ loop-slot-preserved g c =
     let to = c.args.to in
     let same = c.loop-slot.invariant.same in
     let piece = is_piece from.slots from.lanes to.lanes slot count c.requires.from_lanes c.requires.to_lanes c.loop-slot-test.true c.piece_count-count.ensures in
-    let sizes : List ℕ = map size_of (leaf_types_of old) in
-    let steps : piece_steps (map size_of (leaf_types_of now)) count ≡ piece_steps sizes count = ap (λ (t : Table). piece_steps (map size_of (leaf_types_of t)) count) same in
+    let sizes : List ℕ = leaf_sizes old.fields in
+    let steps : piece_steps (leaf_sizes now.fields) count ≡ piece_steps sizes count = ap (λ (t : Table). piece_steps (leaf_sizes t.fields) count) same in
     let counted = piece_counted from.slots from.lanes to.lanes sizes slot count piece.some (c.loop-slot.invariant.cut c.loop-slot-test.true) c.piece_count-count.ensures in
     record {
       inside = piece.inside;
@@ -41,7 +40,7 @@ returns-clause-rows g c =
 pub returns-clause-steps : goal.returns-clause-steps
 returns-clause-steps g c =
     let old : Table = c.args.target.now in
-    let sizes : List ℕ = map size_of (leaf_types_of old) in
+    let sizes : List ℕ = leaf_sizes old.fields in
     let all = all_steps c.args.source.now old c.args.from c.args.to sizes c.requires.alike c.requires.arrays c.requires.from c.requires.to in
     let end : c.loop-slot.slot ≡ c.args.from.slots = omega (arith, c.loop-slot.invariant.inside, c.loop-slot-test.false) in
     let here = ap (steps_before c.args.from.slots c.args.from.lanes c.args.to.lanes sizes) end in
