@@ -1,25 +1,19 @@
 -- Tables that are copied from one place of a list to another.
-use Rattle.std.proofs.Common.{◌≡◌, ◌⊎◌, ⊎_elim, inl, inr, ◌<◌, ◌≤◌, ◌≤ℤ◌, ◌+◌, true, ℕ, zero, suc, ℤ, pos, List, [], ◌∷◌, ◌++◌, length, map, get_or, Some, None, Ok, Err, refl, sym, ap, subst, ◌∙◌, arith}
+use Rattle.std.proofs.Common.{◌≡◌, ◌⊎◌, ⊎_elim, inl, inr, ◌<◌, ◌≤◌, ◌+◌, ℕ, zero, suc, List, [], ◌∷◌, ◌++◌, length, map, get_or, Some, None, Ok, Err, refl, sym, ap, subst, ◌∙◌, arith}
 use Rattle.std.specs.Prelude.{slice_set}
-use Rattle.std.proofs.lemmas.Int.{ints}
 use Rattle.std.specs.List.{insert, remove}
 use Rattle.std.proofs.lemmas.List.{append-nil, length-map, length-set, get_or_default, get_or-set_same, get_or-set_other, set-set, map-set}
 use Rattle.std.proofs.Math.ListN.{get_or-map}
-use Rattle.std.proofs.lemmas.List.Edits.{get_or-remove_below, get_or-remove_above}
-use Rattle.piece_bits.specs.Tables.{hold_at}
-use Rattle.record_dim.specs.LeafTypes.{least_of, greatest_of, least_in, greatest_in, IsIn, IsDeclared}
-use Rattle.record_dim.specs.declared.leaf_type.LeafType.{LeafType}
-use Rattle.record_dim.specs.Leaves.{leaves}
+use Rattle.std.proofs.lemmas.List.Edits.{get_or-remove_below, get_or-remove_above, length-remove}
 use Rattle.record_dim.specs.Trees.{Fields}
-use Rattle.places.specs.Image.{entry}
-use Rattle.places.specs.declared.piece.Hold.{Hold}
-use Rattle.layout_copy.specs.Copies.{AreAlike, IsCopied, refusing, refused_at}
+use Rattle.layout_copy.specs.Copies.{AreAlike, IsCopied, refused_at}
+use Rattle.layout_copy.specs.OwnLaws.{own_values}
 use Rattle.layout_copy.specs.declared.fault.CopyFault.{CopyFault}
 use Rattle.layout_copy.specs.declared.fault.CopyFault.TheVariants as copy
-use Rattle.views.specs.Tables.{Table, IsTable, table_holds, leaf_count_of, leaf_types_of, answer_of, kept_of, after_log}
+use Rattle.views.specs.Tables.{Table, IsTable, leaf_count_of, answer_of, kept_of, after_log}
 use Rattle.views.specs.Tallies.{Access, all_accesses, all_touches, Read, Write}
 use Rattle.views.specs.TallyLaws.{after_log-append}
-use Rattle.views.specs.Stores.{Answer, is_between, kept_rows, kind_at, store_answer}
+use Rattle.views.specs.Stores.{kept_rows}
 use Rattle.views.specs.AnswerLaws.{kept_rows-same}
 use Rattle.worlds.specs.Copy.{copy, copied, with_rows, all_read, laid_anew, narrow_fault}
 use Rattle.worlds.specs.Tables.{made, zeros_of}
@@ -70,7 +64,7 @@ either_way (suc a) zero differ = inr (omega arith)
 either_way (suc a) (suc b) differ = ⊎_elim (λ (l : a < b). inl (omega (arith, l))) (λ (m : b < a). inr (omega (arith, m))) (either_way a b (λ e. differ (ap suc e)))
 
 -- an element in a list that another one is gone from
-still_there : {E : Type 0} (xs : List E) (gone place now : ℕ) (d : E) → gone < length xs → (place ≡ gone → ⊥) → (place < gone → now ≡ place) → (gone < place → now + 1 ≡ place) →
+pub still_there : {E : Type 0} (xs : List E) (gone place now : ℕ) (d : E) → gone < length xs → (place ≡ gone → ⊥) → (place < gone → now ≡ place) → (gone < place → now + 1 ≡ place) →
     get_or (remove xs gone) now d ≡ get_or xs place d
 still_there xs gone place now d small apart before behind = ⊎_elim
     (λ (less : place < gone). ap (λ i. get_or (remove xs gone) i d) (before less) ∙ get_or-remove_below xs gone d place less small)
@@ -90,42 +84,6 @@ both_set xs gone place now x y small apart before behind =
     ap (λ ys. insert ys gone y) (set_behind xs gone now x small (omega (arith, next, more)) ∙ ap (λ i. remove (slice_set xs i x) gone) is) ∙ back)
     (either_way place gone apart)
 
--- a table holds all of its own values
-is_within : (least greatest value : ℤ) → least ≤ℤ value → value ≤ℤ greatest → is_between least greatest value ≡ true
-is_within least greatest value low high = grind (arith, ints)
-
-taken : (kind : LeafType) (hold : Hold) (value : ℤ) → IsDeclared kind value → IsIn hold.signed hold.width value → store_answer kind hold value ≡ Ok value
-taken kind hold value declared held =
-    rw (
-      is_within (least_of kind) (greatest_of kind) value declared.0 declared.1,
-      is_within (least_in hold.signed hold.width) (greatest_in hold.signed hold.width) value held.0 held.1,
-    ) refl
-
-row_held : (answer : Answer) (leaf : ℕ) (values : List ℤ) → ((k : ℕ) → k < length values → answer (leaf + k) (get_or values k (pos 0)) ≡ Ok (get_or values k (pos 0))) → refusing answer leaf values ≡ None
-row_held answer leaf [] all = refl
-row_held answer leaf (value ∷ values) all =
-    let here : leaf + 0 ≡ leaf = omega arith in
-    let first : answer leaf value ≡ Ok value = subst (λ (n : ℕ). answer n value ≡ Ok value) here (all 0 (omega arith)) in
-    rw first (row_held answer (leaf + 1) values (λ k small.
-    let next : leaf + suc k ≡ leaf + 1 + k = omega arith in
-    subst (λ (n : ℕ). answer n (get_or values k (pos 0)) ≡ Ok (get_or values k (pos 0))) next (all (suc k) (omega (arith, small)))))
-
-rows_held : (answer : Answer) (row : ℕ) (rows : List (List ℤ)) → ((r k : ℕ) → r < length rows → k < length (get_or rows r []) → answer k (entry rows r k) ≡ Ok (entry rows r k)) → refused_at answer row rows ≡ None
-rows_held answer row [] all = refl
-rows_held answer row (values ∷ rows) all =
-    let first : refusing answer 0 values ≡ None = row_held answer 0 values (λ k small.
-    let none : 0 + k ≡ k = omega arith in
-    rw none (all 0 k (omega arith) small)) in
-    let rest : refused_at answer (row + 1) rows ≡ None = rows_held answer (row + 1) rows (λ r k inside small. all (suc r) k (omega (arith, inside)) small) in
-    rw (first, rest) refl
-
-own_values : (seen : Table) → IsTable seen → refused_at (answer_of seen) 0 seen.rows ≡ None
-own_values seen is = rows_held (answer_of seen) 0 seen.rows (λ r k inside small.
-    let kinds : length (leaf_types_of seen) ≡ length (leaves seen.fields) = length-map (leaves seen.fields) (λ leaf. leaf.kind) in
-    let leaf : k < length (leaf_types_of seen) = omega (arith, small, is.shape.leaf_count r inside, kinds) in
-    let fits = is.fits r k inside leaf in
-    taken (kind_at (leaf_types_of seen) k) (hold_at (table_holds seen) k) (entry seen.rows r k) fits.declared fits.held)
-
 -- the copy of a table to one that is alike
 copied_alike : (source target : Table) → AreAlike source target → copied source target ≡ with_rows target source.rows
 unfolding copied
@@ -144,7 +102,7 @@ copied_self seen now is touched =
     let reads = all_accesses Read (leaf_count_of seen) (length seen.rows) in
     let writes = all_accesses Write (leaf_count_of seen) (length seen.rows) in
     let read : Table = after_log seen reads in
-    let held : refused_at (answer_of read) 0 seen.rows ≡ None = own_values seen is in
+    let held : refused_at (answer_of read) 0 seen.rows ≡ None = own_values seen read is refl refl in
     let kept : kept_rows (kept_of read) seen.rows ≡ seen.rows = kept_rows-same read seen.rows in
     let both : after_log read writes ≡ now =
     after_log-append seen reads writes ∙ ap (after_log seen) (touched_once (leaf_count_of seen) (length seen.rows)) ∙ sym touched in
@@ -160,13 +118,21 @@ laid_copied views term old fresh made_is zeros =
     goes_then _ _ _ made_is ∙ sym (copied_alike old fresh (sym fields, sym extents))
 
 -- the same of a table at a place
+pub made_at : (views : List ViewEntry) (place : ℕ) (entry : ViewEntry) (term : MapTerm) (fresh : Table) → entry ≡ get_or views place entry →
+    made_like (map view_of views) ((get_or views place entry).view) term ≡ Goes fresh → fresh ≡ zeros_like ((get_or views place entry).view) term →
+    (made_like (map view_of views) entry.view term ≡ Goes fresh) × (fresh ≡ zeros_like entry.view term)
+made_at views place entry term fresh is made_is zeros =
+    let old = λ (e : ViewEntry). e.view in (
+      subst (λ (e : ViewEntry). made_like (map view_of views) (old e) term ≡ Goes fresh) (sym is) made_is,
+      subst (λ (e : ViewEntry). fresh ≡ zeros_like (old e) term) (sym is) zeros,
+    )
+
 pub laid_at : (views : List ViewEntry) (place : ℕ) (entry : ViewEntry) (term : MapTerm) (fresh : Table) → entry ≡ get_or views place entry →
     made_like (map view_of views) ((get_or views place entry).view) term ≡ Goes fresh → fresh ≡ zeros_like ((get_or views place entry).view) term →
     laid_anew (map view_of views) entry.view term ≡ copied entry.view fresh
 laid_at views place entry term fresh is made_is zeros =
-    let old = λ (e : ViewEntry). e.view in
-    laid_copied (map view_of views) term entry.view fresh (subst (λ (e : ViewEntry). made_like (map view_of views) (old e) term ≡ Goes fresh) (sym is) made_is)
-    (subst (λ (e : ViewEntry). fresh ≡ zeros_like (old e) term) (sym is) zeros)
+    let made_here = made_at views place entry term fresh is made_is zeros in
+    laid_copied (map view_of views) term entry.view fresh made_here.0 made_here.1
 
 -- what a copy answers is what the model's copy gives
 pub copied_goes : (source old new : Table) → IsCopied source old new (Ok tt) → copied source old ≡ Goes new
@@ -237,11 +203,23 @@ pub record AreApart (views : List ViewEntry) (source target place : ℕ) (entry 
   pub entry_is : entry ≡ get_or (remove views target) place entry
   pub old_is : old ≡ get_or views target old
 
-pub place_within : (source target place long less : ℕ) → source < long → target < long → less + 1 ≡ long → (source ≡ target → ⊥) → (source < target → place ≡ source) → (target < source → place + 1 ≡ source) → place < less
+place_within : (source target place long less : ℕ) → source < long → target < long → less + 1 ≡ long → (source ≡ target → ⊥) → (source < target → place ≡ source) → (target < source → place + 1 ≡ source) → place < less
 place_within source target place long less a b c apart before behind = ⊎_elim
     (λ (l : source < target). let e = before l in omega (arith, e, l, b, c))
     (λ (m : target < source). let e = behind m in omega (arith, e, a, c))
     (either_way source target apart)
+
+pub are_apart : (views : List ViewEntry) (source target place : ℕ) (entry old : ViewEntry) → source < length views → target < length views → (source ≡ target → ⊥) →
+    (source < target → place ≡ source) → (target < source → place + 1 ≡ source) → entry ≡ get_or (remove views target) place entry → old ≡ get_or views target old → AreApart views source target place entry old
+are_apart views source target place entry old from to apart before behind entry_is old_is = record {
+  inside = to;
+  place_in = place_within source target place (length views) (length (remove views target)) from to (length-remove views target to) apart before behind;
+  apart = apart;
+  before = before;
+  behind = behind;
+  entry_is = entry_is;
+  old_is = old_is;
+}
 
 -- what they are in the list
 source_in : (views : List ViewEntry) (source target place : ℕ) (entry old d : ViewEntry) → AreApart views source target place entry old → get_or (map view_of views) source (view_of d) ≡ view_of entry
