@@ -1,5 +1,7 @@
 -- What copies of 1,000 rows of one leaf of four bytes cost.
-use Rattle.std.proofs.Common.{◌≡◌, ◌≤◌, ◌+◌, ◌*◌, ℕ, List, [], ◌∷◌, length, sum_by, refl, arith}
+use Rattle.std.proofs.Common.{◌≡◌, ◌≤◌, ◌+◌, ◌*◌, ◌∙◌, ℕ, List, [], ◌∷◌, length, sum_by, Option, Some, refl, sym, ap, arith}
+use Rattle.std.specs.Prelude.{slice_get, unwrap_or}
+use Rattle.std.proofs.lemmas.List.{length-map}
 use Rattle.extents.specs.Indices.{indices}
 use Rattle.extents.specs.declared.order.Order.TheVariants.{Row}
 use Rattle.places.specs.Layout.{Owner}
@@ -48,13 +50,16 @@ as_they_are one two fields extents taken from to blob bits costs =
     omega (arith, few, steps)
 
 pub to_arrays : (one two : Term) (fields : Fields) (extents : List ℕ) (taken : ℕ) → one ≡ Aos Packed Row → two ≡ Soa Multi Row → length (indices extents) ≡ 1000 →
-    length (leaves fields) ≡ 1 → Costs one two fields extents taken → taken ≤ 2000
-to_arrays one two fields extents taken from to rows leaf costs =
+    kinds_of fields ≡ U32 ∷ [] → Costs one two fields extents taken → taken ≤ 2000
+to_arrays one two fields extents taken from to rows kinds costs =
+    let leaf : length (leaves fields) ≡ 1 = sym (length-map (leaves fields) (λ leaf. leaf.kind)) ∙ ap (λ (ks : List LeafType). length ks) kinds in
     let is : IsStrategy one two way.Fields = rw (from, to) ((λ e. cc), (λ e. e)) in
     let few = costs way.Fields is in
     let sum = rw (rows, leaf) at few in
     omega (arith, sum)
 
 -- a list of one type
-pub one_kind : (kinds : List LeafType) (d : LeafType) → length kinds ≡ 1 → kinds ≡ U32 ∷ []
-one_kind kinds d one = ?
+pub one_kind : (kinds : List LeafType) (kind : LeafType) → length kinds ≡ 1 → slice_get kinds 0 ≡ Some kind → kinds ≡ kind ∷ []
+one_kind [] kind one is = absurd (omega (arith, one))
+one_kind (first ∷ []) kind one is = ap (λ (found : Option LeafType). unwrap_or found kind ∷ []) is
+one_kind (first ∷ other ∷ kinds) kind one is = absurd (omega (arith, one))

@@ -107,8 +107,10 @@ fn reads_so(alloc: Global, row: u64, lanes: usize, reads: u64) -> Result<bool, F
     let mut view = refusing(alloc, row)?;
     let answer = added(&mut view, lanes)?;
     let text = format!(in alloc; "leaf,reads,writes\nf0,{reads},1\nf1,{reads},{row}\n")?;
-    Ok(answer == Err(KernelFault::Range { row, leaf: 1 })
-        && has_counts(alloc, &view, text.as_str())?)
+    Ok(
+        answer == Err(KernelFault::Range { row, leaf: 1 })
+            && has_counts(alloc, &view, text.as_str())?,
+    )
 }
 
 // A row that is refused, the lanes, and the reads of each leaf.
