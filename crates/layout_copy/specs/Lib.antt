@@ -1,1 +1,4 @@
 pub mod Copies
+pub mod Costs
+pub mod OwnLaws
+pub mod Runs

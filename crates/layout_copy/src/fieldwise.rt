@@ -1,5 +1,5 @@
 // A copy that goes by the leaves of one row after another.
-ghost use Rattle.std.specs.Prelude.{◌≡◌, ◌+◌, ◌*◌, ◌<◌, ◌≤◌, ◌↔◌, [], IsTrue, IfNone, IfSome, IsErrOf, None, length, slice_index_or, slice_set};
+ghost use Rattle.std.specs.Prelude.{◌≡◌, ◌+◌, ◌*◌, ◌<◌, ◌≤◌, [], IfNone, IfSome, length, slice_index_or, slice_set};
 ghost use Rattle.views.specs.Stores.{kept_row};
 ghost use Rattle.views.specs.Tables.{leaf_count_of, answer_of, kept_of, after_log, after_stores};
 ghost use Rattle.views.specs.Tallies.{Read, Write, row_accesses, all_touches};
@@ -10,22 +10,19 @@ use std::sync::ledger::Ledger;
 use steps::Steps;
 use views::{View, laws_of_table};
 
-/// Makes the table of a view that of another. `Mismatch` comes exactly where they have other schemas or other extents, and then nothing
-/// changes. `Narrow` comes exactly where a value does not fit the target, and names the first by rows, then leaves; exactly the rows before
-/// it are copied. It takes at most two steps for each leaf of each row, and no memory.
-pub fn copy<L: Ledger>(
+// A copy of a table to a view that is alike, row by row. `Narrow` comes exactly where a value does not fit the target, and names the first by
+// rows, then leaves; exactly the rows before it are copied.
+pub(crate) fn copy_fields<L: Ledger>(
     source: &mut View,
     target: &mut View,
     steps: &mut Steps<L>,
 ) -> Result<(), CopyFault>
+    requires alike { AreAlike source.old target.old }
+    requires rows { length source.old.rows ≡ length target.old.rows }
     ensures copied { IsCopied source.old target.old target.new result }
     ensures source { source.new ≡ after_log source.old (source_log (leaf_count_of source.old) (length source.old.rows) result) }
     ensures steps { steps.new ≤ steps.old + 2 * (length source.old.rows * leaf_count_of source.old) }
-    ensures none { IsErrOf result CopyFault.Mismatch → steps.new ≡ steps.old }
 {
-    if !are_alike(source, target) {
-        return Err(CopyFault::Mismatch);
-    }
     let mut buffer = [0; 64];
     let values = &mut buffer[..source.schema().leaf_count()];
     for row in 0..source.extents().count() {
@@ -41,14 +38,6 @@ pub fn copy_self(view: &mut View)
     ensures { view.new ≡ after_log view.old (all_touches 1 1 (leaf_count_of view.old) (length view.old.rows)) }
 {
     view.touch_all(1, 1);
-}
-
-// Whether two views have one schema and the same extents, and so as many rows.
-fn are_alike(source: &View, target: &View) -> bool
-    ensures value { IsTrue result ↔ AreAlike source.now target.now }
-    ensures rows { IsTrue result → length source.now.rows ≡ length target.now.rows }
-{
-    source.schema().same(target.schema()) && source.extents() == target.extents()
 }
 
 // Copies a row, or leaves it and names the first leaf whose value the target does not hold. The values are kept in `values`.

@@ -1,8 +1,11 @@
 //! Copies of tables between views, whatever their layouts are.
 #![tactic(auto)]
 
+mod copies;
 mod fault;
 mod fieldwise;
+mod runs;
 
+pub use copies::copy;
 pub use fault::CopyFault;
-pub use fieldwise::{copy, copy_self};
+pub use fieldwise::copy_self;

@@ -2,7 +2,7 @@ use Rattle.std.proofs.Common.{◌≡◌, ◌+◌, ◌*◌, ◌≤◌, length}
 use Rattle.views.specs.Tables.{leaf_count_of, after_log}
 use Rattle.views.specs.Tallies.{Read, all_accesses}
 use Rattle.layout_copy.proofs.Rows.{AreCopied}
-use Rattle.layout_copy.proofs.fieldwise.copy.Given as goal
+use Rattle.layout_copy.proofs.fieldwise.copy_fields.Given as goal
 
 abbrev pub invariant-loop-row : goal.invariant-loop-row
 invariant-loop-row g l = record {

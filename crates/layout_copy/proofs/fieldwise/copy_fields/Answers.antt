@@ -3,24 +3,19 @@ use Rattle.extents.specs.Indices.{indices}
 use Rattle.views.specs.Tables.{leaf_count_of}
 use Rattle.views.specs.TallyLaws.{after_log-none}
 use Rattle.views.specs.Tallies.{Read, row_accesses}
-use Rattle.layout_copy.specs.Copies.{AreAlike}
 use Rattle.layout_copy.proofs.Rows.{reads_after, row_read, none_copied, row_copied, row_refused, steps_more}
-use Rattle.layout_copy.proofs.fieldwise.copy.Goals as goal
+use Rattle.layout_copy.proofs.fieldwise.copy_fields.Goals as goal
 
 pub returns-in-Some-clause-copied : goal.returns-in-Some-clause-copied
 returns-in-Some-clause-copied g c =
     let source = c.args.source.now in
-    let alike : AreAlike source c.args.target.now = search rules in
     let rows : length (indices c.extents.result) ≡ length source.rows = ap (λ (e : List ℕ). length (indices e)) c.extents.ensures.value ∙ sym c.extents.ensures.table.rows in
     let small : c.loop-row.row < length source.rows = omega (arith, c.loop-row-test.true, c.count-row-end.ensures.rows, rows) in
     let refused = sym (rw c.loop-row.invariant.source at c.in-Some.ensures.refused) in (
-      alike,
+      c.requires.alike,
       row_refused source c.args.target.now c.loop-row.target c.loop-row.row c.in-Some.leaf small c.loop-row.invariant.copied refused,
       c.in-Some.ensures.kept ∙ c.loop-row.invariant.copied.same,
     )
-
-pub returns-then-not-are_alike-clause-source : goal.returns-then-not-are_alike-clause-source
-returns-then-not-are_alike-clause-source g c = sym (after_log-none c.args.source.now)
 
 pub returns-in-Some-clause-source : goal.returns-in-Some-clause-source
 returns-in-Some-clause-source g c =
@@ -39,7 +34,6 @@ loop-row-init g c = record {
 pub loop-row-preserved : goal.loop-row-preserved
 loop-row-preserved g c =
     let source = c.args.source.now in
-    let same : length source.rows ≡ length c.args.target.now.rows = search rules in
     let rows : length (indices c.extents.result) ≡ length source.rows = ap (λ (e : List ℕ). length (indices e)) c.extents.ensures.value ∙ sym c.extents.ensures.table.rows in
     let small : c.loop-row.row < length source.rows = omega (arith, c.loop-row-test.true, c.count-row-end.ensures.rows, rows) in
     let held = sym (rw c.loop-row.invariant.source at c.in_default.ensures.refused) in
@@ -49,6 +43,6 @@ loop-row-preserved g c =
     record {
       source = row_read source c.loop-row.source c.copy_row.new.source (leaf_count_of source) c.loop-row.row c.loop-row.invariant.source read;
       values = c.copy_row.ensures.count ∙ c.loop-row.invariant.values;
-      copied = row_copied source c.args.target.now c.loop-row.target c.copy_row.new.target c.loop-row.row small same c.loop-row.invariant.copied held stored;
+      copied = row_copied source c.args.target.now c.loop-row.target c.copy_row.new.target c.loop-row.row small c.requires.rows c.loop-row.invariant.copied held stored;
       steps = steps_more c.args.steps.now c.loop-row.steps c.copy_row.new.steps c.loop-row.row (leaf_count_of source) c.loop-row.invariant.steps more;
     }

@@ -1,0 +1,170 @@
+-- Tables that are copied leaf after leaf of a piece of slots, and piece after piece.
+use Rattle.std.proofs.Common.{◌≡◌, ⊎_elim, ℕ, ◌+◌, ◌%◌, ◌<◌, ◌≤◌, ℤ, List, [], ◌∷◌, length, Option, Some, None, option_map, refl, sym, ap, ◌∙◌, subst, arith}
+use Rattle.std.specs.Prelude.{IfSome, IsSomeAnd}
+use Rattle.std.proofs.lemmas.Bool.{cases_lt}
+use Rattle.extents.specs.Indices.{indices}
+use Rattle.extents.specs.declared.order.Order.{Order}
+use Rattle.linearize.specs.Slots.{slot_at, slot_count}
+use Rattle.linearize.specs.SlotsLaws.{slot_at_below}
+use Rattle.places.specs.Image.{entry}
+use Rattle.piece_bits.specs.TableLaws.{tables_same}
+use Rattle.piece_bits.specs.Tables.{HasShape}
+use Rattle.map_expr.specs.Terms.{Term}
+use Rattle.map_plans.specs.Arrays.{array_of, lanes_in}
+use Rattle.map_any.specs.ArraySlots.{slots_in}
+use Rattle.map_any.specs.Strategies.{AreRuns}
+use Rattle.map_any.specs.declared.arrays.ArraySlots.{ArraySlots}
+use Rattle.views.specs.Moves.{IsInBlock, IsRunMoved}
+use Rattle.views.specs.Tables.{Table, IsTable, leaf_count_of}
+use Rattle.layout_copy.specs.Copies.{AreAlike}
+use Rattle.layout_copy.specs.Costs.{run_steps, steps_before}
+use Rattle.layout_copy.specs.Runs.{order_in, order_by, IsPieceMoved}
+
+-- a table with other rows
+abbrev pub with_rows : Table → List (List ℤ) → Table
+with_rows table rows = record table { rows = rows }
+
+pub rows_after : (old now new : Table) → now ≡ with_rows old now.rows → new ≡ with_rows now new.rows → new ≡ with_rows old new.rows
+rows_after old now new is more = more ∙ ap (λ (t : Table). with_rows t new.rows) is
+
+-- what is said of the order of an array's slots
+in_order : (o : Option (Order × Option ℕ)) (P : Order → Type 0) (Q : Order × Option ℕ → Type 0) → IsSomeAnd o Q → IfSome o (λ array. P array.0) → P (order_in o)
+in_order None P Q some h = absurd some
+in_order (Some array) P Q some h = h
+
+-- no leaf was moved yet
+pub no_leaf : (order : Order) (extents : List ℕ) (leaves slot count : ℕ) (source old : List (List ℤ)) → IsPieceMoved order extents leaves 0 slot count source old old
+no_leaf order extents leaves slot count source old = record { moved = λ row leaf inside low run. absurd (omega (arith, low)); stands = λ row leaf inside low apart. refl }
+
+-- a leaf more
+leaf_more : (order : Order) (extents : List ℕ) (leaves done slot count : ℕ) (source old now new : List (List ℤ)) → done < leaves → IsPieceMoved order extents leaves done slot count source old now
+    → IsRunMoved order extents (length (indices extents)) leaves done slot count source now new → IsPieceMoved order extents leaves (done + 1) slot count source old new
+leaf_more order extents leaves done slot count source old now new inside so_far run = record {
+  moved = λ row leaf row_in low in_run.
+      ⊎_elim (λ (less : leaf < done).
+      run.stands row leaf row_in (omega (arith, less)) (λ same r. let none : ⊥ = absurd (omega (arith, same, less)) in none) ∙ so_far.moved row leaf row_in less in_run)
+      (λ (more : done ≤ leaf).
+      let same : leaf ≡ done = omega (arith, low, more) in
+      ap (entry new row) same ∙ run.moved row row_in in_run ∙ ap (entry source row) (sym same))
+      (cases_lt leaf done);
+  stands = λ row leaf row_in leaf_in apart.
+      run.stands row leaf row_in leaf_in (λ same r. apart (omega (arith, same)) r) ∙ so_far.stands row leaf row_in leaf_in (λ less r. apart (omega (arith, less)) r);
+}
+
+pub leaf_moved : (old now : Table) (leaf slot count : ℕ) (source new : List (List ℤ)) (other : Term) → now ≡ with_rows old now.rows → IsTable now → leaf < leaf_count_of old
+    → AreRuns old.mapping other → IsPieceMoved (order_by old.mapping) old.extents (leaf_count_of old) leaf slot count source old.rows now.rows
+    → IfSome (array_of now.mapping) (λ array. IsRunMoved array.0 now.extents (length now.rows) (leaf_count_of now) leaf slot count source now.rows new)
+    → IsPieceMoved (order_by old.mapping) old.extents (leaf_count_of old) (leaf + 1) slot count source old.rows new
+leaf_moved old now leaf slot count source new other is table inside arrays so_far run =
+    let here : IfSome (array_of old.mapping) (λ array. IsRunMoved array.0 old.extents (length now.rows) (leaf_count_of old) leaf slot count source now.rows new) =
+    subst (λ (t : Table). IfSome (array_of t.mapping) (λ array. IsRunMoved array.0 t.extents (length now.rows) (leaf_count_of t) leaf slot count source now.rows new)) is run in
+    let rows : length now.rows ≡ length (indices old.extents) = table.rows ∙ ap (λ (t : Table). length (indices t.extents)) is in
+    leaf_more (order_by old.mapping) old.extents (leaf_count_of old) leaf slot count source old.rows now.rows new inside so_far
+    (subst (λ (n : ℕ). IsRunMoved (order_by old.mapping) old.extents n (leaf_count_of old) leaf slot count source now.rows new) rows
+    (in_order (array_of old.mapping) (λ order. IsRunMoved order old.extents (length now.rows) (leaf_count_of old) leaf slot count source now.rows new) _ arrays here))
+
+-- the entries of all rows whose slots are below one are those of another table
+pub record AreBelow (order : Order) (extents : List ℕ) (leaves slot : ℕ) (source new : List (List ℤ)) : Type 0 where
+  pub each : (row leaf : ℕ) → row < length (indices extents) → leaf < leaves → slot_at order extents row < slot → entry new row leaf ≡ entry source row leaf
+
+pub none_below : (order : Order) (extents : List ℕ) (leaves : ℕ) (source new : List (List ℤ)) → AreBelow order extents leaves 0 source new
+none_below order extents leaves source new = record { each = λ row leaf inside leaf_in low. absurd (omega (arith, low)) }
+
+-- a piece more
+piece_more : (order : Order) (extents : List ℕ) (leaves slot count : ℕ) (source now new : List (List ℤ)) → AreBelow order extents leaves slot source now
+    → IsPieceMoved order extents leaves leaves slot count source now new → AreBelow order extents leaves (slot + count) source new
+piece_more order extents leaves slot count source now new so_far piece = record {
+  each = λ row leaf inside leaf_in low.
+      ⊎_elim (λ (less : slot_at order extents row < slot).
+      piece.stands row leaf inside leaf_in (λ l run. let none : ⊥ = absurd (omega (arith, run.0, less)) in none) ∙ so_far.each row leaf inside leaf_in less)
+      (λ (more : slot ≤ slot_at order extents row). piece.moved row leaf inside leaf_in (more, low))
+      (cases_lt (slot_at order extents row) slot);
+}
+
+pub piece_moved : (old now : Table) (slot count : ℕ) (source new : List (List ℤ)) → now ≡ with_rows old now.rows → AreBelow (order_by old.mapping) old.extents (leaf_count_of old) slot source now.rows
+    → IsPieceMoved (order_by now.mapping) now.extents (leaf_count_of now) (leaf_count_of now) slot count source now.rows new
+    → AreBelow (order_by old.mapping) old.extents (leaf_count_of old) (slot + count) source new
+piece_moved old now slot count source new is so_far piece =
+    piece_more (order_by old.mapping) old.extents (leaf_count_of old) slot count source now.rows new so_far
+    (subst (λ (t : Table). IsPieceMoved (order_by t.mapping) t.extents (leaf_count_of t) (leaf_count_of t) slot count source now.rows new) is piece)
+
+-- once all slots are below, the tables are one
+pub all_below : (source old new : Table) (slot : ℕ) → AreAlike old source → IsTable source → IsTable new → new ≡ with_rows old new.rows
+    → AreBelow (order_by old.mapping) old.extents (leaf_count_of old) slot source.rows new.rows → slot_count (order_by old.mapping) old.extents ≤ slot → new ≡ with_rows old source.rows
+all_below source old new slot alike is now same below all =
+    let rows : ℕ = length (indices old.extents) in
+    let order : Order = order_by old.mapping in
+    let source_rows : length source.rows ≡ rows = is.rows ∙ ap (λ (e : List ℕ). length (indices e)) (sym alike.1) in
+    let source_leaves : leaf_count_of source ≡ leaf_count_of old = ap (λ f. leaf_count_of (let t : Table = record source { fields = f } in t)) (sym alike.0) in
+    let new_rows : length new.rows ≡ rows = now.rows ∙ ap (λ (t : Table). length (indices t.extents)) same in
+    let new_leaves : leaf_count_of new ≡ leaf_count_of old = ap leaf_count_of same in
+    let one : HasShape rows (leaf_count_of old) new.rows = subst (λ (n : ℕ). HasShape n (leaf_count_of old) new.rows) new_rows (subst (λ (l : ℕ). HasShape (length new.rows) l new.rows) new_leaves now.shape) in
+    let two : HasShape rows (leaf_count_of old) source.rows = subst (λ (n : ℕ). HasShape n (leaf_count_of old) source.rows) source_rows (subst (λ (l : ℕ). HasShape (length source.rows) l source.rows) source_leaves is.shape) in
+    let table : new.rows ≡ source.rows =
+    tables_same rows (leaf_count_of old) new.rows source.rows one two
+    (λ row leaf inside leaf_in. below.each row leaf inside leaf_in (let low : slot_at order old.extents row < slot = omega (arith, slot_at_below order old.extents row inside, all) in low)) in
+    same ∙ ap (with_rows old) table
+
+-- two tables without rows are one
+pub no_rows : (source old : Table) → AreAlike old source → IsTable source → IsTable old → length source.rows ≡ 0 → old ≡ with_rows old source.rows
+no_rows source old alike is was none =
+    let same : length old.rows ≡ length source.rows = was.rows ∙ ap (λ (e : List ℕ). length (indices e)) alike.1 ∙ sym is.rows in
+    ap (with_rows old) (empty old.rows source.rows (omega arith) none) where
+      empty : (one two : List (List ℤ)) → length one ≡ 0 → length two ≡ 0 → one ≡ two
+      empty [] [] one two = refl
+      empty (x ∷ xs) ys one two = absurd (omega (arith, one))
+      empty [] (y ∷ ys) one two = absurd (omega (arith, two))
+
+-- the slots of a mapping that lays out arrays
+slots_are : (o : Option (Order × Option ℕ)) (extents : List ℕ) (slots : ArraySlots) → option_map (slots_in extents) o ≡ Some slots → slot_count (order_in o) extents ≡ slots.slots
+slots_are None extents slots is = absurd (cc is)
+slots_are (Some array) extents slots is =
+    let same : slots_in extents array ≡ slots = cc is in
+    ap (λ (s : ArraySlots). s.slots) same
+
+pub order_slots : (table : Table) (slots : ArraySlots) → option_map (slots_in table.extents) (array_of table.mapping) ≡ Some slots → slot_count (order_by table.mapping) table.extents ≡ slots.slots
+order_slots table slots is = slots_are (array_of table.mapping) table.extents slots is
+
+-- slots of one block
+pub block_in : (term : Term) (extents : List ℕ) (slots : ArraySlots) (slot count : ℕ) → option_map (slots_in extents) (array_of term) ≡ Some slots
+    → slot + count ≤ slots.slots → slot % slots.lanes + count ≤ slots.lanes → IsInBlock term extents slot count
+block_in term extents slots slot count is inside block = of (array_of term) is where
+  of : (o : Option (Order × Option ℕ)) → option_map (slots_in extents) o ≡ Some slots
+      → IfSome o (λ array. let n = slot_count array.0 extents in (slot + count ≤ n) × (slot % lanes_in array.1 n + count ≤ lanes_in array.1 n))
+  of None is = tt
+  of (Some array) is =
+      let same : slots ≡ slots_in extents array = cc is in
+      (subst (λ (s : ArraySlots). slot + count ≤ s.slots) same inside, subst (λ (s : ArraySlots). slot % s.lanes + count ≤ s.lanes) same block)
+
+-- both sides have as many slots
+orders_same : (o p : Option (Order × Option ℕ)) → IsSomeAnd o (λ array. IsSomeAnd p (λ other. array.0 ≡ other.0)) → order_in o ≡ order_in p
+orders_same None p are = absurd are
+orders_same (Some array) None are = absurd are
+orders_same (Some array) (Some other) are = are
+
+pub same_slots : (source target : Table) (from to : ArraySlots) → AreAlike target source → AreRuns target.mapping source.mapping
+    → option_map (slots_in source.extents) (array_of source.mapping) ≡ Some from → option_map (slots_in target.extents) (array_of target.mapping) ≡ Some to → from.slots ≡ to.slots
+same_slots source target from to alike arrays one two =
+    sym (order_slots source from one)
+    ∙ ap (slot_count (order_by source.mapping)) (sym alike.1)
+    ∙ ap (λ (o : Order). slot_count o target.extents) (sym (orders_same (array_of target.mapping) (array_of source.mapping) arrays))
+    ∙ order_slots target to two
+
+-- the steps of all pieces
+pub all_steps : (source target : Table) (from to : ArraySlots) (sizes : List ℕ) → AreAlike target source → AreRuns target.mapping source.mapping
+    → option_map (slots_in source.extents) (array_of source.mapping) ≡ Some from → option_map (slots_in target.extents) (array_of target.mapping) ≡ Some to
+    → run_steps (array_of source.mapping) (array_of target.mapping) target.extents sizes ≡ steps_before from.slots from.lanes to.lanes sizes from.slots
+all_steps source target from to sizes alike arrays one two =
+    of (array_of source.mapping) (array_of target.mapping) arrays (subst (λ (e : List ℕ). option_map (slots_in e) (array_of source.mapping) ≡ Some from) (sym alike.1) one) two where
+      of : (o p : Option (Order × Option ℕ)) → IsSomeAnd p (λ array. IsSomeAnd o (λ other. array.0 ≡ other.0)) → option_map (slots_in target.extents) o ≡ Some from
+          → option_map (slots_in target.extents) p ≡ Some to → run_steps o p target.extents sizes ≡ steps_before from.slots from.lanes to.lanes sizes from.slots
+      of None p are first second = absurd (cc first)
+      of (Some array) None are first second = absurd (cc second)
+      of (Some array) (Some other) are first second =
+          let one_is : slots_in target.extents array ≡ from = cc first in
+          let two_is : slots_in target.extents other ≡ to = cc second in
+          let slots : ℕ = slot_count array.0 target.extents in
+          let same : slot_count other.0 target.extents ≡ slots = ap (λ (order : Order). slot_count order target.extents) are in
+          let lanes : lanes_in other.1 slots ≡ to.lanes = ap (lanes_in other.1) (sym same) ∙ ap (λ (s : ArraySlots). s.lanes) two_is in
+          ap (λ (n : ℕ). steps_before slots (lanes_in array.1 slots) n sizes slots) lanes
+          ∙ ap (λ (s : ArraySlots). steps_before s.slots s.lanes to.lanes sizes s.slots) one_is

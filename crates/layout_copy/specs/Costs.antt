@@ -1,0 +1,47 @@
+-- What copies cost: a step for each block of at most 64 bytes, or for each read and each write.
+use Rattle.std.specs.Prelude.{ℕ, ◌-◌, ◌*◌, ◌%◌, ◌==◌, ◌||◌, Bool, min, List, length, map, sum_by, Option, Some, if◌then◌else◌}
+use Rattle.std.specs.List.{range_with_len}
+use Rattle.extents.specs.Indices.{indices}
+use Rattle.extents.specs.declared.order.Order.{Order}
+use Rattle.linearize.specs.Slots.{slot_count}
+use Rattle.record_dim.specs.Leaves.{leaves, kinds_of}
+use Rattle.record_dim.specs.Trees.{Fields}
+use Rattle.blobs.specs.Moves.{blocks}
+use Rattle.map_expr.specs.Terms.{Term}
+use Rattle.map_checks.specs.Mappings.{layout_by}
+use Rattle.map_plans.specs.Arrays.{array_of, lanes_in}
+use Rattle.map_any.specs.declared.strategy.Strategy.{Strategy}
+use Rattle.map_any.specs.declared.strategy.Strategy.TheVariants as way
+use Rattle.views.specs.Moves.{blob_steps, size_of}
+
+-- whether a piece begins at a slot, where slots are cut at the multiples of two numbers
+abbrev pub is_cut : ℕ → ℕ → ℕ → Bool
+is_cut one two slot = (slot % one == 0) || (slot % two == 0)
+
+-- how many of so many slots lie from a slot on before the next multiple of either number
+abbrev pub piece_count : ℕ → ℕ → ℕ → ℕ → ℕ
+piece_count slots one two slot = min (slots - slot) (min (one - slot % one) (two - slot % two))
+
+-- the blocks of a piece of so many slots, of leaves whose sizes in bytes these are
+abbrev pub piece_steps : List ℕ → ℕ → ℕ
+piece_steps sizes count = sum_by (λ size. blocks (count * size)) sizes
+
+-- those of the piece that begins at a slot, if one does
+abbrev pub steps_at : ℕ → ℕ → ℕ → List ℕ → ℕ → ℕ
+steps_at slots one two sizes slot = if is_cut one two slot then piece_steps sizes (piece_count slots one two slot) else 0
+
+-- those of the pieces that begin before a slot
+unfoldable pub steps_before : ℕ → ℕ → ℕ → List ℕ → ℕ → ℕ
+steps_before slots one two sizes slot = sum_by (steps_at slots one two sizes) (range_with_len 0 slot)
+
+-- those of all slots of two mappings that lay out arrays, cut at the lanes of each; where one lays out none, nothing is said
+abbrev pub run_steps : Option (Order × Option ℕ) → Option (Order × Option ℕ) → List ℕ → List ℕ → ℕ
+run_steps (Some one) (Some two) extents sizes = let slots = slot_count one.0 extents in steps_before slots (lanes_in one.1 slots) (lanes_in two.1 slots) sizes slots
+run_steps _ _ extents sizes = 0
+
+-- the most steps of a copy from a view of one expression to one of another, over these fields and extents: by whole blobs, by runs, or by a
+-- read and a write of each leaf of each row
+abbrev pub cost : Strategy → Term → Term → Fields → List ℕ → ℕ
+cost way.Blobs one two fields extents = blob_steps (layout_by two extents fields)
+cost way.Runs one two fields extents = run_steps (array_of one) (array_of two) extents (map size_of (kinds_of fields))
+cost way.Fields one two fields extents = 2 * (length (indices extents) * length (leaves fields))
