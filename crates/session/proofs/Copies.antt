@@ -4,9 +4,8 @@ use Rattle.std.specs.Prelude.{slice_set}
 use Rattle.std.specs.List.{insert, remove}
 use Rattle.std.proofs.lemmas.List.{append-nil, length-map, length-set, get_or_default, get_or-set_same, get_or-set_other, set-set, map-set}
 use Rattle.std.proofs.Math.ListN.{get_or-map}
-use Rattle.std.proofs.lemmas.List.Edits.{get_or-remove_below, get_or-remove_above}
+use Rattle.std.proofs.lemmas.List.Edits.{get_or-remove_below, get_or-remove_above, length-remove}
 use Rattle.record_dim.specs.Trees.{Fields}
-use Rattle.places.specs.Image.{entry}
 use Rattle.layout_copy.specs.Copies.{AreAlike, IsCopied, refused_at}
 use Rattle.layout_copy.specs.OwnLaws.{own_values}
 use Rattle.layout_copy.specs.declared.fault.CopyFault.{CopyFault}
@@ -65,7 +64,7 @@ either_way (suc a) zero differ = inr (omega arith)
 either_way (suc a) (suc b) differ = ⊎_elim (λ (l : a < b). inl (omega (arith, l))) (λ (m : b < a). inr (omega (arith, m))) (either_way a b (λ e. differ (ap suc e)))
 
 -- an element in a list that another one is gone from
-still_there : {E : Type 0} (xs : List E) (gone place now : ℕ) (d : E) → gone < length xs → (place ≡ gone → ⊥) → (place < gone → now ≡ place) → (gone < place → now + 1 ≡ place) →
+pub still_there : {E : Type 0} (xs : List E) (gone place now : ℕ) (d : E) → gone < length xs → (place ≡ gone → ⊥) → (place < gone → now ≡ place) → (gone < place → now + 1 ≡ place) →
     get_or (remove xs gone) now d ≡ get_or xs place d
 still_there xs gone place now d small apart before behind = ⊎_elim
     (λ (less : place < gone). ap (λ i. get_or (remove xs gone) i d) (before less) ∙ get_or-remove_below xs gone d place less small)
@@ -119,13 +118,21 @@ laid_copied views term old fresh made_is zeros =
     goes_then _ _ _ made_is ∙ sym (copied_alike old fresh (sym fields, sym extents))
 
 -- the same of a table at a place
+pub made_at : (views : List ViewEntry) (place : ℕ) (entry : ViewEntry) (term : MapTerm) (fresh : Table) → entry ≡ get_or views place entry →
+    made_like (map view_of views) ((get_or views place entry).view) term ≡ Goes fresh → fresh ≡ zeros_like ((get_or views place entry).view) term →
+    (made_like (map view_of views) entry.view term ≡ Goes fresh) × (fresh ≡ zeros_like entry.view term)
+made_at views place entry term fresh is made_is zeros =
+    let old = λ (e : ViewEntry). e.view in (
+      subst (λ (e : ViewEntry). made_like (map view_of views) (old e) term ≡ Goes fresh) (sym is) made_is,
+      subst (λ (e : ViewEntry). fresh ≡ zeros_like (old e) term) (sym is) zeros,
+    )
+
 pub laid_at : (views : List ViewEntry) (place : ℕ) (entry : ViewEntry) (term : MapTerm) (fresh : Table) → entry ≡ get_or views place entry →
     made_like (map view_of views) ((get_or views place entry).view) term ≡ Goes fresh → fresh ≡ zeros_like ((get_or views place entry).view) term →
     laid_anew (map view_of views) entry.view term ≡ copied entry.view fresh
 laid_at views place entry term fresh is made_is zeros =
-    let old = λ (e : ViewEntry). e.view in
-    laid_copied (map view_of views) term entry.view fresh (subst (λ (e : ViewEntry). made_like (map view_of views) (old e) term ≡ Goes fresh) (sym is) made_is)
-    (subst (λ (e : ViewEntry). fresh ≡ zeros_like (old e) term) (sym is) zeros)
+    let made_here = made_at views place entry term fresh is made_is zeros in
+    laid_copied (map view_of views) term entry.view fresh made_here.0 made_here.1
 
 -- what a copy answers is what the model's copy gives
 pub copied_goes : (source old new : Table) → IsCopied source old new (Ok tt) → copied source old ≡ Goes new
@@ -196,11 +203,23 @@ pub record AreApart (views : List ViewEntry) (source target place : ℕ) (entry 
   pub entry_is : entry ≡ get_or (remove views target) place entry
   pub old_is : old ≡ get_or views target old
 
-pub place_within : (source target place long less : ℕ) → source < long → target < long → less + 1 ≡ long → (source ≡ target → ⊥) → (source < target → place ≡ source) → (target < source → place + 1 ≡ source) → place < less
+place_within : (source target place long less : ℕ) → source < long → target < long → less + 1 ≡ long → (source ≡ target → ⊥) → (source < target → place ≡ source) → (target < source → place + 1 ≡ source) → place < less
 place_within source target place long less a b c apart before behind = ⊎_elim
     (λ (l : source < target). let e = before l in omega (arith, e, l, b, c))
     (λ (m : target < source). let e = behind m in omega (arith, e, a, c))
     (either_way source target apart)
+
+pub are_apart : (views : List ViewEntry) (source target place : ℕ) (entry old : ViewEntry) → source < length views → target < length views → (source ≡ target → ⊥) →
+    (source < target → place ≡ source) → (target < source → place + 1 ≡ source) → entry ≡ get_or (remove views target) place entry → old ≡ get_or views target old → AreApart views source target place entry old
+are_apart views source target place entry old from to apart before behind entry_is old_is = record {
+  inside = to;
+  place_in = place_within source target place (length views) (length (remove views target)) from to (length-remove views target to) apart before behind;
+  apart = apart;
+  before = before;
+  behind = behind;
+  entry_is = entry_is;
+  old_is = old_is;
+}
 
 -- what they are in the list
 source_in : (views : List ViewEntry) (source target place : ℕ) (entry old d : ViewEntry) → AreApart views source target place entry old → get_or (map view_of views) source (view_of d) ≡ view_of entry

@@ -2,6 +2,7 @@ pub mod Exits
 pub mod Views
 pub mod Named
 pub mod Copies
+pub mod CopySteps
 pub mod Indexing
 pub mod Reading
 pub mod Reductions

@@ -1,13 +1,21 @@
 -- The most steps that a line takes.
-use Rattle.std.specs.Prelude.{ℕ, ◌+◌, ◌≤◌, List, length, Option, Some, None}
+use Rattle.std.specs.Prelude.{ℕ, ◌+◌, ◌≤◌, not, List, length, Option, Some, None, MatchBool}
 use Rattle.lane_kernels.specs.Kernels.{kernel_cost}
 use Rattle.lane_kernels.specs.declared.kernel.Kernel.{Kernel}
+use Rattle.layout_copy.specs.Costs.{cost}
 use Rattle.line_grammar.specs.Sentences as line
 use Rattle.line_grammar.specs.declared.line.KernelText.{KernelText}
+use Rattle.map_any.specs.Strategies.{IsStrategy}
+use Rattle.map_any.specs.declared.strategy.Strategy.{Strategy}
+use Rattle.map_expr.specs.Terms.{Term as MapTerm}
 use Rattle.views.specs.Tables.{Table}
+use Rattle.worlds.specs.Copy.{are_alike}
 use Rattle.worlds.specs.Kernel.{fit_kernel}
-use Rattle.worlds.specs.Outcomes.{Outcome, Goes}
-use Rattle.worlds.specs.Worlds.{World, found}
+use Rattle.worlds.specs.Names.{nameless}
+use Rattle.worlds.specs.Outcomes.{Outcome, Goes, ◌>>=◌, known, refused_if}
+use Rattle.worlds.specs.Tables.{made}
+use Rattle.worlds.specs.Worlds.{World, found, same_name}
+use Rattle.worlds.specs.declared.fault.CommandFault.TheVariants.{Mismatch}
 
 -- from one count of steps to another at most so many were taken; where no number stands, nothing is said
 abbrev pub Within : Option ℕ → ℕ → ℕ → Type 0
@@ -28,7 +36,52 @@ cost_of lanes rows _ = 0
 abbrev pub kernel_steps : Table → KernelText → ℕ → ℕ
 kernel_steps table text lanes = cost_of lanes (length table.rows) (fit_kernel table.fields text lanes)
 
--- the steps that a line takes: those of a kernel are bounded; of any other line nothing is said
+-- a table, and the one that it is copied into
+pub record Pair : Type 0 where
+  pub source : Table
+  pub target : Table
+
+-- two tables that are alike
+abbrev pub paired : Table → Table → Outcome Pair
+paired source target = do
+  alike ← refused_if (not (are_alike source target)) Mismatch
+  Goes (record { source = source; target = target })
+
+-- what is copied by `copy V to W`, and by `relayout V as ..`, where nothing is refused before the values are looked at
+unfoldable pub copied_pair : World → List ℕ → List ℕ → Outcome Pair
+copied_pair world name target_name = do
+  source ← known name world.views
+  target ← known target_name world.views
+  paired source target
+
+unfoldable pub laid_pair : World → List ℕ → MapTerm → Outcome Pair
+laid_pair world name term = do
+  table ← known name world.views
+  whole ← nameless world.mappings term
+  zeros ← made world.views table.fields table.extents whole
+  Goes (record { source = table; target = zeros })
+
+-- the steps of a copy: those of the way that the two mappings are copied by, and none where there is nothing to copy
+abbrev pub WithinCost : Outcome Pair → ℕ → ℕ → Type 0
+WithinCost (Goes pair) old new = (strategy : Strategy) → IsStrategy pair.source.mapping pair.target.mapping strategy
+    → new ≤ old + cost strategy pair.source.mapping pair.target.mapping pair.target.fields pair.target.extents
+WithinCost _ old new = Within (Some 0) old new
+
+-- those of a copy from one table into another one
+abbrev pub IsWithin : Table → Table → ℕ → ℕ → Type 0
+IsWithin source target old new = WithinCost (paired source target) old new
+
+-- those of the two commands; a copy of a table onto itself takes none
+abbrev pub WithinCopy : World → List ℕ → List ℕ → ℕ → ℕ → Type 0
+WithinCopy world name target_name old new =
+    MatchBool (same_name name target_name) (Within (Some 0) old new) (WithinCost (copied_pair world name target_name) old new)
+
+abbrev pub WithinRelayout : World → List ℕ → MapTerm → ℕ → ℕ → Type 0
+WithinRelayout world name term old new = WithinCost (laid_pair world name term) old new
+
+-- the steps that a line takes: those of a kernel, a copy and a relayout are bounded; of any other line nothing is said
 abbrev pub WithinSteps : World → line.Sentence → ℕ → ℕ → Type 0
 WithinSteps world (line.Kernel name text lanes) old new = Within (most_on (found name world.views) (λ table. Some (kernel_steps table text lanes))) old new
+WithinSteps world (line.Copy name target_name) old new = WithinCopy world name target_name old new
+WithinSteps world (line.Relayout name term) old new = WithinRelayout world name term old new
 WithinSteps world _ old new = Unit {0}

@@ -1,5 +1,5 @@
 // `copy V to W`.
-ghost use Rattle.std.specs.Prelude.{◌≡◌, ◌+◌, ◌<◌, OnOk, length, map};
+ghost use Rattle.std.specs.Prelude.{◌≡◌, ◌+◌, ◌<◌, OnOk, length, map, slice_index_or};
 ghost use Rattle.views.specs.Tables.{leaf_count_of, after_log};
 ghost use Rattle.views.specs.Tallies.{all_accesses, Read};
 ghost use Rattle.record_dim.specs.Schemas.{schema_fields};
@@ -8,6 +8,7 @@ ghost use Rattle.worlds.specs.Outcomes.{Goes};
 ghost use Rattle.command_checks.specs.Entries.{view_of};
 ghost use Rattle.command_checks.specs.Gives.{Gives};
 ghost use Rattle.command_checks.specs.declared.entries.ViewEntry.{ViewEntry};
+ghost use Rattle.session.specs.Bounds.{IsWithin, WithinCopy};
 ghost use Rattle.session.specs.Changes.{copied_at, TellsCopy};
 
 use crate::session::Session;
@@ -31,7 +32,8 @@ impl Session {
         target: Name,
         steps: &mut Steps<L>,
     ) -> Result<Session, StepFault>
-        ensures { Gives left_of result (copy (world_of self) source target) }
+        ensures copied { Gives left_of result (copy (world_of self) source target) }
+        ensures bound { WithinCopy (world_of self) source target steps.old steps.new }
     {
         let source = known_view(self.views.as_slice(), source)?;
         let target = known_view(self.views.as_slice(), target)?;
@@ -50,7 +52,9 @@ fn copy_between<L: Ledger>(
 ) -> Result<(), StepFault>
     requires source { source < length views.old.items }
     requires target { target < length views.old.items }
-    ensures { (d : ViewEntry) → Gives (λ done. map view_of views.new.items) result (copied_at (map view_of views.old.items) source target (view_of d)) }
+    ensures copied { (d : ViewEntry) → Gives (λ done. map view_of views.new.items) result (copied_at (map view_of views.old.items) source target (view_of d)) }
+    ensures none { source ≡ target → steps.new ≡ steps.old }
+    ensures bound { (source ≡ target → ⊥) → (d : ViewEntry) → IsWithin (slice_index_or views.old.items source d).view (slice_index_or views.old.items target d).view steps.old steps.new }
 {
     if source == target {
         keep(&mut views[target].view);
@@ -71,7 +75,8 @@ fn copy_apart<L: Ledger>(
     requires source { source < length views.old.items }
     requires target { target < length views.old.items }
     requires apart { source ≡ target → ⊥ }
-    ensures { (d : ViewEntry) → Gives (λ done. map view_of views.new.items) result (copied_at (map view_of views.old.items) source target (view_of d)) }
+    ensures copied { (d : ViewEntry) → Gives (λ done. map view_of views.new.items) result (copied_at (map view_of views.old.items) source target (view_of d)) }
+    ensures bound { (d : ViewEntry) → IsWithin (slice_index_or views.old.items source d).view (slice_index_or views.old.items target d).view steps.old steps.new }
 {
     let mut entry = views.remove(target);
     let place = place_without(source, target);
@@ -106,6 +111,7 @@ pub fn copy_into<L: Ledger>(
 ) -> Result<(), StepFault>
     ensures copied { Gives (λ done. target.new) result (copied source.old target.old) }
     ensures read { OnOk result (source.new ≡ after_log source.old (all_accesses Read (leaf_count_of source.old) (length source.old.rows))) }
+    ensures bound { IsWithin source.old target.old steps.old steps.new }
 {
     match layout_copy::copy(source, target, steps) {
         Ok(()) => Ok(()),

@@ -6,6 +6,7 @@ ghost use Rattle.command_checks.specs.Bases.{is_nameless};
 ghost use Rattle.command_checks.specs.Entries.{view_of};
 ghost use Rattle.command_checks.specs.Gives.{Gives};
 ghost use Rattle.command_checks.specs.declared.entries.ViewEntry.{ViewEntry};
+ghost use Rattle.session.specs.Bounds.{IsWithin, WithinRelayout};
 ghost use Rattle.session.specs.Changes.{made_like, zeros_like};
 
 use crate::copy::copy_into;
@@ -29,7 +30,8 @@ impl Session {
         expr: &MapExpr,
         steps: &mut Steps<L>,
     ) -> Result<Session, StepFault>
-        ensures { Gives left_of result (relayout (world_of self) name (term_of expr.now)) }
+        ensures laid { Gives left_of result (relayout (world_of self) name (term_of expr.now)) }
+        ensures bound { WithinRelayout (world_of self) name (term_of expr.now) steps.old steps.new }
     {
         let place = known_view(self.views.as_slice(), name)?;
         let expr = nameless(self.alloc, self.mappings.as_slice(), expr)?;
@@ -46,7 +48,8 @@ fn laid_over<L: Ledger>(
     mut fresh: View,
     steps: &mut Steps<L>,
 ) -> Result<(), StepFault>
-    ensures { Gives (λ done. view.new) result (copied view.old fresh) }
+    ensures copied { Gives (λ done. view.new) result (copied view.old fresh) }
+    ensures bound { IsWithin view.old fresh steps.old steps.new }
 {
     match copy_into(alloc, view, &mut fresh, steps) {
         Ok(()) => {

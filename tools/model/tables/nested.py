@@ -61,13 +61,13 @@ def sides(text, cells):
 # tables: rows of numbers, and what a script prints of them
 
 class Table:
-    """A record over extents, its numbers thrown among those that a mapping holds."""
+    """A record over extents, its numbers thrown among those that each of some mappings holds."""
 
-    def __init__(self, dice, record, extents, mapping):
+    def __init__(self, dice, record, extents, *mappings):
         self.record, self.extents = record, extents
-        self.cells = RECORDS[record]
+        self.cells = cells_of(record)
         self.indices = list(itertools.product(*map(range, extents)))
-        self.rows = [[thrown(dice, limits) for limits in self.limits(mapping)] for _ in self.indices]
+        self.rows = [[thrown(dice, within(ranges)) for ranges in zip(*map(self.limits, mappings))] for _ in self.indices]
 
     def places(self, mapping):
         lengths, at = laid(mapping, self.cells, self.extents)
@@ -99,6 +99,11 @@ class Table:
         return self.dataset().decode().replace('\n', ' | ')[:-3]
 
 
+def within(ranges):
+    """What lies in each of some ranges."""
+    return max(least for least, _ in ranges), min(greatest for _, greatest in ranges)
+
+
 def thrown(dice, limits):
     least, greatest = limits
     near = [number for number in (least, greatest, greatest - 1, least + 1, 0, 1, -1) if least <= number <= greatest]
@@ -114,6 +119,11 @@ RECORDS = {
     'f:bool, a:u8, b:u16, c:u32, d:u64, e:i8, g:i16, h:i32, k:i64': [
         ('f', 'bool'), ('a', 'u8'), ('b', 'u16'), ('c', 'u32'), ('d', 'u64'), ('e', 'i8'), ('g', 'i16'), ('h', 'i32'), ('k', 'i64')],
 }
+
+
+def cells_of(record):
+    """The paths and types of the leaves of one of these records, or of one that has a list of leaves alone."""
+    return RECORDS[record] if record in RECORDS else [tuple(field.split(':')) for field in record.split(', ')]
 
 
 def asked(view, blobs):

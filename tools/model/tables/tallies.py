@@ -8,7 +8,7 @@ import itertools
 
 from .addresses import BYTES, laid, runs, touched
 from .case import Case
-from .nested import Dice, EXTENTS, RECORDS, text_of, thrown_form, written
+from .nested import cells_of, Dice, EXTENTS, RECORDS, text_of, thrown_form, written
 
 GRANULES = [1, 1, 2, 2, 4, 8, 16, 64, 4096]
 MOST_LAYOUT_BYTES = 300
@@ -18,7 +18,7 @@ class Tally:
     """A view: its record, extents and mapping, and the reads and writes of each row and leaf."""
 
     def __init__(self, name, record, extents, mapping):
-        self.name, self.cells, self.extents, self.mapping = name, RECORDS[record], extents, mapping
+        self.name, self.cells, self.extents, self.mapping = name, cells_of(record), extents, mapping
         self.indices = list(itertools.product(*map(range, extents)))
         self.entries = [(row, leaf) for row in range(len(self.indices)) for leaf in range(len(self.cells))]
         self.reads, self.writes = [], []
@@ -167,14 +167,20 @@ def counted_form(dice, record, depth):
     return dice.of([('count', heat + (inner,)), heat + (('count', inner),), ('count', heat + (inner,)), heat + (inner,), ('count', inner)])
 
 
-def shown(tally):
-    """The lines that show what a view counted and how it lies, and what they print."""
+def shown_counts(tally):
+    """The lines that show what a view counted, and what they print."""
     script, due = [], []
     heat = next((part[1] for part in (tally.mapping, tally.mapping[-1]) if part[0] == 'heat'), None)
     if tally.mapping[0] == 'count' or tally.mapping[-1][0] == 'count':
         script, due = script + [f'counts {tally.name}'], due + [tally.counted()]
     if heat:
         script, due = script + [f'heat {tally.name}'], due + [tally.heated(heat)]
+    return script, due
+
+
+def shown(tally):
+    """The lines that show what a view counted and how it lies, and what they print."""
+    script, due = shown_counts(tally)
     if sum(tally.places()[0]) // 8 <= MOST_LAYOUT_BYTES:
         script, due = script + [f'layout {tally.name}'], due + [tally.drawn()]
     return script, due

@@ -1,42 +1,49 @@
-use Rattle.std.proofs.Common.{rules, ◌≡◌, length, Err}
-use Rattle.std.specs.List.{remove}
-use Rattle.std.proofs.lemmas.List.Edits.{length-remove}
-use Rattle.session.proofs.Copies.{AreApart, apart_not, apart_to, place_within}
+use Rattle.std.proofs.Common.{rules, ◌≡◌, Err}
+use Rattle.session.proofs.Copies.{AreApart, apart_not, apart_to, are_apart}
+use Rattle.session.proofs.CopySteps.{apart_within}
 use Rattle.session.proofs.copy.copy_apart.Goals as goal
 
-pub returns-in_err-copy_into : goal.returns-in_err-copy_into
-returns-in_err-copy_into g c = λ d.
+pub returns-in_err-copy_into-clause-copied : goal.returns-in_err-copy_into-clause-copied
+returns-in_err-copy_into-clause-copied g c = λ d.
     let views = c.args.views.now.items in
-    let gone = c.remove-entry.ensures.items in
-    let long = length-remove views c.args.target c.requires.target in
+    let are : AreApart views c.args.source c.args.target c.place_without-place.result c.index_mut.result.now c.remove-entry.result =
+    are_apart views c.args.source c.args.target c.place_without-place.result c.index_mut.result.now c.remove-entry.result c.requires.source c.requires.target c.requires.apart
+    c.place_without-place.ensures.before c.place_without-place.ensures.behind (rw c.remove-entry.ensures.items at c.index_mut.ensures.value) c.remove-entry.ensures.value in
     let is : c.from_residual.result ≡ Err c.in_err-copy_into.field-0.0 = search rules in
-    let are : AreApart views c.args.source c.args.target c.place_without-place.result c.index_mut.result.now c.remove-entry.result = record {
-      inside = c.requires.target;
-      place_in = place_within c.args.source c.args.target c.place_without-place.result (length views) (length (remove views c.args.target)) c.requires.source c.requires.target long c.requires.apart c.place_without-place.ensures.before c.place_without-place.ensures.behind;
-      apart = c.requires.apart;
-      before = c.place_without-place.ensures.before;
-      behind = c.place_without-place.ensures.behind;
-      entry_is = rw gone at c.index_mut.ensures.value;
-      old_is = c.remove-entry.ensures.value;
-    } in
     rw is (apart_not views c.args.source c.args.target c.place_without-place.result c.index_mut.result.now c.remove-entry.result d c.in_err-copy_into.field-0.0 are c.in_err-copy_into.ensures.copied)
 
-pub returns : goal.returns
-returns g c = λ d.
+pub returns-clause-copied : goal.returns-clause-copied
+returns-clause-copied g c = λ d.
     let views = c.args.views.now.items in
-    let gone = c.remove-entry.ensures.items in
-    let long = length-remove views c.args.target c.requires.target in
-    let are : AreApart views c.args.source c.args.target c.place_without-place.result c.index_mut.result.now c.remove-entry.result = record {
-      inside = c.requires.target;
-      place_in = place_within c.args.source c.args.target c.place_without-place.result (length views) (length (remove views c.args.target)) c.requires.source c.requires.target long c.requires.apart c.place_without-place.ensures.before c.place_without-place.ensures.behind;
-      apart = c.requires.apart;
-      before = c.place_without-place.ensures.before;
-      behind = c.place_without-place.ensures.behind;
-      entry_is = rw gone at c.index_mut.ensures.value;
-      old_is = c.remove-entry.ensures.value;
-    } in
+    let are : AreApart views c.args.source c.args.target c.place_without-place.result c.index_mut.result.now c.remove-entry.result =
+    are_apart views c.args.source c.args.target c.place_without-place.result c.index_mut.result.now c.remove-entry.result c.requires.source c.requires.target c.requires.apart
+    c.place_without-place.ensures.before c.place_without-place.ensures.behind (rw c.remove-entry.ensures.items at c.index_mut.ensures.value) c.remove-entry.ensures.value in
     apart_to views c.insert.new.self.items c.args.source c.args.target c.place_without-place.result c.index_mut.result.now c.remove-entry.result d c.copy_into.new.source c.copy_into.new.target are c.in_ok-copy_into.ensures.read
-    (rw gone at c.in_ok-insert.ensures.items) c.in_ok-copy_into.ensures.copied
+    (rw c.remove-entry.ensures.items at c.in_ok-insert.ensures.items) c.in_ok-copy_into.ensures.copied
+
+pub returns-in_err-copy_into-clause-bound : goal.returns-in_err-copy_into-clause-bound
+returns-in_err-copy_into-clause-bound g c = λ d.
+    let views = c.args.views.now.items in
+    let are : AreApart views c.args.source c.args.target c.place_without-place.result c.index_mut.result.now c.remove-entry.result =
+    are_apart views c.args.source c.args.target c.place_without-place.result c.index_mut.result.now c.remove-entry.result c.requires.source c.requires.target c.requires.apart
+    c.place_without-place.ensures.before c.place_without-place.ensures.behind (rw c.remove-entry.ensures.items at c.index_mut.ensures.value) c.remove-entry.ensures.value in
+    apart_within views c.args.source c.args.target c.place_without-place.result c.index_mut.result.now c.remove-entry.result d c.args.steps.now c.copy_into.new.steps are c.in_err-copy_into.ensures.bound
+
+pub returns-in_err-insert-clause-bound : goal.returns-in_err-insert-clause-bound
+returns-in_err-insert-clause-bound g c = λ d.
+    let views = c.args.views.now.items in
+    let are : AreApart views c.args.source c.args.target c.place_without-place.result c.index_mut.result.now c.remove-entry.result =
+    are_apart views c.args.source c.args.target c.place_without-place.result c.index_mut.result.now c.remove-entry.result c.requires.source c.requires.target c.requires.apart
+    c.place_without-place.ensures.before c.place_without-place.ensures.behind (rw c.remove-entry.ensures.items at c.index_mut.ensures.value) c.remove-entry.ensures.value in
+    apart_within views c.args.source c.args.target c.place_without-place.result c.index_mut.result.now c.remove-entry.result d c.args.steps.now c.copy_into.new.steps are c.in_ok-copy_into.ensures.bound
+
+pub returns-clause-bound : goal.returns-clause-bound
+returns-clause-bound g c = λ d.
+    let views = c.args.views.now.items in
+    let are : AreApart views c.args.source c.args.target c.place_without-place.result c.index_mut.result.now c.remove-entry.result =
+    are_apart views c.args.source c.args.target c.place_without-place.result c.index_mut.result.now c.remove-entry.result c.requires.source c.requires.target c.requires.apart
+    c.place_without-place.ensures.before c.place_without-place.ensures.behind (rw c.remove-entry.ensures.items at c.index_mut.ensures.value) c.remove-entry.ensures.value in
+    apart_within views c.args.source c.args.target c.place_without-place.result c.index_mut.result.now c.remove-entry.result d c.args.steps.now c.copy_into.new.steps are c.in_ok-copy_into.ensures.bound
 
 -- a mapping that is dropped is one still
 pub invariant_of-entry : goal.invariant_of-entry

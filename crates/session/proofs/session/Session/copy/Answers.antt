@@ -1,4 +1,4 @@
-use Rattle.std.proofs.Common.{rules, ◌≡◌, ◌∙◌, map, Err, sym, subst}
+use Rattle.std.proofs.Common.{rules, ◌≡◌, ◌∙◌, map, Err, refl, sym, subst}
 use Rattle.worlds.specs.Copy.{copy}
 use Rattle.worlds.specs.Outcomes.{Outcome, Left}
 use Rattle.command_checks.specs.Entries.{view_of}
@@ -8,12 +8,13 @@ use Rattle.command_checks.specs.Places.{IsAt}
 use Rattle.session.specs.Stands.{world_of}
 use Rattle.session.proofs.Exits.{goes_gives}
 use Rattle.session.proofs.Copies.{first_of, known_place, copy_in}
+use Rattle.session.proofs.CopySteps.{copy_within, no_copy}
 use Rattle.session.proofs.Named.{first_at, gives_up_still}
 use Rattle.session.proofs.session.Session.copy.Goals as goal
 
-pub returns-in_err-target : goal.returns-in_err-target
+pub returns-in_err-target-clause-copied : goal.returns-in_err-target-clause-copied
 unfolding copy
-returns-in_err-target g c =
+returns-in_err-target-clause-copied g c =
     let items = c.args.self.views.items in
     let from : IsAt view_of c.args.source items c.in_ok-source.source = rw c.as_slice.ensures.value at c.in_ok-source.ensures.at in
     let d = first_of items c.in_ok-source.source from.inside in
@@ -23,8 +24,8 @@ returns-in_err-target g c =
     rw is (goes_gives _ _ _ fault (known_place c.args.source items c.in_ok-source.source d from)
     (GivesUp-then _ _ fault (gives_up_still c.args.target c.args.source (map view_of items) _ fault unknown)))
 
-pub returns-in_err-copy_between : goal.returns-in_err-copy_between
-returns-in_err-copy_between g c =
+pub returns-in_err-copy_between-clause-copied : goal.returns-in_err-copy_between-clause-copied
+returns-in_err-copy_between-clause-copied g c =
     let items = c.args.self.views.items in
     let from : IsAt view_of c.args.source items c.in_ok-source.source = rw c.as_slice.ensures.value at c.in_ok-source.ensures.at in
     let to : IsAt view_of c.args.target items c.in_ok-target.target = rw c.as_slice-2.ensures.value at c.in_ok-target.ensures.at in
@@ -33,14 +34,38 @@ returns-in_err-copy_between g c =
     let is : c.from_residual-in_err-copy_between.result ≡ Err fault = search rules in
     let whole = copy_in (world_of c.args.self) c.args.source c.args.target c.in_ok-source.source c.in_ok-target.target (view_of d)
     (first_at c.args.source items c.in_ok-source.source d from) (first_at c.args.target items c.in_ok-target.target d to) in
-    rw is (subst (λ (o : Outcome Left). GivesUp o fault) (sym whole) (GivesUp-then _ _ fault (c.in_err-copy_between.ensures d)))
+    rw is (subst (λ (o : Outcome Left). GivesUp o fault) (sym whole) (GivesUp-then _ _ fault (c.in_err-copy_between.ensures.copied d)))
 
-pub returns : goal.returns
-returns g c =
+pub returns-clause-copied : goal.returns-clause-copied
+returns-clause-copied g c =
     let items = c.args.self.views.items in
     let from : IsAt view_of c.args.source items c.in_ok-source.source = rw c.as_slice.ensures.value at c.in_ok-source.ensures.at in
     let to : IsAt view_of c.args.target items c.in_ok-target.target = rw c.as_slice-2.ensures.value at c.in_ok-target.ensures.at in
     let d = first_of items c.in_ok-source.source from.inside in
     copy_in (world_of c.args.self) c.args.source c.args.target c.in_ok-source.source c.in_ok-target.target (view_of d)
     (first_at c.args.source items c.in_ok-source.source d from) (first_at c.args.target items c.in_ok-target.target d to)
-    ∙ goes_then _ _ _ (c.in_ok-copy_between.ensures d)
+    ∙ goes_then _ _ _ (c.in_ok-copy_between.ensures.copied d)
+
+pub returns-in_err-source-clause-bound : goal.returns-in_err-source-clause-bound
+returns-in_err-source-clause-bound g c = no_copy (world_of c.args.self) c.args.source c.args.target c.args.steps.now
+
+pub returns-in_err-target-clause-bound : goal.returns-in_err-target-clause-bound
+returns-in_err-target-clause-bound g c = no_copy (world_of c.args.self) c.args.source c.args.target c.args.steps.now
+
+pub returns-in_err-copy_between-clause-bound : goal.returns-in_err-copy_between-clause-bound
+returns-in_err-copy_between-clause-bound g c =
+    let items = c.args.self.views.items in
+    let from : IsAt view_of c.args.source items c.in_ok-source.source = rw c.as_slice.ensures.value at c.in_ok-source.ensures.at in
+    let to : IsAt view_of c.args.target items c.in_ok-target.target = rw c.as_slice-2.ensures.value at c.in_ok-target.ensures.at in
+    let d = first_of items c.in_ok-source.source from.inside in
+    copy_within (world_of c.args.self) c.args.source c.args.target items c.in_ok-source.source c.in_ok-target.target d c.args.steps.now c.copy_between.new.steps refl from to
+    c.in_err-copy_between.ensures.none (λ apart. c.in_err-copy_between.ensures.bound apart d)
+
+pub returns-clause-bound : goal.returns-clause-bound
+returns-clause-bound g c =
+    let items = c.args.self.views.items in
+    let from : IsAt view_of c.args.source items c.in_ok-source.source = rw c.as_slice.ensures.value at c.in_ok-source.ensures.at in
+    let to : IsAt view_of c.args.target items c.in_ok-target.target = rw c.as_slice-2.ensures.value at c.in_ok-target.ensures.at in
+    let d = first_of items c.in_ok-source.source from.inside in
+    copy_within (world_of c.args.self) c.args.source c.args.target items c.in_ok-source.source c.in_ok-target.target d c.args.steps.now c.copy_between.new.steps refl from to
+    c.in_ok-copy_between.ensures.none (λ apart. c.in_ok-copy_between.ensures.bound apart d)

@@ -11,12 +11,14 @@ use Rattle.command_checks.specs.Places.{IsAt}
 use Rattle.command_checks.specs.declared.entries.ViewEntry.{ViewEntry}
 use Rattle.session.specs.Stands.{world_of}
 use Rattle.session.proofs.Exits.{goes_gives, known_at, table_changed}
-use Rattle.session.proofs.Copies.{first_of, known_place, laid_at}
+use Rattle.session.proofs.Copies.{first_of, known_place, laid_at, made_at}
+use Rattle.session.proofs.CopySteps.{laid_within, none_taken}
+use Rattle.session.specs.Bounds.{laid_pair}
 use Rattle.session.proofs.session.Session.relayout.Goals as goal
 
-pub returns-in_err-expr : goal.returns-in_err-expr
+pub returns-in_err-expr-clause-laid : goal.returns-in_err-expr-clause-laid
 unfolding relayout
-returns-in_err-expr g c =
+returns-in_err-expr-clause-laid g c =
     let items = c.args.self.views.items in
     let at : IsAt view_of c.args.name items c.in_ok-place.place = rw c.as_slice.ensures.value at c.in_ok-place.ensures.at in
     let d = first_of items c.in_ok-place.place at.inside in
@@ -25,9 +27,9 @@ returns-in_err-expr g c =
     let whole = rw c.as_slice-2.ensures.value at c.in_err-expr.ensures.whole in
     rw is (goes_gives _ _ _ fault (known_place c.args.name items c.in_ok-place.place d at) (GivesUp-then _ _ fault whole))
 
-pub returns-in_err-fresh : goal.returns-in_err-fresh
+pub returns-in_err-fresh-clause-laid : goal.returns-in_err-fresh-clause-laid
 unfolding relayout laid_anew
-returns-in_err-fresh g c =
+returns-in_err-fresh-clause-laid g c =
     let items = c.args.self.views.items in
     let at : IsAt view_of c.args.name items c.in_ok-place.place = rw c.as_slice.ensures.value at c.in_ok-place.ensures.at in
     let d = first_of items c.in_ok-place.place at.inside in
@@ -37,9 +39,9 @@ returns-in_err-fresh g c =
     let made = rw c.as_slice-3.ensures.value at (c.in_err-fresh.ensures.made d) in
     rw is (goes_gives _ _ _ fault (known_place c.args.name items c.in_ok-place.place d at) (goes_gives _ _ _ fault whole (GivesUp-then _ _ fault (GivesUp-then _ _ fault made))))
 
-pub returns-in_err-laid_over : goal.returns-in_err-laid_over
+pub returns-in_err-laid_over-clause-laid : goal.returns-in_err-laid_over-clause-laid
 unfolding relayout
-returns-in_err-laid_over g c =
+returns-in_err-laid_over-clause-laid g c =
     let items = c.args.self.views.items in
     let at : IsAt view_of c.args.name items c.in_ok-place.place = rw c.as_slice.ensures.value at c.in_ok-place.ensures.at in
     let entry = c.index_mut.result.now in
@@ -50,11 +52,11 @@ returns-in_err-laid_over g c =
     let zeros = rw c.as_slice-3.ensures.value at (c.in_ok-fresh.ensures.zeros entry) in
     let laid = laid_at items c.in_ok-place.place entry (term_of c.in_ok-expr.expr) c.in_ok-fresh.fresh c.index_mut.ensures.value made zeros in
     rw is (goes_gives _ _ _ fault (known_at c.args.name items c.in_ok-place.place entry at c.index_mut.ensures.value)
-    (goes_gives _ _ _ fault whole (GivesUp-then _ _ fault (subst (λ (o : Outcome Table). GivesUp o fault) (sym laid) c.in_err-laid_over.ensures))))
+    (goes_gives _ _ _ fault whole (GivesUp-then _ _ fault (subst (λ (o : Outcome Table). GivesUp o fault) (sym laid) c.in_err-laid_over.ensures.copied))))
 
-pub returns : goal.returns
+pub returns-clause-laid : goal.returns-clause-laid
 unfolding relayout
-returns g c =
+returns-clause-laid g c =
     let items = c.args.self.views.items in
     let at : IsAt view_of c.args.name items c.in_ok-place.place = rw c.as_slice.ensures.value at c.in_ok-place.ensures.at in
     let entry = c.index_mut.result.now in
@@ -64,5 +66,38 @@ returns g c =
     let zeros = rw c.as_slice-3.ensures.value at (c.in_ok-fresh.ensures.zeros entry) in
     let laid = laid_at items c.in_ok-place.place entry (term_of c.in_ok-expr.expr) c.in_ok-fresh.fresh c.index_mut.ensures.value made zeros in
     let same = table_changed c.args.self c.args.name c.in_ok-place.place entry changed at c.index_mut.ensures.value refl in
-    goes_then _ _ _ (known_at c.args.name items c.in_ok-place.place entry at c.index_mut.ensures.value) ∙ goes_then _ _ _ whole ∙ goes_then _ _ _ (laid ∙ c.in_ok-laid_over.ensures)
+    goes_then _ _ _ (known_at c.args.name items c.in_ok-place.place entry at c.index_mut.ensures.value) ∙ goes_then _ _ _ whole ∙ goes_then _ _ _ (laid ∙ c.in_ok-laid_over.ensures.copied)
     ∙ ap (λ (views : List (Entry Table)). Goes (record { held = record (world_of c.args.self) { views = views }; text = [] })) (sym same)
+
+pub returns-in_err-place-clause-bound : goal.returns-in_err-place-clause-bound
+returns-in_err-place-clause-bound g c = none_taken (laid_pair (world_of c.args.self) c.args.name (term_of c.args.expr.now)) c.args.steps.now c.args.steps.now refl
+
+pub returns-in_err-expr-clause-bound : goal.returns-in_err-expr-clause-bound
+returns-in_err-expr-clause-bound g c = none_taken (laid_pair (world_of c.args.self) c.args.name (term_of c.args.expr.now)) c.args.steps.now c.args.steps.now refl
+
+pub returns-in_err-fresh-clause-bound : goal.returns-in_err-fresh-clause-bound
+returns-in_err-fresh-clause-bound g c = none_taken (laid_pair (world_of c.args.self) c.args.name (term_of c.args.expr.now)) c.args.steps.now c.args.steps.now refl
+
+pub returns-in_err-laid_over-clause-bound : goal.returns-in_err-laid_over-clause-bound
+returns-in_err-laid_over-clause-bound g c =
+    let items = c.args.self.views.items in
+    let at : IsAt view_of c.args.name items c.in_ok-place.place = rw c.as_slice.ensures.value at c.in_ok-place.ensures.at in
+    let entry = c.index_mut.result.now in
+    let whole = rw c.as_slice-2.ensures.value at c.in_ok-expr.ensures.whole in
+    let made = rw c.as_slice-3.ensures.value at (c.in_ok-fresh.ensures.made entry) in
+    let zeros = rw c.as_slice-3.ensures.value at (c.in_ok-fresh.ensures.zeros entry) in
+    let same = made_at items c.in_ok-place.place entry (term_of c.in_ok-expr.expr) c.in_ok-fresh.fresh c.index_mut.ensures.value made zeros in
+    laid_within (world_of c.args.self) c.args.name (term_of c.args.expr.now) (term_of c.in_ok-expr.expr) entry.view c.in_ok-fresh.fresh c.args.steps.now c.laid_over.new.steps
+    (known_at c.args.name items c.in_ok-place.place entry at c.index_mut.ensures.value) whole same.0 same.1 c.in_err-laid_over.ensures.bound
+
+pub returns-clause-bound : goal.returns-clause-bound
+returns-clause-bound g c =
+    let items = c.args.self.views.items in
+    let at : IsAt view_of c.args.name items c.in_ok-place.place = rw c.as_slice.ensures.value at c.in_ok-place.ensures.at in
+    let entry = c.index_mut.result.now in
+    let whole = rw c.as_slice-2.ensures.value at c.in_ok-expr.ensures.whole in
+    let made = rw c.as_slice-3.ensures.value at (c.in_ok-fresh.ensures.made entry) in
+    let zeros = rw c.as_slice-3.ensures.value at (c.in_ok-fresh.ensures.zeros entry) in
+    let same = made_at items c.in_ok-place.place entry (term_of c.in_ok-expr.expr) c.in_ok-fresh.fresh c.index_mut.ensures.value made zeros in
+    laid_within (world_of c.args.self) c.args.name (term_of c.args.expr.now) (term_of c.in_ok-expr.expr) entry.view c.in_ok-fresh.fresh c.args.steps.now c.laid_over.new.steps
+    (known_at c.args.name items c.in_ok-place.place entry at c.index_mut.ensures.value) whole same.0 same.1 c.in_ok-laid_over.ensures.bound
