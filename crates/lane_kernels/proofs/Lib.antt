@@ -5,3 +5,4 @@ pub mod Numbers
 pub mod Changed
 pub mod Values
 pub mod BlockStores
+pub mod NearRows

@@ -53,12 +53,12 @@ pub fits_constant : (kind : LeafType) (hold : Hold) (value : ℤ) → width_of k
 fits_constant kind hold value narrow fits = declared_constant kind value narrow fits.declared
 
 -- the values of a block more
-pub reduced_more : (reduction : Reduction) (leaf row step : ℕ) (rows : List (List ℤ)) (number new : ℤ) → number ≡ reduced reduction (take row (column leaf rows))
-    → new ≡ fold (taking reduction) number (take step (drop row (column leaf rows))) → new ≡ reduced reduction (take (row + step) (column leaf rows))
-reduced_more reduction leaf row step rows number new so_far is =
-    is ∙ ap (λ (n : ℤ). fold (taking reduction) n (take step (drop row (column leaf rows)))) so_far
-    ∙ sym (fold-append (taking reduction) (start reduction) (take row (column leaf rows)) (take step (drop row (column leaf rows))))
-    ∙ ap (fold (taking reduction) (start reduction)) (sym (take-add row step (column leaf rows)))
+pub values_more : (reduction : Reduction) (row step : ℕ) (values : List ℤ) (number new : ℤ) → number ≡ reduced reduction (take row values)
+    → new ≡ fold (taking reduction) number (take step (drop row values)) → new ≡ reduced reduction (take (row + step) values)
+values_more reduction row step values number new so_far is =
+    is ∙ ap (λ (n : ℤ). fold (taking reduction) n (take step (drop row values))) so_far
+    ∙ sym (fold-append (taking reduction) (start reduction) (take row values) (take step (drop row values)))
+    ∙ ap (fold (taking reduction) (start reduction)) (sym (take-add row step values))
 
 -- one read more in each row
 one_read : (reduction : Reduction) (leaf row : ℕ) → reads_on (reducing leaf reduction) row ++ writes_on (reducing leaf reduction) row ≡ Read row leaf ∷ []
@@ -378,7 +378,7 @@ reduced_step reduction leaf lanes row step old view new number more block so_far
     let values = lanes_of (drop row (column leaf old.rows)) block step there enough in
     record {
       same = read_more reduction leaf row step old view new so_far.same read;
-      so_far = reduced_more reduction leaf row step old.rows number more so_far.so_far (taken ∙ ap (fold (taking reduction) number) values);
+      so_far = values_more reduction row step (column leaf old.rows) number more so_far.so_far (taken ∙ ap (fold (taking reduction) number) values);
       small = subst (IsSmall (row + step)) (sym taken) (taking_small reduction row step number (take step block) so_far.small (first_narrow block step narrow) (omega (arith, length-take step block)));
       at = next.next;
     }

@@ -5,6 +5,7 @@ mod blocks;
 mod changes;
 mod fault;
 mod kernel;
+mod near;
 mod plain;
 mod reductions;
 

@@ -9,6 +9,7 @@ ghost use Rattle.lane_kernels.specs.Reductions.{reducing, start, taking, reduced
 use crate::blocks::step_at;
 use crate::fault::KernelFault;
 use crate::kernel::Compare;
+use crate::near::begun;
 use lanes::Block;
 use std::sync::ledger::Ledger;
 use steps::Steps;
@@ -24,8 +25,8 @@ pub enum Reduction {
 }
 
 impl Reduction {
-    // The number of no value; every value is a least and a greatest one beside it.
-    fn start(&self) -> i64
+    /// The number of no value; every value is a least and a greatest one beside it.
+    pub fn start(&self) -> i64
         ensures { result ≡ start self.now }
     {
         match self {
@@ -35,8 +36,9 @@ impl Reduction {
         }
     }
 
-    // The number with the values of the first so many lanes; the other lanes are 0.
-    fn taking(&self, rows: u64, number: i64, block: Block, lanes: usize) -> i64
+    /// The number with the values of the first so many lanes; the other lanes are 0.
+    #[inline(always)]
+    pub fn taking(&self, rows: u64, number: i64, block: Block, lanes: usize) -> i64
         requires few { rows + lanes ≤ 2 ^ 24 }
         requires within { lanes ≤ 16 }
         requires block { length block ≡ 16 }
@@ -81,7 +83,7 @@ pub fn reduce_rows<L: Ledger>(
     Ok(Some(reduced(view, leaf, reduction, lanes, steps)))
 }
 
-// The number of all values, in a loop over blocks of rows.
+// The number of all values: of near ones sixteen at a time, and of the others in a loop over blocks of rows.
 fn reduced<L: Ledger>(
     view: &mut View,
     leaf: usize,
@@ -97,8 +99,9 @@ fn reduced<L: Ledger>(
     ensures steps { steps.new ≡ steps.old + (length view.old.rows / lanes + length view.old.rows % lanes) }
 {
     let count = view.extents().count();
-    let mut number = reduction.start();
-    let mut row = 0;
+    let begun = begun(view, leaf, reduction, lanes, steps);
+    let mut number = begun.number;
+    let mut row = begun.row;
     while row < count {
         let step = step_at(row, lanes, count);
         let block = Block::of(view.load_lanes(row, leaf, step, steps));

@@ -4,6 +4,7 @@ pub mod Opened
 pub mod ZeroBlobs
 pub mod AccessLaws
 pub mod WideLaws
+pub mod NearLaws
 pub mod Counted
 pub mod CountLaws
 pub mod TouchLaws

@@ -6,6 +6,7 @@ mod fault;
 mod fresh;
 mod laws;
 mod moves;
+mod near;
 mod row;
 mod rows;
 mod store;

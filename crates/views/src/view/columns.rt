@@ -1,13 +1,16 @@
 // The values of one leaf in several rows at once.
-ghost use Rattle.std.specs.Prelude.{◌≡◌, ◌+◌, ◌-◌, ◌<◌, ◌≤◌, ◌++◌, pos, OnOk, OnErr, IfErr, Some, None, [], length, map, take, drop, replicate, slice_index_or};
+ghost use Rattle.std.specs.Prelude.{◌≡◌, ◌+◌, ◌-◌, ◌*◌, ◌/◌, ◌<◌, ◌≤◌, ◌++◌, pos, true, OnOk, OnErr, IfErr, IfSome, Some, None, is_some, List, [], length, map, take, drop, replicate, slice_index_or};
 ghost use Rattle.std.specs.Simd.Lanes.{Each1};
 ghost use Rattle.lanes.specs.Blocks.{IsBlock, IsNarrow};
 ghost use Rattle.views.specs.Columns.{in_leaf, column, column_reads, column_writes, with_column, first_lane_fault, IsNarrowLeaf};
 ghost use Rattle.views.specs.Tables.{answer_of, kept_of, leaf_count_of, after_log, after_read, after_stores};
+ghost use Rattle.views.specs.Tallies.{Access};
 
 use super::View;
 use crate::fault::LaneFault;
+use crate::near::near_leaf;
 use lanes::Block;
+use near_leaves::Near;
 use std::simd::Simd;
 use std::sync::ledger::Ledger;
 use steps::Steps;
@@ -92,6 +95,16 @@ impl View {
             }
         }
         Ok(())
+    }
+
+    /// The values of a leaf in all whole blocks of sixteen rows, where they stand side by side as whole bytes of at most 32 bits and nothing
+    /// counts accesses. A block that is read through it takes no step of its own.
+    pub fn near(&self, leaf: usize) -> Option<Near<'_>>
+        requires { leaf < leaf_count_of self.now }
+        ensures numbers { IfSome result (λ near. near.numbers ≡ take (16 * (length self.now.rows / 16)) (column leaf self.now.rows)) }
+        ensures uncounted { is_some result ≡ true → (log : List Access) → after_log self.now log ≡ self.now }
+    {
+        near_leaf(&self.map, self.blobs.as_slice(), self.extents.count(), leaf)
     }
 
     // The value of a leaf of at most 32 bits in a row.

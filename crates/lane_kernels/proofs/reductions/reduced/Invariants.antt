@@ -6,7 +6,7 @@ use Rattle.lane_kernels.proofs.reductions.reduced.Given as goal
 abbrev pub invariant-loop-row : goal.invariant-loop-row
 invariant-loop-row g l = record {
   reduced : HasReduced l.reduction l.leaf l.lanes l.initial.view l.view l.row l.number;
-  counted : l.steps ≡ l.initial.steps + cost l.lanes l.row;
+  counted : l.steps ≡ l.fn.steps + cost l.lanes l.row;
 }
 
 abbrev pub decreases-loop-row : goal.decreases-loop-row

@@ -1,0 +1,26 @@
+ghost use Rattle.std.specs.Prelude.{◌≡◌, ◌*◌, ◌/◌, ◌<◌, ◌≤◌, ◌^◌, true, false, is_some, IfSome, length, take};
+ghost use Rattle.map_any.specs.Counters.{is_counted};
+ghost use Rattle.map_any.specs.Maps.{term_of_map};
+ghost use Rattle.piece_bits.specs.Tables.{AreLaid, table_in};
+ghost use Rattle.views.specs.Columns.{column};
+
+use blobs::Blob;
+use map_any::AnyMap;
+use near_leaves::Near;
+use places::{Mapping, laws_of};
+
+/// The values of a leaf, sixteen rows at a time, where they stand side by side as whole bytes. A mapping that counts has none.
+pub fn near_leaf<'a>(map: &AnyMap, blobs: &'a [Blob], rows: u64, leaf: usize) -> Option<Near<'a>>
+    requires rows { rows ≡ ⟦<AnyMap as Mapping>⟧.slot_count map.now }
+    requires few { rows ≤ 2 ^ 24 }
+    requires leaf_in { leaf < length (⟦<AnyMap as Mapping>⟧.cell_list map.now) }
+    requires laid { AreLaid (⟦<AnyMap as Mapping>⟧.layout map.now) blobs.now }
+    ensures numbers { IfSome result (λ near. near.numbers ≡ take (16 * (rows / 16)) (column leaf
+        (table_in (⟦<AnyMap as Mapping>⟧.layout map.now) (⟦<AnyMap as Mapping>⟧.slot_count map.now) (⟦<AnyMap as Mapping>⟧.hold_list map.now) blobs.now))) }
+    ensures uncounted { is_some result ≡ true → is_counted (term_of_map map.now) ≡ false }
+{
+    laws_of(map);
+    let short = &map.short(leaf).short;
+    let blob = blobs.get(short.blob)?;
+    Near::of(blob, short, rows)
+}
