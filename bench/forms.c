@@ -1,10 +1,12 @@
-// The peer of `bench_layouts table FORM ROWS SETS GETS` for bit fields, swapped and split bytes and Morton order: the same work on the
-// same bytes, by accessors written by hand.
+// The peer of `bench_layouts table FORM GRID ROWS SETS GETS` for bit fields, swapped and split bytes and other orders than that by rows: the
+// same work on the same bytes, by accessors written by hand.
 //
-//   forms fixed|general FORM ROWS SETS GETS
+//   forms fixed|general FORM[_GRID] ROWS SETS GETS
 #include "layouts.h"
 
+// The columns of a plane, and the further extents of a space.
 #define COLUMNS 1000
+#define SIDE 100
 
 // ---- bits: a field of up to 57 bits lies in the eight bytes from its first
 
@@ -119,17 +121,40 @@ static inline void store_swapped(unsigned char *at, unsigned width, number value
     }
 }
 
-// ---- Morton order: the digits of a row and of a column in turn, the column's the lowest
+// ---- the slot of a row of a plane, which has lines and columns, and of a space of three extents: by columns the first extent goes
+// fastest, and in Morton order the binary digits of all go in turn, those of the last the lowest
 
-static inline size_t spread(size_t component) {
+static inline uint32_t col_plane(uint32_t row, uint32_t first, uint32_t second, uint32_t third) {
+    (void)third;
+    return row % second * first + row / second;
+}
+
+static inline uint32_t col_space(uint32_t row, uint32_t first, uint32_t second, uint32_t third) {
+    return (row % third * second + row / third % second) * first + row / third / second;
+}
+
+static inline size_t spread_in_two(size_t component) {
     component = (component | component << 8) & 0x0f00ff;
     component = (component | component << 4) & 0x0f0f0f;
     component = (component | component << 2) & 0x333333;
     return (component | component << 1) & 0x555555;
 }
 
-static inline uint32_t morton(uint32_t row, uint32_t columns) {
-    return (uint32_t)(spread(row / columns) << 1 | spread(row % columns));
+static inline size_t spread_in_three(size_t component) {
+    component = (component | component << 8) & 0x00f00f;
+    component = (component | component << 4) & 0x0c30c3;
+    return (component | component << 2) & 0x249249;
+}
+
+static inline uint32_t morton_plane(uint32_t row, uint32_t first, uint32_t second, uint32_t third) {
+    (void)first, (void)third;
+    return (uint32_t)(spread_in_two(row / second) << 1 | spread_in_two(row % second));
+}
+
+static inline uint32_t morton_space(uint32_t row, uint32_t first, uint32_t second, uint32_t third) {
+    (void)first;
+    return (uint32_t)(spread_in_three(row / third / second) << 2 | spread_in_three(row / third % second) << 1 |
+                      spread_in_three(row % third));
 }
 
 // ---- accessors of whole bytes
@@ -147,8 +172,6 @@ static inline uint32_t morton(uint32_t row, uint32_t columns) {
 
 FIXED_BYTES(aos_swap, fixed_aos(table, row, leaf), load_swapped, store_swapped)
 FIXED_BYTES(soa_swap, fixed_soa(table, row, leaf), load_swapped, store_swapped)
-FIXED_BYTES(aos_morton, fixed_aos(table, morton(row, COLUMNS), leaf), load, store)
-FIXED_BYTES(soa_morton, fixed_soa(table, morton(row, COLUMNS), leaf), load, store)
 
 #define GENERAL_BYTES(form, at, load, store)                                                                           \
     static inline number get_general_##form(const struct table *table, uint32_t row, unsigned leaf) {                  \
@@ -165,8 +188,23 @@ FIXED_BYTES(soa_morton, fixed_soa(table, morton(row, COLUMNS), leaf), load, stor
 
 GENERAL_BYTES(aos_swap, general_aos(table, row, leaf), load_swapped, store_swapped)
 GENERAL_BYTES(soa_swap, general_soa(table, row, leaf), load_swapped, store_swapped)
-GENERAL_BYTES(aos_morton, general_aos(table, morton(row, table->columns), leaf), load, store)
-GENERAL_BYTES(soa_morton, general_soa(table, morton(row, table->columns), leaf), load, store)
+
+#define FIXED_SLOT(slot, second, third) slot(row, table->extents[0], second, third)
+#define GENERAL_SLOT(slot) slot(row, table->extents[0], table->extents[1], table->extents[2])
+#define ORDERED(slot, second, third)                                                                                   \
+    FIXED_BYTES(aos_##slot, fixed_aos(table, FIXED_SLOT(slot, second, third), leaf), load, store)                      \
+    FIXED_BYTES(soa_##slot, fixed_soa(table, FIXED_SLOT(slot, second, third), leaf), load, store)                      \
+    GENERAL_BYTES(aos_##slot, general_aos(table, GENERAL_SLOT(slot), leaf), load, store)                               \
+    GENERAL_BYTES(soa_##slot, general_soa(table, GENERAL_SLOT(slot), leaf), load, store)                               \
+    WORK(fixed_aos_##slot)                                                                                             \
+    WORK(fixed_soa_##slot)                                                                                             \
+    WORK(general_aos_##slot)                                                                                           \
+    WORK(general_soa_##slot)
+
+ORDERED(col_plane, COLUMNS, 1)
+ORDERED(col_space, SIDE, SIDE)
+ORDERED(morton_plane, COLUMNS, 1)
+ORDERED(morton_space, SIDE, SIDE)
 
 // ---- split: each byte of a leaf is a cell, least significant first
 
@@ -220,14 +258,10 @@ WORK(fixed_aos_swap)
 WORK(fixed_soa_swap)
 WORK(fixed_aos_split)
 WORK(fixed_soa_split)
-WORK(fixed_aos_morton)
-WORK(fixed_soa_morton)
 WORK(general_bits)
 WORK(general_aos_swap)
 WORK(general_soa_swap)
 WORK(general_split)
-WORK(general_aos_morton)
-WORK(general_soa_morton)
 
 // How the values of a form lie: in bits or in bytes, as records or as arrays.
 enum lie { RECORDS, ARRAYS, BIT_RECORDS, BIT_ARRAYS };
@@ -237,44 +271,53 @@ struct measured {
     enum lie lie;
     // the most bits of a value
     unsigned width;
-    // the columns of an array in Morton order, and 1 in another order
-    uint32_t columns;
+    // the extents behind the first, and how many there are where they are in Morton order
+    uint32_t second, third;
+    unsigned digits;
     struct work works[2];
 };
 
 #define KINDS_OF(fixed, general)                                                                                       \
     {{write_fixed_##fixed, read_fixed_##fixed}, {write_general_##general, read_general_##general}}
+#define BY_ROWS(name, lie, width, general) {#name, lie, width, 1, 1, 0, KINDS_OF(name, general)}
+#define IN_ORDER(slot, second, third, digits)                                                                          \
+    {"aos_" #slot, RECORDS, 64, second, third, digits, KINDS_OF(aos_##slot, aos_##slot)},                              \
+        {"soa_" #slot, ARRAYS, 64, second, third, digits, KINDS_OF(soa_##slot, soa_##slot)}
 
 static const struct measured MEASURED[] = {
-    {"bitaos_9", BIT_RECORDS, 9, 1, KINDS_OF(bitaos_9, bits)},
-    {"bitaos_23", BIT_RECORDS, 23, 1, KINDS_OF(bitaos_23, bits)},
-    {"bitaos_57", BIT_RECORDS, 57, 1, KINDS_OF(bitaos_57, bits)},
-    {"bitsoa_9", BIT_ARRAYS, 9, 1, KINDS_OF(bitsoa_9, bits)},
-    {"bitsoa_23", BIT_ARRAYS, 23, 1, KINDS_OF(bitsoa_23, bits)},
-    {"bitsoa_57", BIT_ARRAYS, 57, 1, KINDS_OF(bitsoa_57, bits)},
-    {"aos_swap", RECORDS, 64, 1, KINDS_OF(aos_swap, aos_swap)},
-    {"soa_swap", ARRAYS, 64, 1, KINDS_OF(soa_swap, soa_swap)},
-    {"aos_split", RECORDS, 64, 1, KINDS_OF(aos_split, split)},
-    {"soa_split", ARRAYS, 64, 1, KINDS_OF(soa_split, split)},
-    {"aos_morton", RECORDS, 64, COLUMNS, KINDS_OF(aos_morton, aos_morton)},
-    {"soa_morton", ARRAYS, 64, COLUMNS, KINDS_OF(soa_morton, soa_morton)},
+    BY_ROWS(bitaos_9, BIT_RECORDS, 9, bits),
+    BY_ROWS(bitaos_23, BIT_RECORDS, 23, bits),
+    BY_ROWS(bitaos_57, BIT_RECORDS, 57, bits),
+    BY_ROWS(bitsoa_9, BIT_ARRAYS, 9, bits),
+    BY_ROWS(bitsoa_23, BIT_ARRAYS, 23, bits),
+    BY_ROWS(bitsoa_57, BIT_ARRAYS, 57, bits),
+    BY_ROWS(aos_swap, RECORDS, 64, aos_swap),
+    BY_ROWS(soa_swap, ARRAYS, 64, soa_swap),
+    BY_ROWS(aos_split, RECORDS, 64, split),
+    BY_ROWS(soa_split, ARRAYS, 64, split),
+    IN_ORDER(col_plane, COLUMNS, 1, 0),
+    IN_ORDER(col_space, SIDE, SIDE, 0),
+    IN_ORDER(morton_plane, COLUMNS, 1, 2),
+    IN_ORDER(morton_space, SIDE, SIDE, 3),
 };
 
 enum { FORM_COUNT = sizeof MEASURED / sizeof *MEASURED };
 
-// The slots of a table: those of a square array whose extent is a power of two, in Morton order.
-static uint32_t slots_of(uint32_t rows, uint32_t columns) {
-    uint32_t side = 1;
-    if (columns == 1)
-        return rows;
-    while (side < rows || side < columns)
+// The slots of a table; in Morton order those of an array whose extents are one power of two.
+static uint32_t slots_of(const struct measured *form, uint32_t first) {
+    uint32_t side = 1, slots = 1;
+    if (form->digits == 0)
+        return first * form->second * form->third;
+    while (side < first || side < form->second || side < form->third)
         side *= 2;
-    return side * side;
+    for (unsigned digit = 0; digit < form->digits; digit++)
+        slots *= side;
+    return slots;
 }
 
 // Plans a table of so many rows of an array, and returns its number of bytes. It is not looked into, so no number of a plan is known.
-__attribute__((noipa)) static size_t plan_form(struct table *table, const struct measured *form, uint32_t rows) {
-    uint32_t slots = slots_of(rows, form->columns);
+NOT_LOOKED_INTO static size_t plan_form(struct table *table, const struct measured *form, uint32_t rows) {
+    uint32_t slots = slots_of(form, rows);
     bool is_in_bits = form->lie == BIT_RECORDS || form->lie == BIT_ARRAYS;
     bool is_array = form->lie == ARRAYS || form->lie == BIT_ARRAYS;
     size_t unit = is_in_bits ? 8 : 1, end = 0, cell = 0;
@@ -296,9 +339,9 @@ __attribute__((noipa)) static size_t plan_form(struct table *table, const struct
     if (form->lie == BIT_RECORDS)
         for (unsigned leaf = 0; leaf < LEAVES; leaf++)
             table->steps[leaf] = end;
-    table->rows = rows * form->columns;
+    table->rows = rows * form->second * form->third;
     table->stride = is_array ? 1 : end;
-    table->columns = form->columns;
+    memcpy(table->extents, (uint32_t[]){rows, form->second, form->third}, sizeof table->extents);
     // a word may be loaded up to seven bytes past the last value
     return (is_array ? end : end * slots) / unit + 16;
 }

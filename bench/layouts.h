@@ -16,6 +16,13 @@
 
 enum { USAGE = 2, FAULT = 1 };
 
+// Of such a function a compiler uses nothing but its type.
+#ifdef __clang__
+#define NOT_LOOKED_INTO __attribute__((noinline, optnone))
+#else
+#define NOT_LOOKED_INTO __attribute__((noipa))
+#endif
+
 typedef __int128 number;
 
 enum form { AOS, SOA, AOSOA };
@@ -31,6 +38,7 @@ struct leaf_plan {
 
 struct table {
     unsigned char *bytes;
+    size_t size;
     uint32_t rows;
     // the first byte of each array of the form soa
     size_t arrays[LEAVES];
@@ -38,11 +46,11 @@ struct table {
     struct leaf_plan leaves[LEAVES];
     size_t stride;
     uint32_t lanes;
-    // what those of bits, of split bytes and of Morton order go by: the bits from a row to the next, where the array of each byte of a
-    // row begins, and the columns of an array
+    // what those of bits, of split bytes and of other orders go by: the bits from a row to the next, where the array of each byte of a
+    // row begins, and the extents of an array
     size_t steps[LEAVES];
     size_t cells[ROW_BYTES];
-    uint32_t columns;
+    uint32_t extents[3];
 };
 
 // ---- numbers of one type
@@ -228,7 +236,7 @@ static size_t padded(size_t at, size_t size) {
 }
 
 // Plans a table of zeros, and returns its number of bytes. It is not looked into, so no number of a plan is known.
-__attribute__((noipa)) static size_t plan_table(struct table *table, enum form form, uint32_t rows) {
+NOT_LOOKED_INTO static size_t plan_table(struct table *table, enum form form, uint32_t rows) {
     size_t end = 0;
     for (unsigned leaf = 0; leaf < LEAVES; leaf++) {
         size_t size = (size_t)1 << leaf;
@@ -271,7 +279,7 @@ static const char *const FORMS[] = {"aos", "soa", "aosoa"};
 
 // Makes a table of zeros. False where there is no memory.
 static bool make_table(struct table *table, enum form form, uint32_t rows) {
-    size_t bytes = plan_table(table, form, rows);
-    table->bytes = calloc(bytes == 0 ? 1 : bytes, 1);
+    table->size = plan_table(table, form, rows);
+    table->bytes = calloc(table->size == 0 ? 1 : table->size, 1);
     return table->bytes != NULL;
 }

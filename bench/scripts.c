@@ -1,14 +1,15 @@
 /* The work of bench/scripts in plain C: loads a dataset with the columns id, x, y, w into packed structs, each number tested for
-   its range, then prints it, or does `update P where x > 0 set y = x * 3 + i0 % 7` and prints the sum of y.
+   its range, then prints it, or prints the sum of y, at once, after `update P where x > 0 set y = x * 3 + i0 % 7`, or after the table went
+   TURNS times from structs to arrays, to blocks of 8 rows and back, in memory that is made anew each time (relayout) or once (copy).
 
-   usage: scripts_c print FILE | scripts_c update FILE */
+   usage: scripts_c print|sum|update|relayout|copy FILE */
 #include <inttypes.h>
 #include <stdint.h>
 #include <stdio.h>
 #include <stdlib.h>
 #include <string.h>
 
-enum { MOST_DIGITS = 18, ROOM = 1 << 16, LONGEST_ROW = 64 };
+enum { MOST_DIGITS = 18, ROOM = 1 << 16, LONGEST_ROW = 64, LANES = 8, TURNS = 3 };
 
 static const char HEADER[] = "id,x,y,w\n";
 
@@ -133,25 +134,128 @@ static void print(struct table table)
 
 static void update(struct table table)
 {
-    int64_t sum = 0;
     for (size_t i = 0; i < table.count; i++)
         if (table.rows[i].x > 0)
             table.rows[i].y = (int64_t)table.rows[i].x * 3 + (int64_t)(i % 7);
+}
+
+static void print_sum(struct table table)
+{
+    int64_t sum = 0;
     for (size_t i = 0; i < table.count; i++)
         sum += table.rows[i].y;
     printf("%" PRId64 "\n", sum);
+}
+
+struct arrays {
+    uint32_t *id;
+    int32_t *x;
+    int64_t *y;
+    uint16_t *w;
+};
+
+struct __attribute__((packed)) block {
+    uint32_t id[LANES];
+    int32_t x[LANES];
+    int64_t y[LANES];
+    uint16_t w[LANES];
+};
+
+static void *room_for(size_t bytes)
+{
+    void *room = calloc(bytes + 1, 1);
+    if (!room)
+        fail("there is no memory");
+    return room;
+}
+
+static struct arrays new_arrays(size_t count)
+{
+    return (struct arrays){ room_for(4 * count), room_for(4 * count), room_for(8 * count), room_for(2 * count) };
+}
+
+static struct block *new_blocks(size_t count)
+{
+    return room_for((count + LANES - 1) / LANES * sizeof(struct block));
+}
+
+static void free_arrays(struct arrays to)
+{
+    free(to.id), free(to.x), free(to.y), free(to.w);
+}
+
+static void to_arrays(struct table from, struct arrays to)
+{
+    for (size_t i = 0; i < from.count; i++) {
+        to.id[i] = from.rows[i].id;
+        to.x[i] = from.rows[i].x;
+        to.y[i] = from.rows[i].y;
+        to.w[i] = from.rows[i].w;
+    }
+}
+
+static void to_blocks(struct arrays from, struct block *to, size_t count)
+{
+    for (size_t i = 0; i < count; i += LANES, to++) {
+        size_t rows = count - i < LANES ? count - i : LANES;
+        memcpy(to->id, from.id + i, rows * sizeof *from.id);
+        memcpy(to->x, from.x + i, rows * sizeof *from.x);
+        memcpy(to->y, from.y + i, rows * sizeof *from.y);
+        memcpy(to->w, from.w + i, rows * sizeof *from.w);
+    }
+}
+
+static void to_rows(const struct block *from, struct table to)
+{
+    for (size_t i = 0; i < to.count; i++) {
+        const struct block *block = &from[i / LANES];
+        to.rows[i] = (struct row){ block->id[i % LANES], block->x[i % LANES], block->y[i % LANES], block->w[i % LANES] };
+    }
+}
+
+static void relayout(struct table *table)
+{
+    for (int turn = 0; turn < TURNS; turn++) {
+        struct arrays arrays = new_arrays(table->count);
+        to_arrays(*table, arrays);
+        free(table->rows);
+        struct block *blocks = new_blocks(table->count);
+        to_blocks(arrays, blocks, table->count);
+        free_arrays(arrays);
+        table->rows = room_for(table->count * sizeof(struct row));
+        to_rows(blocks, *table);
+        free(blocks);
+    }
+}
+
+static void copy(struct table table)
+{
+    struct arrays arrays = new_arrays(table.count);
+    struct block *blocks = new_blocks(table.count);
+    for (int turn = 0; turn < TURNS; turn++) {
+        to_arrays(table, arrays);
+        to_blocks(arrays, blocks, table.count);
+        to_rows(blocks, table);
+    }
 }
 
 int main(int count, char **words)
 {
     size_t length;
     if (count != 3)
-        fail("usage: scripts_c print FILE | scripts_c update FILE");
+        fail("usage: scripts_c print|sum|update|relayout|copy FILE");
     char *bytes = read_file(words[2], &length);
     struct table table = load(bytes, length);
-    if (!strcmp(words[1], "print"))
+    if (!strcmp(words[1], "print")) {
         print(table);
-    else
+        return 0;
+    }
+    if (!strcmp(words[1], "update"))
         update(table);
+    else if (!strcmp(words[1], "relayout"))
+        relayout(&table);
+    else if (!strcmp(words[1], "copy"))
+        copy(table);
+    print_sum(table);
     return 0;
 }

@@ -45,25 +45,25 @@ written_is rows table is =
     get_or_default table row d [] inside ∙ row_is rows table is row small ∙ sym (at_place row_of rows row d small))
 
 -- one run more
-pub run_more : (old view new : Table) (kernel : Kernel) (round : ℕ) (number : Option ℤ)
-    → view ≡ record old { rows = table_after kernel round old.rows; tally = view.tally } → IsRun view new kernel 1 (Ok number)
+pub run_more : (old view new : Table) (kernel : Kernel) (lanes round : ℕ) (number : Option ℤ)
+    → view ≡ record old { rows = table_after kernel round old.rows; tally = view.tally } → IsRun view new kernel lanes (Ok number)
     → new ≡ record old { rows = table_after kernel (round + 1) old.rows; tally = new.tally }
-run_more old view new kernel round number same run =
+run_more old view new kernel lanes round number same run =
     let one : round + 1 ≡ suc round = omega arith in
     rw one (still_stored view new _ _ (run.2 ∙ ap (λ (keep : Keeping). after_stores view (run_rows keep kernel (length view.rows) view.rows) (rows_log kernel (length view.rows))) (kept_plain view))
     ∙ ap (λ (v : Table). record v { rows = run_rows (λ leaf value. value) kernel (length v.rows) v.rows; tally = new.tally }) same)
 
-pub given_more : (old view new : Table) (kernel : Kernel) (round : ℕ) (number : Option ℤ) (total more : ℤ)
-    → view ≡ record old { rows = table_after kernel round old.rows; tally = view.tally } → IsRun view new kernel 1 (Ok number)
+pub given_more : (old view new : Table) (kernel : Kernel) (lanes round : ℕ) (number : Option ℤ) (total more : ℤ)
+    → view ≡ record old { rows = table_after kernel round old.rows; tally = view.tally } → IsRun view new kernel lanes (Ok number)
     → total ≡ all_given kernel round old.rows → more ≡ unwrap_or number (pos 0) → total +ℤ more ≡ all_given kernel (round + 1) old.rows
-given_more old view new kernel round number total more same run so_far is =
+given_more old view new kernel lanes round number total more same run so_far is =
     let one : round + 1 ≡ suc round = omega arith in
     let number_is = run.1 ∙ ap (λ (v : Table). number_of kernel v.rows) same in
     rw (one, so_far, is, number_is) refl
 
-pub refused_run : (old view new : Table) (kernel : Kernel) (round rounds : ℕ) (fault : KernelFault) → round < rounds
-    → view ≡ record old { rows = table_after kernel round old.rows; tally = view.tally } → IsRun view new kernel 1 (Err fault) → IsRefusedRun (answer_of old) kernel rounds old.rows fault
-refused_run old view new kernel round rounds fault small same run =
+pub refused_run : (old view new : Table) (kernel : Kernel) (lanes round rounds : ℕ) (fault : KernelFault) → round < rounds
+    → view ≡ record old { rows = table_after kernel round old.rows; tally = view.tally } → IsRun view new kernel lanes (Err fault) → IsRefusedRun (answer_of old) kernel rounds old.rows fault
+refused_run old view new kernel lanes round rounds fault small same run =
     (round, small, sym (ap (λ (v : Table). kernel_fault (answer_of v) kernel v.rows) same) ∙ run.0)
 
 -- what so many runs give fits, with one more and with a last one

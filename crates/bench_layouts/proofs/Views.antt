@@ -54,6 +54,7 @@ over order e many = omega (arith, slots_enough order e, many)
 pub too_many : (one : Form) (e : List ℕ) → 2 ^ 24 < product e → IsNoView (form_term one) e measured_fields TooBig
 too_many form.Aos e many = (refl, inl (inl (over Row e many)))
 too_many form.Soa e many = (refl, inl (inl (over Row e many)))
+too_many form.SoaMulti e many = (refl, inl (inl (over Row e many)))
 too_many form.Aosoa e many = (refl, inl (inl (over Row e many)))
 too_many form.AosByColumns e many = (refl, inl (inl (over Col e many)))
 too_many form.SoaByColumns e many = (refl, inl (inl (over Col e many)))

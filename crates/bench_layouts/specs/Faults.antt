@@ -29,8 +29,8 @@ answer_in form leaf number =
 abbrev pub IsFaultOf : Mode → BenchFault → Type 0
 IsFaultOf mode (fault.Eval first) = checksum_of mode ≡ Err first
 IsFaultOf mode fault.NoMemory = ⊤
-IsFaultOf (Table work) (fault.View refusal) = IsNoView (form_term work.form) (table_extents work.form work.rows) measured_fields refusal
-IsFaultOf (Table work) (fault.Store refusal) = IsRefused (answer_in work.form) work.sets (product (table_extents work.form work.rows)) refusal
+IsFaultOf (Table work) (fault.View refusal) = IsNoView (form_term work.form) (table_extents work.grid work.rows) measured_fields refusal
+IsFaultOf (Table work) (fault.Store refusal) = IsRefused (answer_in work.form) work.sets (product (table_extents work.grid work.rows)) refusal
 IsFaultOf (Table work) (fault.Copy refusal) = ⊥
 IsFaultOf (Table work) (fault.Kernel refusal) = ⊥
 IsFaultOf (Copy copying) (fault.View refusal) =

@@ -1,4 +1,4 @@
--- How the table lies in memory: each form's name, its expression and its extents.
+-- How the table lies in memory: each form's name and its expression, and each grid's name and its extents.
 use Rattle.std.specs.Prelude.{ℕ, List, [], ◌∷◌, Option, Some, None, if◌then◌else◌, codes, bytes_eq}
 use Rattle.extents.specs.declared.order.Order.TheVariants.{Row, Col, Morton}
 use Rattle.places.specs.declared.forms.AosForm.TheVariants.{Packed}
@@ -6,11 +6,14 @@ use Rattle.places.specs.declared.forms.SoaForm.TheVariants.{Aligned, Multi}
 use Rattle.map_expr.specs.Terms as terms
 use Rattle.bench_layouts.specs.declared.form.Form.{Form}
 use Rattle.bench_layouts.specs.declared.form.Form.TheVariants as form
+use Rattle.bench_layouts.specs.declared.grid.Grid.{Grid}
+use Rattle.bench_layouts.specs.declared.grid.Grid.TheVariants.{Line, Plane, Space}
 
 abbrev pub form_named : List ℕ → Option Form
 form_named text =
     if bytes_eq text (codes "aos") then Some form.Aos
     else (if bytes_eq text (codes "soa") then Some form.Soa
+    else (if bytes_eq text (codes "soa_multi") then Some form.SoaMulti
     else (if bytes_eq text (codes "aosoa") then Some form.Aosoa
     else (if bytes_eq text (codes "aos_col") then Some form.AosByColumns
     else (if bytes_eq text (codes "soa_col") then Some form.SoaByColumns
@@ -27,12 +30,13 @@ form_named text =
     else (if bytes_eq text (codes "soa_split") then Some form.SoaSplit
     else (if bytes_eq text (codes "aos_morton") then Some form.AosMorton
     else (if bytes_eq text (codes "soa_morton") then Some form.SoaMorton
-    else None)))))))))))))))))
+    else None))))))))))))))))))
 
 -- packed records, an array for each leaf, or blocks of 8 lanes, by rows, by columns or in Morton order; in bits, swapped or split by rows
 abbrev pub form_term : Form → terms.Term
 form_term form.Aos = terms.Aos Packed Row
 form_term form.Soa = terms.Soa Aligned Row
+form_term form.SoaMulti = terms.Soa Multi Row
 form_term form.Aosoa = terms.Aosoa 8 Row
 form_term form.AosByColumns = terms.Aos Packed Col
 form_term form.SoaByColumns = terms.Soa Aligned Col
@@ -50,8 +54,15 @@ form_term form.SoaSplit = terms.Bytesplit (terms.Soa Multi Row)
 form_term form.AosMorton = terms.Aos Packed Morton
 form_term form.SoaMorton = terms.Soa Multi Morton
 
--- the extents of a table that is written and read: so many rows, in Morton order of 1,000 columns each
-abbrev pub table_extents : Form → ℕ → List ℕ
-table_extents form.AosMorton rows = rows ∷ 1000 ∷ []
-table_extents form.SoaMorton rows = rows ∷ 1000 ∷ []
-table_extents _ rows = rows ∷ []
+abbrev pub grid_named : List ℕ → Option Grid
+grid_named text =
+    if bytes_eq text (codes "line") then Some Line
+    else (if bytes_eq text (codes "plane") then Some Plane
+    else (if bytes_eq text (codes "space") then Some Space
+    else None))
+
+-- the extents of a table whose first extent is this
+abbrev pub table_extents : Grid → ℕ → List ℕ
+table_extents Line rows = rows ∷ []
+table_extents Plane rows = rows ∷ 1000 ∷ []
+table_extents Space rows = rows ∷ 100 ∷ 100 ∷ []

@@ -9,6 +9,8 @@ use Rattle.lane_kernels.specs.declared.kernel.Kernel.{Kernel}
 use Rattle.lane_kernels.specs.declared.kernel.Kernel.TheVariants as kernel
 use Rattle.bench_layouts.specs.declared.kernels.KernelName.{KernelName}
 use Rattle.bench_layouts.specs.declared.kernels.KernelName.TheVariants.{Axpy, Clamp, Sum, Least, Greatest, Count}
+use Rattle.bench_layouts.specs.declared.kernels.Lanes.{Lanes}
+use Rattle.bench_layouts.specs.declared.kernels.Lanes.TheVariants.{One, Sixteen}
 use Rattle.bench_layouts.specs.Tables.{sum_to, value}
 
 abbrev pub kernel_named : List ℕ → Option KernelName
@@ -20,6 +22,16 @@ kernel_named text =
     else (if bytes_eq text (codes "greatest") then Some Greatest
     else (if bytes_eq text (codes "count") then Some Count
     else None)))))
+
+abbrev pub lanes_named : List ℕ → Option Lanes
+lanes_named text =
+    if bytes_eq text (codes "1") then Some One
+    else (if bytes_eq text (codes "16") then Some Sixteen
+    else None)
+
+abbrev pub lane_count : Lanes → ℕ
+lane_count One = 1
+lane_count Sixteen = 16
 
 -- the kernels: three times the leaf b is added to the leaf c, and the others are over the leaf c
 abbrev pub kernel_called : KernelName → Kernel

@@ -10,8 +10,8 @@ use Rattle.bench_layouts.specs.declared.copying.Copying.{Copying}
 use Rattle.bench_layouts.specs.declared.mode.Mode.TheVariants.{Eval, Table, Copy, Kernel}
 use Rattle.bench_layouts.specs.declared.work.Work.{Work}
 use Rattle.bench_layouts.specs.Formula.{formula_of}
-use Rattle.bench_layouts.specs.Forms.{form_named, table_extents}
-use Rattle.bench_layouts.specs.KernelRuns.{all_given, kernel_called, kernel_named, table_after, written}
+use Rattle.bench_layouts.specs.Forms.{form_named, grid_named, table_extents}
+use Rattle.bench_layouts.specs.KernelRuns.{all_given, kernel_called, kernel_named, lanes_named, table_after, written}
 use Rattle.bench_layouts.specs.Tables.{entry_after, sum_read}
 use Rattle.bench_layouts.specs.Totals.{total_of}
 
@@ -31,14 +31,16 @@ abbrev pub behind_word : List ℕ → List (List ℕ) → Option (List (List ℕ
 behind_word first (name ∷ words) = if bytes_eq name first then Some words else None
 behind_word first [] = None
 
--- the words are a form and the numbers of rows, of sets and of gets
+-- the words are a form, a grid and the numbers of rows, of sets and of gets
 pub record IsWork (words : List (List ℕ)) (work : Work) : Type 0 where
   pub form_text : List ℕ
+  pub grid_text : List ℕ
   pub rows_text : List ℕ
   pub sets_text : List ℕ
   pub gets_text : List ℕ
-  pub words_are : words ≡ form_text ∷ rows_text ∷ sets_text ∷ gets_text ∷ []
+  pub words_are : words ≡ form_text ∷ grid_text ∷ rows_text ∷ sets_text ∷ gets_text ∷ []
   pub form_is : form_named form_text ≡ Some work.form
+  pub grid_is : grid_named grid_text ≡ Some work.grid
   pub rows_are : IsCount rows_text work.rows
   pub sets_are : IsCount sets_text work.sets
   pub gets_are : IsCount gets_text work.gets
@@ -55,15 +57,17 @@ pub record IsCopying (words : List (List ℕ)) (copying : Copying) : Type 0 wher
   pub rows_are : IsCount rows_text copying.rows
   pub again_is : IsCount again_text copying.again
 
--- the words are a kernel, a form and the numbers of rows and of runs
+-- the words are a kernel, a form, lanes and the numbers of rows and of runs
 pub record IsRunning (words : List (List ℕ)) (running : Running) : Type 0 where
   pub name_text : List ℕ
   pub form_text : List ℕ
+  pub lanes_text : List ℕ
   pub rows_text : List ℕ
   pub rounds_text : List ℕ
-  pub words_are : words ≡ name_text ∷ form_text ∷ rows_text ∷ rounds_text ∷ []
+  pub words_are : words ≡ name_text ∷ form_text ∷ lanes_text ∷ rows_text ∷ rounds_text ∷ []
   pub name_is : kernel_named name_text ≡ Some running.name
   pub form_is : form_named form_text ≡ Some running.form
+  pub lanes_are : lanes_named lanes_text ≡ Some running.lanes
   pub rows_are : IsCount rows_text running.rows
   pub rounds_are : IsCount rounds_text running.rounds
 
@@ -77,7 +81,7 @@ NamesMode words (Kernel running) = (behind : List (List ℕ)) × (behind_word (c
 -- the number that a mode makes
 abbrev pub checksum_of : Mode → Result ℤ EvalFault
 checksum_of (Eval rows) = total_of (formula_of 0 1 2 3) rows
-checksum_of (Table work) = Ok (sum_read (entry_after work.sets) (product (table_extents work.form work.rows)) work.gets)
+checksum_of (Table work) = Ok (sum_read (entry_after work.sets) (product (table_extents work.grid work.rows)) work.gets)
 checksum_of (Copy copying) = Ok (sum_read (entry_after 1) copying.rows 1)
 checksum_of (Kernel running) =
     let kernel = kernel_called running.name in

@@ -19,6 +19,7 @@ pub fn expr_of(alloc: Global, form: Form) -> Result<MapExpr, NoMemory>
     match form {
         Form::Aos => Ok(packed(Order::Row)),
         Form::Soa => Ok(arrays(SoaForm::Aligned, Order::Row)),
+        Form::SoaMulti => Ok(arrays(SoaForm::Multi, Order::Row)),
         Form::Aosoa => Ok(blocks(Order::Row)),
         Form::AosByColumns => Ok(packed(Order::Col)),
         Form::SoaByColumns => Ok(arrays(SoaForm::Aligned, Order::Col)),

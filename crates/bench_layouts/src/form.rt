@@ -6,11 +6,12 @@ ghost use Rattle.bench_layouts.specs.Forms.{form_named};
 pub enum Form {
     /// Packed records.
     Aos,
-    /// An array for each leaf, each aligned.
+    /// An array for each leaf, each aligned, in one blob or each in a blob of its own.
     Soa,
+    SoaMulti,
     /// Blocks of 8 rows, in each block 8 values of each leaf.
     Aosoa,
-    /// The same by columns. Over one dimension both orders have the same places; by columns a view finds them the general way.
+    /// The same by columns. Over one extent both orders have the same places.
     AosByColumns,
     SoaByColumns,
     AosoaByColumns,
@@ -41,6 +42,7 @@ impl Form {
         match text {
             "aos" => Some(Form::Aos),
             "soa" => Some(Form::Soa),
+            "soa_multi" => Some(Form::SoaMulti),
             "aosoa" => Some(Form::Aosoa),
             "aos_col" => Some(Form::AosByColumns),
             "soa_col" => Some(Form::SoaByColumns),

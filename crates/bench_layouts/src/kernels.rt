@@ -1,5 +1,5 @@
 // A table over which a kernel is run.
-ghost use Rattle.std.specs.Prelude.{◌≡◌, [], ◌∷◌, ◌<◌, IfSome, IfOk, IfErr, OnOk, Ok, Some, map, string_bytes};
+ghost use Rattle.std.specs.Prelude.{◌≡◌, [], ◌∷◌, ◌<◌, ◌≤◌, IfSome, IfOk, IfErr, OnOk, Ok, Some, map, string_bytes};
 ghost use Rattle.record_dim.specs.Schemas.{schema_fields};
 ghost use Rattle.map_expr.specs.Terms.{term_of};
 ghost use Rattle.piece_bits.specs.Tables.{zeros};
@@ -8,7 +8,7 @@ ghost use Rattle.lane_kernels.specs.Kernels.{IsKernelOf};
 ghost use Rattle.bench_layouts.specs.declared.mode.Mode.TheVariants.{Kernel as Runs};
 ghost use Rattle.bench_layouts.specs.Faults.{IsFaultOf};
 ghost use Rattle.bench_layouts.specs.Forms.{form_term};
-ghost use Rattle.bench_layouts.specs.KernelRuns.{all_given, kernel_called, kernel_named, table_after, IsRefusedRun, IsSumOfRuns};
+ghost use Rattle.bench_layouts.specs.KernelRuns.{all_given, kernel_called, kernel_named, lane_count, lanes_named, table_after, IsRefusedRun, IsSumOfRuns};
 ghost use Rattle.bench_layouts.specs.Modes.{checksum_of, IsRunning};
 ghost use Rattle.bench_layouts.specs.Tables.{measured_fields};
 
@@ -17,7 +17,7 @@ use crate::fault::BenchFault;
 use crate::form::Form;
 use crate::table::write_rounds;
 use crate::tables::flat_view;
-use lane_kernels::{Compare, Kernel, KernelFault, run_plain};
+use lane_kernels::{Compare, Kernel, KernelFault, run_lanes};
 use std::alloc::Global;
 use std::marker::Brand;
 use std::sync::ledger::{Blank, Ledger};
@@ -74,11 +74,44 @@ impl KernelName {
     }
 }
 
+/// How many rows a kernel takes at once.
+#[derive(Clone, Copy, Debug, PartialEq, Eq)]
+pub enum Lanes {
+    One,
+    Sixteen,
+}
+
+impl Lanes {
+    /// The lanes of this name, a number.
+    fn of(text: &str) -> Option<Lanes>
+        ensures { result ≡ lanes_named text.now }
+    {
+        match text {
+            "1" => Some(Lanes::One),
+            "16" => Some(Lanes::Sixteen),
+            _ => None,
+        }
+    }
+
+    /// The number itself.
+    fn count(self) -> usize
+        ensures value { result ≡ lane_count self }
+        ensures some { 1 ≤ result }
+        ensures few { result ≤ 16 }
+    {
+        match self {
+            Lanes::One => 1,
+            Lanes::Sixteen => 16,
+        }
+    }
+}
+
 /// A table of so many rows that is written once, and over which a kernel is run so many times.
 #[derive(Clone, Copy, Debug, PartialEq, Eq)]
 pub struct Running {
     pub name: KernelName,
     pub form: Form,
+    pub lanes: Lanes,
     pub rows: u32,
     pub rounds: u32,
 }
@@ -89,12 +122,13 @@ impl Running {
         ensures named { IfSome result (IsRunning (map string_bytes words.now)) }
         ensures only { (running : Running) → IsRunning (map string_bytes words.now) running → result ≡ Some running }
     {
-        let [name, form, rows, rounds] = words else {
+        let [name, form, lanes, rows, rounds] = words else {
             return None;
         };
         Some(Running {
             name: KernelName::of(name.as_str())?,
             form: Form::of(form.as_str())?,
+            lanes: Lanes::of(lanes.as_str())?,
             rows: count_in(rows.as_str())?,
             rounds: count_in(rounds.as_str())?,
         })
@@ -127,8 +161,9 @@ fn written_and_run<L: Ledger>(
 {
     let mut steps = Steps::<L>::new(blank);
     write_rounds(view, work.rows, 1, &mut steps)?;
-    let given = run_rounds(view, &work.name.kernel(), work.rounds, &mut steps)?;
-    let left = run_rounds(view, &KernelName::Sum.kernel(), 1, &mut steps)?;
+    let lanes = work.lanes.count();
+    let given = run_rounds(view, &work.name.kernel(), lanes, work.rounds, &mut steps)?;
+    let left = run_rounds(view, &KernelName::Sum.kernel(), lanes, 1, &mut steps)?;
     Ok(given + left)
 }
 
@@ -137,10 +172,13 @@ fn written_and_run<L: Ledger>(
 fn run_rounds<L: Ledger>(
     view: &mut View,
     kernel: &Kernel,
+    lanes: usize,
     rounds: u32,
     steps: &mut Steps<L>,
 ) -> Result<i128, KernelFault>
-    requires { IsKernelOf view.old kernel.now }
+    requires kernel { IsKernelOf view.old kernel.now }
+    requires some { 1 ≤ lanes }
+    requires few { lanes ≤ 16 }
     ensures given { IfOk result (λ given. given ≡ all_given kernel.now rounds view.old.rows) }
     ensures bound { IfOk result (IsSumOfRuns rounds) }
     ensures table { OnOk result (view.new ≡ record view.old { rows = table_after kernel.now rounds view.old.rows; tally = view.new.tally }) }
@@ -148,7 +186,7 @@ fn run_rounds<L: Ledger>(
 {
     let mut total = 0i128;
     for _round in 0..rounds {
-        let number = run_plain(view, kernel, steps)?;
+        let number = run_lanes(view, kernel, lanes, steps)?;
         total += i128::from(number.unwrap_or(0));
     }
     Ok(total)

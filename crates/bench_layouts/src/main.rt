@@ -9,6 +9,7 @@ mod expr;
 mod fault;
 mod form;
 mod formula;
+mod grid;
 mod kernels;
 mod mode;
 mod record;
@@ -29,7 +30,7 @@ fn main(rt: HostRuntime) -> io::Result<ExitCode> {
     let words: Vec<String> = env::args(&rt)?.skip(1).collect(rt.alloc())?;
     let Some(mode) = Mode::of(words.as_slice()) else {
         println!(rt;
-            "usage: bench_layouts eval ROWS | table FORM ROWS SETS GETS | copy FORM FORM ROWS AGAIN"
+            "usage: bench_layouts eval ROWS | table FORM GRID ROWS SETS GETS | copy FORM FORM ROWS AGAIN | kernel NAME FORM LANES ROWS ROUNDS"
         )?;
         return Ok(ExitCode::from(USAGE));
     };

@@ -26,7 +26,7 @@ pub fn sum(alloc: Global, work: Work) -> Result<i128, BenchFault>
     ensures sum { IfOk result (λ sum. Ok sum ≡ checksum_of (Table work)) }
     ensures fault { IfErr result (IsFaultOf (Table work)) }
 {
-    let mut view = table_view(alloc, work.form, work.rows)?;
+    let mut view = table_view(alloc, work.form, work.grid, work.rows)?;
     let rows = view.extents().count() as u32;
     written_and_read::<Brand>(&mut view, work, rows, Blank::new(1))
 }
@@ -43,7 +43,7 @@ fn written_and_read<L: Ledger>(
     requires some { 0 < blank.parts }
     requires schema { view.old.fields ≡ measured_fields }
     requires expr { view.old.mapping ≡ form_term work.form }
-    requires rows { rows ≡ product (table_extents work.form work.rows) }
+    requires rows { rows ≡ product (table_extents work.grid work.rows) }
     requires table { view.old.rows ≡ zeros rows 4 }
     ensures sum { IfOk result (λ sum. Ok sum ≡ checksum_of (Table work)) }
     ensures fault { IfErr result (IsFaultOf (Table work)) }

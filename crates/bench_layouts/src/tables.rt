@@ -11,15 +11,19 @@ ghost use Rattle.bench_layouts.specs.Tables.{measured_fields};
 
 use crate::expr::expr_of;
 use crate::form::Form;
+use crate::grid::Grid;
 use crate::record::measured_schema;
 use extents::{ExtentWord, Extents, Shape};
 use std::alloc::Global;
 use views::{MakeView, View};
 
-/// The columns of an array in Morton order.
+/// The columns of a plane.
 const COLUMNS: u32 = 1000;
 
-/// The view of zeros over a flat array, whatever the order.
+/// The lines and the columns of a space.
+const SIDE: u32 = 100;
+
+/// The view of zeros over a line.
 #[tactic(auto, using(crate::proofs::Views::views))]
 pub fn flat_view(alloc: Global, form: Form, rows: u32) -> Result<View, MakeView>
     ensures schema { IfOk result (λ view. view.fields ≡ measured_fields) }
@@ -32,16 +36,16 @@ pub fn flat_view(alloc: Global, form: Form, rows: u32) -> Result<View, MakeView>
     view_over(alloc, form, extents)
 }
 
-/// The view of zeros of the form's own extents.
+/// The view of zeros over a grid.
 #[tactic(auto, using(crate::proofs::Views::views))]
-pub fn table_view(alloc: Global, form: Form, rows: u32) -> Result<View, MakeView>
+pub fn table_view(alloc: Global, form: Form, grid: Grid, rows: u32) -> Result<View, MakeView>
     ensures schema { IfOk result (λ view. view.fields ≡ measured_fields) }
-    ensures extents { IfOk result (λ view. view.extents ≡ table_extents form rows) }
+    ensures extents { IfOk result (λ view. view.extents ≡ table_extents grid rows) }
     ensures expr { IfOk result (λ view. view.mapping ≡ form_term form) }
-    ensures table { IfOk result (λ view. view.rows ≡ zeros (product (table_extents form rows)) 4) }
-    ensures refused { IfErr result (IsNoView (form_term form) (table_extents form rows) measured_fields) }
+    ensures table { IfOk result (λ view. view.rows ≡ zeros (product (table_extents grid rows)) 4) }
+    ensures refused { IfErr result (IsNoView (form_term form) (table_extents grid rows) measured_fields) }
 {
-    let extents = table_extents(form, rows)?;
+    let extents = table_extents(grid, rows)?;
     view_over(alloc, form, extents)
 }
 
@@ -58,16 +62,19 @@ fn view_over(alloc: Global, form: Form, extents: Extents) -> Result<View, MakeVi
     View::new(alloc, &schema, extents, &expr)
 }
 
-// The form's own extents. More than 2^24 rows are too many for every form.
-fn table_extents(form: Form, rows: u32) -> Result<Extents, MakeView>
-    ensures extents { IfOk result (λ extents. extents ≡ table_extents form rows) }
-    ensures refused { IfErr result (λ refusal. (refusal ≡ MakeView.TooBig) × (2 ^ 24 < product (table_extents form rows))) }
+// The extents of a grid. More than 2^24 rows are too many for every form.
+fn table_extents(grid: Grid, rows: u32) -> Result<Extents, MakeView>
+    ensures extents { IfOk result (λ extents. extents ≡ table_extents grid rows) }
+    ensures refused { IfErr result (λ refusal. (refusal ≡ MakeView.TooBig) × (2 ^ 24 < product (table_extents grid rows))) }
 {
-    match form {
-        Form::AosMorton | Form::SoaMorton => {
-            extents_of(&[ExtentWord::Fixed(rows), ExtentWord::Fixed(COLUMNS)])
-        }
-        _ => extents_of(&[ExtentWord::Fixed(rows)]),
+    match grid {
+        Grid::Line => extents_of(&[ExtentWord::Fixed(rows)]),
+        Grid::Plane => extents_of(&[ExtentWord::Fixed(rows), ExtentWord::Fixed(COLUMNS)]),
+        Grid::Space => extents_of(&[
+            ExtentWord::Fixed(rows),
+            ExtentWord::Fixed(SIDE),
+            ExtentWord::Fixed(SIDE),
+        ]),
     }
 }
 

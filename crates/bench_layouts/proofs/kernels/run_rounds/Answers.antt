@@ -10,7 +10,7 @@ returns-in_err-number-clause-refused g c =
     let fault = c.in_err-number.field-0.0 in
     let is : c.from_residual.result ≡ Err fault = search rules in
     let small : c.loop-round._round < c.args.rounds = omega arith in
-    rw is (refused_run c.args.view.now c.loop-round.view c.run_plain.new.view c.args.kernel.now c.loop-round._round c.args.rounds fault small c.loop-round.invariant.same c.in_err-number.ensures.run)
+    rw is (refused_run c.args.view.now c.loop-round.view c.run_lanes.new.view c.args.kernel.now c.args.lanes c.loop-round._round c.args.rounds fault small c.loop-round.invariant.same c.in_err-number.ensures.run)
 
 pub loop-round-preserved : goal.loop-round-preserved
 loop-round-preserved g c =
@@ -27,7 +27,7 @@ loop-round-preserved g c =
     let value_is : value ≡ unwrap_or number (pos 0) = search rules in
     let plain = total_plain round total more value few c.loop-round.invariant.bound more_is fits in
     rw plain (record {
-      same = run_more view c.loop-round.view c.run_plain.new.view kernel round number c.loop-round.invariant.same c.in_ok-number.ensures.run;
-      given = given_more view c.loop-round.view c.run_plain.new.view kernel round number total more c.loop-round.invariant.same c.in_ok-number.ensures.run c.loop-round.invariant.given (more_is ∙ value_is);
+      same = run_more view c.loop-round.view c.run_lanes.new.view kernel c.args.lanes round number c.loop-round.invariant.same c.in_ok-number.ensures.run;
+      given = given_more view c.loop-round.view c.run_lanes.new.view kernel c.args.lanes round number total more c.loop-round.invariant.same c.in_ok-number.ensures.run c.loop-round.invariant.given (more_is ∙ value_is);
       bound = bound_more round total more value c.loop-round.invariant.bound more_is fits;
     })

@@ -9,7 +9,7 @@ use Rattle.bench_layouts.proofs.table.written_and_read.Goals as goal
 pub returns-clause-sum : goal.returns-clause-sum
 returns-clause-sum g c =
     let work = c.args.work in
-    let whole : c.read_rounds.result ≡ sum_read (entry_after work.sets) (product (table_extents work.form work.rows)) work.gets =
+    let whole : c.read_rounds.result ≡ sum_read (entry_after work.sets) (product (table_extents work.grid work.rows)) work.gets =
     c.read_rounds.ensures.sum
     ∙ same_read c.write_rounds.new.view (entry_after work.sets) c.args.rows work.gets c.in_ok-write_rounds.ensures.entries
     ∙ ap (λ (rows : ℕ). sum_read (entry_after work.sets) rows work.gets) c.requires.rows in
