@@ -6,6 +6,7 @@ pub mod AccessLaws
 pub mod WideLaws
 pub mod Counted
 pub mod CountLaws
+pub mod Repeats
 pub mod TouchLaws
 pub mod RowLaws
 pub mod ColumnLaws
