@@ -12,10 +12,11 @@ use Rattle.places.specs.Layout.{Owner}
 use Rattle.places.specs.Laws.{IsPiece}
 use Rattle.instrument.specs.declared.counts.Counts.{Counts}
 use Rattle.instrument.specs.declared.heat.Heat.{Heat as Heats}
-use Rattle.instrument.specs.Counters.{leaf_counts, heat_counts, no_counts, no_heat, LeafCounts, HeatCounts, next, granules_of, warmed_blob, HasLeaves, IsInside}
+use Rattle.instrument.specs.Counters.{leaf_counts, heat_counts, no_counts, no_heat, LeafCounts, HeatCounts, next, raised, granules_of, warmed_blob, HasLeaves, IsInside}
 use Rattle.instrument.specs.WarmingLaws.{length-warmed_blob, bytes-in_granules}
 use Rattle.places.specs.Touched.{is_hot}
 use Rattle.views.specs.Tallies.{Access, Read, Write, Tally, counts_touched, heat_touched, touched, tallied, no_tally, blob_lengths}
+use Rattle.views.specs.Repeated.{leaf_raised, granules_raised}
 use Rattle.views.specs.TallyLaws.{tallied-append}
 use Rattle.views.specs.Kept.{HasGranules, IsTallied, tally_of}
 
@@ -23,6 +24,10 @@ use Rattle.views.specs.Kept.{HasGranules, IsTallied, tally_of}
 counted_leaves : (access : Access) (counts : LeafCounts) (leaves : ℕ) → HasLeaves counts leaves → HasLeaves (counts_touched access counts) leaves
 counted_leaves (Read row leaf) counts leaves has = record { reads = length-set counts.reads leaf (next (get_or counts.reads leaf 0)) ∙ has.reads; writes = has.writes }
 counted_leaves (Write row leaf) counts leaves has = record { reads = has.reads; writes = length-set counts.writes leaf (next (get_or counts.writes leaf 0)) ∙ has.writes }
+
+pub raised_leaves : (write : Bool) (times leaf : ℕ) (counts : LeafCounts) (leaves : ℕ) → HasLeaves counts leaves → HasLeaves (leaf_raised times write leaf counts) leaves
+raised_leaves false times leaf counts leaves has = record { reads = length-set counts.reads leaf (raised times (get_or counts.reads leaf 0)) ∙ has.reads; writes = has.writes }
+raised_leaves true times leaf counts leaves has = record { reads = has.reads; writes = length-set counts.writes leaf (raised times (get_or counts.writes leaf 0)) ∙ has.writes }
 
 leaves_kept : (access : Access) (counts : Option LeafCounts) (leaves : ℕ) → IfSome counts (λ c. HasLeaves c leaves) → IfSome (option_map (counts_touched access) counts) (λ c. HasLeaves c leaves)
 leaves_kept access None leaves has = tt
@@ -33,15 +38,18 @@ some_kept f None = refl
 some_kept f (Some x) = refl
 
 -- counts of granules
-lengths_from : (hot : ℕ → ℕ → _) (n : ℕ) (blobs : List (List ℕ)) → map (length {A = ℕ}) (map (λ (blob : ℕ × List ℕ). warmed_blob (hot blob.0) blob.1) (enumerate_from n blobs)) ≡ map (length {A = ℕ}) blobs
-lengths_from hot n [] = refl
-lengths_from hot n (counts ∷ blobs) =
-    ap (λ (first : ℕ). first ∷ map (length {A = ℕ}) (map (λ (blob : ℕ × List ℕ). warmed_blob (hot blob.0) blob.1) (enumerate_from (n + 1) blobs))) (length-warmed_blob (hot n) counts)
-    ∙ ap (λ (rest : List ℕ). length counts ∷ rest) (lengths_from hot (n + 1) blobs)
+lengths_from : (times : ℕ) (hot : ℕ → ℕ → _) (n : ℕ) (blobs : List (List ℕ)) → map (length {A = ℕ}) (map (λ (blob : ℕ × List ℕ). warmed_blob times (hot blob.0) blob.1) (enumerate_from n blobs)) ≡ map (length {A = ℕ}) blobs
+lengths_from times hot n [] = refl
+lengths_from times hot n (counts ∷ blobs) =
+    ap (λ (first : ℕ). first ∷ map (length {A = ℕ}) (map (λ (blob : ℕ × List ℕ). warmed_blob times (hot blob.0) blob.1) (enumerate_from (n + 1) blobs))) (length-warmed_blob times (hot n) counts)
+    ∙ ap (λ (rest : List ℕ). length counts ∷ rest) (lengths_from times hot (n + 1) blobs)
 
 heated_granules : (layout : List (List Owner)) (access : Access) (heat : HeatCounts) → HasGranules layout heat → HasGranules layout (heat_touched layout access heat)
-heated_granules layout (Read row leaf) heat has = lengths_from (is_hot layout heat.granule row leaf) 0 heat.blobs ∙ has
-heated_granules layout (Write row leaf) heat has = lengths_from (is_hot layout heat.granule row leaf) 0 heat.blobs ∙ has
+heated_granules layout (Read row leaf) heat has = lengths_from 1 (is_hot layout heat.granule row leaf) 0 heat.blobs ∙ has
+heated_granules layout (Write row leaf) heat has = lengths_from 1 (is_hot layout heat.granule row leaf) 0 heat.blobs ∙ has
+
+pub raised_granules : (layout : List (List Owner)) (times row leaf : ℕ) (heat : HeatCounts) → HasGranules layout heat → HasGranules layout (granules_raised times layout row leaf heat)
+raised_granules layout times row leaf heat has = lengths_from times (is_hot layout heat.granule row leaf) 0 heat.blobs ∙ has
 
 granules_kept : (layout : List (List Owner)) (access : Access) (heat : Option HeatCounts) → IfSome heat (HasGranules layout) → IfSome (option_map (heat_touched layout access) heat) (HasGranules layout)
 granules_kept layout access None has = tt

@@ -10,19 +10,8 @@ use Rattle.places.specs.Layout.{Owner}
 use Rattle.instrument.specs.Counters.{LeafCounts, HeatCounts, counted, warmed, no_counts, no_heat, granules_of}
 use Rattle.instrument.specs.CounterLaws.{count-from_zero, heat-from_zero}
 use Rattle.views.specs.Tallies.{Access, Read, Write, Tally, touched, counts_touched, heat_touched, tallied, no_tally, blob_lengths}
-use Rattle.views.specs.TallyLaws.{tallied-counts}
+use Rattle.views.specs.TallyLaws.{tallied-counts, tallied-heat}
 use Rattle.views.specs.Entries.{reads_leaf, writes_leaf, touches, AreCounts, AreHeat, AreEntries}
-
--- the heat of a tally is counted alone
-heat_alone : (layout : List (List Owner)) (tally : Tally) (log : List Access) → (fold (touched layout) tally log).heat ≡ option_map (λ heat. fold (λ h a. heat_touched layout a h) heat log) tally.heat
-heat_alone layout tally [] = same tally.heat where
-  same : (heat : Option HeatCounts) → heat ≡ option_map (λ h. h) heat
-  same None = refl
-  same (Some h) = refl
-heat_alone layout tally (access ∷ log) = heat_alone layout (touched layout tally access) log ∙ once tally.heat where
-  once : (heat : Option HeatCounts) → option_map (λ heat. fold (λ h a. heat_touched layout a h) heat log) (option_map (heat_touched layout access) heat) ≡ option_map (λ heat. fold (λ h a. heat_touched layout a h) heat (access ∷ log)) heat
-  once None = refl
-  once (Some h) = refl
 
 -- the leaves that are read, and those that are written
 abbrev leaves_read : List Access → List ℕ
@@ -93,7 +82,7 @@ pub are_entries : (term : Term) (layout : List (List Owner)) (leaves : ℕ) (log
 unfolding tallied
 are_entries term layout leaves log = record {
   counts = subst (λ (counts : Option LeafCounts). IfSome counts (AreCounts leaves log)) (sym (tallied-counts layout (no_tally term layout leaves) log)) (of_count (has_count term));
-  heat = subst (λ (heat : Option HeatCounts). IfSome heat (AreHeat layout log)) (sym (heat_alone layout (no_tally term layout leaves) log)) (of_granule (granule_of term));
+  heat = subst (λ (heat : Option HeatCounts). IfSome heat (AreHeat layout log)) (sym (tallied-heat layout (no_tally term layout leaves) log)) (of_granule (granule_of term));
 } where
   of_count : (test : Bool) → IfSome (option_map (λ counts. fold (λ c a. counts_touched a c) counts log) (if test then Some (no_counts leaves) else None)) (AreCounts leaves log)
   of_count true = counts_are leaves log

@@ -7,6 +7,7 @@ pub mod WideLaws
 pub mod NearLaws
 pub mod Counted
 pub mod CountLaws
+pub mod Repeats
 pub mod TouchLaws
 pub mod RowLaws
 pub mod ColumnLaws

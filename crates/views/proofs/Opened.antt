@@ -156,10 +156,13 @@ pub entry_seen : (schema : Schema) (extents : List ℕ) (expr : MapExpr) (blobs 
     → entry (table_in layout slots holds lent) row leaf ≡ entry seen.rows row leaf
 entry_seen schema extents expr blobs mapping is lent same row leaf = read_here mapping lent blobs same row leaf ∙ ap (λ (s : Table). entry s.rows row leaf) is
 
--- the view after an access that left its table, after a value was stored that no counter sees, and after a store
+-- the view after accesses that left its table, after a value was stored that no counter sees, and after a store
 module _ (schema : Schema) (extents : List ℕ) (expr : MapExpr) (blobs : List (List ℕ)) {tally : Tally} {seen : Table} (is : seen_from schema extents expr blobs tally ≡ seen) where
+  pub seen_logged : (log : List Access) (new : Tally) → new ≡ tallied (layout_by (term_of expr) extents (schema_fields schema)) tally log → seen_from schema extents expr blobs new ≡ after_log seen log
+  seen_logged log new counts = ap (seen_from schema extents expr blobs) counts ∙ ap (λ (s : Table). after_log s log) is
+
   pub seen_touched : (access : Access) (new : Tally) → new ≡ tallied (layout_by (term_of expr) extents (schema_fields schema)) tally (access ∷ []) → seen_from schema extents expr blobs new ≡ after_log seen (access ∷ [])
-  seen_touched access new counts = ap (seen_from schema extents expr blobs) counts ∙ ap (λ (s : Table). after_log s (access ∷ [])) is
+  seen_touched access new counts = seen_logged (access ∷ []) new counts
 
   pub seen_stored : (row leaf : ℕ) (value : ℤ) (stored : List (List ℕ)) →
       table_under (term_of expr) extents (schema_fields schema) stored ≡ with_entry (table_under (term_of expr) extents (schema_fields schema) blobs) row leaf value →

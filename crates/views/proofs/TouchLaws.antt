@@ -1,15 +1,19 @@
--- Accesses after others.
-use Rattle.std.proofs.Common.{◌≡◌, ℕ, ◌<◌, List, [], ◌∷◌, ◌++◌, length, Bool, true, false, Option, Some, None, refl, ap, ◌∙◌, arith}
-use Rattle.std.specs.Prelude.{option_map, IfSome}
-use Rattle.std.specs.List.{flat_map, range_with_len}
+-- One access, and the same accesses again and again.
+use Rattle.std.proofs.Common.{◌≡◌, ℕ, zero, suc, ◌+◌, ◌*◌, ◌-◌, ◌^◌, ◌<◌, min, List, [], ◌∷◌, ◌++◌, length, map, Bool, true, false, Option, Some, None, refl, ap, sym, ◌∙◌, arith}
+use Rattle.std.specs.Prelude.{option_map, IfSome, if◌then◌else◌, slice_index, slice_set}
+use Rattle.std.specs.List.{enumerate_from, fold, range_with_len}
+use Rattle.std.proofs.Math.Path.{fun_ext}
+use Rattle.std.proofs.lemmas.List.Folds.{fold-map}
+use Rattle.std.proofs.lemmas.List.Sums.{fold-append}
 use Rattle.places.specs.Layout.{Owner}
-use Rattle.instrument.specs.Counters.{LeafCounts, HeatCounts, HasLeaves}
-use Rattle.views.specs.Tallies.{Access, Write, Tally, touched, leaf_touched, granules_touched, access_to, all_accesses, all_touches}
-use Rattle.views.specs.Tables.{Table, after_log}
-use Rattle.views.specs.TallyLaws.{after_log-append}
-
-pub more_log : (old now new : Table) (log more : List Access) → now ≡ after_log old log → new ≡ after_log now more → new ≡ after_log old (log ++ more)
-more_log old now new log more before step = step ∙ ap (λ (t : Table). after_log t more) before ∙ after_log-append old log more
+use Rattle.places.specs.Touched.{is_hot}
+use Rattle.instrument.specs.Counters.{LeafCounts, HeatCounts, HasLeaves, counted_times, warmed_times}
+use Rattle.instrument.specs.TimesLaws.{counted-counted, warmed-warmed, raised-capped}
+use Rattle.views.specs.Tallies.{Access, Read, Write, Tally, counts_touched, heat_touched, touched, tallied, leaf_touched, granules_touched, access_to, row_accesses, all_accesses, times_accesses, all_touches}
+use Rattle.views.specs.Repeated.{counts_after, heat_after, leaf_raised, leaves_raised, granules_raised, row_raised, rows_raised}
+use Rattle.views.specs.TallyLaws.{tallied-counts, tallied-heat}
+use Rattle.views.specs.OrderLaws.{leaves_both, heated_both}
+use Rattle.views.proofs.Repeats.{copies, copies_add, copies_copies, fold-same, fold-flat_map, many, fold-copies}
 
 -- the counters after one access
 pub touched_both : (layout : List (List Owner)) (write : Bool) (row leaf : ℕ) (tally : Tally) (counts : Option LeafCounts) (heat : Option HeatCounts)
@@ -22,18 +26,133 @@ touched_both layout true row leaf tally counts heat one two =
     ap (λ (c : Option LeafCounts). let t : Tally = record { counts = c; heat = heat } in t) one
     ∙ ap (λ (h : Option HeatCounts). let t : Tally = record { counts = option_map (leaf_touched true leaf) tally.counts; heat = h } in t) two
 
+-- and after some, and then others
+then_counts : (one other : List Access) (counts : Option LeafCounts) → option_map (counts_after other) (option_map (counts_after one) counts) ≡ option_map (counts_after (one ++ other)) counts
+then_counts one other None = refl
+then_counts one other (Some counts) = ap (λ (c : LeafCounts). Some c) (sym (fold-append (λ (c : LeafCounts) a. counts_touched a c) counts one other))
+
+pub tallied_both : (layout : List (List Owner)) (tally : Tally) (one other : List Access) (middle counts : Option LeafCounts) (heat : Option HeatCounts)
+    → middle ≡ option_map (counts_after one) tally.counts → counts ≡ option_map (counts_after other) middle → heat ≡ option_map (heat_after layout (one ++ other)) tally.heat
+    → (let t : Tally = record { counts = counts; heat = heat } in t) ≡ tallied layout tally (one ++ other)
+tallied_both layout tally one other middle counts heat first second both =
+    ap (λ (c : Option LeafCounts). let t : Tally = record { counts = c; heat = heat } in t)
+    (second ∙ ap (option_map (counts_after other)) first ∙ then_counts one other tally.counts ∙ sym (tallied-counts layout tally (one ++ other)))
+    ∙ ap (λ (h : Option HeatCounts). let t : Tally = record { counts = (tallied layout tally (one ++ other)).counts; heat = h } in t) (both ∙ sym (tallied-heat layout tally (one ++ other)))
+
 -- a leaf has its counts
 pub leaf_inside : (counts : Option LeafCounts) (leaf leaves : ℕ) → IfSome counts (λ c. HasLeaves c leaves) → leaf < leaves → IfSome counts (λ c. (leaf < length c.reads) × (leaf < length c.writes))
 leaf_inside None leaf leaves has inside = tt
 leaf_inside (Some counts) leaf leaves has inside = (omega (arith, has.reads), omega (arith, has.writes))
 
--- no row has an access
-none_of_none : (times : List ℕ) → flat_map (λ (time : ℕ). let none : List Access = [] in none) times ≡ []
-none_of_none [] = refl
-none_of_none (time ∷ times) = none_of_none times
+-- the same access so many times is one that counts so many
+abbrev by_leaf : LeafCounts → Access → LeafCounts
+by_leaf counts access = counts_touched access counts
 
-pub no_rows : (reads writes leaves rows : ℕ) → rows ≡ 0 → all_touches reads writes leaves rows ≡ []
-no_rows reads writes leaves rows none =
-    ap (all_touches reads writes leaves) none
-    ∙ ap (λ (log : List Access). log ++ flat_map (λ (time : ℕ). all_accesses Write leaves 0) (range_with_len 0 writes)) (none_of_none (range_with_len 0 reads))
-    ∙ none_of_none (range_with_len 0 writes)
+many_counts : (write : Bool) (times row leaf : ℕ) (counts : LeafCounts) → many by_leaf (suc times) counts (access_to write row leaf) ≡ leaf_raised (suc times) write leaf counts
+many_counts false zero row leaf counts = refl
+many_counts true zero row leaf counts = refl
+many_counts false (suc times) row leaf counts =
+    many_counts false times row leaf (leaf_touched false leaf counts)
+    ∙ ap (λ (reads : List ℕ). let c : LeafCounts = record counts { reads = reads } in c)
+    (counted-counted counts.reads leaf 1 (suc times) ∙ ap (counted_times counts.reads leaf) (omega arith))
+many_counts true (suc times) row leaf counts =
+    many_counts true times row leaf (leaf_touched true leaf counts)
+    ∙ ap (λ (writes : List ℕ). let c : LeafCounts = record counts { writes = writes } in c)
+    (counted-counted counts.writes leaf 1 (suc times) ∙ ap (counted_times counts.writes leaf) (omega arith))
+
+-- which row it was leaves no trace in the counts by leaf
+same_row : (write : Bool) (leaves row : ℕ) (counts : LeafCounts) → counts_after (row_accesses (access_to write) leaves row) counts ≡ counts_after (row_accesses (access_to write) leaves 0) counts
+same_row false leaves row counts = fold-map by_leaf (Read row) counts (range_with_len 0 leaves) ∙ sym (fold-map by_leaf (Read 0) counts (range_with_len 0 leaves))
+same_row true leaves row counts = fold-map by_leaf (Write row) counts (range_with_len 0 leaves) ∙ sym (fold-map by_leaf (Write 0) counts (range_with_len 0 leaves))
+
+row_copies : (write : Bool) (times leaves rows : ℕ) (counts : LeafCounts)
+    → counts_after (times_accesses (access_to write) times leaves rows) counts ≡ counts_after (copies (row_accesses (access_to write) leaves 0) (rows * times)) counts
+row_copies write times leaves rows counts =
+    let one = row_accesses (access_to write) leaves 0 in
+    let rows_same : (c : LeafCounts) → counts_after (all_accesses (access_to write) leaves rows) c ≡ counts_after (copies one rows) c =
+    λ c. fold-same by_leaf (row_accesses (access_to write) leaves) (λ row. one) (λ c row. same_row write leaves row c) c (range_with_len 0 rows) in
+    fold-same by_leaf (λ time. all_accesses (access_to write) leaves rows) (λ time. copies one rows) (λ c time. rows_same c) counts (range_with_len 0 times)
+    ∙ ap (λ (log : List Access). counts_after log counts) (copies_copies one rows times)
+
+row_raised_once : (write : Bool) (times leaves : ℕ) (counts : LeafCounts) → 0 < times
+    → counts_after (copies (row_accesses (access_to write) leaves 0) times) counts ≡ leaves_raised times write leaves counts
+row_raised_once write zero leaves counts some = absurd (omega arith)
+row_raised_once write (suc times) leaves counts some =
+    fold-copies by_leaf (λ c one other. leaves_both one other c) (suc times) (row_accesses (access_to write) leaves 0) counts
+    ∙ fold-map (many by_leaf (suc times)) (access_to write 0) counts (range_with_len 0 leaves)
+    ∙ ap (λ (raise : LeafCounts → ℕ → LeafCounts). fold raise counts (range_with_len 0 leaves)) (fun_ext (λ c. fun_ext (λ leaf. many_counts write times 0 leaf c)))
+
+leaves_capped : (write : Bool) (times leaves : ℕ) (counts : LeafCounts) → leaves_raised (min times (2 ^ 64 - 1)) write leaves counts ≡ leaves_raised times write leaves counts
+leaves_capped false times leaves counts =
+    ap (λ (raise : ℕ → ℕ). fold (λ (c : LeafCounts) leaf. let d : LeafCounts = record c { reads = slice_set c.reads leaf (raise (slice_index c.reads leaf)) } in d) counts (range_with_len 0 leaves)) (raised-capped times)
+leaves_capped true times leaves counts =
+    ap (λ (raise : ℕ → ℕ). fold (λ (c : LeafCounts) leaf. let d : LeafCounts = record c { writes = slice_set c.writes leaf (raise (slice_index c.writes leaf)) } in d) counts (range_with_len 0 leaves)) (raised-capped times)
+
+pub counts_none : (write : Bool) (times leaves rows : ℕ) (counts : LeafCounts) → rows * times ≡ 0 → counts ≡ counts_after (times_accesses (access_to write) times leaves rows) counts
+counts_none write times leaves rows counts none =
+    sym (row_copies write times leaves rows counts ∙ ap (λ (n : ℕ). counts_after (copies (row_accesses (access_to write) leaves 0) n) counts) none)
+
+pub counts_raised : (write : Bool) (times leaves rows : ℕ) (counts : LeafCounts) → 0 < rows * times
+    → leaves_raised (min (rows * times) (2 ^ 64 - 1)) write leaves counts ≡ counts_after (times_accesses (access_to write) times leaves rows) counts
+counts_raised write times leaves rows counts some =
+    leaves_capped write (rows * times) leaves counts
+    ∙ sym (row_copies write times leaves rows counts ∙ row_raised_once write (rows * times) leaves counts some)
+
+-- the same for the counts by granule, which do not tell a read from a write
+abbrev by_granule : List (List Owner) → HeatCounts → Access → HeatCounts
+by_granule layout heat access = heat_touched layout access heat
+
+many_heat : (layout : List (List Owner)) (times row leaf : ℕ) (heat : HeatCounts) → many (by_granule layout) (suc times) heat (Read row leaf) ≡ granules_raised (suc times) layout row leaf heat
+many_heat layout zero row leaf heat = refl
+many_heat layout (suc times) row leaf heat =
+    many_heat layout times row leaf (granules_touched layout row leaf heat)
+    ∙ ap (λ (blobs : List (List ℕ)). let h : HeatCounts = record heat { blobs = blobs } in h)
+    (warmed-warmed (is_hot layout heat.granule row leaf) 1 (suc times) heat.blobs
+    ∙ ap (λ (n : ℕ). warmed_times n (is_hot layout heat.granule row leaf) heat.blobs) (omega arith))
+
+same_kind : (layout : List (List Owner)) (leaves row : ℕ) (heat : HeatCounts) → heat_after layout (row_accesses Write leaves row) heat ≡ heat_after layout (row_accesses Read leaves row) heat
+same_kind layout leaves row heat = fold-map (by_granule layout) (Write row) heat (range_with_len 0 leaves) ∙ sym (fold-map (by_granule layout) (Read row) heat (range_with_len 0 leaves))
+
+read_copies : (layout : List (List Owner)) (reads writes leaves rows : ℕ) (heat : HeatCounts)
+    → heat_after layout (all_touches reads writes leaves rows) heat ≡ heat_after layout (copies (all_accesses Read leaves rows) (reads + writes)) heat
+read_copies layout reads writes leaves rows heat =
+    let step = by_granule layout in
+    let read = all_accesses Read leaves rows in
+    let write = all_accesses Write leaves rows in
+    let same : (h : HeatCounts) → fold step h write ≡ fold step h read =
+    λ h. fold-same step (row_accesses Write leaves) (row_accesses Read leaves) (λ h row. same_kind layout leaves row h) h (range_with_len 0 rows) in
+    fold-append step heat (copies read reads) (copies write writes)
+    ∙ fold-same step (λ time. write) (λ time. read) (λ h time. same h) (fold step heat (copies read reads)) (range_with_len 0 writes)
+    ∙ sym (fold-append step heat (copies read reads) (copies read writes))
+    ∙ ap (fold step heat) (copies_add read reads writes)
+
+rows_raised_once : (layout : List (List Owner)) (times leaves rows : ℕ) (heat : HeatCounts) → 0 < times
+    → heat_after layout (copies (all_accesses Read leaves rows) times) heat ≡ rows_raised times layout leaves rows heat
+rows_raised_once layout zero leaves rows heat some = absurd (omega arith)
+rows_raised_once layout (suc times) leaves rows heat some =
+    let step = by_granule layout in
+    let row_once : (h : HeatCounts) (row : ℕ) → fold (many step (suc times)) h (row_accesses Read leaves row) ≡ row_raised (suc times) layout leaves row h =
+    λ h row. fold-map (many step (suc times)) (Read row) h (range_with_len 0 leaves)
+    ∙ ap (λ (raise : HeatCounts → ℕ → HeatCounts). fold raise h (range_with_len 0 leaves)) (fun_ext (λ g. fun_ext (λ leaf. many_heat layout times row leaf g))) in
+    fold-copies step (λ h one other. heated_both layout one other h) (suc times) (all_accesses Read leaves rows) heat
+    ∙ fold-flat_map (many step (suc times)) (row_accesses Read leaves) heat (range_with_len 0 rows)
+    ∙ ap (λ (raise : HeatCounts → ℕ → HeatCounts). fold raise heat (range_with_len 0 rows)) (fun_ext (λ h. fun_ext (row_once h)))
+
+rows_capped : (layout : List (List Owner)) (times leaves rows : ℕ) (heat : HeatCounts) → rows_raised (min times (2 ^ 64 - 1)) layout leaves rows heat ≡ rows_raised times layout leaves rows heat
+rows_capped layout times leaves rows heat =
+    ap (λ (raise : ℕ → ℕ). fold (λ (h : HeatCounts) row. fold (λ (g : HeatCounts) leaf. let more : HeatCounts = record g {
+      blobs =
+          map (λ (blob : ℕ × List ℕ). map (λ (at : ℕ × ℕ). if is_hot layout g.granule row leaf blob.0 at.0 then raise at.1 else at.1) (enumerate_from 0 blob.1)) (enumerate_from 0 g.blobs);
+    } in more)
+    h (range_with_len 0 leaves)) heat (range_with_len 0 rows))
+    (raised-capped times)
+
+pub heat_none : (layout : List (List Owner)) (reads writes leaves rows : ℕ) (heat : HeatCounts) → reads + writes ≡ 0 → heat ≡ heat_after layout (all_touches reads writes leaves rows) heat
+heat_none layout reads writes leaves rows heat none =
+    sym (read_copies layout reads writes leaves rows heat ∙ ap (λ (n : ℕ). heat_after layout (copies (all_accesses Read leaves rows) n) heat) none)
+
+pub heat_raised : (layout : List (List Owner)) (reads writes leaves rows : ℕ) (heat : HeatCounts) → 0 < reads + writes
+    → rows_raised (min (reads + writes) (2 ^ 64 - 1)) layout leaves rows heat ≡ heat_after layout (all_touches reads writes leaves rows) heat
+heat_raised layout reads writes leaves rows heat some =
+    rows_capped layout (reads + writes) leaves rows heat
+    ∙ sym (read_copies layout reads writes leaves rows heat ∙ rows_raised_once layout (reads + writes) leaves rows heat some)

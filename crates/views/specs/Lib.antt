@@ -5,6 +5,7 @@ pub mod HalfLaws
 pub mod Kept
 pub mod Refusals
 pub mod Tallies
+pub mod Repeated
 pub mod TallyLaws
 pub mod OrderLaws
 pub mod Entries

@@ -18,7 +18,7 @@ counted_both (count ∷ counts) zero (suc other) = refl
 counted_both (count ∷ counts) (suc one) zero = refl
 counted_both (count ∷ counts) (suc one) (suc other) = ap (λ (rest : List ℕ). count ∷ rest) (counted_both counts one other)
 
-leaves_both : (one other : Access) (counts : LeafCounts) → counts_touched other (counts_touched one counts) ≡ counts_touched one (counts_touched other counts)
+pub leaves_both : (one other : Access) (counts : LeafCounts) → counts_touched other (counts_touched one counts) ≡ counts_touched one (counts_touched other counts)
 leaves_both (Read row leaf) (Read more last) counts = ap (λ (reads : List ℕ). record counts { reads = reads }) (counted_both counts.reads leaf last)
 leaves_both (Read row leaf) (Write more last) counts = refl
 leaves_both (Write row leaf) (Read more last) counts = refl
@@ -41,14 +41,14 @@ blob_both one other first [] = refl
 blob_both one other first (count ∷ counts) = rw (chosen_both (one first) (other first) count, blob_both one other (first + 1) counts) refl
 
 blobs_from : (ℕ → ℕ → Bool) → ℕ → List (List ℕ) → List (List ℕ)
-blobs_from hot first blobs = map (λ (blob : ℕ × List ℕ). warmed_blob (hot blob.0) blob.1) (enumerate_from first blobs)
+blobs_from hot first blobs = map (λ (blob : ℕ × List ℕ). warmed_blob 1 (hot blob.0) blob.1) (enumerate_from first blobs)
 
 blobs_both : (one other : ℕ → ℕ → Bool) (first : ℕ) (blobs : List (List ℕ)) → blobs_from other first (blobs_from one first blobs) ≡ blobs_from one first (blobs_from other first blobs)
 unfolding blobs_from warm_from
 blobs_both one other first [] = refl
 blobs_both one other first (counts ∷ blobs) = rw (blob_both (one first) (other first) 0 counts, blobs_both one other (first + 1) blobs) refl
 
-heated_both : (layout : List (List Owner)) (one other : Access) (heat : HeatCounts)
+pub heated_both : (layout : List (List Owner)) (one other : Access) (heat : HeatCounts)
     → heat_touched layout other (heat_touched layout one heat) ≡ heat_touched layout one (heat_touched layout other heat)
 unfolding blobs_from
 heated_both layout (Read row leaf) (Read more last) heat =

@@ -7,8 +7,8 @@ use Rattle.std.proofs.lemmas.List.Sums.{fold-append}
 use Rattle.std.proofs.lemmas.List.Concat.{flat_map-append, flat_map-cons}
 use Rattle.std.proofs.lemmas.List.FromFn.{map-range_with_len_more}
 use Rattle.places.specs.Layout.{Owner}
-use Rattle.instrument.specs.Counters.{LeafCounts}
-use Rattle.views.specs.Tallies.{Access, Read, Tally, counts_touched, touched, tallied}
+use Rattle.instrument.specs.Counters.{LeafCounts, HeatCounts}
+use Rattle.views.specs.Tallies.{Access, Read, Tally, counts_touched, heat_touched, touched, tallied}
 use Rattle.views.specs.Tables.{Table, owners_of, after_log, after_stores, after_read}
 
 -- no access counts nothing
@@ -44,6 +44,20 @@ tallied-counts layout tally (access ∷ log) = tallied-counts layout (touched la
       ≡ option_map (λ (counts : LeafCounts). fold (λ c a. counts_touched a c) counts (access ∷ log)) counts
   once None = refl
   once (Some counts) = refl
+
+-- and so are those by granule
+pub tallied-heat : (layout : List (List Owner)) (tally : Tally) (log : List Access)
+    → (tallied layout tally log).heat ≡ option_map (λ (heat : HeatCounts). fold (λ h access. heat_touched layout access h) heat log) tally.heat
+unfolding tallied
+tallied-heat layout tally [] = same tally.heat where
+  same : (heat : Option HeatCounts) → heat ≡ option_map (λ h. h) heat
+  same None = refl
+  same (Some heat) = refl
+tallied-heat layout tally (access ∷ log) = tallied-heat layout (touched layout tally access) log ∙ once tally.heat where
+  once : (heat : Option HeatCounts) → option_map (λ (heat : HeatCounts). fold (λ h a. heat_touched layout a h) heat log) (option_map (heat_touched layout access) heat)
+      ≡ option_map (λ (heat : HeatCounts). fold (λ h a. heat_touched layout a h) heat (access ∷ log)) heat
+  once None = refl
+  once (Some heat) = refl
 
 -- reads of leaves of one row, one after another
 pub after_reads : (row : ℕ) (table : Table) (leaves : List ℕ) → fold (λ (s : Table) leaf. after_read s row leaf) table leaves ≡ after_log table (map (Read row) leaves)

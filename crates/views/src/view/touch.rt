@@ -1,9 +1,9 @@
-// What an access adds to the counters of a view.
-ghost use Rattle.std.specs.Prelude.{◌≡◌, ◌<◌, [], ◌∷◌, ◌++◌, length, flat_map, option_map, IfSome};
-ghost use Rattle.std.specs.List.{range_with_len};
+// What accesses add to the counters of a view.
+ghost use Rattle.std.specs.Prelude.{◌≡◌, ◌<◌, ◌≤◌, ◌^◌, [], ◌∷◌, ◌++◌, length, option_map, IfSome};
 ghost use Rattle.instrument.specs.Counters.{leaf_counts, heat_counts, HasLeaves};
 ghost use Rattle.views.specs.Kept.{HasGranules};
-ghost use Rattle.views.specs.Tallies.{access_to, leaf_touched, granules_touched, row_accesses, all_accesses, times_accesses, all_touches};
+ghost use Rattle.views.specs.Tallies.{access_to, leaf_touched, granules_touched, times_accesses, all_touches};
+ghost use Rattle.views.specs.Repeated.{counts_after, heat_after, leaves_raised, row_raised, rows_raised};
 
 use super::View;
 use instrument::{Counts, Heat};
@@ -13,46 +13,15 @@ use places::{Mapping, laws_of};
 impl View {
     ghost use Rattle.views.specs.Tables.{leaf_count_of, after_log};
 
-    /// Counts so many reads of each leaf of each row, and then so many writes.
+    /// Counts so many reads of each leaf of each row, and then so many writes, in a time that does not grow with these numbers.
     pub fn touch_all(&mut self, reads: u64, writes: u64)
         ensures { self.new ≡ after_log self.old (all_touches reads writes (leaf_count_of self.old) (length self.old.rows)) }
     {
-        if !self.is_counted() {
-            return;
-        }
-        if self.extents().count() == 0 {
-            return;
-        }
-        self.touch_times(false, reads);
-        self.touch_times(true, writes);
-    }
-
-    // Counts so many reads, or writes, of each leaf of each row.
-    fn touch_times(&mut self, write: bool, times: u64)
-        ensures { self.new ≡ after_log self.old (times_accesses (access_to write) times (leaf_count_of self.old) (length self.old.rows)) }
-    {
-        for _ in 0..times {
-            self.touch_rows(write);
-        }
-    }
-
-    // The same once of each leaf of each row.
-    fn touch_rows(&mut self, write: bool)
-        ensures { self.new ≡ after_log self.old (all_accesses (access_to write) (leaf_count_of self.old) (length self.old.rows)) }
-    {
-        for row in 0..self.extents().count() {
-            self.touch_row(write, row);
-        }
-    }
-
-    // The same of each leaf of a row.
-    fn touch_row(&mut self, write: bool, row: u64)
-        requires { row < length self.old.rows }
-        ensures { self.new ≡ after_log self.old (row_accesses (access_to write) (leaf_count_of self.old) row) }
-    {
-        for leaf in 0..self.schema().leaf_count() {
-            self.touch(write, row, leaf);
-        }
+        let rows = self.extents.count();
+        let leaves = self.schema.leaf_count();
+        add_counts(&mut self.counts, false, rows, leaves, reads);
+        add_counts(&mut self.counts, true, rows, leaves, writes);
+        add_heat(&self.map, &mut self.heat, reads, writes);
     }
 
     // Counts a write, or else a read, of a leaf in a row.
@@ -91,5 +60,73 @@ fn touch_heat(map: &AnyMap, heat: &mut Option<Heat>, row: u64, leaf: usize)
     laws_of(map);
     if let Some(heat) = heat {
         heat.touch(&map.locate(row, leaf));
+    }
+}
+
+// So many more reads, or writes, of each leaf of each row.
+fn add_counts(counts: &mut Option<Counts>, write: bool, rows: u64, leaves: usize, times: u64)
+    requires { IfSome (option_map leaf_counts counts.old) (λ counts. HasLeaves counts leaves) }
+    ensures leaves { IfSome (option_map leaf_counts counts.new) (λ counts. HasLeaves counts leaves) }
+    ensures counted { option_map leaf_counts counts.new
+        ≡ option_map (counts_after (times_accesses (access_to write) times leaves rows)) (option_map leaf_counts counts.old) }
+{
+    let Some(counts) = counts else {
+        return;
+    };
+    let each = rows.saturating_mul(times);
+    if each > 0 {
+        raise_leaves(counts, write, leaves, each);
+    }
+}
+
+fn raise_leaves(counts: &mut Counts, write: bool, leaves: usize, times: u64)
+    requires { HasLeaves (leaf_counts counts.old) leaves }
+    ensures leaves { HasLeaves (leaf_counts counts.new) leaves }
+    ensures raised { leaf_counts counts.new ≡ leaves_raised times write leaves (leaf_counts counts.old) }
+{
+    for leaf in 0..leaves {
+        if write {
+            counts.add_writes(leaf, times);
+        } else {
+            counts.add_reads(leaf, times);
+        }
+    }
+}
+
+// So many more accesses to each leaf of each row, in each granule that holds a bit of it.
+fn add_heat(map: &AnyMap, heat: &mut Option<Heat>, reads: u64, writes: u64)
+    requires { IfSome (option_map heat_counts heat.old) (HasGranules (⟦<AnyMap as Mapping>⟧.layout map.now)) }
+    ensures { option_map heat_counts heat.new ≡ option_map (heat_after (⟦<AnyMap as Mapping>⟧.layout map.now)
+        (all_touches reads writes (length (⟦<AnyMap as Mapping>⟧.cell_list map.now)) (⟦<AnyMap as Mapping>⟧.slot_count map.now))) (option_map heat_counts heat.old) }
+{
+    let Some(heat) = heat else {
+        return;
+    };
+    let times = reads.saturating_add(writes);
+    if times > 0 {
+        raise_rows(map, heat, times);
+    }
+}
+
+fn raise_rows(map: &AnyMap, heat: &mut Heat, times: u64)
+    requires { HasGranules (⟦<AnyMap as Mapping>⟧.layout map.now) (heat_counts heat.old) }
+    ensures { heat_counts heat.new ≡ rows_raised times (⟦<AnyMap as Mapping>⟧.layout map.now)
+        (length (⟦<AnyMap as Mapping>⟧.cell_list map.now)) (⟦<AnyMap as Mapping>⟧.slot_count map.now) (heat_counts heat.old) }
+{
+    for row in 0..map.slots() {
+        raise_row(map, heat, row, times);
+    }
+}
+
+fn raise_row(map: &AnyMap, heat: &mut Heat, row: u64, times: u64)
+    requires row_in { row < ⟦<AnyMap as Mapping>⟧.slot_count map.now }
+    requires granules { HasGranules (⟦<AnyMap as Mapping>⟧.layout map.now) (heat_counts heat.old) }
+    ensures raised { heat_counts heat.new ≡ row_raised times (⟦<AnyMap as Mapping>⟧.layout map.now)
+        (length (⟦<AnyMap as Mapping>⟧.cell_list map.now)) row (heat_counts heat.old) }
+    ensures granules { HasGranules (⟦<AnyMap as Mapping>⟧.layout map.now) (heat_counts heat.new) }
+{
+    laws_of(map);
+    for leaf in 0..map.cells() {
+        heat.touch_times(&map.locate(row, leaf), times);
     }
 }

@@ -1,26 +1,71 @@
-use Rattle.std.proofs.Common.{◌≡◌, ℕ, List, false, ap, sym, ◌∙◌, arith, rules, length}
+use Rattle.std.proofs.Common.{◌≡◌, ◌∙◌, ℕ, Bool, false, true, Option, length, option_map, sym, subst, ap}
+use Rattle.std.specs.Prelude.{IfSome}
+use Rattle.record_dim.specs.Schemas.{schema_fields}
+use Rattle.record_dim.specs.Leaves.{leaves, kinds_of}
+use Rattle.map_expr.specs.Terms.{term_of}
+use Rattle.map_checks.specs.Mappings.{layout_by, leaf_cells}
 use Rattle.extents.specs.Indices.{indices}
-use Rattle.views.specs.Tables.{Table, after_log, leaf_count_of}
-use Rattle.views.specs.Tallies.{Read, Write, all_touches, times_accesses}
-use Rattle.views.specs.TallyLaws.{after_log-none}
-use Rattle.views.proofs.TouchLaws.{more_log, no_rows}
+use Rattle.instrument.specs.Counters.{LeafCounts, HasLeaves, leaf_counts}
+use Rattle.views.specs.Kept.{IsTallied, tally_of}
+use Rattle.views.specs.Repeated.{counts_after}
+use Rattle.views.specs.Tables.{after_log, leaf_count_of}
+use Rattle.views.specs.Tallies.{Tally, tallied, access_to, times_accesses, all_touches}
+use Rattle.views.proofs.CountLaws.{log_kept}
+use Rattle.views.proofs.KeptLaws.{kind_count}
+use Rattle.views.proofs.Opened.{cell_count, tallied_here, touches_there, rows_seen, seen_logged}
+use Rattle.views.proofs.TouchLaws.{tallied_both}
 use Rattle.views.proofs.view.View.touch_all.Goals as goal
+use Rattle.views.proofs.view.View.touch_all.Goals.{After-add_heat}
 
-pub returns-then-not-is_counted : goal.returns-then-not-is_counted
-returns-then-not-is_counted c =
-    let old = c.args.self.now in
-    let idle : c.is_counted.result ≡ false = search rules in
-    sym (c.is_counted.ensures.idle idle (all_touches c.args.reads c.args.writes (leaf_count_of old) (length old.rows)))
+pub add_counts-requires : goal.add_counts-requires
+add_counts-requires c =
+    subst (λ (n : ℕ). IfSome (option_map leaf_counts c.self.inside.counts) (λ (counts : LeafCounts). HasLeaves counts n)) (sym c.leaf_count-leaves.ensures.value) c.self.invariant.2.each_leaf
 
-pub returns-then-count-eq0 : goal.returns-then-count-eq0
-returns-then-count-eq0 c =
-    let old = c.args.self.now in
-    let rows : length (indices c.extents.result) ≡ length old.rows = ap (λ (e : List ℕ). length (indices e)) c.extents.ensures.value ∙ sym c.extents.ensures.table.rows in
-    let none : length old.rows ≡ 0 = omega (arith, c.count.ensures.rows, rows) in
-    sym (ap (after_log old) (no_rows c.args.reads c.args.writes (leaf_count_of old) (length old.rows) none) ∙ after_log-none old)
+pub add_counts-requires-2 : goal.add_counts-requires-2
+add_counts-requires-2 c = c.add_counts.ensures.leaves
+
+pub add_heat-requires : goal.add_heat-requires
+add_heat-requires c = (tallied_here c.self.invariant.0 (tally_of c.self.inside.counts c.self.inside.heat) c.self.invariant.2).each_blob
+
+-- the accesses to the table, by the rows and cells of its mapping
+of_mapping : (c : After-add_heat) (write : Bool) (times : ℕ) (counts : Option LeafCounts)
+    → option_map (counts_after (times_accesses (access_to write) times c.leaf_count-leaves.result c.count-rows.result)) counts
+    ≡ option_map (counts_after (times_accesses (access_to write) times (length (leaf_cells (kinds_of (schema_fields c.self.inside.map.schema)))) (length (indices c.self.inside.map.extents)))) counts
+of_mapping c write times counts =
+    let fields = schema_fields c.self.inside.schema in
+    let cells : c.leaf_count-leaves.result ≡ length (leaf_cells (kinds_of (schema_fields c.self.inside.map.schema))) =
+    c.leaf_count-leaves.ensures.value ∙ sym (cell_count c.self.invariant.0 ∙ kind_count fields) in
+    let rows : c.count-rows.result ≡ length (indices c.self.inside.map.extents) = c.count-rows.ensures.rows ∙ sym c.self.invariant.0.slots_are in
+    ap (λ (n : ℕ). option_map (counts_after (times_accesses (access_to write) times n c.count-rows.result)) counts) cells
+    ∙ ap (λ (n : ℕ). option_map (counts_after (times_accesses (access_to write) times (length (leaf_cells (kinds_of (schema_fields c.self.inside.map.schema)))) n)) counts) rows
+
+-- what is counted then
+counts : (c : After-add_heat) → tally_of c.add_counts-2.new.counts c.add_heat.new.heat
+    ≡ tallied (layout_by (term_of c.self.inside.expr) c.self.inside.extents (schema_fields c.self.inside.schema)) (tally_of c.self.inside.counts c.self.inside.heat)
+    (all_touches c.args.reads c.args.writes (length (leaves (schema_fields c.self.inside.schema))) (length (indices c.self.inside.extents)))
+counts c =
+    let tally = tally_of c.self.inside.counts c.self.inside.heat in
+    let middle = tally_of c.add_counts.new.counts c.add_heat.new.heat in
+    let new = tally_of c.add_counts-2.new.counts c.add_heat.new.heat in
+    let cells = length (leaf_cells (kinds_of (schema_fields c.self.inside.map.schema))) in
+    let rows = length (indices c.self.inside.map.extents) in
+    tallied_both _ tally (times_accesses (access_to false) c.args.reads cells rows) (times_accesses (access_to true) c.args.writes cells rows) middle.counts new.counts new.heat
+    (c.add_counts.ensures.counted ∙ of_mapping c false c.args.reads tally.counts) (c.add_counts-2.ensures.counted ∙ of_mapping c true c.args.writes middle.counts) c.add_heat.ensures
+    ∙ touches_there c.self.invariant.0 tally c.args.reads c.args.writes
+
+pub invariant_of-self : goal.invariant_of-self
+invariant_of-self c =
+    let a = c.self.inside in
+    let layout = layout_by (term_of a.expr) a.extents (schema_fields a.schema) in (
+      c.self.invariant.0,
+      c.self.invariant.1,
+      subst (λ (t : Tally). IsTallied (term_of a.expr) layout (length (leaves (schema_fields a.schema))) t) (sym (counts c)) (log_kept (tally_of a.counts a.heat) _ c.self.invariant.2),
+    )
 
 pub returns : goal.returns
 returns c =
+    let a = c.self.inside in
     let old = c.args.self.now in
-    more_log old c.touch_times.new.self c.touch_times-2.new.self (times_accesses Read c.args.reads (leaf_count_of old) (length old.rows)) (times_accesses Write c.args.writes (leaf_count_of old) (length old.rows)) c.touch_times.ensures
-    (c.touch_times-2.ensures ∙ ap (λ (t : Table). after_log c.touch_times.new.self (times_accesses Write c.args.writes (leaf_count_of t) (length t.rows))) c.touch_times.ensures)
+    seen_logged a.schema a.extents a.expr a.blobs.items c.self.view_is _ (tally_of c.add_counts-2.new.counts c.add_heat.new.heat) (counts c)
+    ∙ ap (λ (n : ℕ). after_log old (all_touches c.args.reads c.args.writes n (length (indices a.extents)))) (ap leaf_count_of c.self.view_is)
+    ∙ ap (λ (n : ℕ). after_log old (all_touches c.args.reads c.args.writes (leaf_count_of old) n)) (sym (rows_seen a.schema a.extents a.expr a.blobs.items c.self.invariant.1 old c.self.view_is))

@@ -1,0 +1,94 @@
+-- Lists that are gone through again and again, by steps of which any two may change places.
+use Rattle.std.proofs.Common.{◌≡◌, ℕ, zero, suc, ◌+◌, ◌*◌, List, [], ◌∷◌, ◌++◌, map, replicate, append_assoc, add-one, refl, ap, sym, ◌∙◌, arith}
+use Rattle.std.specs.List.{fold, flat_map, range_with_len}
+use Rattle.std.proofs.lemmas.List.{append-nil}
+use Rattle.std.proofs.lemmas.List.Sums.{fold-append}
+use Rattle.std.proofs.lemmas.List.Folds.{fold-map}
+use Rattle.std.proofs.lemmas.List.Concat.{flat_map-cons}
+use Rattle.views.specs.TallyLaws.{logs_more, accesses_more}
+
+-- a list so many times
+abbrev pub copies : {A : Type 0} → List A → ℕ → List A
+copies xs times = flat_map (λ time. xs) (range_with_len 0 times)
+
+copies_suc : {A : Type 0} (xs : List A) (times : ℕ) → copies xs (suc times) ≡ copies xs times ++ xs
+copies_suc xs times = ap (copies xs) (sym (add-one times)) ∙ logs_more (λ time. xs) times
+
+pub copies_add : {A : Type 0} (xs : List A) (first more : ℕ) → copies xs first ++ copies xs more ≡ copies xs (first + more)
+copies_add xs first zero = append-nil (copies xs first) ∙ ap (copies xs) (let all : first ≡ first + zero = omega arith in all)
+copies_add xs first (suc more) =
+    ap (λ (ys : List _). copies xs first ++ ys) (copies_suc xs more)
+    ∙ sym (append_assoc (copies xs first) (copies xs more) xs)
+    ∙ ap (λ (ys : List _). ys ++ xs) (copies_add xs first more)
+    ∙ sym (copies_suc xs (first + more))
+    ∙ ap (copies xs) (let both : suc (first + more) ≡ first + suc more = omega arith in both)
+
+pub copies_copies : {A : Type 0} (xs : List A) (first times : ℕ) → copies (copies xs first) times ≡ copies xs (first * times)
+copies_copies xs first zero = ap (copies xs) (let no_more : zero ≡ first * zero = omega arith in no_more)
+copies_copies xs first (suc times) =
+    copies_suc (copies xs first) times
+    ∙ ap (λ (ys : List _). ys ++ copies xs first) (copies_copies xs first times)
+    ∙ copies_add xs (first * times) first
+    ∙ ap (copies xs) (let all : first * times + first ≡ first * suc times = omega arith in all)
+
+-- lists that may stand for each other, joined
+pub fold-same : {S A : Type 0} (step : S → A → S) (one other : ℕ → List A) → ((s : S) (n : ℕ) → fold step s (one n) ≡ fold step s (other n))
+    → (s : S) (ns : List ℕ) → fold step s (flat_map one ns) ≡ fold step s (flat_map other ns)
+fold-same step one other same s [] = refl
+fold-same step one other same s (n ∷ ns) =
+    ap (fold step s) (flat_map-cons one n ns)
+    ∙ fold-append step s (one n) (flat_map one ns)
+    ∙ ap (λ (t : _). fold step t (flat_map one ns)) (same s n)
+    ∙ fold-same step one other same (fold step s (other n)) ns
+    ∙ sym (fold-append step s (other n) (flat_map other ns))
+    ∙ ap (fold step s) (sym (flat_map-cons other n ns))
+
+-- one number more
+pub fold_range_more : {S : Type 0} (step : S → ℕ → S) (s : S) (count : ℕ) → fold step s (range_with_len 0 (count + 1)) ≡ step (fold step s (range_with_len 0 count)) count
+fold_range_more step s count =
+    sym (fold-map step (λ (n : ℕ). n) s (range_with_len 0 (count + 1)))
+    ∙ ap (fold step s) (accesses_more (λ (n : ℕ). n) count)
+    ∙ fold-append step s (map (λ (n : ℕ). n) (range_with_len 0 count)) (count ∷ [])
+    ∙ ap (λ (t : _). step t count) (fold-map step (λ (n : ℕ). n) s (range_with_len 0 count))
+
+-- list by list
+pub fold-flat_map : {S A : Type 0} (step : S → A → S) (list : ℕ → List A) (s : S) (ns : List ℕ) → fold step s (flat_map list ns) ≡ fold (λ t n. fold step t (list n)) s ns
+fold-flat_map step list s [] = refl
+fold-flat_map step list s (n ∷ ns) =
+    ap (fold step s) (flat_map-cons list n ns)
+    ∙ fold-append step s (list n) (flat_map list ns)
+    ∙ fold-flat_map step list (fold step s (list n)) ns
+
+-- so many steps of one item
+abbrev pub many : {S A : Type 0} → (S → A → S) → ℕ → S → A → S
+many step times s item = fold step s (replicate times item)
+
+module _ {S A : Type 0} (step : S → A → S) (both : (s : S) (one other : A) → step (step s one) other ≡ step (step s other) one) where
+  past_many : (times : ℕ) (s : S) (item other : A) → step (many step times s item) other ≡ many step times (step s other) item
+  past_many zero s item other = refl
+  past_many (suc times) s item other = past_many times (step s item) item other ∙ ap (λ (t : S). many step times t item) (both s item other)
+
+  past_all : (times : ℕ) (xs : List A) (s : S) (other : A) → step (fold (many step times) s xs) other ≡ fold (many step times) (step s other) xs
+  past_all times [] s other = refl
+  past_all times (item ∷ xs) s other =
+      past_all times xs (many step times s item) other ∙ ap (λ (t : S). fold (many step times) t xs) (past_many times s item other)
+
+  once_more : (times : ℕ) (xs : List A) (s : S) → fold step (fold (many step times) s xs) xs ≡ fold (many step (suc times)) s xs
+  once_more times [] s = refl
+  once_more times (item ∷ xs) s =
+      ap (λ (t : S). fold step t xs) (past_all times xs (many step times s item) item)
+      ∙ once_more times xs (step (many step times s item) item)
+      ∙ ap (λ (t : S). fold (many step (suc times)) t xs) (past_many times s item item)
+
+  none : (xs : List A) (s : S) → s ≡ fold (many step zero) s xs
+  none [] s = refl
+  none (item ∷ xs) s = none xs s
+
+  -- all steps of each item at once
+  pub fold-copies : (times : ℕ) (xs : List A) (s : S) → fold step s (copies xs times) ≡ fold (many step times) s xs
+  fold-copies zero xs s = none xs s
+  fold-copies (suc times) xs s =
+      ap (fold step s) (copies_suc xs times)
+      ∙ fold-append step s (copies xs times) xs
+      ∙ ap (λ (t : S). fold step t xs) (fold-copies times xs s)
+      ∙ once_more times xs s

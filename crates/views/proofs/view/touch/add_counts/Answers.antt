@@ -1,0 +1,26 @@
+use Rattle.std.proofs.Common.{◌≡◌, ◌*◌, ◌-◌, ◌^◌, ◌<◌, ◌≤◌, ℕ, min, Option, Some, option_map, ap, sym, ◌∙◌, arith}
+use Rattle.instrument.specs.Counters.{LeafCounts, leaf_counts}
+use Rattle.instrument.specs.declared.counts.Counts.{Counts}
+use Rattle.views.specs.Tallies.{access_to, times_accesses}
+use Rattle.views.specs.Repeated.{counts_after, leaves_raised}
+use Rattle.views.proofs.TouchLaws.{counts_none, counts_raised}
+use Rattle.views.proofs.view.touch.add_counts.Goals as goal
+
+pub returns-then-each-gt0-clause-counted : goal.returns-then-each-gt0-clause-counted
+returns-then-each-gt0-clause-counted c =
+    let a = c.args in
+    let counts = leaf_counts c.in-Some.counts in
+    let each : c.saturating_mul-each.result ≡ min (a.rows * a.times) (2 ^ 64 - 1) = c.saturating_mul-each.ensures in
+    let some : 0 < a.rows * a.times = omega (arith, each, c.if-each-gt0.true) in
+    ap (λ (counts : LeafCounts). Some counts)
+    (c.raise_leaves.ensures.raised ∙ ap (λ (n : ℕ). leaves_raised n a.write a.leaves counts) each ∙ counts_raised a.write a.times a.leaves a.rows counts some)
+    ∙ ap (λ (o : Option Counts). option_map (counts_after (times_accesses (access_to a.write) a.times a.leaves a.rows)) (option_map leaf_counts o)) (sym c.in-Some.is)
+
+pub returns-else-each-gt0-clause-counted : goal.returns-else-each-gt0-clause-counted
+returns-else-each-gt0-clause-counted c =
+    let a = c.args in
+    let counts = leaf_counts c.in-Some.counts in
+    let each : c.saturating_mul-each.result ≡ min (a.rows * a.times) (2 ^ 64 - 1) = c.saturating_mul-each.ensures in
+    let none : a.rows * a.times ≡ 0 = omega (arith, each, c.if-each-gt0.false) in
+    ap (λ (counts : LeafCounts). Some counts) (counts_none a.write a.times a.leaves a.rows counts none)
+    ∙ ap (λ (o : Option Counts). option_map (counts_after (times_accesses (access_to a.write) a.times a.leaves a.rows)) (option_map leaf_counts o)) (sym c.in-Some.is)

@@ -1,0 +1,28 @@
+use Rattle.std.proofs.Common.{◌≡◌, ◌+◌, ap, sym, ◌∙◌, subst, ℕ, Bool}
+use Rattle.instrument.specs.Counters.{LeafCounts, leaf_counts, HasLeaves}
+use Rattle.instrument.specs.declared.counts.Counts.{Counts}
+use Rattle.views.specs.Repeated.{leaf_raised, leaves_raised}
+use Rattle.views.proofs.CountLaws.{raised_leaves}
+use Rattle.views.proofs.Repeats.{fold_range_more}
+use Rattle.views.proofs.view.touch.raise_leaves.Goals as goal
+use Rattle.views.proofs.view.touch.raise_leaves.Goals.{then-write, else-write}
+
+-- one leaf more
+one_more : (c : goal.Joined-write) → (new : Counts) → leaf_counts new ≡ leaf_raised c.args.times c.args.write c.loop-leaf.leaf (leaf_counts c.loop-leaf.counts)
+    → (leaf_counts new ≡ leaves_raised c.args.times c.args.write (c.loop-leaf.leaf + 1) (leaf_counts c.args.counts.now)) × HasLeaves (leaf_counts new) c.args.leaves
+one_more c new one =
+    let raise = λ (counts : LeafCounts) (leaf : ℕ). leaf_raised c.args.times c.args.write leaf counts in (
+      one ∙ ap (λ (counts : LeafCounts). raise counts c.loop-leaf.leaf) c.loop-leaf.invariant.0 ∙ sym (fold_range_more raise (leaf_counts c.args.counts.now) c.loop-leaf.leaf),
+      subst (λ (counts : LeafCounts). HasLeaves counts c.args.leaves) (sym one) (raised_leaves c.args.write c.args.times c.loop-leaf.leaf (leaf_counts c.loop-leaf.counts) c.args.leaves c.loop-leaf.invariant.1),
+    )
+
+-- a write or a read, as it was told
+as_told : (c : goal.Joined-write) → {write : Bool} → c.args.write ≡ write
+    → leaf_raised c.args.times write c.loop-leaf.leaf (leaf_counts c.loop-leaf.counts) ≡ leaf_raised c.args.times c.args.write c.loop-leaf.leaf (leaf_counts c.loop-leaf.counts)
+as_told c is = ap (λ (write : Bool). leaf_raised c.args.times write c.loop-leaf.leaf (leaf_counts c.loop-leaf.counts)) (sym is)
+
+pub loop-leaf-preserved : goal.loop-leaf-preserved
+loop-leaf-preserved c = elim c.if-write.branch [
+  | then-write w ↦ one_more c c.if-write.counts (ap leaf_counts w.counts-is ∙ w.add_writes.ensures ∙ as_told c w.if-write.true)
+  | else-write w ↦ one_more c c.if-write.counts (ap leaf_counts w.counts-is ∙ w.add_reads.ensures ∙ as_told c w.if-write.false)
+]

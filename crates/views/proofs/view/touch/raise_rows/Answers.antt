@@ -1,0 +1,19 @@
+use Rattle.std.proofs.Common.{◌≡◌, ℕ, length, ap, sym, ◌∙◌}
+use Rattle.map_expr.specs.Terms.{term_of}
+use Rattle.map_checks.specs.Mappings.{layout_by, leaf_cells}
+use Rattle.record_dim.specs.Schemas.{schema_fields}
+use Rattle.record_dim.specs.Leaves.{kinds_of}
+use Rattle.instrument.specs.Counters.{HeatCounts, heat_counts}
+use Rattle.views.specs.Repeated.{row_raised}
+use Rattle.views.proofs.Repeats.{fold_range_more}
+use Rattle.views.proofs.view.touch.raise_rows.Goals as goal
+
+pub loop-row-preserved : goal.loop-row-preserved
+loop-row-preserved c =
+    let m = c.args.map.now in
+    let layout = layout_by (term_of m.expr) m.extents (schema_fields m.schema) in
+    let leaves = length (leaf_cells (kinds_of (schema_fields m.schema))) in
+    let raise = λ (h : HeatCounts) (row : ℕ). row_raised c.args.times layout leaves row h in (
+      c.raise_row.ensures.raised ∙ ap (λ (h : HeatCounts). raise h c.loop-row.row) c.loop-row.invariant.0 ∙ sym (fold_range_more raise (heat_counts c.args.heat.now) c.loop-row.row),
+      c.raise_row.ensures.granules,
+    )
