@@ -9,34 +9,34 @@ use Rattle.lane_kernels.specs.declared.reductions.Reduction.{Reduction}
 use Rattle.lane_kernels.proofs.Numbers.{start_small, taking_small, first_narrow, values_more}
 
 -- the values before this one are taken
-pub record HasTaken (reduction : Reduction) (values : List ℤ) (row : ℕ) (number : ℤ) : Type 0 where
-  pub so_far : number ≡ reduced reduction (take row values)
-  pub small : IsSmall row number
+pub record HasTaken (reduction : Reduction) (values : List ℤ) (done : ℕ) (number : ℤ) : Type 0 where
+  pub so_far : number ≡ reduced reduction (take done values)
+  pub small : IsSmall done number
 
 pub nothing_taken : (reduction : Reduction) (values : List ℤ) (number : ℤ) → number ≡ start reduction → HasTaken reduction values 0 number
 nothing_taken reduction values number is = record { so_far = is; small = subst (IsSmall 0) (sym is) (start_small reduction) }
 
-pub block_long : (values block : List ℤ) (row : ℕ) → block ≡ take 16 (drop row values) → row + 16 ≤ length values → length block ≡ 16
-block_long values block row is room = ap length is ∙ (let long : length (take 16 (drop row values)) ≡ 16 = omega (arith, length-take 16 (drop row values), length-drop row values, room) in long)
+pub block_long : (values block : List ℤ) (done : ℕ) → block ≡ take 16 (drop done values) → done + 16 ≤ length values → length block ≡ 16
+block_long values block done is room = ap length is ∙ (let long : length (take 16 (drop done values)) ≡ 16 = omega (arith, length-take 16 (drop done values), length-drop done values, room) in long)
 
 pub block_rest : (block : List ℤ) → length block ≡ 16 → block ≡ take 16 block ++ replicate (16 - 16) (pos 0)
 block_rest block long = sym (append-nil (take 16 block) ∙ take_all 16 block (omega (arith, long)))
 
 -- sixteen more
-pub taken_more : (reduction : Reduction) (values block : List ℤ) (row next : ℕ) (number more : ℤ) → HasTaken reduction values row number → next ≡ row + 16 → row + 16 ≤ length values
-    → block ≡ take 16 (drop row values) → Each1 IsNarrow block → more ≡ fold (taking reduction) number (take 16 block) → HasTaken reduction values next more
-taken_more reduction values block row next number more so_far there room is narrow taken =
-    let long = block_long values block row is room in
-    let front : take 16 block ≡ take 16 (drop row values) = take_all 16 block (omega (arith, long)) ∙ is in
+pub taken_more : (reduction : Reduction) (values block : List ℤ) (done next : ℕ) (number more : ℤ) → HasTaken reduction values done number → next ≡ done + 16 → done + 16 ≤ length values
+    → block ≡ take 16 (drop done values) → Each1 IsNarrow block → more ≡ fold (taking reduction) number (take 16 block) → HasTaken reduction values next more
+taken_more reduction values block done next number more so_far there room is narrow taken =
+    let long = block_long values block done is room in
+    let front : take 16 block ≡ take 16 (drop done values) = take_all 16 block (omega (arith, long)) ∙ is in
     subst (λ (n : ℕ). HasTaken reduction values n more) (sym there) (record {
-      so_far = values_more reduction row 16 values number more so_far.so_far (taken ∙ ap (fold (taking reduction) number) front);
-      small = subst (IsSmall (row + 16)) (sym taken)
-          (taking_small reduction row 16 number (take 16 block) so_far.small (first_narrow block 16 narrow) (omega (arith, length-take 16 block, long)));
+      so_far = values_more reduction done 16 values number more so_far.so_far (taken ∙ ap (fold (taking reduction) number) front);
+      small = subst (IsSmall (done + 16)) (sym taken)
+          (taking_small reduction done 16 number (take 16 block) so_far.small (first_narrow block 16 narrow) (omega (arith, length-take 16 block, long)));
     })
 
 -- all of them
-pub all_taken : (reduction : Reduction) (values : List ℤ) (row : ℕ) (number : ℤ) → HasTaken reduction values row number → row ≡ length values → number ≡ reduced reduction values
-all_taken reduction values row number so_far all = so_far.so_far ∙ ap (reduced reduction) (take_all row values (omega (arith, all)))
+pub all_taken : (reduction : Reduction) (values : List ℤ) (done : ℕ) (number : ℤ) → HasTaken reduction values done number → done ≡ length values → number ≡ reduced reduction values
+all_taken reduction values done number so_far all = so_far.so_far ∙ ap (reduced reduction) (take_all done values (omega (arith, all)))
 
 -- the values of a near leaf are those of the rows of whole blocks
 module _ (leaf : ℕ) (rows : List (List ℤ)) (values : List ℤ) (is : values ≡ take (16 * (length rows / 16)) (column leaf rows)) where
@@ -46,5 +46,5 @@ module _ (leaf : ℕ) (rows : List (List ℤ)) (values : List ℤ) (is : values 
       ∙ (let count : length (take (16 * (length rows / 16)) (column leaf rows)) ≡ 16 * (length rows / 16) =
       omega (arith, length-take (16 * (length rows / 16)) (column leaf rows), length-map rows (in_leaf leaf)) in count)
 
-  pub near_reduced : (reduction : Reduction) (number : ℤ) (row : ℕ) → number ≡ reduced reduction values → row ≡ length values → number ≡ reduced reduction (take row (column leaf rows))
-  near_reduced reduction number row taken all = taken ∙ ap (reduced reduction) (is ∙ ap (λ (n : ℕ). take n (column leaf rows)) (sym near_count ∙ sym all))
+  pub near_reduced : (reduction : Reduction) (number : ℤ) (done : ℕ) → number ≡ reduced reduction values → done ≡ length values → number ≡ reduced reduction (take done (column leaf rows))
+  near_reduced reduction number done taken all = taken ∙ ap (reduced reduction) (is ∙ ap (λ (n : ℕ). take n (column leaf rows)) (sym near_count ∙ sym all))

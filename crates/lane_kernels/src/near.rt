@@ -100,7 +100,8 @@ fn number_by<L: Ledger>(
     let mut number = reduction.start();
     for block in 0..near.blocks() {
         steps.tick();
-        number = reduction.taking(16 * block, number, near.block(block, word), 16);
+        let values = near.block(block, word);
+        number = reduction.taking(16 * block, number, values, 16);
     }
     number
 }
