@@ -12,6 +12,7 @@ use steps::Steps;
 use views::View;
 
 /// How far the number of the values of a leaf is made.
+#[derive(Clone, Copy)]
 pub struct Begun {
     /// The rows before this one are taken.
     pub row: u64,
@@ -19,7 +20,7 @@ pub struct Begun {
 }
 
 /// The rows of all whole blocks of sixteen, where they are asked for and stand side by side, and else none.
-pub fn begun<L: Ledger>(
+pub fn take_blocks<L: Ledger>(
     view: &View,
     leaf: usize,
     reduction: &Reduction,

@@ -9,7 +9,7 @@ ghost use Rattle.lane_kernels.specs.Reductions.{reducing, start, taking, reduced
 use crate::blocks::step_at;
 use crate::fault::KernelFault;
 use crate::kernel::Compare;
-use crate::near::begun;
+use crate::near::take_blocks;
 use lanes::Block;
 use std::sync::ledger::Ledger;
 use steps::Steps;
@@ -99,7 +99,7 @@ fn reduced<L: Ledger>(
     ensures steps { steps.new ≡ steps.old + (length view.old.rows / lanes + length view.old.rows % lanes) }
 {
     let count = view.extents().count();
-    let begun = begun(view, leaf, reduction, lanes, steps);
+    let begun = take_blocks(view, leaf, reduction, lanes, steps);
     let mut number = begun.number;
     let mut row = begun.row;
     while row < count {

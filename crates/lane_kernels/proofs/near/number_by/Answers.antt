@@ -24,7 +24,7 @@ pub loop-block-preserved : goal.loop-block-preserved
 loop-block-preserved g c =
     let fits : FitsSigned w64 c.taking-number.result = search rules in
     rw (to_z-of_z w64 c.taking-number.result fits) (record {
-      taken = taken_more c.args.reduction.now c.args.near.now.numbers c.block-values.result (16 * c.loop-block.block) (16 * (c.loop-block.block + 1)) c.loop-block.number c.taking-number.result
+      taken = taken_more c.args.reduction.now c.args.near.now.numbers c.block-values.result (16 * c.loop-block.block) (16 * (c.loop-block.block + 1)) _ c.taking-number.result
           c.loop-block.invariant.taken (omega arith) (omega arith) c.block-values.ensures.numbers c.block-values.ensures.narrow c.taking-number.ensures;
       counted = omega arith;
     })

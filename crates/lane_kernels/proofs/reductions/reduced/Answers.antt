@@ -1,4 +1,4 @@
-use Rattle.std.proofs.Common.{rules, arith, ◌≡◌, ◌∙◌, length, drop, ℕ, List, ℤ, FitsSigned, ap, sym, subst, w64}
+use Rattle.std.proofs.Common.{rules, arith, inl, ◌≡◌, ◌∙◌, length, drop, ℕ, List, ℤ, FitsSigned, ap, sym, subst, w64}
 use Rattle.std.specs.Simd.Lanes.{Each1}
 use Rattle.std.proofs.lemmas.Int.{to_z-of_z}
 use Rattle.extents.specs.Indices.{indices}
@@ -7,7 +7,7 @@ use Rattle.lanes.specs.BlockLaws.{same}
 use Rattle.views.specs.Columns.{column}
 use Rattle.views.specs.Tables.{Table}
 use Rattle.lane_kernels.specs.Blocks.{step_of}
-use Rattle.lane_kernels.proofs.Numbers.{nothing_reduced, reduced_step, lanes_rest, block_room}
+use Rattle.lane_kernels.proofs.Numbers.{reduced_step, lanes_rest, block_room}
 use Rattle.lane_kernels.proofs.Stepping.{IsStep, step_next}
 use Rattle.lane_kernels.proofs.reductions.reduced.Given as given
 use Rattle.lane_kernels.proofs.reductions.reduced.Goals as goal
@@ -15,9 +15,12 @@ use Rattle.lane_kernels.proofs.reductions.reduced.Goals.{After-of-block, After-s
 
 pub loop-row-init : goal.loop-row-init
 loop-row-init g c =
-    let fits : FitsSigned w64 c.start-number.result = search rules in
-    rw (to_z-of_z w64 c.start-number.result fits)
-    (record { reduced = nothing_reduced c.args.reduction.now c.args.leaf c.args.lanes c.args.view.now c.start-number.result c.requires.some c.start-number.ensures; counted = omega arith })
+    let begun = c.take_blocks-begun.ensures in
+    let fits : FitsSigned w64 c.take_blocks-begun.result.number = search rules in
+    rw (to_z-of_z w64 c.take_blocks-begun.result.number fits) (record {
+      reduced = record { same = begun.same; so_far = begun.number; small = begun.small; at = record { inside = begun.inside; even = inl begun.whole } };
+      counted = omega (arith, begun.steps, begun.whole);
+    })
 
 pub of-block-requires : goal.of-block-requires
 of-block-requires g c = subst IsBlock (sym (same c.load_lanes.result c.load_lanes.ensures.lanes.fit)) c.load_lanes.ensures.lanes
