@@ -19,20 +19,21 @@ use Rattle.map_any.specs.declared.strategy.Strategy.TheVariants as way
 use Rattle.views.specs.Moves.{blob_steps}
 use Rattle.layout_copy.specs.Costs.{cost, steps_before}
 
--- so many steps were taken, whatever the way is by which the two mappings are copied
-abbrev Costs : Term → Term → Fields → List ℕ → ℕ → Type 0
-Costs one two fields extents taken = (strategy : Strategy) → IsStrategy one two strategy → taken ≤ 0 + cost strategy one two fields extents
+-- from one count of steps to another no more than a copy between two mappings takes
+abbrev IsWithin : Term → Term → Fields → List ℕ → ℕ → ℕ → Type 0
+IsWithin one two fields extents old new = (strategy : Strategy) → IsStrategy one two strategy → new ≤ old + cost strategy one two fields extents
 
 pieces : steps_before 1000 1000 8 (4 ∷ []) 1000 ≡ 125
 unfolding steps_before
 pieces = refl
 
-pub to_blocks : (one two : Term) (fields : Fields) (extents : List ℕ) (taken : ℕ) → one ≡ Soa Multi Row → two ≡ Aosoa 8 Row → length (indices extents) ≡ 1000 →
-    kinds_of fields ≡ U32 ∷ [] → Costs one two fields extents taken → taken ≤ 125
-to_blocks one two fields extents taken from to rows kinds costs =
-    let few : taken ≤ 0 + cost way.Runs (Soa Multi Row) (Aosoa 8 Row) fields extents = rw (from, to) at costs way.Runs ((λ e. cc), refl) in
+pub to_blocks : (one two : Term) (fields : Fields) (extents : List ℕ) (old new : ℕ) → old ≡ 0 → one ≡ Soa Multi Row → two ≡ Aosoa 8 Row → length (indices extents) ≡ 1000 →
+    kinds_of fields ≡ U32 ∷ [] → IsWithin one two fields extents old new → new ≤ 125
+to_blocks one two fields extents old new begun from to rows kinds within =
+    let is : IsStrategy one two way.Runs = rw (from, to) ((λ e. cc), refl) in
+    let few = rw (from, to) at (within way.Runs is) in
     let sum = rw (rows, kinds) at few in
-    omega (arith, sum, pieces)
+    omega (arith, begun, sum, pieces)
 
 one_blob : (layout : List (List Owner)) → length layout ≡ 1 → sum_by length layout ≡ 8 * 4000 → blob_steps layout ≡ 63
 one_blob [] one bits = absurd (omega (arith, one))
@@ -41,22 +42,22 @@ one_blob (blob ∷ []) one bits =
     rw long refl
 one_blob (blob ∷ other ∷ blobs) one bits = absurd (omega (arith, one))
 
-pub as_they_are : (one two : Term) (fields : Fields) (extents : List ℕ) (taken : ℕ) → one ≡ Aos Packed Row → two ≡ Aos Packed Row →
-    length (layout_by two extents fields) ≡ 1 → sum_by length (layout_by two extents fields) ≡ 8 * 4000 → Costs one two fields extents taken → taken ≤ 63
-as_they_are one two fields extents taken from to blob bits costs =
+pub as_they_are : (one two : Term) (fields : Fields) (extents : List ℕ) (old new : ℕ) → old ≡ 0 → one ≡ Aos Packed Row → two ≡ Aos Packed Row →
+    length (layout_by two extents fields) ≡ 1 → sum_by length (layout_by two extents fields) ≡ 8 * 4000 → IsWithin one two fields extents old new → new ≤ 63
+as_they_are one two fields extents old new begun from to blob bits within =
     let is : IsStrategy one two way.Blobs = rw (from, to) refl in
-    let few = costs way.Blobs is in
+    let few = within way.Blobs is in
     let steps = one_blob (layout_by two extents fields) blob bits in
-    omega (arith, few, steps)
+    omega (arith, begun, few, steps)
 
-pub to_arrays : (one two : Term) (fields : Fields) (extents : List ℕ) (taken : ℕ) → one ≡ Aos Packed Row → two ≡ Soa Multi Row → length (indices extents) ≡ 1000 →
-    kinds_of fields ≡ U32 ∷ [] → Costs one two fields extents taken → taken ≤ 2000
-to_arrays one two fields extents taken from to rows kinds costs =
+pub to_arrays : (one two : Term) (fields : Fields) (extents : List ℕ) (old new : ℕ) → old ≡ 0 → one ≡ Aos Packed Row → two ≡ Soa Multi Row → length (indices extents) ≡ 1000 →
+    kinds_of fields ≡ U32 ∷ [] → IsWithin one two fields extents old new → new ≤ 2000
+to_arrays one two fields extents old new begun from to rows kinds within =
     let leaf : length (leaves fields) ≡ 1 = sym (length-map (leaves fields) (λ leaf. leaf.kind)) ∙ ap (λ (ks : List LeafType). length ks) kinds in
     let is : IsStrategy one two way.Fields = rw (from, to) ((λ e. cc), (λ e. e)) in
-    let few = costs way.Fields is in
+    let few = within way.Fields is in
     let sum = rw (rows, leaf) at few in
-    omega (arith, sum)
+    omega (arith, begun, sum)
 
 -- a list of one type
 pub one_kind : (kinds : List LeafType) (kind : LeafType) → length kinds ≡ 1 → slice_get kinds 0 ≡ Some kind → kinds ≡ kind ∷ []
