@@ -28,14 +28,17 @@ pub length-warmed : (times : ℕ) (hot : ℕ → ℕ → Bool) (blobs : List (Li
 length-warmed times hot blobs = length_numbered (λ blob. warmed_blob times (hot blob.0) blob.1) blobs
 
 -- a count, and the counts of a blob
-pub get-warmed_blob : (times : ℕ) (hot : ℕ → Bool) (counts : List ℕ) (at : ℕ) → at < length counts → get_or (warmed_blob times hot counts) at 0 ≡ (if hot at then raised times (get_or counts at 0) else get_or counts at 0)
+pub get-warmed_blob : (times : ℕ) (hot : ℕ → Bool) (counts : List ℕ) (at : ℕ) → at < length counts
+    → get_or (warmed_blob times hot counts) at 0 ≡ (if hot at then raised times (get_or counts at 0) else get_or counts at 0)
 get-warmed_blob times hot counts at small = get_numbered (λ at. if hot at.0 then raised times at.1 else at.1) counts at 0 0 small
 
-pub get-warmed : (times : ℕ) (hot : ℕ → ℕ → Bool) (blobs : List (List ℕ)) (blob : ℕ) → blob < length blobs → get_or (warmed_times times hot blobs) blob [] ≡ warmed_blob times (hot blob) (get_or blobs blob [])
+pub get-warmed : (times : ℕ) (hot : ℕ → ℕ → Bool) (blobs : List (List ℕ)) (blob : ℕ) → blob < length blobs
+    → get_or (warmed_times times hot blobs) blob [] ≡ warmed_blob times (hot blob) (get_or blobs blob [])
 get-warmed times hot blobs blob small = get_numbered (λ blob. warmed_blob times (hot blob.0) blob.1) blobs blob [] [] small
 
 -- what is inside stays inside
-pub length-heated : (times : ℕ) (hot : ℕ → ℕ → Bool) (blobs : List (List ℕ)) (blob : ℕ) → blob < length blobs → length (get_or (warmed_times times hot blobs) blob []) ≡ length (get_or blobs blob [])
+pub length-heated : (times : ℕ) (hot : ℕ → ℕ → Bool) (blobs : List (List ℕ)) (blob : ℕ) → blob < length blobs
+    → length (get_or (warmed_times times hot blobs) blob []) ≡ length (get_or blobs blob [])
 length-heated times hot blobs blob small = ap length (get-warmed times hot blobs blob small) ∙ length-warmed_blob times (hot blob) (get_or blobs blob [])
 
 pub inside_kept : (times : ℕ) (heat : HeatCounts) (pieces : List Piece) (piece : Piece) → IsInside heat piece → IsInside (heated_times times pieces heat) piece

@@ -1,5 +1,5 @@
 -- Why no view was made.
-use Rattle.std.specs.Prelude.{ℕ, ◌≡◌, ◌<◌, ◌^◌, ◌⊎◌, ⊤, List, Ok, Err}
+use Rattle.std.specs.Prelude.{ℕ, ◌≡◌, ◌*◌, ◌<◌, ◌^◌, ◌⊎◌, ⊤, List, Ok, Err, length, sum_by}
 use Rattle.record_dim.specs.Trees.{Fields}
 use Rattle.record_dim.specs.Leaves.{kinds_of}
 use Rattle.map_expr.specs.Terms.{Term}
@@ -22,6 +22,13 @@ abbrev pub IsNoView : Term → List ℕ → Fields → MakeView → Type 0
 IsNoView term extents fields (Bad bad) = accepted term fields (leaf_cells (kinds_of fields)) ≡ Err bad
 IsNoView term extents fields TooBig = (accepted term fields (leaf_cells (kinds_of fields)) ≡ Ok tt) × IsOver term extents fields
 IsNoView term extents fields NoMemory = ⊤
+
+-- the same of a view that may have so many bytes
+abbrev pub IsNoViewWithin : ℕ → Term → List ℕ → Fields → MakeView → Type 0
+IsNoViewWithin most term extents fields (Bad bad) = accepted term fields (leaf_cells (kinds_of fields)) ≡ Err bad
+IsNoViewWithin most term extents fields TooBig =
+    (accepted term fields (leaf_cells (kinds_of fields)) ≡ Ok tt) × (IsOver term extents fields ⊎ (8 * most < sum_by length (layout_by term extents fields)))
+IsNoViewWithin most term extents fields NoMemory = ⊤
 
 -- the answer of a view for that of its mapping
 abbrev pub made_view : MakeMap → MakeView

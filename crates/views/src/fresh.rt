@@ -1,4 +1,4 @@
-ghost use Rattle.std.specs.Prelude.{ℕ, ◌≡◌, ◌<◌, ◌≤◌, ◌^◌, Some, None, IfOk, OnOk, IsErrOf, IfSome, option_map, if◌then◌else◌};
+ghost use Rattle.std.specs.Prelude.{ℕ, ◌≡◌, ◌*◌, ◌<◌, ◌≤◌, ◌^◌, nat_le, length, sum_by, Some, None, IfOk, OnOk, IsErrOf, IfSome, option_map, if◌then◌else◌};
 ghost use Rattle.blobs.specs.Bits.{bit_in};
 ghost use Rattle.piece_bits.specs.Tables.{AreLaid};
 ghost use Rattle.instrument.specs.Counters.{leaf_counts, heat_counts, no_counts, no_heat};
@@ -13,6 +13,21 @@ use instrument::{Counts, Heat, HeatFault};
 use map_any::MapExpr;
 use places::Mapping;
 use std::alloc::{AllocError as NoMemory, Global};
+
+/// Whether the blobs of a mapping have at most so many bytes together.
+pub fn is_within<M: Mapping>(mapping: &M, most: u64) -> bool
+    ensures { result ≡ nat_le (sum_by length (M.layout mapping.now)) (8 * most) }
+{
+    let mut left = most;
+    for blob in 0..mapping.blob_count() {
+        let bytes = mapping.blob_bytes(blob);
+        if bytes > left {
+            return false;
+        }
+        left -= bytes;
+    }
+    true
+}
 
 /// Blobs of a mapping's lengths that are all 0.
 pub fn zeroed_blobs<M: Mapping>(alloc: Global, mapping: &M) -> Result<BlobList, NoMemory>

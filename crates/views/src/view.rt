@@ -1,7 +1,7 @@
 ghost use Rattle.std.specs.Prelude.{ℕ, ◌≡◌, ◌+◌, ◌*◌, ◌^◌, ◌<◌, ◌≤◌, IfOk, OnOk, IfErr, OnErr, IfSome, Ok, List, false, is_some, option_map, length, sum_by};
 ghost use Rattle.extents.specs.Indices.{indices};
 ghost use Rattle.map_expr.specs.Terms.{term_of};
-ghost use Rattle.map_checks.specs.Mappings.{leaf_cells, accepted, IsBuiltTerm};
+ghost use Rattle.map_checks.specs.Mappings.{leaf_cells, layout_by, accepted, IsBuiltTerm};
 ghost use Rattle.map_any.specs.Counters.{has_count, granule_of, is_counted};
 ghost use Rattle.instrument.specs.Counters.{leaf_counts, heat_counts, HasLeaves};
 ghost use Rattle.views.specs.Tallies.{Access, no_tally};
@@ -11,7 +11,7 @@ ghost use Rattle.piece_bits.specs.Tables.{zeros, with_entry};
 
 use crate::access::{near_write, read_by_rule, short_read, short_write, wide_read, write_by_rule};
 use crate::fault::{MakeView, StoreFault};
-use crate::fresh::{new_counts, new_heat, zeroed_blobs};
+use crate::fresh::{is_within, new_counts, new_heat, zeroed_blobs};
 use crate::store::answer;
 use blobs::Blob;
 use extents::Extents;
@@ -27,6 +27,9 @@ use steps::Steps;
 mod columns;
 mod moves;
 mod touch;
+
+// The most bytes of a view.
+const MAX_BYTES: u64 = 1 << 28;
 
 /// The blobs of a view, in the order of its mapping.
 pub type BlobList = Vec<Blob>;
@@ -85,7 +88,7 @@ impl View {
     ghost use Rattle.record_dim.specs.Leaves.{leaves, kinds_of};
     ghost use Rattle.piece_bits.specs.Tables.{hold_at};
     ghost use Rattle.views.specs.Stores.{Fits, told};
-    ghost use Rattle.views.specs.Refusals.{IsOver, IsNoView};
+    ghost use Rattle.views.specs.Refusals.{IsOver, IsNoView, IsNoViewWithin};
     ghost use Rattle.views.specs.Tables.{leaf_count_of, leaf_type_of, leaf_types_of, owners_of, table_holds, answer_of, blob_bits_of, after_log, after_read, after_write, IsTable};
 
     /// A view of zeros, which lies in memory as the expression says. `Bad` comes exactly where the expression is refused, and `TooBig`
@@ -108,7 +111,34 @@ impl View {
         ensures fits { OnOk result (IsOver (term_of expr.now) extents (schema_fields schema.now) → ⊥) }
         ensures refused { IfErr result (IsNoView (term_of expr.now) extents (schema_fields schema.now)) }
     {
+        View::new_within(alloc, schema, extents, expr, MAX_BYTES)
+    }
+
+    /// The same, of at most so many bytes: `TooBig` also comes where the blobs have more, and before memory is asked for them.
+    pub fn new_within(
+        alloc: Global,
+        schema: &Schema,
+        extents: Extents,
+        expr: &MapExpr,
+        most: u64,
+    ) -> Result<View, MakeView>
+        requires built { IsBuiltTerm (term_of expr.now) }
+        ensures schema { IfOk result (λ v. v.fields ≡ schema_fields schema.now) }
+        ensures extents { IfOk result (λ v. v.extents ≡ extents) }
+        ensures expr { IfOk result (λ v. v.mapping ≡ term_of expr.now) }
+        ensures tally { IfOk result (λ v. v.tally ≡ no_tally v.mapping (owners_of v) (leaf_count_of v)) }
+        ensures table { IfOk result (λ v. v.rows ≡ zeros (length (indices extents)) (length (leaves (schema_fields schema.now)))) }
+
+        // Only want of memory comes before the other answers.
+        ensures accepted { OnOk result (accepted (term_of expr.now) (schema_fields schema.now) (leaf_cells (kinds_of (schema_fields schema.now))) ≡ Ok tt) }
+        ensures fits { OnOk result (IsOver (term_of expr.now) extents (schema_fields schema.now) → ⊥) }
+        ensures within { OnOk result (sum_by length (layout_by (term_of expr.now) extents (schema_fields schema.now)) ≤ 8 * most) }
+        ensures refused { IfErr result (IsNoViewWithin most (term_of expr.now) extents (schema_fields schema.now)) }
+    {
         let map = AnyMap::new(alloc, schema, &extents, expr)?;
+        if !is_within(&map, most) {
+            return Err(MakeView::TooBig);
+        }
         laws_of(&map);
         let heat = new_heat(alloc, &map, expr)?;
         let counts = new_counts(alloc, schema.leaf_count(), expr)?;

@@ -11,7 +11,7 @@ use Rattle.views.specs.Tallies.{Tally, no_tally}
 use Rattle.views.proofs.CountLaws.{new_tally, no_tally-tallied}
 use Rattle.views.proofs.KeptLaws.{kind_count, kept_zeros, zero_table}
 use Rattle.views.proofs.Opened.{mapping_copied, within_copied, lawful_there, paired_there, laid_there}
-use Rattle.views.proofs.view.View.new.Goals as goal
+use Rattle.views.proofs.view.View.new_within.Goals as goal
 
 pub invariant_of-result : goal.invariant_of-result
 invariant_of-result c =
@@ -74,5 +74,10 @@ invariant_of-map-in_err-schema c =
 
 pub invariant_of-map : goal.invariant_of-map
 invariant_of-map c =
+    let m = c.in_ok-map.map in
+    record { built = m.built; numbers = m.numbers; full = m.full; held = m.held; sized = m.sized; ruled = m.ruled; wide = m.wide; arrays = m.arrays; uncounted = m.uncounted }
+
+pub invariant_of-map-in_err-heat : goal.invariant_of-map-in_err-heat
+invariant_of-map-in_err-heat c =
     let m = c.in_ok-map.map in
     record { built = m.built; numbers = m.numbers; full = m.full; held = m.held; sized = m.sized; ruled = m.ruled; wide = m.wide; arrays = m.arrays; uncounted = m.uncounted }

@@ -1,0 +1,26 @@
+use Rattle.std.proofs.Common.{◌≡◌, ◌+◌, ◌*◌, [], length, take, sym, ap, ◌∙◌, arith}
+use Rattle.std.specs.List.{sum_by}
+use Rattle.std.proofs.lemmas.Bool.{lt-leb, le-leb}
+use Rattle.std.proofs.lemmas.List.{take_all}
+use Rattle.std.proofs.lemmas.List.Sums.{sum_by_more, sum_by-take-le}
+use Rattle.places.specs.Layout.{Owner}
+use Rattle.views.proofs.fresh.is_within.Goals as goal
+
+pub returns-then-bytes-left : goal.returns-then-bytes-left
+returns-then-bytes-left g c =
+    let layout = g.M.Mapping.layout c.args.mapping.now in
+    let more = sum_by_more (length {A = Owner}) layout c.loop-blob.blob [] (omega arith) in
+    let part = sum_by-take-le (length {A = Owner}) layout (c.loop-blob.blob + 1) in
+    sym (lt-leb (sum_by (length {A = Owner}) layout) (8 * c.args.most) (omega (arith, more, part, c.loop-blob.invariant, c.blob_bytes-bytes.ensures)))
+
+pub loop-blob-preserved : goal.loop-blob-preserved
+loop-blob-preserved g c =
+    let layout = g.M.Mapping.layout c.args.mapping.now in
+    let more = sum_by_more (length {A = Owner}) layout c.loop-blob.blob [] (omega arith) in
+    omega (arith, more, c.loop-blob.invariant, c.blob_bytes-bytes.ensures)
+
+pub returns : goal.returns
+returns g c =
+    let layout = g.M.Mapping.layout c.args.mapping.now in
+    let whole = ap (sum_by (length {A = Owner})) (take_all c.loop-blob.blob layout (omega arith)) in
+    sym (le-leb (sum_by (length {A = Owner}) layout) (8 * c.args.most) (omega (arith, whole, c.loop-blob.invariant)))
