@@ -1,5 +1,5 @@
 -- The number of values that are taken sixteen at a time.
-use Rattle.std.proofs.Common.{◌≡◌, ℕ, ◌+◌, ◌-◌, ◌*◌, ◌/◌, ◌%◌, ◌≤◌, ◌++◌, List, [], length, take, drop, fold, map, replicate, ℤ, pos, sym, ap, ◌∙◌, subst, arith, length-take, length-drop}
+use Rattle.std.proofs.Common.{◌≡◌, ℕ, ◌+◌, ◌-◌, ◌*◌, ◌/◌, ◌≤◌, ◌++◌, List, length, take, drop, fold, replicate, ℤ, pos, sym, ap, ◌∙◌, subst, arith, length-take, length-drop}
 use Rattle.std.specs.Simd.Lanes.{Each1}
 use Rattle.std.proofs.lemmas.List.{append-nil, take_all, length-map}
 use Rattle.lanes.specs.Blocks.{IsNarrow}

@@ -35,7 +35,7 @@ use Rattle.lane_kernels.specs.declared.reductions.Reduction.{Reduction}
 use Rattle.lane_kernels.specs.declared.reductions.Reduction.TheVariants.{Sum, Least, Greatest, Count}
 use Rattle.lane_kernels.proofs.Rows.{rows_stand}
 use Rattle.lane_kernels.proofs.Logs.{logs_from}
-use Rattle.lane_kernels.proofs.Stepping.{IsAt, IsStep, at_start}
+use Rattle.lane_kernels.proofs.Stepping.{IsAt, IsStep}
 
 -- a value of at most 32 bits
 declared_constant : (kind : LeafType) (value : ℤ) → width_of kind ≤ 32 → IsDeclared kind value → IsNarrow value
@@ -349,14 +349,6 @@ pub record HasReduced (reduction : Reduction) (leaf lanes : ℕ) (old view : Tab
   pub so_far : number ≡ reduced reduction (take row (column leaf old.rows))
   pub small : IsSmall row number
   pub at : IsAt lanes (length old.rows) row
-
-pub nothing_reduced : (reduction : Reduction) (leaf lanes : ℕ) (old : Table) (number : ℤ) → 0 < lanes → number ≡ start reduction → HasReduced reduction leaf lanes old old 0 number
-nothing_reduced reduction leaf lanes old number some is = record {
-  same = sym (after_log-none old);
-  so_far = is;
-  small = subst (IsSmall 0) (sym is) (start_small reduction);
-  at = at_start lanes (length old.rows) some;
-}
 
 -- the first lanes of a load
 pub lanes_of : (values block : List ℤ) (step : ℕ) → block ≡ take step values ++ replicate (16 - step) (pos 0) → step ≤ length values → take step block ≡ take step values

@@ -1,8 +1,6 @@
-use Rattle.std.proofs.Common.{◌≡◌, ◌+◌, ◌*◌, ◌≤◌, ℕ, ℤ, FitsSigned, length, w64, sym, ap, subst, ◌∙◌, rules, arith}
+use Rattle.std.proofs.Common.{◌+◌, ◌*◌, FitsSigned, w64, rules, arith}
 use Rattle.std.proofs.lemmas.Int.{to_z-of_z}
-use Rattle.lane_kernels.specs.Reductions.{IsSmall}
-use Rattle.lane_kernels.proofs.NearRows.{nothing_taken, block_long, block_rest, taken_more, all_taken}
-use Rattle.lane_kernels.proofs.near.number_by.Given as given
+use Rattle.lane_kernels.proofs.NearRows.{nothing_taken, block_long, block_rest, taken_more}
 use Rattle.lane_kernels.proofs.near.number_by.Goals as goal
 
 pub loop-block-init : goal.loop-block-init
