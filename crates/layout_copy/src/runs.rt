@@ -30,6 +30,7 @@ pub(crate) fn copy_runs<L: Ledger>(source: &View, target: &mut View, steps: &mut
     };
     laws_of_table(source);
     laws_of_table(target);
+    // Where there is no row, a block may have no slots.
     if source.extents().count() == 0 {
         return;
     }
@@ -41,6 +42,7 @@ fn array_slots(view: &View) -> Option<ArraySlots>
     ensures value { result ≡ option_map (slots_in view.now.extents) (array_of view.now.mapping) }
     ensures some { 0 < length view.now.rows → IfSome result (λ slots. 0 < slots.lanes) }
 {
+    // There is a leaf, so some block holds a bit of each row.
     let _leaves = view.schema().leaf_count();
     let map = view.map();
     laws_of(map);
