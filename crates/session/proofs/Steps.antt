@@ -1,11 +1,11 @@
 -- What the commands answer is what their lines answer.
-use Rattle.std.proofs.Common.{◌≡◌, ℕ, Bool, true, false, List, Option, Some, Result, Ok, Err, inl, inr, ⊎_elim, refl, ◌∙◌, arith}
+use Rattle.std.proofs.Common.{◌≡◌, ℕ, Bool, true, false, List, Option, Some, Result, Ok, Err, refl, ◌∙◌, arith}
 use Rattle.layout_io.specs.Files.{File}
 use Rattle.layout_io.specs.WritingLaws.{Wrote-nil, with_bytes-nil}
 use Rattle.line_grammar.specs.Sentences.{Sentence}
 use Rattle.worlds.specs.Worlds.{World}
 use Rattle.worlds.specs.Answers.{text_of, StepsTo, StepCause}
-use Rattle.worlds.specs.Outcomes.{Outcome, CannotRead, Left}
+use Rattle.worlds.specs.Outcomes.{Outcome, Left}
 use Rattle.worlds.specs.Step.{step, command}
 use Rattle.command_checks.specs.Gives.{Gives}
 use Rattle.command_checks.specs.declared.fault.StepFault.{StepFault}

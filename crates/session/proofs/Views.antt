@@ -1,5 +1,5 @@
 -- What a work on a view answers is what the command on the view of a name answers.
-use Rattle.std.proofs.Common.{◌≡◌, ℕ, List, map, get_or, Option, Some, None, Result, Ok, Err, refl, sym, ap, subst, ◌∙◌}
+use Rattle.std.proofs.Common.{◌≡◌, ℕ, List, map, get_or, Option, Some, None, Result, Err, refl, sym, ap, subst, ◌∙◌}
 use Rattle.std.specs.Prelude.{slice_set}
 use Rattle.layout_io.specs.Writing.{Wrote, Stopped}
 use Rattle.instrument.specs.Counters.{LeafCounts, HeatCounts}

@@ -1,5 +1,5 @@
 -- What the answer to a load says of its outcome, and of what was read.
-use Rattle.std.specs.Prelude.{ℕ, ◌≡◌, ◌≤◌, ◌⊎◌, Bool, true, false, List, length, Option, Some, None, IsSome, IsSomeAnd, Result, Ok, Err}
+use Rattle.std.specs.Prelude.{ℕ, ◌≡◌, ◌≤◌, ◌⊎◌, Bool, true, false, List, length, Option, Some, IsSome, IsSomeAnd, Result, Ok, Err}
 use Rattle.layout_io.specs.Faults.{Rose}
 use Rattle.layout_io.specs.Files.{File}
 use Rattle.record_dim.specs.Schemas.{schema_fields}

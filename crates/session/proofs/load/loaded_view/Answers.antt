@@ -4,7 +4,6 @@ use Rattle.layout_io.specs.Files.{file_of, IsMissing}
 use Rattle.worlds.specs.Load.{loaded_table, loaded, read}
 use Rattle.worlds.specs.Outcomes.{◌>>=◌}
 use Rattle.worlds.specs.View.{Named}
-use Rattle.map_expr.specs.Terms.{term_of}
 use Rattle.views.specs.Tables.{Table}
 use Rattle.session.specs.Stands.{world_in}
 use Rattle.command_checks.specs.Entries.{view_of}

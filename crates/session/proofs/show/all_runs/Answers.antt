@@ -4,7 +4,6 @@ use Rattle.places.specs.Layout.{Owner}
 use Rattle.places.specs.declared.piece.Run.{Run}
 use Rattle.map_any.specs.Runs.{runs_of}
 use Rattle.record_dim.specs.Leaves.{leaves}
-use Rattle.record_dim.specs.Schemas.{schema_fields}
 use Rattle.views.specs.Tables.{owners_of, leaf_types_of}
 use Rattle.views.specs.TallyLaws.{logs_more}
 use Rattle.session.proofs.Runs.{IsRunBelow, runs_below}

@@ -1,7 +1,6 @@
 use Rattle.std.proofs.Common.{rules, ◌≡◌, ◌++◌, ◌∷◌, [], List, Err, map, get_or, drop, take, suc, subst, sym, ap, ◌∙◌, length}
 use Rattle.std.proofs.lemmas.List.Elements.{All-push}
 use Rattle.line_grammar.specs.Sentences.{Assignment, assignment_of}
-use Rattle.record_dim.specs.Schemas.{schema_fields}
 use Rattle.row_updates.specs.Rows.{Setting, setting_of, IsSetOf}
 use Rattle.std.proofs.lemmas.List.{map-append}
 use Rattle.worlds.specs.Names.{bound_sets}

@@ -1,7 +1,6 @@
 use Rattle.std.proofs.Common.{◌≡◌, length, map, take}
 use Rattle.std.specs.Prelude.{All}
 use Rattle.line_grammar.specs.Sentences.{assignment_of}
-use Rattle.record_dim.specs.Schemas.{schema_fields}
 use Rattle.row_updates.specs.Rows.{IsSetOf, setting_of}
 use Rattle.worlds.specs.Names.{bound_sets}
 use Rattle.worlds.specs.Outcomes.{Goes}

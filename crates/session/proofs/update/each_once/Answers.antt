@@ -1,5 +1,4 @@
 use Rattle.std.proofs.Common.{arith, ◌<◌, ◌∙◌, ◌≤◌, ℕ, length, map, refl, ap}
-use Rattle.record_dim.specs.Schemas.{schema_fields}
 use Rattle.row_updates.specs.Rows.{setting_of}
 use Rattle.views.specs.Tables.{leaf_count_of}
 use Rattle.worlds.specs.Names.{leaves_of, text_of_leaf}

@@ -1,5 +1,4 @@
 use Rattle.std.proofs.Common.{map}
-use Rattle.record_dim.specs.Schemas.{schema_fields}
 use Rattle.row_updates.specs.Rows.{setting_of}
 use Rattle.worlds.specs.Names.{leaves_of}
 use Rattle.session.proofs.Sets.{IsOnce}

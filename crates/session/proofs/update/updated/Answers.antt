@@ -1,4 +1,4 @@
-use Rattle.std.proofs.Common.{rules, ◌≡◌, ◌∙◌, Err, ap, length, map, option_map, []}
+use Rattle.std.proofs.Common.{rules, ◌≡◌, ◌∙◌, Err, ap, map, option_map}
 use Rattle.expr_lang.specs.Bounds.{bound_term}
 use Rattle.expr_lang.specs.Terms.{term_of}
 use Rattle.line_grammar.specs.Sentences.{assignment_of}

@@ -44,12 +44,12 @@ returns-in-View-clause-answers g c = λ files unread.
 pub returns-in-Copy-clause-answers : goal.returns-in-Copy-clause-answers
 returns-in-Copy-clause-answers g c = λ files unread.
     quiet_by g.K.Sink.taken g.K.Sink.faults c.args.out.now _ (copy (world_of c.args.self) c.in-Copy.source c.in-Copy.target) c.copy.result
-    (ap (λ (line : Line). command (world_of c.args.self) (sentence_of line) files unread) c.in-Copy.is) c.copy.ensures
+    (ap (λ (line : Line). command (world_of c.args.self) (sentence_of line) files unread) c.in-Copy.is) c.copy.ensures.copied
 
 pub returns-in-Relayout-clause-answers : goal.returns-in-Relayout-clause-answers
 returns-in-Relayout-clause-answers g c = λ files unread.
     quiet_by g.K.Sink.taken g.K.Sink.faults c.args.out.now _ (relayout (world_of c.args.self) c.in-Relayout.view (term_of c.in-Relayout.expr)) c.relayout.result
-    (ap (λ (line : Line). command (world_of c.args.self) (sentence_of line) files unread) c.in-Relayout.is) c.relayout.ensures
+    (ap (λ (line : Line). command (world_of c.args.self) (sentence_of line) files unread) c.in-Relayout.is) c.relayout.ensures.laid
 
 pub returns-in-Drop-clause-answers : goal.returns-in-Drop-clause-answers
 returns-in-Drop-clause-answers g c = λ files unread.

@@ -2,7 +2,6 @@ use Rattle.std.proofs.Common.{rules, ◌≡◌, ◌∙◌, Bool, List, [], true,
 use Rattle.layout_io.specs.Faults.{Rose}
 use Rattle.layout_io.specs.Files.{File}
 use Rattle.views.specs.Tables.{Table}
-use Rattle.map_expr.specs.Terms.{term_of}
 use Rattle.worlds.specs.Load.{load, loaded_table}
 use Rattle.worlds.specs.Outcomes.{Goes}
 use Rattle.worlds.specs.View.{with_view}

@@ -1,10 +1,9 @@
 use Rattle.std.proofs.Common.{rules, refl}
 use Rattle.command_checks.specs.Entries.{view_of}
-use Rattle.command_checks.specs.GivesLaws.{GivesUp-then}
 use Rattle.command_checks.specs.Places.{IsAt}
 use Rattle.command_checks.specs.declared.entries.ViewEntry.{ViewEntry}
-use Rattle.session.specs.Stands.{Stands, world_of}
-use Rattle.session.proofs.Exits.{gave_up, known_at}
+use Rattle.session.specs.Stands.{world_of}
+use Rattle.session.proofs.Exits.{known_at}
 use Rattle.session.proofs.Views.{view_stops, view_done}
 use Rattle.session.proofs.session.Session.on_view.Goals as goal
 

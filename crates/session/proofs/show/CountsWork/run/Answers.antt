@@ -1,9 +1,8 @@
-use Rattle.std.proofs.Common.{rules, ◌≡◌, ◌∙◌, Some, None, option_map, sym, ap}
+use Rattle.std.proofs.Common.{rules, ◌≡◌, Some}
 use Rattle.record_dim.specs.Leaves.{texts_of}
-use Rattle.record_dim.specs.Schemas.{schema_fields}
 use Rattle.instrument.specs.Counters.{leaf_counts}
 use Rattle.instrument.specs.CounterTexts.{counts_text}
-use Rattle.session.specs.Changes.{IsLeft, left_with}
+use Rattle.session.specs.Changes.{left_with}
 use Rattle.session.proofs.Exits.{refused}
 use Rattle.session.proofs.Views.{counts_goes, counts_none, then_broke, then_wrote}
 use Rattle.session.proofs.show.CountsWork.run.Goals as goal

@@ -1,7 +1,6 @@
 use Rattle.std.proofs.Common.{rules}
 use Rattle.instrument.specs.CounterTexts.{runs_text}
 use Rattle.record_dim.specs.Leaves.{texts_of}
-use Rattle.record_dim.specs.Schemas.{schema_fields}
 use Rattle.views.specs.Tables.{owners_of}
 use Rattle.worlds.specs.Show.{layout, all_runs}
 use Rattle.command_checks.specs.GivesLaws.{GivesUp-then}

@@ -1,7 +1,6 @@
 use Rattle.std.proofs.Common.{rules, length, refl, ap, sym}
 use Rattle.csv_rows.specs.Texts.{print_text}
 use Rattle.record_dim.specs.Leaves.{texts_of}
-use Rattle.record_dim.specs.Schemas.{schema_fields}
 use Rattle.views.specs.Tables.{Table, after_log, leaf_count_of}
 use Rattle.views.specs.Tallies.{all_accesses, Read}
 use Rattle.worlds.specs.Outcomes.{Goes}
