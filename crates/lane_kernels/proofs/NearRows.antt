@@ -33,18 +33,3 @@ taken_more reduction values block done next number more so_far there room is nar
       small = subst (IsSmall (done + 16)) (sym taken)
           (taking_small reduction done 16 number (take 16 block) so_far.small (first_narrow block 16 narrow) (omega (arith, length-take 16 block, long)));
     })
-
--- all of them
-pub all_taken : (reduction : Reduction) (values : List ℤ) (done : ℕ) (number : ℤ) → HasTaken reduction values done number → done ≡ length values → number ≡ reduced reduction values
-all_taken reduction values done number so_far all = so_far.so_far ∙ ap (reduced reduction) (take_all done values (omega (arith, all)))
-
--- the values of a near leaf are those of the rows of whole blocks
-module _ (leaf : ℕ) (rows : List (List ℤ)) (values : List ℤ) (is : values ≡ take (16 * (length rows / 16)) (column leaf rows)) where
-  pub near_count : length values ≡ 16 * (length rows / 16)
-  near_count =
-      ap length is
-      ∙ (let count : length (take (16 * (length rows / 16)) (column leaf rows)) ≡ 16 * (length rows / 16) =
-      omega (arith, length-take (16 * (length rows / 16)) (column leaf rows), length-map rows (in_leaf leaf)) in count)
-
-  pub near_reduced : (reduction : Reduction) (number : ℤ) (done : ℕ) → number ≡ reduced reduction values → done ≡ length values → number ≡ reduced reduction (take done (column leaf rows))
-  near_reduced reduction number done taken all = taken ∙ ap (reduced reduction) (is ∙ ap (λ (n : ℕ). take n (column leaf rows)) (sym near_count ∙ sym all))

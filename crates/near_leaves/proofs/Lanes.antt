@@ -1,5 +1,5 @@
 -- Numbers that are stored as leaf types of at most 32 bits, and sixteen of them.
-use Rattle.std.proofs.Common.{◌≡◌, ◌≢◌, ℕ, ◌+◌, ◌-◌, ◌*◌, ◌/◌, ◌%◌, ◌^◌, ◌<◌, ◌≤◌, inl, inr, ⊎_elim, Bool, List, length, get_or, set, ℤ, pos, to_z, of_z, w64, refl, sym, ap, ◌∙◌, subst, arith}
+use Rattle.std.proofs.Common.{◌≡◌, ◌≢◌, ℕ, ◌+◌, ◌-◌, ◌*◌, ◌/◌, ◌%◌, ◌^◌, ◌<◌, ◌≤◌, ⊎_elim, Bool, List, length, get_or, set, ℤ, pos, to_z, of_z, w64, refl, sym, ap, ◌∙◌, subst, arith}
 use Rattle.std.specs.Simd.Lanes.{Each1}
 use Rattle.std.proofs.lemmas.Bool.{cases_lt}
 use Rattle.std.proofs.lemmas.Int.{ints, to_z-of_z}
@@ -10,7 +10,7 @@ use Rattle.record_dim.specs.LeafTypes.{IsIn}
 use Rattle.places.specs.Image.{number, decoded}
 use Rattle.places.specs.NumbersLaws.{number_lt, number_same, decoded_in}
 use Rattle.places.specs.declared.piece.Hold.{Hold}
-use Rattle.blobs.specs.Bits.{bit_of, IsWhole}
+use Rattle.blobs.specs.Bits.{bit_of}
 use Rattle.lanes.specs.Blocks.{IsBlock, IsNarrow}
 use Rattle.lanes.specs.BlockLaws.{narrow_block, narrow_fits}
 use Rattle.piece_bits.specs.Words.{word_place, word_signed, word_width}
@@ -28,22 +28,6 @@ lane_width lane_word.U32 = refl
 lane_width lane_word.I8 = refl
 lane_width lane_word.I16 = refl
 lane_width lane_word.I32 = refl
-
-whole_lane : (word : LaneWord) → IsWhole (lane_hold word).width
-whole_lane lane_word.U8 = inl refl
-whole_lane lane_word.U16 = inr (inl refl)
-whole_lane lane_word.U32 = inr (inr (inl refl))
-whole_lane lane_word.I8 = inl refl
-whole_lane lane_word.I16 = inr (inl refl)
-whole_lane lane_word.I32 = inr (inr (inl refl))
-
-pub few_bytes : (word : LaneWord) → lane_bytes word ≤ 4
-few_bytes lane_word.U8 = omega arith
-few_bytes lane_word.U16 = omega arith
-few_bytes lane_word.U32 = omega arith
-few_bytes lane_word.I8 = omega arith
-few_bytes lane_word.I16 = omega arith
-few_bytes lane_word.I32 = omega arith
 
 some_bytes : (word : LaneWord) → 1 ≤ lane_bytes word
 some_bytes lane_word.U8 = omega arith
@@ -72,30 +56,12 @@ number_narrow word bytes at =
     narrow_in word (number_at word bytes at)
     (decoded_in hold.signed hold.width (number (λ k. bit_of bytes (8 * at + k)) hold.width) (omega (arith, lane_width word, some_bytes word)) (bits_small bytes at hold.width))
 
-module _ (word : LaneWord) (hold : Hold) (is : hold ≡ lane_hold word) where
-  width_is : hold.width ≡ 8 * lane_bytes word
-  width_is = ap (λ (h : Hold). h.width) is ∙ lane_width word
-
-  pub hold_whole : IsWhole hold.width
-  hold_whole = subst (λ (h : Hold). IsWhole h.width) (sym is) (whole_lane word)
-
-  pub hold_some : 1 ≤ hold.width
-  hold_some = omega (arith, width_is, some_bytes word)
-
-  pub hold_few : hold.width ≤ 64
-  hold_few = omega (arith, width_is, few_bytes word)
-
-  pub hold_room : (at len : ℕ) → at + lane_bytes word ≤ len → 8 * at + hold.width ≤ 8 * len
-  hold_room at len room = omega (arith, width_is, room)
-
-  pub hold_fits : (bytes : List ℕ) (at bits : ℕ) → bits ≡ number (λ k. bit_of bytes (8 * at + k)) hold.width → bits < 2 ^ hold.width
-  hold_fits bytes at bits read = subst (λ (n : ℕ). n < 2 ^ hold.width) (sym read) (bits_small bytes at hold.width)
-
-  -- what is decoded is the number
-  pub hold_number : (bytes : List ℕ) (at bits : ℕ) → bits ≡ number (λ k. bit_of bytes (8 * at + k)) hold.width → decoded hold.signed hold.width bits ≡ number_at word bytes at
-  hold_number bytes at bits read =
-      ap (decoded hold.signed hold.width) read
-      ∙ ap (λ (h : Hold). decoded h.signed h.width (number (λ k. bit_of bytes (8 * at + k)) h.width)) is
+-- what is decoded is the number
+pub hold_number : (word : LaneWord) (hold : Hold) (bytes : List ℕ) (at bits : ℕ) → hold ≡ lane_hold word → bits ≡ number (λ k. bit_of bytes (8 * at + k)) hold.width
+    → decoded hold.signed hold.width bits ≡ number_at word bytes at
+hold_number word hold bytes at bits is read =
+    ap (decoded hold.signed hold.width) read
+    ∙ ap (λ (h : Hold). decoded h.signed h.width (number (λ k. bit_of bytes (8 * at + k)) h.width)) is
 
 pub narrow_number : (word : LaneWord) (bytes : List ℕ) (at : ℕ) (value : ℤ) → value ≡ number_at word bytes at → IsNarrow value
 narrow_number word bytes at value is = subst IsNarrow (sym is) (number_narrow word bytes at)

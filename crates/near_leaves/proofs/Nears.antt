@@ -1,19 +1,16 @@
 -- The places and the numbers of a near leaf.
-use Rattle.std.proofs.Common.{◌≡◌, ◌≢◌, ℕ, ◌+◌, ◌-◌, ◌*◌, ◌/◌, ◌%◌, ◌<◌, ◌≤◌, ⊎_elim, true, List, length, get_or, take, drop, map, ℤ, pos, sym, ap, ◌∙◌, arith, length-take, length-drop}
+use Rattle.std.proofs.Common.{◌≡◌, ℕ, ◌+◌, ◌-◌, ◌*◌, ◌/◌, ◌%◌, ◌<◌, ◌≤◌, ⊎_elim, List, length, get_or, take, drop, map, ℤ, pos, sym, ap, ◌∙◌, arith, length-take, length-drop}
 use Rattle.std.specs.List.{range_with_len}
 use Rattle.std.proofs.lemmas.Bool.{cases_lt}
 use Rattle.std.proofs.lemmas.List.{length-map, get_or-map, get_or-take, get_or-drop, get_or_default, same_lists}
 use Rattle.std.proofs.lemmas.List.FromFn.{length-range_with_len, get_or-range_with_len}
-use Rattle.piece_bits.specs.Words.{word_bit, word_width}
-use Rattle.piece_bits.specs.declared.word.Word.TheVariants as stored
 use Rattle.short_rules.specs.Shorts.{start_in}
-use Rattle.short_rules.specs.Walks.{leads}
 use Rattle.short_rules.specs.declared.short.ShortRule.{ShortRule}
 use Rattle.near_leaves.specs.Lanes.{lane_bytes, number_at, IsStoredAs}
 use Rattle.near_leaves.specs.Nears.{near_place, near_numbers, stands_at, NearLeaf, IsNear, IsSpread}
 use Rattle.near_leaves.specs.declared.spread.Spread.{Spread}
 use Rattle.near_leaves.specs.declared.word.LaneWord.{LaneWord}
-use Rattle.near_leaves.proofs.Lanes.{lane_width, stored_number}
+use Rattle.near_leaves.proofs.Lanes.{stored_number}
 
 -- ---- lists of numbers by their rows
 
@@ -117,13 +114,6 @@ module _ (word : LaneWord) (bytes : List ℕ) (base step half blocks : ℕ) (nea
 
 module _ (short : ShortRule) (bytes : List ℕ) (rows : ℕ) (word : LaneWord) (stored_as : IsStoredAs short.word word) (spread : Spread)
     (spread_so : IsSpread short (lane_bytes word) spread) where
-  pub near_room : (leads short.walk ≡ true → short.word ≢ stored.Scattered → (row : ℕ) → row < rows
-      → word_bit short.word (start_in short row) + word_width short.word short.field ≤ 8 * length bytes)
-      → (row : ℕ) → row < 16 * (rows / 16) → near_place short.base spread.step spread.half (lane_bytes word) row + lane_bytes word ≤ length bytes
-  near_room room row below =
-      let there = room spread_so.leads stored_as.alone row (omega (arith, below)) in
-      omega (arith, there, stored_as.bit (start_in short row), stored_as.wide short.field, lane_width word, spread_so.place row)
-
   pub spread_numbers : near_numbers word bytes short.base spread.step spread.half (rows / 16) ≡ map (stands_at short bytes) (range_with_len 0 (16 * (rows / 16)))
   spread_numbers =
       map_rows (λ row. number_at word bytes (near_place short.base spread.step spread.half (lane_bytes word) row)) (stands_at short bytes) 0 (16 * (rows / 16)) (λ row.

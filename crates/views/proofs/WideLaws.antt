@@ -12,23 +12,10 @@ use Rattle.piece_bits.specs.Words.{word_place, word_signed, word_width}
 use Rattle.piece_bits.specs.declared.field.Field.{Field}
 use Rattle.piece_bits.specs.declared.word.Word.{Word}
 use Rattle.piece_bits.specs.declared.word.Word.TheVariants as stored
-use Rattle.short_rules.specs.Walks.{leads, walks_plain, walks_in_blocks}
 use Rattle.short_rules.specs.Wides.{is_turned_width, IsAsWhole, IsAsTurned, IsWide}
 use Rattle.short_rules.specs.declared.short.ShortRule.{ShortRule}
-use Rattle.short_rules.specs.declared.walk.Walk.{Walk}
-use Rattle.short_rules.specs.declared.walk.Walk.TheVariants as walk
 use Rattle.short_rules.specs.declared.wide.Wide.{Wide}
-
--- a walk by rows leads to slots
-pub plain_leads : (way : Walk) → walks_plain way ≡ true → leads way ≡ true
-plain_leads walk.Plain e = refl
-plain_leads walk.None e = e
-plain_leads _ e = refl
-
-pub blocks_lead : (way : Walk) → walks_in_blocks way ≡ true → leads way ≡ true
-blocks_lead walk.Blocks e = refl
-blocks_lead walk.None e = e
-blocks_lead _ e = refl
+pub use Rattle.near_leaves.proofs.Spreads.{plain_leads, blocks_lead}
 
 -- the bytes of a blob, where those outside of the list have none
 pub bytes_laid : (layout : List (List Owner)) (blobs : List (List ℕ)) (blob : ℕ) → AreLaid layout blobs → 8 * length (get_or blobs blob []) ≡ length (get_or layout blob [])

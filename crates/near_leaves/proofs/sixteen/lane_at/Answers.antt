@@ -10,7 +10,7 @@ use Rattle.near_leaves.proofs.sixteen.lane_at.Goals.{After-decode}
 
 -- what is decoded is the number
 said : (c : After-decode) → c.decode.result ≡ number_at c.args.word c.args.blob.now c.args.at
-said c = c.decode.ensures ∙ hold_number c.args.word c.hold-hold.result c.hold-hold.ensures c.args.blob.now c.args.at c.whole.result c.whole.ensures
+said c = c.decode.ensures ∙ hold_number c.args.word c.hold-hold.result c.args.blob.now c.args.at c.whole.result c.hold-hold.ensures c.whole.ensures
 
 wide : (c : After-decode) → to_z w128 (of_z w128 c.decode.result) ≡ number_at c.args.word c.args.blob.now c.args.at
 wide c =
