@@ -1,5 +1,5 @@
 -- A number that is further from 0 than any leaf reaches.
-use Rattle.std.proofs.Common.{◌≡◌, ◌⊎◌, inl, inr, ℕ, zero, suc, ◌^◌, ◌-◌, ◌<◌, List, [], ◌∷◌, ◌≤◌, min, Bool, true, false, ◌&&◌, ℤ, pos, negsuc, neg_ℤ, ◌<ℤ◌, Result, Err, Option, Some, None, refl, sym, ap, ◌∙◌, arith, ⊎_elim}
+use Rattle.std.proofs.Common.{◌≡◌, ◌⊎◌, inl, inr, ℕ, suc, ◌^◌, ◌-◌, ◌<◌, List, ◌≤◌, min, Bool, true, false, ◌&&◌, ℤ, pos, negsuc, neg_ℤ, ◌<ℤ◌, Result, Err, Option, Some, None, refl, sym, ap, ◌∙◌, arith, ⊎_elim}
 use Rattle.std.specs.Prelude.{int_le, option_map}
 use Rattle.std.specs.List.{slice_get}
 use Rattle.std.proofs.lemmas.Int.{ints}
@@ -10,7 +10,6 @@ use Rattle.record_dim.specs.LeafTypes.{least_of, greatest_of}
 use Rattle.places.specs.declared.piece.Hold.{Hold}
 use Rattle.views.specs.Stores.{store_answer}
 use Rattle.views.specs.declared.fault.StoreFault.TheVariants.{Range}
-use Rattle.csv.specs.Records.{field_at}
 use Rattle.csv_rows.specs.Clipped.{clipped}
 use Rattle.csv_rows.specs.Datasets.{◌>>=◌, Place, unspaced, number_of, the_field, the_number, taken, value_at}
 use Rattle.csv_rows.specs.declared.fault.RowFault.{RowFault}
@@ -68,13 +67,6 @@ kept kind hold (negsuc n) =
     (λ (far : 2 ^ 65 ≤ suc n). let most : min (2 ^ 65) (suc n) ≡ suc (2 ^ 65 - 1) = omega arith in inr (far_below kind hold n far, ap (λ m. store_answer kind hold (neg_ℤ (pos m))) most ∙ far_below kind hold (2 ^ 65 - 1) (omega arith)))
     (cases_lt (suc n) (2 ^ 65))
 
--- the field at a place
-same_at : (fields : List (List ℕ)) (i : ℕ) → slice_get fields i ≡ field_at fields i
-unfolding field_at
-same_at [] i = refl
-same_at (field ∷ fields) zero = refl
-same_at (field ∷ fields) (suc i) = same_at fields i
-
 none_from : (number : Option ℤ) → option_map clipped number ≡ None → number ≡ None
 none_from None e = refl
 none_from (Some z) e = absurd (cc e)
@@ -82,15 +74,9 @@ none_from (Some z) e = absurd (cc e)
 abbrev value_of : Place → Option ℤ → Result ℤ RowFault
 value_of place number = the_number place number >>= (λ value. taken place (store_answer place.kind place.hold value))
 
--- no field, a field that is no number, and one that is
-pub value_short : (place : Place) (fields : List (List ℕ)) → field_at fields place.column ≡ None → value_at place fields ≡ Err (ShortRow place.row place.leaf)
-value_short place fields none = ap (λ (field : Option (List ℕ)). the_field place field >>= (λ text. value_of place (number_of (unspaced text)))) (same_at fields place.column ∙ none)
-
-value_in : (place : Place) (fields : List (List ℕ)) (field : List ℕ) → field_at fields place.column ≡ Some field → value_at place fields ≡ value_of place (number_of (unspaced field))
-value_in place fields field some = ap (λ (found : Option (List ℕ)). the_field place found >>= (λ text. value_of place (number_of (unspaced text)))) (same_at fields place.column ∙ some)
-
-pub value_none : (place : Place) (fields : List (List ℕ)) (field : List ℕ) → field_at fields place.column ≡ Some field → option_map clipped (number_of (unspaced field)) ≡ None → value_at place fields ≡ Err (Number place.row place.leaf)
-value_none place fields field some none = value_in place fields field some ∙ ap (value_of place) (none_from (number_of (unspaced field)) none)
+-- the number of a field, as it was asked for
+abbrev pub number_in : List ℕ → Option ℤ
+number_in field = option_map clipped (number_of (unspaced field))
 
 clip_of : (place : Place) (number : Option ℤ) (value : ℤ) → option_map clipped number ≡ Some value → value_of place number ≡ taken place (store_answer place.kind place.hold value)
 clip_of place None value is = absurd (cc is)
@@ -100,5 +86,27 @@ clip_of place (Some z) value is = ⊎_elim
     ap (taken place) far.0 ∙ sym (ap (λ v. taken place (store_answer place.kind place.hold v)) (sym (some_is is)) ∙ ap (taken place) far.1))
     (kept place.kind place.hold z)
 
-pub value_some : (place : Place) (fields : List (List ℕ)) (field : List ℕ) (value : ℤ) → field_at fields place.column ≡ Some field → option_map clipped (number_of (unspaced field)) ≡ Some value → value_at place fields ≡ taken place (store_answer place.kind place.hold value)
-value_some place fields field value some is = value_in place fields field some ∙ clip_of place (number_of (unspaced field)) value is
+-- no field, a field that is no number, and one that is
+no_field : (place : Place) (fields : List (List ℕ)) → slice_get fields place.column ≡ None → value_at place fields ≡ Err (ShortRow place.row place.leaf)
+no_field place fields none = ap (λ (field : Option (List ℕ)). the_field place field >>= (λ text. value_of place (number_of (unspaced text)))) none
+
+field_in : (place : Place) (fields : List (List ℕ)) (field : List ℕ) → slice_get fields place.column ≡ Some field → value_at place fields ≡ value_of place (number_of (unspaced field))
+field_in place fields field some = ap (λ (found : Option (List ℕ)). the_field place found >>= (λ text. value_of place (number_of (unspaced text)))) some
+
+pub value_short : (place : Place) (fields : List (List ℕ)) → None ≡ option_map number_in (slice_get fields place.column) → value_at place fields ≡ Err (ShortRow place.row place.leaf)
+value_short place fields = by (slice_get fields place.column) refl where
+  by : (found : Option (List ℕ)) → slice_get fields place.column ≡ found → None ≡ option_map number_in found → value_at place fields ≡ Err (ShortRow place.row place.leaf)
+  by None is none = no_field place fields is
+  by (Some field) is none = cc none
+
+pub value_none : (place : Place) (fields : List (List ℕ)) → Some None ≡ option_map number_in (slice_get fields place.column) → value_at place fields ≡ Err (Number place.row place.leaf)
+value_none place fields = by (slice_get fields place.column) refl where
+  by : (found : Option (List ℕ)) → slice_get fields place.column ≡ found → Some None ≡ option_map number_in found → value_at place fields ≡ Err (Number place.row place.leaf)
+  by None is none = cc none
+  by (Some field) is none = field_in place fields field is ∙ ap (value_of place) (none_from (number_of (unspaced field)) (sym (some_is none)))
+
+pub value_some : (place : Place) (fields : List (List ℕ)) (value : ℤ) → Some (Some value) ≡ option_map number_in (slice_get fields place.column) → value_at place fields ≡ taken place (store_answer place.kind place.hold value)
+value_some place fields value = by (slice_get fields place.column) refl where
+  by : (found : Option (List ℕ)) → slice_get fields place.column ≡ found → Some (Some value) ≡ option_map number_in found → value_at place fields ≡ taken place (store_answer place.kind place.hold value)
+  by None is some = cc some
+  by (Some field) is some = field_in place fields field is ∙ clip_of place (number_of (unspaced field)) value (sym (some_is some))

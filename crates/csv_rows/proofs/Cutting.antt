@@ -1,11 +1,11 @@
 -- Lines of a text, and the fields of a line.
-use Rattle.std.proofs.Common.{◌≡◌, ℕ, ◌+◌, ◌-◌, ◌<◌, ◌≤◌, zero, suc, Bool, true, false, List, [], ◌∷◌, ◌++◌, length, get_or, take, drop, refl, sym, ap, ◌∙◌, arith, append_assoc, append-nil, Some, None, Result, Ok, Err, OnOk}
+use Rattle.std.proofs.Common.{◌≡◌, ℕ, ◌<◌, ◌≤◌, zero, suc, Bool, true, false, List, [], ◌∷◌, length, get_or, take, drop, refl, sym, ap, ◌∙◌, arith, Some, None}
 use Rattle.std.specs.Prelude.{if◌then◌else◌}
-use Rattle.std.specs.List.{slice_split, onto_first}
-use Rattle.std.proofs.lemmas.List.{drop_more, drop_all, take_more, take_all, length-take, length-drop, get_or-drop}
+use Rattle.std.specs.List.{slice_split}
+use Rattle.std.proofs.lemmas.List.{length-take}
 use Rattle.memchr.specs.Find.{IsFirstByte, is_byte2}
 use Rattle.csv_rows.specs.Plain.{is_comma, is_line_end, plain_records, first_part, line_start}
-use Rattle.csv_rows.proofs.PlainLines.{parts_behind, parted, fields_in, onto, onto_none, onto_more}
+use Rattle.csv_rows.proofs.PlainLines.{parts_behind, parted, fields_in}
 
 -- ends of lines at the start of a text make no record
 pub plain_start : (xs : List ℕ) → plain_records xs ≡ plain_records (line_start xs)
@@ -47,64 +47,6 @@ pub plain_none : (bytes text : List ℕ) → text ≡ line_start bytes → lengt
 plain_none bytes [] is none = plain_start bytes ∙ ap plain_records (sym is)
 plain_none bytes (c ∷ text) is none = absurd (omega arith)
 
--- the fields of a line so far, of which the last begins at a place and is not ended before another
-pub record IsCut (line : List ℕ) (fields : List (List ℕ)) (start end : ℕ) : Type 0 where
-  pub ordered : start ≤ end
-  pub whole : fields ++ onto (take (end - start) (drop start line)) (slice_split is_comma (drop end line)) ≡ slice_split is_comma line
-
-pub none_cut : (line : List ℕ) → IsCut line [] 0 0
-none_cut line = record { ordered = omega arith; whole = onto_none line }
-
--- a comma, another byte, and the line's end
-pub comma_cut : (line : List ℕ) (fields : List (List ℕ)) (start end : ℕ) → IsCut line fields start end → end < length line → is_comma (get_or line end 0) ≡ true → IsCut line (fields ++ take (end - start) (drop start line) ∷ []) (end + 1) (end + 1)
-comma_cut line fields start end cut small comma =
-    let p = take (end - start) (drop start line) in
-    let next : drop end line ≡ get_or line end 0 ∷ drop (end + 1) line = drop_more line end 0 small in
-    let none : take (end + 1 - (end + 1)) (drop (end + 1) line) ≡ [] = let zero : end + 1 - (end + 1) ≡ 0 = omega arith in ap (λ (n : ℕ). take n (drop (end + 1) line)) zero in
-    let split : slice_split is_comma (drop end line) ≡ [] ∷ slice_split is_comma (drop (end + 1) line) = rw (next, comma) refl in
-    record {
-      ordered = omega arith;
-      whole = ap (λ (q : List ℕ). (fields ++ p ∷ []) ++ onto q (slice_split is_comma (drop (end + 1) line))) none
-          ∙ ap (λ (fs : List (List ℕ)). (fields ++ p ∷ []) ++ fs) (onto_none (drop (end + 1) line))
-          ∙ append_assoc fields (p ∷ []) (slice_split is_comma (drop (end + 1) line))
-          ∙ ap (λ (q : List ℕ). fields ++ q ∷ slice_split is_comma (drop (end + 1) line)) (sym (append-nil p))
-          ∙ ap (λ (fs : List (List ℕ)). fields ++ onto p fs) (sym split)
-          ∙ cut.whole;
-    }
-
-pub other_cut : (line : List ℕ) (fields : List (List ℕ)) (start end : ℕ) → IsCut line fields start end → end < length line → is_comma (get_or line end 0) ≡ false → IsCut line fields start (end + 1)
-other_cut line fields start end cut small other =
-    let ordered : start ≤ end = cut.ordered in
-    let p = take (end - start) (drop start line) in
-    let c = get_or line end 0 in
-    let next : drop end line ≡ c ∷ drop (end + 1) line = drop_more line end 0 small in
-    let far : end + 1 - start ≡ end - start + 1 = omega arith in
-    let place : start + (end - start) ≡ end = omega arith in
-    let room : end - start < length (drop start line) = rw length-drop (omega arith) in
-    let here : get_or (drop start line) (end - start) 0 ≡ c = get_or-drop start line (end - start) 0 ∙ ap (λ (n : ℕ). get_or line n 0) place in
-    let more : take (end + 1 - start) (drop start line) ≡ p ++ c ∷ [] = ap (λ (n : ℕ). take n (drop start line)) far ∙ take_more (drop start line) (end - start) 0 room ∙ ap (λ (b : ℕ). p ++ b ∷ []) here in
-    let split : slice_split is_comma (drop end line) ≡ onto_first c (slice_split is_comma (drop (end + 1) line)) = rw (next, other) refl in
-    record {
-      ordered = omega arith;
-      whole = ap (λ (q : List ℕ). fields ++ onto q (slice_split is_comma (drop (end + 1) line))) more
-          ∙ ap (λ (fs : List (List ℕ)). fields ++ fs) (onto_more p c (slice_split is_comma (drop (end + 1) line)))
-          ∙ ap (λ (fs : List (List ℕ)). fields ++ onto p fs) (sym split)
-          ∙ cut.whole;
-    }
-
-pub last_cut : {E : Type 0} (result : Result Unit E) (line partial : List ℕ) (fields new : List (List ℕ)) (start end : ℕ) → IsCut line fields start end → partial ≡ [] → length line ≤ end
-    → OnOk result (new ≡ fields ++ (partial ++ take (length line - start) (drop start line)) ∷ []) → OnOk result (new ≡ slice_split is_comma line)
-last_cut (Ok done) line partial fields new start end cut nothing over pushed =
-    let ordered : start ≤ end = cut.ordered in
-    let none : drop end line ≡ [] = drop_all end line over in
-    let all : take (length line - start) (drop start line) ≡ drop start line = take_all (length line - start) (drop start line) (rw length-drop (omega arith)) in
-    let last : take (end - start) (drop start line) ≡ drop start line = take_all (end - start) (drop start line) (rw length-drop (omega arith)) in
-    pushed ∙ ap (λ (p : List ℕ). fields ++ (p ++ take (length line - start) (drop start line)) ∷ []) nothing
-    ∙ ap (λ (q : List ℕ). fields ++ q ∷ []) (all ∙ sym last ∙ sym (append-nil (take (end - start) (drop start line))))
-    ∙ ap (λ (xs : List ℕ). fields ++ onto (take (end - start) (drop start line)) (slice_split is_comma xs)) (sym none)
-    ∙ cut.whole
-last_cut (Err e) line partial fields new start end cut nothing over pushed = tt
-
 -- the first part ends at the first byte that passes, or at the end
 pub first_at : (p : ℕ → Bool) (xs : List ℕ) (n : ℕ) → n ≤ length xs → ((k : ℕ) → k < n → p (get_or xs k 0) ≡ false) → (n < length xs → p (get_or xs n 0) ≡ true) → take n xs ≡ first_part p xs
 first_at p [] zero within before here = refl
@@ -115,7 +57,7 @@ first_at p (c ∷ xs) (suc n) within before here =
     ap (λ (rest : List ℕ). c ∷ rest) (first_at p xs n (omega arith) (λ k small. before (suc k) (omega arith)) (λ small. here (omega arith)))
     ∙ ap (λ (b : Bool). if b then [] else c ∷ first_part p xs) (sym no)
 
-not_true : (b : Bool) → (b ≡ true → ⊥) → b ≡ false
+pub not_true : (b : Bool) → (b ≡ true → ⊥) → b ≡ false
 not_true b never = by b refl where
   by : (c : Bool) → b ≡ c → b ≡ false
   by true is = absurd (never is)

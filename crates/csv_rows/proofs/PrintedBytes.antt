@@ -163,21 +163,26 @@ pub record IsNumberText (z : ℤ) (text : List ℕ) : Type 0 where
   pub some : is_plain_text text ≡ true
   pub number : number_of text ≡ Some z
 
-pub number_text : (z : ℤ) → ((n : ℕ) → z ≡ pos n → n < 10 ^ 64) → ((n : ℕ) → z ≡ negsuc n → suc n < 10 ^ 64) → IsNumberText z (decimal_text z)
-number_text (pos n) small low =
-    let digits = digits_are n (small n refl) in
-    let plain = plain_digits (digits_text n) digits.all in
+-- digits, and digits behind a minus
+pub digits_write : (n : ℕ) (text : List ℕ) → AreDigits n text → IsNumberText (pos n) text
+digits_write n text digits =
+    let plain = plain_digits text digits.all in
     let first = (both (is_ascii_digit digits.first) (list_all is_ascii_digit digits.rest) (ap (list_all is_ascii_digit) (sym digits.is) ∙ digits.all)).0 in
     record {
       plain = plain;
-      some = plain_some digits.first digits.rest (digits_text n) digits.is plain;
-      number = ap number_of digits.is ∙ number_digits digits.first digits.rest first ∙ ap (λ (t : List ℕ). option_map pos (digits_number t)) (sym digits.is) ∙ ap (option_map pos) (digits_read n (digits_text n) digits);
+      some = plain_some digits.first digits.rest text digits.is plain;
+      number = ap number_of digits.is ∙ number_digits digits.first digits.rest first ∙ ap (λ (t : List ℕ). option_map pos (digits_number t)) (sym digits.is) ∙ ap (option_map pos) (digits_read n text digits);
     }
-number_text (negsuc n) small low =
-    let digits = digits_are (suc n) (low n refl) in
-    let plain = plain_digits (digits_text (suc n)) digits.all in
+
+pub minus_writes : (n : ℕ) (text : List ℕ) → AreDigits n text → IsNumberText (neg_ℤ (pos n)) (45 ∷ text)
+minus_writes n text digits =
+    let plain = plain_digits text digits.all in
     record {
       plain = plain;
       some = plain;
-      number = ap (option_map (λ m. neg_ℤ (pos m))) (digits_read (suc n) (digits_text (suc n)) digits);
+      number = ap (option_map (λ m. neg_ℤ (pos m))) (digits_read n text digits);
     }
+
+pub number_text : (z : ℤ) → ((n : ℕ) → z ≡ pos n → n < 10 ^ 64) → ((n : ℕ) → z ≡ negsuc n → suc n < 10 ^ 64) → IsNumberText z (decimal_text z)
+number_text (pos n) small low = digits_write n (digits_text n) (digits_are n (small n refl))
+number_text (negsuc n) small low = minus_writes (suc n) (digits_text (suc n)) (digits_are (suc n) (low n refl))

@@ -1,5 +1,5 @@
 -- The records of a text without quotes.
-use Rattle.std.specs.Prelude.{ℕ, ◌≡◌, ◌==◌, ◌||◌, Bool, true, false, List, [], ◌∷◌, map, filter, All, if◌then◌else◌}
+use Rattle.std.specs.Prelude.{ℕ, ◌≡◌, ◌≤◌, ◌<◌, ◌==◌, ◌||◌, Bool, true, false, List, [], ◌∷◌, map, filter, take, drop, length, get_or, All, if◌then◌else◌}
 use Rattle.std.specs.List.{slice_split}
 
 abbrev pub is_comma : ℕ → Bool
@@ -31,3 +31,15 @@ first_part p (c ∷ xs) = if p c then [] else c ∷ first_part p xs
 abbrev pub line_start : List ℕ → List ℕ
 line_start [] = []
 line_start (c ∷ xs) = if is_line_end c then line_start xs else c ∷ xs
+
+-- the first field of what is left of a line has so many bytes
+pub record IsFirstField (bytes : List ℕ) (count : ℕ) : Type 0 where
+  pub within : count ≤ length bytes
+  pub inside : All (λ byte. is_comma byte ≡ false) (take count bytes)
+  pub ended : count < length bytes → is_comma (get_or bytes count 0) ≡ true
+
+-- the field of this column of a line begins at this place
+pub record IsField (line : List ℕ) (column start : ℕ) : Type 0 where
+  pub within : start ≤ length line
+  pub low : column ≤ start
+  pub behind : drop column (slice_split is_comma line) ≡ slice_split is_comma (drop start line)

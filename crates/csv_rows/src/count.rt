@@ -4,8 +4,7 @@ ghost use Rattle.csv_rows.specs.Datasets.{records_of, rows_of};
 ghost use Rattle.csv_rows.specs.Plain.{plain_records, HasNoQuote};
 
 use crate::lines::{behind_ends, line_length};
-use crate::reads::{Records, reader_of, without_marks};
-use csv::ByteRecord;
+use crate::reads::{Records, quoted_of, without_marks};
 use memchr::memchr;
 use std::alloc::{AllocError as NoMemory, Global};
 
@@ -46,22 +45,21 @@ fn plain_count(bytes: &[u8]) -> u64
 fn count_quoted(alloc: Global, bytes: &[u8]) -> Result<u64, NoMemory>
     ensures { IfOk result (λ rows. rows ≡ length (rows_of (records_of bytes.now))) }
 {
-    let mut reader = reader_of(alloc, bytes);
-    let mut fields = ByteRecord::new(alloc);
-    if !reader.next(&mut fields)? {
+    let mut records = quoted_of(alloc, bytes);
+    if !records.next()? {
         return Ok(0);
     }
-    count_left(&mut reader, &mut fields)
+    count_left(&mut records)
 }
 
 // The number of records that are left.
-fn count_left<R: Records>(records: &mut R, fields: &mut ByteRecord) -> Result<u64, NoMemory>
+fn count_left<R: Records>(records: &mut R) -> Result<u64, NoMemory>
     requires reading { R.stands records.old }
     requires few { length (R.left records.old) < 2 ^ 64 }
     ensures { IfOk result (λ rows. rows ≡ length (R.left records.old)) }
 {
     let mut rows = 0;
-    while records.next(fields)? {
+    while records.next()? {
         rows += 1;
     }
     Ok(rows)

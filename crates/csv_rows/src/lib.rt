@@ -5,6 +5,7 @@ mod columns;
 mod count;
 mod fault;
 mod laws;
+mod line;
 mod lines;
 mod load;
 mod number;

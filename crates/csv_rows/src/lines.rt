@@ -1,47 +1,64 @@
 // The records of a text without quotes.
-ghost use Rattle.std.specs.Prelude.{◌≡◌, ◌≤◌, OnOk, take, length};
-ghost use Rattle.std.specs.List.{slice_split};
-ghost use Rattle.csv.specs.Records.{fields_of};
+ghost use Rattle.std.specs.Prelude.{◌≡◌, ◌≤◌, take, length};
 ghost use Rattle.csv.specs.Reading.{records, default_config};
-ghost use Rattle.csv_rows.specs.Plain.{is_comma, is_line_end, plain_records, HasNoQuote, first_part, line_start};
+ghost use Rattle.csv_rows.specs.Plain.{is_line_end, plain_records, HasNoQuote, IsField, first_part, line_start};
 
+use crate::line::Line;
+use crate::number::unspaced;
 use crate::reads::Records;
-use csv::ByteRecord;
 use memchr::memchr2;
 use std::alloc::AllocError as NoMemory;
 
-/// The records of a text without quotes, which are its lines, cut in place.
+/// The records of a text without quotes, which are its lines, read in place.
 #[derive(Drop)]
 pub struct Lines<'a> {
     /// The bytes that are left.
     pub rest: &'a [u8],
+    /// The line that was read last.
+    pub line: Line<'a>,
 }
 
 impl Records for Lines<'_> {
-    ghost use Rattle.csv_rows.specs.Plain.{plain_records};
+    ghost use Rattle.std.specs.List.{slice_split};
+    ghost use Rattle.csv_rows.specs.Plain.{is_comma, plain_records, IsField};
 
     ghost left = { λ lines. plain_records lines.rest.now };
 
-    ghost stands = { λ lines. Unit {0} };
+    ghost fields = { λ lines. slice_split is_comma lines.line.text.now };
 
-    fn next(&mut self, fields: &mut ByteRecord) -> Result<bool, NoMemory> {
+    ghost stands = { λ lines. IsField lines.line.text.now lines.line.column lines.line.start };
+
+    fn next(&mut self) -> Result<bool, NoMemory> {
         let text = behind_ends(self.rest);
         if text.is_empty() {
             return Ok(false);
         }
         let end = line_length(text);
-        cut_line(&text[..end], fields)?;
+        self.line = Line::new(&text[..end]);
         self.rest = &text[end..];
         Ok(true)
+    }
+
+    fn is_named(&mut self, column: usize, name: &[u8]) -> Option<bool> {
+        let field = self.line.field(column)?;
+        Some(unspaced(field) == name)
+    }
+
+    fn number(&mut self, column: usize) -> Option<Option<i128>> {
+        self.line.number(column)
     }
 }
 
 /// The records of a text without quotes, read in place. It takes no memory of its own.
 pub fn lines_of(bytes: &[u8]) -> Lines<'_>
     requires { HasNoQuote bytes.now }
-    ensures { plain_records result.rest.now ≡ records default_config bytes.now }
+    ensures at { IsField result.line.text.now result.line.column result.line.start }
+    ensures rows { plain_records result.rest.now ≡ records default_config bytes.now }
 {
-    Lines { rest: bytes }
+    Lines {
+        rest: bytes,
+        line: Line::new(&bytes[..0]),
+    }
 }
 
 /// What stands behind the ends of lines at the start.
@@ -65,21 +82,6 @@ pub fn line_length(bytes: &[u8]) -> usize
         Some(end) => end,
         None => bytes.len(),
     }
-}
-
-// Makes a record of the fields of a line.
-fn cut_line(line: &[u8], fields: &mut ByteRecord) -> Result<(), NoMemory>
-    ensures { OnOk result (fields_of fields.new ≡ slice_split is_comma line.now) }
-{
-    fields.clear();
-    let mut start = 0;
-    for end in 0..line.len() {
-        if line[end] == b',' {
-            fields.push_field(&line[start..end])?;
-            start = end + 1;
-        }
-    }
-    fields.push_field(&line[start..])
 }
 
 fn is_line_end(byte: u8) -> bool

@@ -1,9 +1,8 @@
 // The table of a dataset, loaded into a view.
-ghost use Rattle.std.specs.Prelude.{◌≡◌, ◌⊎◌, ◌∷◌, ℕ, List, [], IfOk, IfErr, OnOk, MatchBool, Ok, Err, length};
-ghost use Rattle.csv.specs.Records.{fields_of};
+ghost use Rattle.std.specs.Prelude.{◌≡◌, ◌⊎◌, IfErr, OnOk, Ok, Err, length};
 ghost use Rattle.views.specs.Tallies.{Write, all_accesses};
 ghost use Rattle.views.specs.Tables.{leaf_count_of, after_stores};
-ghost use Rattle.csv_rows.specs.Datasets.{records_of, header_of, rows_of, table_from};
+ghost use Rattle.csv_rows.specs.Datasets.{records_of, rows_of, table_from};
 ghost use Rattle.csv_rows.specs.Loads.{leaves_in, dataset_of, Keeps, KeepsRows};
 ghost use Rattle.csv_rows.specs.declared.fault.RowFault.TheVariants.{NoMemory};
 
@@ -11,9 +10,8 @@ use crate::columns::leaf_columns;
 use crate::count::has_quote;
 use crate::fault::RowFault;
 use crate::lines::lines_of;
-use crate::reads::{Records, reader_of, without_marks};
+use crate::reads::{Records, quoted_of, without_marks};
 use crate::rows::load_row;
-use csv::ByteRecord;
 use std::alloc::Global;
 use std::sync::ledger::Ledger;
 use steps::Steps;
@@ -34,20 +32,18 @@ pub fn load_rows<L: Ledger>(
     ensures same { OnOk result (view.new ≡ after_stores view.old view.new.rows (all_accesses Write (leaf_count_of view.old) (length view.old.rows))) }
 {
     let text = without_marks(bytes);
-    let mut fields = ByteRecord::new(alloc);
     if has_quote(text) {
-        let mut reader = reader_of(alloc, bytes);
-        return load_from(alloc, &mut reader, &mut fields, view, steps);
+        let mut records = quoted_of(alloc, bytes);
+        return load_from(alloc, &mut records, view, steps);
     }
     let mut lines = lines_of(text);
-    load_from(alloc, &mut lines, &mut fields, view, steps)
+    load_from(alloc, &mut lines, view, steps)
 }
 
 // The same of the records that are left.
 fn load_from<R: Records, L: Ledger>(
     alloc: Global,
     records: &mut R,
-    fields: &mut ByteRecord,
     view: &mut View,
     steps: &mut Steps<L>,
 ) -> Result<(), RowFault>
@@ -58,30 +54,15 @@ fn load_from<R: Records, L: Ledger>(
     ensures kept { IfErr result (λ f. Keeps view.old (R.left records.old) view.new f) }
     ensures same { OnOk result (view.new ≡ after_stores view.old view.new.rows (all_accesses Write (leaf_count_of view.old) (length view.old.rows))) }
 {
-    let found = read_header(records, fields)?;
-    let columns = leaf_columns(alloc, fields, view.schema())?;
-    if !found {
-        return Ok(());
+    let leaf_count = view.schema().leaf_count();
+    if !records.next()? {
+        // an empty header names no leaf
+        return Err(RowFault::MissingColumn { leaf: 0 });
     }
+    let columns = leaf_columns(alloc, records, view.schema())?;
     let mut room = [0; 64];
-    let values = &mut room[..view.schema().leaf_count()];
-    load_records(view, columns.as_slice(), values, records, fields, steps)
-}
-
-// Reads the header, which has no field where there is no record.
-fn read_header<R: Records>(records: &mut R, fields: &mut ByteRecord) -> Result<bool, RowFault>
-    requires { R.stands records.old }
-    ensures header { OnOk result (fields_of fields.new ≡ header_of (R.left records.old)) }
-    ensures found { IfOk result (λ found. MatchBool found
-        (R.stands records.new × (R.left records.old ≡ fields_of fields.new ∷ R.left records.new))
-        (R.left records.old ≡ [])) }
-    ensures refused { IfErr result (λ f. f ≡ NoMemory) }
-{
-    if records.next(fields)? {
-        return Ok(true);
-    }
-    fields.clear();
-    Ok(false)
+    let values = &mut room[..leaf_count];
+    load_records(view, columns.as_slice(), values, records, steps)
 }
 
 // Reads the records that are left into the rows.
@@ -90,7 +71,6 @@ fn load_records<R: Records, L: Ledger>(
     columns: &[usize],
     values: &mut [i128],
     records: &mut R,
-    fields: &mut ByteRecord,
     steps: &mut Steps<L>,
 ) -> Result<(), RowFault>
     requires reading { R.stands records.old }
@@ -104,8 +84,8 @@ fn load_records<R: Records, L: Ledger>(
 {
     let _extents = view.extents();
     let mut row = 0u64;
-    while records.next(fields)? {
-        load_row(fields, row, columns, view, values, steps)?;
+    while records.next()? {
+        load_row(records, row, columns, view, values, steps)?;
         row += 1;
     }
     Ok(())

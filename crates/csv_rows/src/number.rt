@@ -1,7 +1,9 @@
 // The number that a field spells.
-ghost use Rattle.std.specs.Prelude.{◌≡◌, ◌≤◌, ◌^◌, ℕ, pos, min, option_map, length};
+ghost use Rattle.std.specs.Prelude.{◌≡◌, ◌≤◌, ◌<◌, ◌^◌, ℕ, pos, neg_ℤ, Some, true, false, IfSome, min, option_map, take, length, get_or};
+ghost use Rattle.std.specs.Char.{is_ascii_digit};
 ghost use Rattle.csv_rows.specs.Datasets.{is_blank, behind_blanks, before_blanks, unspaced, all_digits, digits_number, number_of};
 ghost use Rattle.csv_rows.specs.Clipped.{clipped};
+ghost use Rattle.csv_rows.specs.Plain.{is_comma, IsFirstField};
 
 /// The number of a field: without blanks at its ends an optional sign, and one or more digits. A number that is further from 0 than 2^65
 /// is answered as 2^65 of its sign, which no leaf can store either.
@@ -33,27 +35,77 @@ fn digits_number(digits: &[u8]) -> Option<i128>
     if digits.is_empty() {
         return None;
     }
-    if digits.len() > MAX_DIGITS {
-        return Some(many_digits(digits)? as i128);
+    let (value, count) = leading_digits(digits);
+    if count == digits.len() {
+        return Some(i128::from(value));
     }
-    Some(i128::from(few_digits(digits)?))
+    if count < MAX_DIGITS {
+        return None;
+    }
+    Some(many_digits(digits)? as i128)
 }
 
-// The most digits whose number lies below 2^64 whatever they are.
-const MAX_DIGITS: usize = 19;
-
-fn few_digits(digits: &[u8]) -> Option<u64>
-    requires { length digits.now ≤ 19 }
-    ensures { result ≡ all_digits digits.now }
+/// The number of the first field of what is left of a line, and the field's length, where it is one as most are: up to 18 digits, behind a
+/// minus or not.
+pub fn plain_number(bytes: &[u8]) -> Option<(i128, usize)>
+    ensures field { IfSome result (λ found. IsFirstField bytes.now found.1) }
+    ensures number { IfSome result (λ found. option_map clipped (number_of (unspaced (take found.1 bytes.now))) ≡ Some found.0) }
 {
-    let mut value = 0u64;
-    for digit in digits {
-        if !digit.is_ascii_digit() {
-            return None;
-        }
-        value = value * 10 + u64::from(*digit - b'0');
+    if bytes.is_empty() {
+        return None;
     }
-    Some(value)
+    if bytes[0] == b'-' {
+        let (value, count) = plain_digits(&bytes[1..])?;
+        return Some((negated(value), count + 1));
+    }
+    let (value, count) = plain_digits(bytes)?;
+    Some((i128::from(value), count))
+}
+
+fn negated(value: u64) -> i128
+    ensures { result ≡ neg_ℤ (pos value) }
+{
+    -i128::from(value)
+}
+
+// The same of digits alone.
+fn plain_digits(bytes: &[u8]) -> Option<(u64, usize)>
+    ensures field { IfSome result (λ found. IsFirstField bytes.now found.1) }
+    ensures number { IfSome result (λ found. digits_number (take found.1 bytes.now) ≡ Some found.0) }
+{
+    let (value, count) = leading_digits(bytes);
+    if count == 0 || !ends_field(bytes, count) {
+        return None;
+    }
+    Some((value, count))
+}
+
+// Whether a field ends here: at a comma, or at the end of the line.
+fn ends_field(bytes: &[u8], end: usize) -> bool
+    requires { end ≤ length bytes.now }
+    ensures { result ≡ true → end < length bytes.now → is_comma (get_or bytes.now end 0) ≡ true }
+{
+    end == bytes.len() || bytes[end] == b','
+}
+
+// The most digits that are read by the word: their number lies below 2^64 whatever they are.
+const MAX_DIGITS: usize = 18;
+
+// The digits at the start, 18 at most, as a number, and how many they are.
+fn leading_digits(bytes: &[u8]) -> (u64, usize)
+    ensures within { result.1 ≤ length bytes.now }
+    ensures number { all_digits (take result.1 bytes.now) ≡ Some result.0 }
+    ensures ended { result.1 < 18 → result.1 < length bytes.now → is_ascii_digit (get_or bytes.now result.1 0) ≡ false }
+{
+    let most = bytes.len().min(MAX_DIGITS);
+    let mut value = 0;
+    for count in 0..most {
+        if !bytes[count].is_ascii_digit() {
+            return (value, count);
+        }
+        value = value * 10 + u64::from(bytes[count] - b'0');
+    }
+    (value, most)
 }
 
 fn many_digits(digits: &[u8]) -> Option<u128>

@@ -1,54 +1,97 @@
-// The records of a dataset, read one after another into one record.
-ghost use Rattle.std.specs.Prelude.{◌≡◌, ◌∷◌, ℕ, List, [], IfOk, MatchBool};
+// The records of a dataset, read one after another.
+ghost use Rattle.std.specs.Prelude.{◌≡◌, ◌+◌, ◌<◌, ◌^◌, ◌∷◌, ℕ, ℤ, List, [], Option, IfOk, IfSome, MatchBool, option_map, nat_eq};
+ghost use Rattle.std.specs.List.{slice_get};
+ghost use Rattle.std.specs.Cmp.Lexicographic.{pointwise};
 ghost use Rattle.csv.specs.Reading.{strip_bom};
 ghost use Rattle.csv.specs.Records.{fields_of};
-ghost use Rattle.csv_rows.specs.Datasets.{records_of};
-ghost use Rattle.csv_rows.specs.Readers.{rows_left, IsReading};
+ghost use Rattle.csv_rows.specs.Datasets.{records_of, unspaced, number_of};
+ghost use Rattle.csv_rows.specs.Clipped.{clipped};
+ghost use Rattle.csv_rows.specs.Readers.{rows_left, IsReading, IsAsked};
 
+use crate::number::{field_number, unspaced};
 use csv::{ByteRecord, Reader, ReaderBuilder};
 use std::alloc::{AllocError as NoMemory, Global};
 
-/// Records that are read one after another.
+/// Records that are read one after another. The one that was read last is asked for its fields: column after column is the fastest.
 pub trait Records {
     // the records that are left
     ghost left: { Self → List (List (List ℕ)) };
+
+    // the fields of the record that was read last
+    ghost fields: { Self → List (List ℕ) };
 
     // what reading them stands on
     ghost stands: { Self → Type 0 };
 
     /// Reads the next record, if one is left.
-    fn next(&mut self, fields: &mut ByteRecord) -> Result<bool, NoMemory>
+    fn next(&mut self) -> Result<bool, NoMemory>
         requires { stands self.old }
         ensures { IfOk result (λ found. MatchBool found
-            (stands self.new × (left self.old ≡ fields_of fields.new ∷ left self.new))
+            (stands self.new × (left self.old ≡ fields self.new ∷ left self.new))
             (left self.old ≡ [])) };
+
+    /// Whether the field of a column, without blanks at its ends, is a name, if there is such a column.
+    fn is_named(&mut self, column: usize, name: &[u8]) -> Option<bool>
+        requires { stands self.old }
+        ensures named { result ≡ option_map (λ field. pointwise nat_eq (unspaced field) name.now) (slice_get (fields self.old) column) }
+        ensures few { IfSome result (λ named. column + 1 < 2 ^ 64) }
+        ensures asked { IsAsked stands fields left self.old self.new };
+
+    /// The number of the field of a column, if there is such a column, and it is a number.
+    fn number(&mut self, column: usize) -> Option<Option<i128>>
+        requires { stands self.old }
+        ensures number { result ≡ option_map (λ field. option_map clipped (number_of (unspaced field))) (slice_get (fields self.old) column) }
+        ensures asked { IsAsked stands fields left self.old self.new };
 }
 
 /// The records that csv reads.
-impl Records for Reader<&[u8]> {
+#[derive(Drop)]
+pub struct Quoted<'a> {
+    reader: Reader<&'a [u8]>,
+    fields: ByteRecord,
+}
+
+impl Records for Quoted<'_> {
+    ghost use Rattle.csv.specs.Records.{fields_of};
     ghost use Rattle.csv_rows.specs.Readers.{rows_left, IsReading};
 
-    ghost left = { λ reader. rows_left reader };
+    ghost left = { λ records. rows_left records.reader };
 
-    ghost stands = { λ reader. IsReading reader };
+    ghost fields = { λ records. fields_of records.fields };
 
-    fn next(&mut self, fields: &mut ByteRecord) -> Result<bool, NoMemory> {
-        let Ok(found) = self.read_byte_record(fields) else {
+    ghost stands = { λ records. IsReading records.reader };
+
+    fn next(&mut self) -> Result<bool, NoMemory> {
+        let Ok(found) = self.reader.read_byte_record(&mut self.fields) else {
             return Err(NoMemory);
         };
         Ok(found)
     }
+
+    fn is_named(&mut self, column: usize, name: &[u8]) -> Option<bool> {
+        let field = self.fields.get(column)?;
+        Some(unspaced(field) == name)
+    }
+
+    fn number(&mut self, column: usize) -> Option<Option<i128>> {
+        let field = self.fields.get(column)?;
+        Some(field_number(field))
+    }
 }
 
-/// A reader of the records of a dataset. It drops a byte order mark of its own.
-pub fn reader_of(alloc: Global, bytes: &[u8]) -> Reader<&[u8]>
-    ensures reading { IsReading result }
-    ensures rows { rows_left result ≡ records_of bytes.now }
+/// The records of a dataset, read by csv. It drops a byte order mark of its own.
+pub fn quoted_of(alloc: Global, bytes: &[u8]) -> Quoted<'_>
+    ensures reading { IsReading result.reader }
+    ensures rows { rows_left result.reader ≡ records_of bytes.now }
 {
-    ReaderBuilder::new()
+    let reader = ReaderBuilder::new()
         .has_headers(false)
         .flexible(true)
-        .from_reader(alloc, without_mark(bytes))
+        .from_reader(alloc, without_mark(bytes));
+    Quoted {
+        reader,
+        fields: ByteRecord::new(alloc),
+    }
 }
 
 /// The bytes that the records of a dataset are read from: behind a byte order mark, and behind one more, which `csv` drops.

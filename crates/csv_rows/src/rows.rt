@@ -1,79 +1,84 @@
 // A record of a dataset, read into a row of a view.
 ghost use Rattle.std.specs.Prelude.{◌≡◌, ◌<◌, ℕ, pos, true, is_ok, IfOk, IfErr, OnOk, Ok, Err, length, slice_index_or, slice_set};
-ghost use Rattle.csv.specs.Records.{fields_of};
 ghost use Rattle.views.specs.Tallies.{Write, row_accesses};
 ghost use Rattle.views.specs.Tables.{leaf_count_of, answer_of, after_stores};
 ghost use Rattle.csv_rows.specs.Datasets.{refusal, value_at, row_values};
 ghost use Rattle.csv_rows.specs.Loads.{place_of, leaves_in};
+ghost use Rattle.csv_rows.specs.Readers.{IsAsked};
 
 use crate::fault::RowFault;
-use crate::number::field_number;
-use csv::ByteRecord;
+use crate::reads::Records;
 use std::sync::ledger::Ledger;
 use steps::Steps;
 use views::{StoreFault, View, laws_of_table};
 
-/// Reads a record into a row, all of it or, where a leaf is refused, nothing. The values are kept in `values`.
-pub fn load_row<L: Ledger>(
-    fields: &ByteRecord,
+/// Reads the record that was read last into a row, all of it or, where a leaf is refused, nothing. The values are kept in `values`.
+pub fn load_row<R: Records, L: Ledger>(
+    records: &mut R,
     row: u64,
     columns: &[usize],
     view: &mut View,
     values: &mut [i128],
     steps: &mut Steps<L>,
 ) -> Result<(), RowFault>
+    requires reading { R.stands records.old }
     requires row_in { row < length view.old.rows }
     requires columns { length columns.now ≡ leaf_count_of view.old }
     requires values { length values.old ≡ leaf_count_of view.old }
     ensures count { length values.new ≡ length values.old }
-    ensures read { OnOk result (row_values row (fields_of fields.now) 0 (leaves_in view.old columns.now) ≡ Ok values.new) }
+    ensures read { OnOk result (row_values row (R.fields records.old) 0 (leaves_in view.old columns.now) ≡ Ok values.new) }
     ensures stored { OnOk result (view.new ≡ after_stores view.old (slice_set view.old.rows row values.new) (row_accesses Write (leaf_count_of view.old) row)) }
-    ensures refused { IfErr result (λ f. row_values row (fields_of fields.now) 0 (leaves_in view.old columns.now) ≡ Err f) }
+    ensures refused { IfErr result (λ f. row_values row (R.fields records.old) 0 (leaves_in view.old columns.now) ≡ Err f) }
     ensures same { IfErr result (λ f. view.new ≡ view.old) }
+    ensures asked { OnOk result (IsAsked R.stands R.fields R.left records.old records.new) }
 {
-    read_row(fields, row, columns, view, values)?;
+    read_row(records, row, columns, view, values)?;
     view.store_row(row, values, steps);
     Ok(())
 }
 
 // Reads the value of each leaf.
-fn read_row(
-    fields: &ByteRecord,
+fn read_row<R: Records>(
+    records: &mut R,
     row: u64,
     columns: &[usize],
     view: &View,
     values: &mut [i128],
 ) -> Result<(), RowFault>
+    requires reading { R.stands records.old }
     requires columns { length columns.now ≡ leaf_count_of view.now }
     requires values { length values.old ≡ leaf_count_of view.now }
     ensures count { length values.new ≡ length values.old }
-    ensures read { OnOk result (row_values row (fields_of fields.now) 0 (leaves_in view.now columns.now) ≡ Ok values.new) }
+    ensures read { OnOk result (row_values row (R.fields records.old) 0 (leaves_in view.now columns.now) ≡ Ok values.new) }
     ensures taken { OnOk result ((leaf : ℕ) → leaf < leaf_count_of view.now → is_ok (answer_of view.now leaf (slice_index_or values.new leaf (pos 0))) ≡ true) }
-    ensures refused { IfErr result (λ f. row_values row (fields_of fields.now) 0 (leaves_in view.now columns.now) ≡ Err f) }
+    ensures refused { IfErr result (λ f. row_values row (R.fields records.old) 0 (leaves_in view.now columns.now) ≡ Err f) }
+    ensures asked { OnOk result (IsAsked R.stands R.fields R.left records.old records.new) }
 {
     laws_of_table(view);
     for leaf in 0..columns.len() {
-        values[leaf] = value_at(fields, columns[leaf], row, leaf, view)?;
+        values[leaf] = value_at(records, columns[leaf], row, leaf, view)?;
     }
     Ok(())
 }
 
 // The value of a leaf.
-fn value_at(
-    fields: &ByteRecord,
+fn value_at<R: Records>(
+    records: &mut R,
     column: usize,
     row: u64,
     leaf: usize,
     view: &View,
 ) -> Result<i128, RowFault>
-    requires { leaf < leaf_count_of view.now }
-    ensures value { result ≡ value_at (place_of view.now row leaf column) (fields_of fields.now) }
+    requires reading { R.stands records.old }
+    requires leaf_in { leaf < leaf_count_of view.now }
+    ensures value { result ≡ value_at (place_of view.now row leaf column) (R.fields records.old) }
     ensures taken { IfOk result (λ value. is_ok (answer_of view.now leaf value) ≡ true) }
+    ensures asked { IsAsked R.stands R.fields R.left records.old records.new }
 {
-    let Some(field) = fields.get(column) else {
+    let Some(number) = records.number(column) else {
         return Err(RowFault::ShortRow { row, leaf });
     };
-    let Some(value) = field_number(field) else {
+    let Some(value) = number else {
         return Err(RowFault::Number { row, leaf });
     };
     match view.fits(leaf, value) {

@@ -5,5 +5,5 @@ use Rattle.csv_rows.proofs.count.count_quoted.Goals as goal
 pub count_left-requires-clause-few : goal.count_left-requires-clause-few
 count_left-requires-clause-few c =
     let found : c.in_ok-next.field-0 ≡ true = search rules in
-    let rows = ap length (sym c.reader_of-reader.ensures.rows ∙ (rw found at c.in_ok-next.ensures).1) in
+    let rows = ap length (sym c.quoted_of-records.ensures.rows ∙ (rw found at c.in_ok-next.ensures).1) in
     omega (arith, few_rows c.args.bytes.now, rows)

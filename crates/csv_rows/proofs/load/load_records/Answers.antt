@@ -1,52 +1,51 @@
 use Rattle.std.proofs.Common.{rules, ◌≡◌, ◌∙◌, refl, sym, arith, true, false, Err, inr}
-use Rattle.csv.specs.Records.{fields_of}
 use Rattle.csv_rows.proofs.Accesses.{no_row_stored}
 use Rattle.csv_rows.proofs.Tables.{Loading, next_left, row_loaded, rows_loaded, rows_written, row_refused}
 use Rattle.csv_rows.proofs.load.load_records.Goals as goal
 
-pub loop-fields-init : goal.loop-fields-init
-loop-fields-init g c =
+pub loop-records-init : goal.loop-records-init
+loop-records-init g c =
     let loading : Loading c.args.view.now c.args.view.now c.args.columns.now (g.R.Records.left c.args.records.now) 0 =
     record { front = refl; rest = refl; count = refl; within = omega arith; same = no_row_stored c.args.view.now 0 refl } in
     record { reading = c.requires.reading; left = refl; loading = loading; values = refl }
 
 pub returns-in_err-load_row-clause-refused : goal.returns-in_err-load_row-clause-refused
 returns-in_err-load_row-clause-refused g c =
-    let i = c.loop-fields.invariant in
+    let i = c.loop-records.invariant in
     let found : c.in_ok-next.field-0 ≡ true = search rules in
     let read = rw found at c.in_ok-next.ensures in
-    let next = next_left (g.R.Records.left c.args.records.now) (g.R.Records.left c.loop-fields.records) c.loop-fields.row (fields_of c.next.new.fields) (g.R.Records.left c.next.new.self) i.left read.1 in
+    let next = next_left (g.R.Records.left c.args.records.now) (g.R.Records.left c.loop-records.records) c.loop-records.row (g.R.Records.fields c.next.new.self) (g.R.Records.left c.next.new.self) i.left read.1 in
     let result : c.from_residual-in_err-load_row.result ≡ Err c.in_err-load_row.field-0.0 = search rules in
-    rw result (inr (row_refused c.args.view.now c.loop-fields.view c.args.columns.now (g.R.Records.left c.args.records.now) c.loop-fields.row (fields_of c.next.new.fields) (g.R.Records.left c.next.new.self) c.in_err-load_row.field-0.0 i.loading next c.in_err-load_row.ensures.refused).0)
+    rw result (inr (row_refused c.args.view.now c.loop-records.view c.args.columns.now (g.R.Records.left c.args.records.now) c.loop-records.row (g.R.Records.fields c.next.new.self) (g.R.Records.left c.next.new.self) c.in_err-load_row.field-0.0 i.loading next c.in_err-load_row.ensures.refused).0)
 
 pub returns-in_err-load_row-clause-kept : goal.returns-in_err-load_row-clause-kept
 returns-in_err-load_row-clause-kept g c =
-    let i = c.loop-fields.invariant in
+    let i = c.loop-records.invariant in
     let found : c.in_ok-next.field-0 ≡ true = search rules in
     let read = rw found at c.in_ok-next.ensures in
-    let next = next_left (g.R.Records.left c.args.records.now) (g.R.Records.left c.loop-fields.records) c.loop-fields.row (fields_of c.next.new.fields) (g.R.Records.left c.next.new.self) i.left read.1 in
+    let next = next_left (g.R.Records.left c.args.records.now) (g.R.Records.left c.loop-records.records) c.loop-records.row (g.R.Records.fields c.next.new.self) (g.R.Records.left c.next.new.self) i.left read.1 in
     let result : c.from_residual-in_err-load_row.result ≡ Err c.in_err-load_row.field-0.0 = search rules in
-    rw (result, c.in_err-load_row.ensures.same) (row_refused c.args.view.now c.loop-fields.view c.args.columns.now (g.R.Records.left c.args.records.now) c.loop-fields.row (fields_of c.next.new.fields) (g.R.Records.left c.next.new.self) c.in_err-load_row.field-0.0 i.loading next c.in_err-load_row.ensures.refused).1
+    rw (result, c.in_err-load_row.ensures.same) (row_refused c.args.view.now c.loop-records.view c.args.columns.now (g.R.Records.left c.args.records.now) c.loop-records.row (g.R.Records.fields c.next.new.self) (g.R.Records.left c.next.new.self) c.in_err-load_row.field-0.0 i.loading next c.in_err-load_row.ensures.refused).1
 
-pub loop-fields-preserved : goal.loop-fields-preserved
-loop-fields-preserved g c =
-    let i = c.loop-fields.invariant in
+pub loop-records-preserved : goal.loop-records-preserved
+loop-records-preserved g c =
+    let i = c.loop-records.invariant in
     let found : c.in_ok-next.field-0 ≡ true = search rules in
     let read = rw found at c.in_ok-next.ensures in
-    let next = next_left (g.R.Records.left c.args.records.now) (g.R.Records.left c.loop-fields.records) c.loop-fields.row (fields_of c.next.new.fields) (g.R.Records.left c.next.new.self) i.left read.1 in
-    let after = row_loaded c.args.view.now c.loop-fields.view c.load_row.new.view c.args.columns.now (g.R.Records.left c.args.records.now) c.loop-fields.row (fields_of c.next.new.fields) (g.R.Records.left c.next.new.self) c.load_row.new.values i.loading c.requires.rows next c.in_ok-load_row.ensures.read c.in_ok-load_row.ensures.stored in
-    record { reading = read.0; left = sym next.behind_it; loading = after; values = c.in_ok-load_row.ensures.count ∙ i.values }
+    let next = next_left (g.R.Records.left c.args.records.now) (g.R.Records.left c.loop-records.records) c.loop-records.row (g.R.Records.fields c.next.new.self) (g.R.Records.left c.next.new.self) i.left read.1 in
+    let after = row_loaded c.args.view.now c.loop-records.view c.load_row.new.view c.args.columns.now (g.R.Records.left c.args.records.now) c.loop-records.row (g.R.Records.fields c.next.new.self) (g.R.Records.left c.next.new.self) c.load_row.new.values i.loading c.requires.rows next c.in_ok-load_row.ensures.read c.in_ok-load_row.ensures.stored in
+    record { reading = c.in_ok-load_row.ensures.asked.standing; left = c.in_ok-load_row.ensures.asked.behind ∙ sym next.behind_it; loading = after; values = c.in_ok-load_row.ensures.count ∙ i.values }
 
 pub returns-clause-loaded : goal.returns-clause-loaded
 returns-clause-loaded g c =
-    let i = c.loop-fields.invariant in
+    let i = c.loop-records.invariant in
     let found : c.in_ok-next.field-0 ≡ false = search rules in
     let none = rw found at c.in_ok-next.ensures in
-    rows_loaded c.args.view.now c.loop-fields.view c.args.columns.now (g.R.Records.left c.args.records.now) (g.R.Records.left c.loop-fields.records) c.loop-fields.row i.loading c.requires.rows i.left none
+    rows_loaded c.args.view.now c.loop-records.view c.args.columns.now (g.R.Records.left c.args.records.now) (g.R.Records.left c.loop-records.records) c.loop-records.row i.loading c.requires.rows i.left none
 
 pub returns-clause-same : goal.returns-clause-same
 returns-clause-same g c =
-    let i = c.loop-fields.invariant in
+    let i = c.loop-records.invariant in
     let found : c.in_ok-next.field-0 ≡ false = search rules in
     let none = rw found at c.in_ok-next.ensures in
-    rows_written c.args.view.now c.loop-fields.view c.args.columns.now (g.R.Records.left c.args.records.now) (g.R.Records.left c.loop-fields.records) c.loop-fields.row i.loading c.requires.rows i.left none
+    rows_written c.args.view.now c.loop-records.view c.args.columns.now (g.R.Records.left c.args.records.now) (g.R.Records.left c.loop-records.records) c.loop-records.row i.loading c.requires.rows i.left none

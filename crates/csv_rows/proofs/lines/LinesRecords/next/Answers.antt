@@ -1,7 +1,6 @@
 use Rattle.std.proofs.Common.{arith, ◌≡◌, ◌<◌, ◌-◌, List, ℕ, ◌∷◌, take, drop, length, ap, sym, ◌∙◌}
 use Rattle.std.proofs.lemmas.Bool.Decides.{nat_tests}
 use Rattle.std.proofs.lemmas.List.{take_all, length-drop}
-use Rattle.csv.specs.Records.{fields_of}
 use Rattle.std.specs.List.{slice_split}
 use Rattle.csv_rows.specs.Plain.{is_comma, plain_records}
 use Rattle.csv_rows.proofs.Cutting.{plain_none, plain_next}
@@ -19,5 +18,4 @@ returns c =
     let some : 0 < length text = grind (arith, nat_tests) in
     let next = plain_next c.args.self.now.rest.now text end c.behind_ends-text.ensures some c.line_length-end.ensures.within c.line_length-end.ensures.line in
     let rest : take (length text - end) (drop end text) ≡ drop end text = take_all (length text - end) (drop end text) (rw length-drop (omega arith)) in
-    let cut : fields_of c.cut_line.new.fields ≡ slice_split is_comma (take end text) = c.in_ok-cut_line.ensures in
-    rw rest (tt, next ∙ ap (λ (f : List (List ℕ)). f ∷ plain_records (drop end text)) (sym cut))
+    rw rest (c.new-self.ensures.at, next ∙ ap (λ (line : List ℕ). slice_split is_comma line ∷ plain_records (drop end text)) (sym c.new-self.ensures.text))

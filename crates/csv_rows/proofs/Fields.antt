@@ -1,0 +1,83 @@
+-- The fields of a line, one after another.
+use Rattle.std.proofs.Common.{◌≡◌, ℕ, zero, suc, ◌+◌, ◌-◌, ◌<◌, ◌≤◌, List, [], ◌∷◌, ◌++◌, length, take, drop, get_or, Some, None, refl, sym, ap, ◌∙◌, ⊎_elim, arith}
+use Rattle.std.specs.List.{slice_get, slice_split}
+use Rattle.std.proofs.lemmas.Bool.{cases_lt}
+use Rattle.std.proofs.lemmas.List.{take-append-drop, drop-drop, drop_more, take_all, length-take-le, length-drop, get_or-take, get_or_default}
+use Rattle.std.proofs.lemmas.List.Splits.{slice_split_none, slice_split_at}
+use Rattle.std.proofs.lemmas.Option.{slice_get_past}
+use Rattle.memchr.specs.Find.{IsFirstByte, is_byte}
+use Rattle.csv_rows.specs.Plain.{is_comma, IsFirstField, IsField}
+use Rattle.csv_rows.proofs.Cutting.{not_true}
+
+-- the first comma, or none
+pub comma_found : (xs : List ℕ) (n : ℕ) → IsFirstByte (is_byte 44) xs (Some n) → IsFirstField xs n
+comma_found xs n found =
+    let small : n < length xs = found.0.high in
+    record {
+      within = omega arith;
+      inside = λ k d less.
+          let under : k < n = omega (arith, length-take-le n xs (omega arith)) in
+          let here : get_or (take n xs) k d ≡ get_or xs k 0 = get_or-take n xs k d under ∙ get_or_default xs k d 0 (omega arith) in
+          ap is_comma here ∙ not_true (is_comma (get_or xs k 0)) (found.0.before k (omega arith) under);
+      ended = λ small. found.1;
+    }
+
+pub comma_none : (xs : List ℕ) → IsFirstByte (is_byte 44) xs None → IsFirstField xs (length xs)
+comma_none xs none = record {
+  within = omega arith;
+  inside = λ k d less.
+      let under : k < length xs = omega (arith, length-take-le (length xs) xs (omega arith)) in
+      let here : get_or (take (length xs) xs) k d ≡ get_or xs k 0 = get_or-take (length xs) xs k d under ∙ get_or_default xs k d 0 under in
+      ap is_comma here ∙ not_true (is_comma (get_or xs k 0)) (none k (omega arith) under);
+  ended = λ small. absurd (omega arith);
+}
+
+-- the first field, and those behind its comma
+field_split : (xs : List ℕ) (n : ℕ) → IsFirstField xs n → n < length xs → slice_split is_comma xs ≡ take n xs ∷ slice_split is_comma (drop (n + 1) xs)
+field_split xs n first small =
+    ap (slice_split is_comma) (sym (take-append-drop n xs) ∙ ap (λ (ys : List ℕ). take n xs ++ ys) (drop_more xs n 0 small))
+    ∙ slice_split_at is_comma (take n xs) (get_or xs n 0) (drop (n + 1) xs) first.inside (first.ended small)
+
+field_last : (xs : List ℕ) (n : ℕ) → IsFirstField xs n → length xs ≤ n → slice_split is_comma xs ≡ take n xs ∷ []
+field_last xs n first over = ap (slice_split is_comma) (sym (take_all n xs over)) ∙ slice_split_none is_comma (take n xs) first.inside
+
+field_first : (xs : List ℕ) (n : ℕ) → IsFirstField xs n → (others : List (List ℕ)) × (slice_split is_comma xs ≡ take n xs ∷ others)
+field_first xs n first = ⊎_elim
+    (λ (small : n < length xs). (slice_split is_comma (drop (n + 1) xs), field_split xs n first small))
+    (λ (over : length xs ≤ n). ([], field_last xs n first over))
+    (cases_lt n (length xs))
+
+first_left : (xs : List (List ℕ)) (i : ℕ) (x : List ℕ) (others : List (List ℕ)) → drop i xs ≡ x ∷ others → slice_get xs i ≡ Some x
+first_left [] zero x others is = absurd (cc is)
+first_left [] (suc i) x others is = absurd (cc is)
+first_left (y ∷ xs) zero x others is = let same : y ≡ x = cc is in ap Some same
+first_left (y ∷ xs) (suc i) x others is = first_left xs i x others is
+
+pub start_field : (line : List ℕ) → IsField line 0 0
+start_field line = record { within = omega arith; low = omega arith; behind = refl }
+
+-- the field of a column, and the next one
+pub field_found : (line : List ℕ) (column start count : ℕ) → IsField line column start → IsFirstField (drop start line) count → slice_get (slice_split is_comma line) column ≡ Some (take count (drop start line))
+field_found line column start count at first =
+    let (others, parts) = field_first (drop start line) count first in
+    first_left (slice_split is_comma line) column (take count (drop start line)) others (at.behind ∙ parts)
+
+pub field_behind : (line : List ℕ) (column start count : ℕ) → IsField line column start → IsFirstField (drop start line) count → count < length (drop start line) → IsField line (column + 1) (start + (count + 1))
+field_behind line column start count at first small =
+    let size : length (drop start line) ≡ length line - start = length-drop start line in
+    let begun : start ≤ length line = at.within in
+    let low : column ≤ start = at.low in
+    record {
+      within = omega arith;
+      low = omega arith;
+      behind = sym (drop-drop 1 column (slice_split is_comma line)) ∙ ap (drop 1) (at.behind ∙ field_split (drop start line) count first small)
+          ∙ ap (slice_split is_comma) (drop-drop (count + 1) start line);
+    }
+
+pub fields_end : (line : List ℕ) (column start count : ℕ) → IsField line column start → IsFirstField (drop start line) count → length (drop start line) ≤ count → length (slice_split is_comma line) ≤ column + 1
+fields_end line column start count at first over =
+    let one : length (drop column (slice_split is_comma line)) ≡ 1 = ap length (at.behind ∙ field_last (drop start line) count first over) in
+    omega (arith, length-drop column (slice_split is_comma line), one)
+
+pub no_field : (line : List ℕ) (column : ℕ) → length (slice_split is_comma line) ≤ column → slice_get (slice_split is_comma line) column ≡ None
+no_field line column over = slice_get_past (slice_split is_comma line) column over

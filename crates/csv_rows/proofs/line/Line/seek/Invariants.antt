@@ -1,0 +1,13 @@
+use Rattle.std.proofs.Common.{◌≡◌, ◌≤◌, ◌-◌}
+use Rattle.csv_rows.specs.Plain.{IsField}
+use Rattle.csv_rows.proofs.line.Line.seek.Given as goal
+
+abbrev pub invariant-loop-self : goal.invariant-loop-self
+invariant-loop-self l = record {
+  at : IsField l.self.text.now l.self.column l.self.start;
+  text : l.self.text.now ≡ l.fn.self.text.now;
+  low : l.self.column ≤ l.column;
+}
+
+abbrev pub decreases-loop-self : goal.decreases-loop-self
+decreases-loop-self l = l.column - l.self.column
