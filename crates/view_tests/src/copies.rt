@@ -116,7 +116,9 @@ fn of_squares(alloc: Global, expr: &MapExpr) -> Result<View, Fail>
 {
     let mut view = of_zeros(alloc, expr)?;
     for row in 0..1000u64 {
-        set(&mut view, row, 0, i128::from(row * row))?.ok().ok_or("refused")?;
+        set(&mut view, row, 0, i128::from(row * row))?
+            .ok()
+            .ok_or("refused")?;
     }
     Ok(view)
 }
