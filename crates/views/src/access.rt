@@ -35,13 +35,13 @@ pub fn wide_read(map: &AnyMap, blobs: &[Blob], row: u64, leaf: usize) -> Option<
         let start = short.block_start(row);
         return Some(whole_wide(&blobs[short.blob], start, &short.field));
     }
-    if row < rule.wide.field {
-        let start = short.plain_start(row);
-        return Some(field_wide(&blobs[short.blob], start, &short.field));
-    }
     if row < rule.wide.turned {
         let start = short.plain_start(row);
         return Some(turned_wide(&blobs[short.blob], start, &short.field));
+    }
+    if row < rule.wide.field {
+        let start = short.plain_start(row);
+        return Some(field_wide(&blobs[short.blob], start, &short.field));
     }
     None
 }
