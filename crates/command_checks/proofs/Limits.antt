@@ -101,12 +101,15 @@ module _ (views : List (Entry Table)) (fields : Fields) (extents : List ℕ) (te
   made_big (inr over) =
       over_is (either slots _ (either bits _ (first granules all (passed (2 ^ 24) (granules_for term (layout_by term extents fields)) over))))
 
--- bytes against bits
-pub bits_over : (live own bits more : ℕ) → 8 * live ≡ bits → 8 * own ≡ more → 2 ^ 30 < live + own → 8 * 2 ^ 30 < bits + more
-bits_over live own bits more a b over = omega arith
+-- bytes against bits: too many live, a view that fits beside those that live, and one that does not
+pub bits_over : (live bits more : ℕ) → 8 * live ≡ bits → 2 ^ 30 < live → 8 * 2 ^ 30 < bits + more
+bits_over live bits more a over = omega arith
 
-pub bits_within : (live own bits more : ℕ) → 8 * live ≡ bits → 8 * own ≡ more → live + own ≤ 2 ^ 30 → 8 * 2 ^ 30 < bits + more → ⊥
-bits_within live own bits more a b within over = omega arith
+pub bits_within : (live left bits more : ℕ) → 8 * live ≡ bits → left ≡ 2 ^ 30 - live → live ≤ 2 ^ 30 → more ≤ 8 * left → 8 * 2 ^ 30 < bits + more → ⊥
+bits_within live left bits more a rest some within over = omega arith
+
+pub bits_past : (live left bits more : ℕ) → 8 * live ≡ bits → left ≡ 2 ^ 30 - live → 8 * left < more → 8 * 2 ^ 30 < bits + more
+bits_past live left bits more a rest past = omega arith
 
 sums : (bytes own bits more : ℕ) → 8 * bytes ≡ bits → 8 * own ≡ more → 8 * (bytes + own) ≡ bits + more
 sums bytes own bits more a b = omega arith

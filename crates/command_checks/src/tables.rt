@@ -1,5 +1,5 @@
 // New views, and what refuses them.
-ghost use Rattle.std.specs.Prelude.{◌≡◌, ◌*◌, ◌^◌, ◌<◌, ◌≤◌, IfOk, IfSome, OnOk, nat_lt, count_by, map, length, true};
+ghost use Rattle.std.specs.Prelude.{◌≡◌, ◌-◌, ◌*◌, ◌^◌, ◌<◌, ◌≤◌, IfOk, IfSome, OnOk, nat_lt, count_by, map, length, true};
 ghost use Rattle.extents.specs.Indices.{indices};
 ghost use Rattle.extents.specs.Shapes.{is_rows, IsShape};
 ghost use Rattle.map_expr.specs.Terms.{term_of};
@@ -86,7 +86,7 @@ fn is_rows(word: &ExtentWord) -> bool
     matches!(word, ExtentWord::Rows)
 }
 
-/// A view of zeros beside the views that live.
+/// A view of zeros beside the views that live. One that is refused has taken no memory for its blobs.
 #[tactic(auto, using(crate::specs::BasesLaws::nameless_built))]
 pub fn made(
     alloc: Global,
@@ -100,10 +100,11 @@ pub fn made(
     ensures made { Gives (λ view. view) result (made (map view_of views.now) (schema_fields schema.now) extents (term_of expr.now)) }
     ensures extents { IfOk result (λ view. view.extents ≡ extents) }
 {
-    match View::new(alloc, schema, extents, expr) {
+    let live = live_bytes(views);
+    match View::new_within(alloc, schema, extents, expr, left_beside(live)) {
         Ok(view) => {
-            let bytes = live_bytes(views) + u128::from(view.blob_bytes());
-            if bytes > MAX_LIVE_BYTES {
+            // Nothing is left beside too many bytes, and a view of none is refused there too.
+            if live > MAX_LIVE_BYTES {
                 return Err(StepFault::Command(CommandFault::TooBig));
             }
             Ok(view)
@@ -114,6 +115,13 @@ pub fn made(
             MakeView::NoMemory => Err(StepFault::NoMemory),
         },
     }
+}
+
+// How many bytes a view may have beside so many.
+fn left_beside(live: u128) -> u64
+    ensures { result ≡ 2 ^ 30 - live }
+{
+    MAX_LIVE_BYTES.saturating_sub(live) as u64
 }
 
 // The bytes of the blobs of all live views.
