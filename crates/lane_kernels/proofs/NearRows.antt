@@ -1,9 +1,8 @@
 -- The number of values that are taken sixteen at a time.
-use Rattle.std.proofs.Common.{◌≡◌, ℕ, ◌+◌, ◌-◌, ◌*◌, ◌/◌, ◌≤◌, ◌++◌, List, length, take, drop, fold, replicate, ℤ, pos, sym, ap, ◌∙◌, subst, arith, length-take, length-drop}
+use Rattle.std.proofs.Common.{◌≡◌, ℕ, ◌+◌, ◌-◌, ◌≤◌, ◌++◌, List, length, take, drop, fold, replicate, ℤ, pos, sym, ap, ◌∙◌, subst, arith, length-take, length-drop}
 use Rattle.std.specs.Simd.Lanes.{Each1}
-use Rattle.std.proofs.lemmas.List.{append-nil, take_all, length-map}
+use Rattle.std.proofs.lemmas.List.{append-nil, take_all}
 use Rattle.lanes.specs.Blocks.{IsNarrow}
-use Rattle.views.specs.Columns.{in_leaf, column}
 use Rattle.lane_kernels.specs.Reductions.{start, taking, reduced, IsSmall}
 use Rattle.lane_kernels.specs.declared.reductions.Reduction.{Reduction}
 use Rattle.lane_kernels.proofs.Numbers.{start_small, taking_small, first_narrow, values_more}
