@@ -59,8 +59,12 @@ to_arrays one two fields extents old new begun from to rows kinds within =
     let sum = rw (rows, leaf) at few in
     omega (arith, begun, sum)
 
--- a list of one type
-pub one_kind : (kinds : List LeafType) (kind : LeafType) → length kinds ≡ 1 → slice_get kinds 0 ≡ Some kind → kinds ≡ kind ∷ []
+-- the types of a record with one leaf
+one_kind : (kinds : List LeafType) (kind : LeafType) → length kinds ≡ 1 → slice_get kinds 0 ≡ Some kind → kinds ≡ kind ∷ []
 one_kind [] kind one is = absurd (omega (arith, one))
 one_kind (first ∷ []) kind one is = ap (λ (found : Option LeafType). unwrap_or found kind ∷ []) is
 one_kind (first ∷ other ∷ kinds) kind one is = absurd (omega (arith, one))
+
+pub one_leaf : (fields : Fields) (kind : LeafType) → length (leaves fields) ≡ 1 → slice_get (kinds_of fields) 0 ≡ Some kind → kind ≡ U32 → kinds_of fields ≡ U32 ∷ []
+one_leaf fields kind one first is =
+    one_kind (kinds_of fields) kind (length-map (leaves fields) (λ leaf. leaf.kind) ∙ one) first ∙ ap (λ (k : LeafType). k ∷ []) is

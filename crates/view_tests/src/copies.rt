@@ -7,6 +7,7 @@ ghost use Rattle.places.specs.declared.forms.AosForm.TheVariants.{Packed};
 ghost use Rattle.places.specs.declared.forms.SoaForm.TheVariants.{Multi};
 ghost use Rattle.record_dim.specs.declared.leaf_type.LeafType.TheVariants.{U32};
 ghost use Rattle.record_dim.specs.Leaves.{kinds_of};
+ghost use Rattle.record_dim.specs.Schemas.{schema_fields};
 ghost use Rattle.map_expr.specs.Terms.{Aos, Soa, Aosoa, term_of};
 ghost use Rattle.map_checks.specs.Mappings.{IsBuiltTerm};
 ghost use Rattle.views.specs.Tables.{owners_of};
@@ -15,7 +16,7 @@ use crate::stored_values::{aos, aosoa, get, set, soa, view_of};
 use layout_copy::{CopyFault, copy};
 use map_any::MapExpr;
 use places::{AosForm, Mapping, SoaForm};
-use record_dim::LeafType;
+use record_dim::{LeafType, Schema};
 use std::alloc::Global;
 use std::marker::Brand;
 use std::sync::ledger::{Blank, Ledger};
@@ -87,10 +88,16 @@ fn is_small(view: &View) -> bool
     ensures rows { IsTrue result → length (indices view.now.extents) ≡ 1000 }
     ensures leaf { IsTrue result → kinds_of view.now.fields ≡ U32 ∷ [] }
 {
-    let schema = view.schema();
-    view.extents().count() == 1000
-        && schema.leaf_count() == 1
-        && schema.leaf_type(0) == LeafType::U32
+    view.extents().count() == 1000 && is_one_leaf(view.schema())
+}
+
+fn is_one_leaf(schema: &Schema) -> bool
+    ensures { IsTrue result → kinds_of (schema_fields schema.now) ≡ U32 ∷ [] }
+{
+    if schema.leaf_count() != 1 {
+        return false;
+    }
+    schema.leaf_type(0) == LeafType::U32
 }
 
 // Whether it has one blob, of 4,000 bytes.
