@@ -102,6 +102,23 @@ NUMBERS = [
     Case('flag_below_0', FLAG, 'line 2: Range record 0 leaf f', b'f\n-1\n'),
 ]
 
+# Leaves whose columns stand from the last to the first.
+EIGHT = 'record P { h:u8[8] } | load V : P [?] as aosoa(3, col) from "d.csv" | print V'
+EIGHT_BACK = b'h[7],h[6],h[5],h[4],h[3],h[2],h[1],h[0]\n'
+EIGHT_ON = 'h[0],h[1],h[2],h[3],h[4],h[5],h[6],h[7]'
+ROWS_BACK = b'8,7,6,5,4,3,2,1\n18,17,16,15,14,13,12,11\n'
+
+BACKWARDS = [
+    Case('columns_of_eight_leaves_in_the_opposite_order', EIGHT, EIGHT_ON + ' | 1,2,3,4,5,6,7,8 | 11,12,13,14,15,16,17,18', EIGHT_BACK + ROWS_BACK),
+    Case('columns_in_the_opposite_order_with_marks', EIGHT, EIGHT_ON + ' | 1,2,3,4,5,6,7,8 | 11,12,13,14,15,16,17,18',
+         MARK + MARK + EIGHT_BACK + ROWS_BACK),
+    Case('columns_in_the_opposite_order_of_no_row', EIGHT, EIGHT_ON, EIGHT_BACK),
+    Case('columns_in_the_opposite_order_with_a_short_row', EIGHT, 'line 2: ShortRow record 1 leaf h[0]', EIGHT_BACK + b'8,7,6,5,4,3,2,1\n8,7,6,5,4,3,2\n'),
+    Case('columns_in_the_opposite_order_and_the_first_fault_is_the_first_leafs', EIGHT, 'line 2: Number record 0 leaf h[1]', EIGHT_BACK + b'x,7,6,5,4,3,y,1\n'),
+    Case('columns_in_the_opposite_order_behind_others', EIGHT, EIGHT_ON + ' | 1,2,3,4,5,6,7,8',
+         b'x,' * 200 + EIGHT_BACK + b'no,' * 200 + b'8,7,6,5,4,3,2,1\n'),
+]
+
 COLUMNS = [
     good('columns_are_named_in_any_order', b'b,a\n-1,2\n-3,4\n', '2,-1 | 4,-3'),
     good('columns_that_name_no_leaf_are_ignored', b'x,b,,a,y z\none,-1,,2,\xff\xfe\n', '2,-1'),
@@ -164,4 +181,4 @@ PRINTED = [
          b'f,c[0].x,c[0].y,c[1].x,c[1].y\n1,-9223372036854775808,0,5,18446744073709551615\n0,0,0,0,0\n1,-1,1,-1,1\n0,7,8,9,10\n'),
 ]
 
-CASES = ENDS + QUOTES + NUMBERS + COLUMNS + RANGES + BIGS + PRINTED
+CASES = ENDS + QUOTES + NUMBERS + COLUMNS + BACKWARDS + RANGES + BIGS + PRINTED
