@@ -179,7 +179,7 @@ fn each_write_that_fails_leaves_a_front(rt: HostRuntime) -> Result<(), Fail> {
             } else {
                 status == run.status && taken == run.output.as_bytes()
             };
-            assert!(rt; is_due, "write {call} by {piece} of {}", run.output);
+            assert!(rt; is_due, "write {call} of {all} by {piece}");
         }
     }
     Ok(())
