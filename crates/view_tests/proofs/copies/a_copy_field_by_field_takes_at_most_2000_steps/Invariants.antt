@@ -1,4 +1,5 @@
+-- the ledger that the blank opens
 use Rattle.view_tests.proofs.copies.a_copy_field_by_field_takes_at_most_2000_steps.Given as goal
 
-abbrev pub ghosts-copy_to_arrays : goal.ghosts-copy_to_arrays
-ghosts-copy_to_arrays a = record { name = a.blank.name; parts = a.blank.parts }
+abbrev pub ghosts-goes_to_arrays : goal.ghosts-goes_to_arrays
+ghosts-goes_to_arrays a = record { name = a.blank.name; parts = a.blank.parts }
