@@ -136,11 +136,18 @@ fn goes_to_blocks<L: Ledger>(
     Ok(copied == Ok(()) && has_squares(target)?)
 }
 
+fn blocks(source: &mut View, target: &mut View) -> Result<bool, Fail>
+    requires from { source.old.mapping ≡ Soa Multi Row }
+    requires to { target.old.mapping ≡ Aosoa 8 Row }
+{
+    goes_to_blocks::<Brand>(source, target, Blank::new(1))
+}
+
 #[test]
 fn a_copy_to_blocks_takes_at_most_125_steps(rt: HostRuntime) -> Result<(), Fail> {
     let mut source = of_squares(rt.alloc(), &soa(SoaForm::Multi))?;
     let mut target = of_zeros(rt.alloc(), &aosoa(8))?;
-    assert!(rt; goes_to_blocks::<Brand>(&mut source, &mut target, Blank::new(1))?);
+    assert!(rt; blocks(&mut source, &mut target)?);
     Ok(())
 }
 
@@ -160,11 +167,18 @@ fn goes_alike<L: Ledger>(source: &mut View, target: &mut View, blank: Blank) -> 
     Ok(copied == Ok(()) && has_squares(target)?)
 }
 
+fn records(source: &mut View, target: &mut View) -> Result<bool, Fail>
+    requires from { source.old.mapping ≡ Aos Packed Row }
+    requires to { target.old.mapping ≡ Aos Packed Row }
+{
+    goes_alike::<Brand>(source, target, Blank::new(1))
+}
+
 #[test]
 fn a_copy_of_records_as_they_are_takes_at_most_63_steps(rt: HostRuntime) -> Result<(), Fail> {
     let mut source = of_squares(rt.alloc(), &aos(AosForm::Packed))?;
     let mut target = of_zeros(rt.alloc(), &aos(AosForm::Packed))?;
-    assert!(rt; goes_alike::<Brand>(&mut source, &mut target, Blank::new(1))?);
+    assert!(rt; records(&mut source, &mut target)?);
     Ok(())
 }
 
@@ -188,10 +202,17 @@ fn goes_to_arrays<L: Ledger>(
     Ok(copied == Ok(()) && has_squares(target)?)
 }
 
+fn arrays(source: &mut View, target: &mut View) -> Result<bool, Fail>
+    requires from { source.old.mapping ≡ Aos Packed Row }
+    requires to { target.old.mapping ≡ Soa Multi Row }
+{
+    goes_to_arrays::<Brand>(source, target, Blank::new(1))
+}
+
 #[test]
 fn a_copy_field_by_field_takes_at_most_2000_steps(rt: HostRuntime) -> Result<(), Fail> {
     let mut source = of_squares(rt.alloc(), &aos(AosForm::Packed))?;
     let mut target = of_zeros(rt.alloc(), &soa(SoaForm::Multi))?;
-    assert!(rt; goes_to_arrays::<Brand>(&mut source, &mut target, Blank::new(1))?);
+    assert!(rt; arrays(&mut source, &mut target)?);
     Ok(())
 }

@@ -50,6 +50,10 @@ fn summed<L: Ledger>(view: &mut View, blank: Blank) -> Result<Answer, Fail>
     Ok(sum_by_lanes(view, &mut steps))
 }
 
+fn sum_of(view: &mut View) -> Result<Answer, Fail> {
+    summed::<Brand>(view, Blank::new(1))
+}
+
 #[test]
 fn a_sum_over_1000_rows_by_16_lanes_takes_at_most_86_steps(rt: HostRuntime) -> Result<(), Fail> {
     let kinds = [LeafType::U16];
@@ -58,8 +62,7 @@ fn a_sum_over_1000_rows_by_16_lanes_takes_at_most_86_steps(rt: HostRuntime) -> R
         let stored = set(&mut view, row, 0, value)?;
         assert!(rt; stored == Ok(()));
     }
-    let sum = summed::<Brand>(&mut view, Blank::new(1))?;
-    assert!(rt; sum == Ok(Some(16543)));
+    assert!(rt; sum_of(&mut view)? == Ok(Some(16543)));
     Ok(())
 }
 
