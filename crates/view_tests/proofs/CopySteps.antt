@@ -27,13 +27,13 @@ pieces : steps_before 1000 1000 8 (4 ∷ []) 1000 ≡ 125
 unfolding steps_before
 pieces = refl
 
-pub to_blocks : (one two : Term) (fields : Fields) (extents : List ℕ) (old new : ℕ) → old ≡ 0 → one ≡ Soa Multi Row → two ≡ Aosoa 8 Row → length (indices extents) ≡ 1000 →
-    kinds_of fields ≡ U32 ∷ [] → IsWithin one two fields extents old new → new ≤ 125
-to_blocks one two fields extents old new begun from to rows kinds within =
+pub to_blocks : (one two : Term) (fields : Fields) (extents : List ℕ) (old new : ℕ) → one ≡ Soa Multi Row → two ≡ Aosoa 8 Row → length (indices extents) ≡ 1000 →
+    kinds_of fields ≡ U32 ∷ [] → IsWithin one two fields extents old new → new ≤ old + 125
+to_blocks one two fields extents old new from to rows kinds within =
     let is : IsStrategy one two way.Runs = rw (from, to) ((λ e. cc), refl) in
     let few = rw (from, to) at (within way.Runs is) in
     let sum = rw (rows, kinds) at few in
-    omega (arith, begun, sum, pieces)
+    omega (arith, sum, pieces)
 
 one_blob : (layout : List (List Owner)) → length layout ≡ 1 → sum_by length layout ≡ 8 * 4000 → blob_steps layout ≡ 63
 one_blob [] one bits = absurd (omega (arith, one))
@@ -42,22 +42,22 @@ one_blob (blob ∷ []) one bits =
     rw long refl
 one_blob (blob ∷ other ∷ blobs) one bits = absurd (omega (arith, one))
 
-pub as_they_are : (one two : Term) (fields : Fields) (extents : List ℕ) (old new : ℕ) → old ≡ 0 → one ≡ Aos Packed Row → two ≡ Aos Packed Row →
-    length (layout_by two extents fields) ≡ 1 → sum_by length (layout_by two extents fields) ≡ 8 * 4000 → IsWithin one two fields extents old new → new ≤ 63
-as_they_are one two fields extents old new begun from to blob bits within =
+pub as_they_are : (one two : Term) (fields : Fields) (extents : List ℕ) (old new : ℕ) → one ≡ Aos Packed Row → two ≡ Aos Packed Row →
+    length (layout_by two extents fields) ≡ 1 → sum_by length (layout_by two extents fields) ≡ 8 * 4000 → IsWithin one two fields extents old new → new ≤ old + 63
+as_they_are one two fields extents old new from to blob bits within =
     let is : IsStrategy one two way.Blobs = rw (from, to) refl in
     let few = within way.Blobs is in
     let steps = one_blob (layout_by two extents fields) blob bits in
-    omega (arith, begun, few, steps)
+    omega (arith, few, steps)
 
-pub to_arrays : (one two : Term) (fields : Fields) (extents : List ℕ) (old new : ℕ) → old ≡ 0 → one ≡ Aos Packed Row → two ≡ Soa Multi Row → length (indices extents) ≡ 1000 →
-    kinds_of fields ≡ U32 ∷ [] → IsWithin one two fields extents old new → new ≤ 2000
-to_arrays one two fields extents old new begun from to rows kinds within =
+pub to_arrays : (one two : Term) (fields : Fields) (extents : List ℕ) (old new : ℕ) → one ≡ Aos Packed Row → two ≡ Soa Multi Row → length (indices extents) ≡ 1000 →
+    kinds_of fields ≡ U32 ∷ [] → IsWithin one two fields extents old new → new ≤ old + 2000
+to_arrays one two fields extents old new from to rows kinds within =
     let leaf : length (leaves fields) ≡ 1 = sym (length-map (leaves fields) (λ leaf. leaf.kind)) ∙ ap (λ (ks : List LeafType). length ks) kinds in
     let is : IsStrategy one two way.Fields = rw (from, to) ((λ e. cc), (λ e. e)) in
     let few = within way.Fields is in
     let sum = rw (rows, leaf) at few in
-    omega (arith, begun, sum)
+    omega (arith, sum)
 
 -- the types of a record with one leaf
 one_kind : (kinds : List LeafType) (kind : LeafType) → length kinds ≡ 1 → slice_get kinds 0 ≡ Some kind → kinds ≡ kind ∷ []

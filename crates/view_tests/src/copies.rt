@@ -1,6 +1,6 @@
 // The steps of copies of 1,000 rows of one leaf of four bytes. No run sees a counter of steps, so a bound on them is a clause of a function
 // that a test calls.
-ghost use Rattle.std.specs.Prelude.{◌≡◌, ◌*◌, ◌<◌, ◌≤◌, ◌∷◌, [], IfOk, IsTrue, length, sum_by};
+ghost use Rattle.std.specs.Prelude.{◌≡◌, ◌+◌, ◌*◌, ◌<◌, ◌≤◌, ◌∷◌, [], IfOk, IsTrue, length, sum_by};
 ghost use Rattle.extents.specs.Indices.{indices};
 ghost use Rattle.extents.specs.declared.order.Order.TheVariants.{Row};
 ghost use Rattle.places.specs.declared.forms.AosForm.TheVariants.{Packed};
@@ -28,59 +28,36 @@ use views::View;
 type Answer = Result<(), CopyFault>;
 
 // Arrays become blocks of 8 lanes: 125 pieces of 32 bytes.
-fn copy_to_blocks<L: Ledger>(
-    source: &mut View,
-    target: &mut View,
-    blank: Blank,
-) -> (Answer, Steps<L>)
-    requires name { blank.name ≡ L.name }
-    requires parts { blank.parts ≡ L.parts }
-    requires one { 0 < blank.parts }
+fn copy_to_blocks<L: Ledger>(source: &mut View, target: &mut View, steps: &mut Steps<L>) -> Answer
     requires from { source.old.mapping ≡ Soa Multi Row }
     requires to { target.old.mapping ≡ Aosoa 8 Row }
     requires rows { length (indices target.old.extents) ≡ 1000 }
     requires leaf { kinds_of target.old.fields ≡ U32 ∷ [] }
-    ensures { result.1 ≤ 125 }
+    ensures { steps.new ≤ steps.old + 125 }
 {
-    let mut steps = Steps::<L>::new(blank);
-    let answer = copy(source, target, &mut steps);
-    (answer, steps)
+    copy(source, target, steps)
 }
 
 // Records become records of the same form: one blob of 4,000 bytes.
-fn copy_alike<L: Ledger>(source: &mut View, target: &mut View, blank: Blank) -> (Answer, Steps<L>)
-    requires name { blank.name ≡ L.name }
-    requires parts { blank.parts ≡ L.parts }
-    requires one { 0 < blank.parts }
+fn copy_alike<L: Ledger>(source: &mut View, target: &mut View, steps: &mut Steps<L>) -> Answer
     requires from { source.old.mapping ≡ Aos Packed Row }
     requires to { target.old.mapping ≡ Aos Packed Row }
     requires blob { length (owners_of target.old) ≡ 1 }
     requires bytes { sum_by length (owners_of target.old) ≡ 8 * 4000 }
-    ensures { result.1 ≤ 63 }
+    ensures { steps.new ≤ steps.old + 63 }
 {
-    let mut steps = Steps::<L>::new(blank);
-    let answer = copy(source, target, &mut steps);
-    (answer, steps)
+    copy(source, target, steps)
 }
 
 // Records become arrays, field by field.
-fn copy_to_arrays<L: Ledger>(
-    source: &mut View,
-    target: &mut View,
-    blank: Blank,
-) -> (Answer, Steps<L>)
-    requires name { blank.name ≡ L.name }
-    requires parts { blank.parts ≡ L.parts }
-    requires one { 0 < blank.parts }
+fn copy_to_arrays<L: Ledger>(source: &mut View, target: &mut View, steps: &mut Steps<L>) -> Answer
     requires from { source.old.mapping ≡ Aos Packed Row }
     requires to { target.old.mapping ≡ Soa Multi Row }
     requires rows { length (indices target.old.extents) ≡ 1000 }
     requires leaf { kinds_of target.old.fields ≡ U32 ∷ [] }
-    ensures { result.1 ≤ 2000 }
+    ensures { steps.new ≤ steps.old + 2000 }
 {
-    let mut steps = Steps::<L>::new(blank);
-    let answer = copy(source, target, &mut steps);
-    (answer, steps)
+    copy(source, target, steps)
 }
 
 // Whether a view has 1,000 rows of one leaf of four bytes.
@@ -139,32 +116,103 @@ fn has_squares(view: &mut View) -> Result<bool, Fail> {
     Ok(true)
 }
 
+// Whether a copy that goes so has the squares.
+fn goes_to_blocks<L: Ledger>(
+    source: &mut View,
+    target: &mut View,
+    blank: Blank,
+) -> Result<bool, Fail>
+    requires name { blank.name ≡ L.name }
+    requires parts { blank.parts ≡ L.parts }
+    requires one { 0 < blank.parts }
+    requires from { source.old.mapping ≡ Soa Multi Row }
+    requires to { target.old.mapping ≡ Aosoa 8 Row }
+{
+    if !is_small(target) {
+        return Ok(false);
+    }
+    let mut steps = Steps::<L>::new(blank);
+    let copied = copy_to_blocks(source, target, &mut steps);
+    Ok(copied == Ok(()) && has_squares(target)?)
+}
+
+fn blocks(source: &mut View, target: &mut View) -> Result<bool, Fail>
+    requires from { source.old.mapping ≡ Soa Multi Row }
+    requires to { target.old.mapping ≡ Aosoa 8 Row }
+{
+    goes_to_blocks::<Brand>(source, target, Blank::new(1))
+}
+
 #[test]
 fn a_copy_to_blocks_takes_at_most_125_steps(rt: HostRuntime) -> Result<(), Fail> {
     let mut source = of_squares(rt.alloc(), &soa(SoaForm::Multi))?;
     let mut target = of_zeros(rt.alloc(), &aosoa(8))?;
-    assert!(rt; is_small(&target));
-    let copied = copy_to_blocks::<Brand>(&mut source, &mut target, Blank::new(1)).0;
-    assert!(rt; copied == Ok(()) && has_squares(&mut target)?);
+    assert!(rt; blocks(&mut source, &mut target)?);
     Ok(())
+}
+
+// Whether a copy that goes so has the squares.
+fn goes_alike<L: Ledger>(source: &mut View, target: &mut View, blank: Blank) -> Result<bool, Fail>
+    requires name { blank.name ≡ L.name }
+    requires parts { blank.parts ≡ L.parts }
+    requires one { 0 < blank.parts }
+    requires from { source.old.mapping ≡ Aos Packed Row }
+    requires to { target.old.mapping ≡ Aos Packed Row }
+{
+    if !is_one_blob(target) {
+        return Ok(false);
+    }
+    let mut steps = Steps::<L>::new(blank);
+    let copied = copy_alike(source, target, &mut steps);
+    Ok(copied == Ok(()) && has_squares(target)?)
+}
+
+fn records(source: &mut View, target: &mut View) -> Result<bool, Fail>
+    requires from { source.old.mapping ≡ Aos Packed Row }
+    requires to { target.old.mapping ≡ Aos Packed Row }
+{
+    goes_alike::<Brand>(source, target, Blank::new(1))
 }
 
 #[test]
 fn a_copy_of_records_as_they_are_takes_at_most_63_steps(rt: HostRuntime) -> Result<(), Fail> {
     let mut source = of_squares(rt.alloc(), &aos(AosForm::Packed))?;
     let mut target = of_zeros(rt.alloc(), &aos(AosForm::Packed))?;
-    assert!(rt; is_one_blob(&target));
-    let copied = copy_alike::<Brand>(&mut source, &mut target, Blank::new(1)).0;
-    assert!(rt; copied == Ok(()) && has_squares(&mut target)?);
+    assert!(rt; records(&mut source, &mut target)?);
     Ok(())
+}
+
+// Whether a copy that goes so has the squares.
+fn goes_to_arrays<L: Ledger>(
+    source: &mut View,
+    target: &mut View,
+    blank: Blank,
+) -> Result<bool, Fail>
+    requires name { blank.name ≡ L.name }
+    requires parts { blank.parts ≡ L.parts }
+    requires one { 0 < blank.parts }
+    requires from { source.old.mapping ≡ Aos Packed Row }
+    requires to { target.old.mapping ≡ Soa Multi Row }
+{
+    if !is_small(target) {
+        return Ok(false);
+    }
+    let mut steps = Steps::<L>::new(blank);
+    let copied = copy_to_arrays(source, target, &mut steps);
+    Ok(copied == Ok(()) && has_squares(target)?)
+}
+
+fn arrays(source: &mut View, target: &mut View) -> Result<bool, Fail>
+    requires from { source.old.mapping ≡ Aos Packed Row }
+    requires to { target.old.mapping ≡ Soa Multi Row }
+{
+    goes_to_arrays::<Brand>(source, target, Blank::new(1))
 }
 
 #[test]
 fn a_copy_field_by_field_takes_at_most_2000_steps(rt: HostRuntime) -> Result<(), Fail> {
     let mut source = of_squares(rt.alloc(), &aos(AosForm::Packed))?;
     let mut target = of_zeros(rt.alloc(), &soa(SoaForm::Multi))?;
-    assert!(rt; is_small(&target));
-    let copied = copy_to_arrays::<Brand>(&mut source, &mut target, Blank::new(1)).0;
-    assert!(rt; copied == Ok(()) && has_squares(&mut target)?);
+    assert!(rt; arrays(&mut source, &mut target)?);
     Ok(())
 }

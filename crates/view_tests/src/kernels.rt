@@ -1,6 +1,6 @@
 // Kernels by lanes: the steps that one takes at most, and what is read of a block in which a row is refused. No run sees a counter of
 // steps, so a bound on them is a clause of a function that a test calls.
-ghost use Rattle.std.specs.Prelude.{◌≡◌, ◌<◌, ◌≤◌, IsTrue, length};
+ghost use Rattle.std.specs.Prelude.{◌≡◌, ◌+◌, ◌<◌, ◌≤◌, IsTrue, length};
 ghost use Rattle.views.specs.Columns.{IsNarrowLeaf};
 
 use crate::stored_values::{aos, set, view_of};
@@ -28,27 +28,30 @@ fn is_narrow(view: &View, leaf: usize) -> bool
     leaf < schema.leaf_count() && schema.leaf_type(leaf).width() <= 32
 }
 
-// The sum of the first leaf over 1,000 rows by 16 lanes, and the steps that it took: one for each of 62 blocks and of 8 rows, and at most 16
-// more.
-fn sum_of_1000<L: Ledger>(view: &mut View, blank: Blank) -> (Answer, Steps<L>)
-    requires name { blank.name ≡ L.name }
-    requires parts { blank.parts ≡ L.parts }
-    requires some { 0 < blank.parts }
+// The sum of the first leaf over 1,000 rows by 16 lanes: a step for each of 62 blocks and of 8 rows, and at most 16 more.
+fn sum_by_lanes<L: Ledger>(view: &mut View, steps: &mut Steps<L>) -> Answer
     requires leaf { IsNarrowLeaf view.old 0 }
     requires rows { length view.old.rows ≡ 1000 }
-    ensures { result.1 ≤ 86 }
+    ensures { steps.new ≤ steps.old + 86 }
 {
-    let mut steps = Steps::<L>::new(blank);
-    let answer = run_lanes(view, &Kernel::Sum { x: 0 }, 16, &mut steps);
-    (answer, steps)
+    run_lanes(view, &Kernel::Sum { x: 0 }, 16, steps)
 }
 
 // The same of a view that has so many rows.
-fn summed(view: &mut View) -> Result<Answer, Fail> {
-    if view.extents().count() == 1000 && is_narrow(view, 0) {
-        return Ok(sum_of_1000::<Brand>(view, Blank::new(1)).0);
+fn summed<L: Ledger>(view: &mut View, blank: Blank) -> Result<Answer, Fail>
+    requires name { blank.name ≡ L.name }
+    requires parts { blank.parts ≡ L.parts }
+    requires some { 0 < blank.parts }
+{
+    if view.extents().count() != 1000 || !is_narrow(view, 0) {
+        return Err(Fail::new("another view"));
     }
-    Err(Fail::new("another view"))
+    let mut steps = Steps::<L>::new(blank);
+    Ok(sum_by_lanes(view, &mut steps))
+}
+
+fn sum_of(view: &mut View) -> Result<Answer, Fail> {
+    summed::<Brand>(view, Blank::new(1))
 }
 
 #[test]
@@ -59,7 +62,7 @@ fn a_sum_over_1000_rows_by_16_lanes_takes_at_most_86_steps(rt: HostRuntime) -> R
         let stored = set(&mut view, row, 0, value)?;
         assert!(rt; stored == Ok(()));
     }
-    assert!(rt; summed(&mut view)? == Ok(Some(16543)));
+    assert!(rt; sum_of(&mut view)? == Ok(Some(16543)));
     Ok(())
 }
 
@@ -103,14 +106,24 @@ fn has_counts(alloc: Global, view: &View, text: &str) -> Result<bool, Fail> {
 
 // Whether the addition by so many lanes is refused in a row, after so many reads of each leaf and a write of the second in each row before it.
 // The write that made the row counts too.
-fn reads_so(alloc: Global, row: u64, lanes: usize, reads: u64) -> Result<bool, Fail> {
-    let mut view = refusing(alloc, row)?;
-    let answer = added(&mut view, lanes)?;
+fn is_refused(
+    alloc: Global,
+    view: &mut View,
+    row: u64,
+    lanes: usize,
+    reads: u64,
+) -> Result<bool, Fail> {
+    let answer = added(view, lanes)?;
     let text = format!(in alloc; "leaf,reads,writes\nf0,{reads},1\nf1,{reads},{row}\n")?;
     Ok(
         answer == Err(KernelFault::Range { row, leaf: 1 })
-            && has_counts(alloc, &view, text.as_str())?,
+            && has_counts(alloc, view, text.as_str())?,
     )
+}
+
+fn reads_so(alloc: Global, row: u64, lanes: usize, reads: u64) -> Result<bool, Fail> {
+    let mut view = refusing(alloc, row)?;
+    is_refused(alloc, &mut view, row, lanes, reads)
 }
 
 // A row that is refused, the lanes, and the reads of each leaf.

@@ -1,4 +1,0 @@
-use Rattle.view_tests.proofs.copies.a_copy_field_by_field_takes_at_most_2000_steps.Given as goal
-
-abbrev pub ghosts-copy_to_arrays : goal.ghosts-copy_to_arrays
-ghosts-copy_to_arrays a = record { name = a.blank.name; parts = a.blank.parts }

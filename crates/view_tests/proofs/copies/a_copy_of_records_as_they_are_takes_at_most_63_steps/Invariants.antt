@@ -1,4 +1,0 @@
-use Rattle.view_tests.proofs.copies.a_copy_of_records_as_they_are_takes_at_most_63_steps.Given as goal
-
-abbrev pub ghosts-copy_alike : goal.ghosts-copy_alike
-ghosts-copy_alike a = record { name = a.blank.name; parts = a.blank.parts }
