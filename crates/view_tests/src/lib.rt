@@ -6,13 +6,9 @@ mod any_maps;
 #[cfg(test)]
 mod blob_runs;
 #[cfg(test)]
-mod copies;
-#[cfg(test)]
 mod counters;
 #[cfg(test)]
 mod datasets;
-#[cfg(test)]
-mod kernels;
 #[cfg(test)]
 mod orders;
 #[cfg(test)]

@@ -1,7 +1,0 @@
-use Rattle.view_tests.proofs.CopySteps.{to_blocks}
-use Rattle.view_tests.proofs.copies.copy_to_blocks.Goals as goal
-
-pub returns : goal.returns
-returns g c =
-    to_blocks c.args.source.now.mapping c.args.target.now.mapping c.args.target.now.fields c.args.target.now.extents c.args.steps.now c.copy.new.steps c.requires.from c.requires.to
-    c.requires.rows c.requires.leaf c.copy.ensures.steps
