@@ -10,6 +10,8 @@ mod counters;
 #[cfg(test)]
 mod datasets;
 #[cfg(test)]
+mod kernels;
+#[cfg(test)]
 mod orders;
 #[cfg(test)]
 mod stored_values;

@@ -1,6 +1,7 @@
 // Values that views store: the bytes of each form, the edges of each type, rows that are borrowed, and views that are not made.
-ghost use Rattle.std.specs.Prelude.{◌≡◌, ◌<◌, OnOk, length};
-ghost use Rattle.map_expr.specs.Terms.{term_of};
+ghost use Rattle.std.specs.Prelude.{◌≡◌, ◌<◌, IfOk, OnOk, length};
+ghost use Rattle.extents.specs.declared.order.Order.TheVariants.{Row};
+ghost use Rattle.map_expr.specs.Terms.{Aos, Soa, Aosoa, term_of};
 ghost use Rattle.map_checks.specs.Mappings.{IsBuiltTerm};
 ghost use Rattle.piece_bits.specs.Tables.{with_entry};
 ghost use Rattle.views.specs.Tables.{leaf_count_of};
@@ -58,6 +59,7 @@ pub(crate) fn view_of(
     expr: &MapExpr,
 ) -> Result<View, Fail>
     requires { IsBuiltTerm (term_of expr.now) }
+    ensures { IfOk result (λ view. view.mapping ≡ term_of expr.now) }
 {
     let schema = schema_of(alloc, kinds)?;
     let view = View::new(alloc, &schema, extents_of(rows)?, expr);
@@ -65,7 +67,8 @@ pub(crate) fn view_of(
 }
 
 pub(crate) fn aos(form: AosForm) -> MapExpr
-    ensures { IsBuiltTerm (term_of result) }
+    ensures built { IsBuiltTerm (term_of result) }
+    ensures term { term_of result ≡ Aos form Row }
 {
     MapExpr::Aos {
         form,
@@ -73,8 +76,9 @@ pub(crate) fn aos(form: AosForm) -> MapExpr
     }
 }
 
-fn soa(form: SoaForm) -> MapExpr
-    ensures { IsBuiltTerm (term_of result) }
+pub(crate) fn soa(form: SoaForm) -> MapExpr
+    ensures built { IsBuiltTerm (term_of result) }
+    ensures term { term_of result ≡ Soa form Row }
 {
     MapExpr::Soa {
         form,
@@ -82,8 +86,9 @@ fn soa(form: SoaForm) -> MapExpr
     }
 }
 
-fn aosoa(lanes: u32) -> MapExpr
-    ensures { IsBuiltTerm (term_of result) }
+pub(crate) fn aosoa(lanes: u32) -> MapExpr
+    ensures built { IsBuiltTerm (term_of result) }
+    ensures term { term_of result ≡ Aosoa lanes Row }
 {
     MapExpr::Aosoa {
         lanes,
@@ -103,6 +108,7 @@ fn set_from<L: Ledger>(
     requires some { 0 < blank.parts }
     requires row_in { row < length view.old.rows }
     requires leaf_in { leaf < leaf_count_of view.old }
+    ensures { view.new.mapping ≡ view.old.mapping }
 {
     let mut steps = Steps::<L>::new(blank);
     view.set(row, leaf, value, &mut steps)
@@ -146,7 +152,9 @@ pub(crate) fn set(
     row: u64,
     leaf: usize,
     value: i128,
-) -> Result<Result<(), StoreFault>, Fail> {
+) -> Result<Result<(), StoreFault>, Fail>
+    ensures { view.new.mapping ≡ view.old.mapping }
+{
     if row < view.extents().count() && leaf < view.schema().leaf_count() {
         return Ok(set_from::<Brand>(view, row, leaf, value, Blank::new(1)));
     }
