@@ -5,8 +5,8 @@ ghost use Rattle.plain_layouts.specs.Plain.{HasLanes};
 ghost use Rattle.map_checks.specs.Mappings.{IsBuiltTerm};
 
 use extents::{ExtentWord, Extents, Order, Shape};
-use map_any::{AnyMap, BadMapping, CellMap, MakeMap, MapExpr};
-use places::{AosForm, Cell, CellList, Mapping, Piece, SoaForm, pieces_of};
+use map_any::{AnyMap, BadMapping, MakeMap, MapExpr};
+use places::{AosForm, Mapping, Piece, SoaForm, pieces_of};
 use plain_layouts::{LayoutForm, PlainBlob, PlainOwner, plain_layout};
 use record_dim::{Dim, Field, FieldList, LeafType, Name, Path, Schema};
 use std::alloc::{AllocError as NoMemory, Global};
@@ -380,42 +380,5 @@ fn both_sides_of_a_split_count_for_its_size(rt: HostRuntime) -> Result<(), Fail>
     let big = split_of(alloc, "f0", multi(Order::Row), packed(Order::Row))?;
     assert!(rt; refusal(alloc, &words[..2], 1 << 24, &big)? == None);
     assert!(rt; refusal(alloc, &words, 1 << 24, &big)? == Some(MakeMap::TooBig));
-    Ok(())
-}
-
-/// Whether the cells of a mapping lie where the leaves of another do.
-fn lies_as(some: &CellMap, whole: &AnyMap) -> bool {
-    if some.slots() != whole.slots() || some.cells() != whole.cells() {
-        return false;
-    }
-    for row in 0..whole.slots() {
-        for cell in 0..whole.cells() {
-            let pieces = pieces_of(some, row, cell);
-            if pieces.as_slice() != pieces_of(whole, row, cell).as_slice() {
-                return false;
-            }
-        }
-    }
-    some.blob_count() == whole.blob_count()
-}
-
-/// The cells are the leaves `f1` and `f2` of a record of three, and the other record has these two alone.
-#[test]
-fn some_leaves_of_a_record_lie_as_those_of_a_record_of_them(rt: HostRuntime) -> Result<(), Fail> {
-    let alloc = rt.alloc();
-    let schema = schema_of(alloc, &[LeafType::U8, LeafType::U16, LeafType::U64])?;
-    let alone = schema_of(alloc, &[LeafType::U16, LeafType::U64])?;
-    let mut cells = CellList::new(alloc);
-    for (leaf, kind) in [(1, LeafType::U16), (2, LeafType::U64)] {
-        cells.push(Cell { leaf, kind })?;
-    }
-    let extents = extents_of(alloc, [3, 1, 1, 1], 1)?;
-    let second = split_of(alloc, "f1", multi(Order::Col), packed(Order::Row))?;
-    let first = split_of(alloc, "f0", multi(Order::Col), packed(Order::Row))?;
-    let some = CellMap::new(alloc, &schema, &cells, &extents, &second)?;
-    let whole = AnyMap::new(alloc, &alone, &extents, &first)?;
-    assert!(rt; lies_as(&some, &whole));
-    let refused = CellMap::new(alloc, &schema, &cells, &extents, &first).err();
-    assert!(rt; refused == Some(MakeMap::Bad(BadMapping::Side)));
     Ok(())
 }
