@@ -1,15 +1,16 @@
 /* The work of bench/scripts in plain C: loads a dataset with the columns id, x, y, w into packed structs, each number tested for
-   its range, then prints it, or prints the sum of y, at once, after `update P where x > 0 set y = x * 3 + i0 % 7`, or after the table went
-   TURNS times from structs to arrays, to blocks of 8 rows and back, in memory that is made anew each time (relayout) or once (copy).
+   its range, then prints it, or prints the sum of y, at once, after `update P where x > 0 set y = x * 3 + i0 % 7`, after ADDS times
+   `update P set x = x + 1` (add), ADDS times more (sums), or after the table went TURNS times from structs to arrays, to blocks of 8 rows and
+   back, in memory that is made anew each time (relayout) or once (copy).
 
-   usage: scripts_c print|sum|update|relayout|copy FILE */
+   usage: scripts_c print|sum|update|add|sums|relayout|copy FILE */
 #include <inttypes.h>
 #include <stdint.h>
 #include <stdio.h>
 #include <stdlib.h>
 #include <string.h>
 
-enum { MOST_DIGITS = 18, ROOM = 1 << 16, LONGEST_ROW = 64, LANES = 8, TURNS = 3 };
+enum { MOST_DIGITS = 18, ROOM = 1 << 16, LONGEST_ROW = 64, LANES = 8, TURNS = 3, ADDS = 10 };
 
 static const char HEADER[] = "id,x,y,w\n";
 
@@ -139,6 +140,16 @@ static void update(struct table table)
             table.rows[i].y = (int64_t)table.rows[i].x * 3 + (int64_t)(i % 7);
 }
 
+static void add(struct table table)
+{
+    for (size_t i = 0; i < table.count; i++) {
+        int64_t value = (int64_t)table.rows[i].x + 1;
+        if (value < INT32_MIN || value > INT32_MAX)
+            fail("a number is out of range");
+        table.rows[i].x = (int32_t)value;
+    }
+}
+
 static void print_sum(struct table table)
 {
     int64_t sum = 0;
@@ -243,7 +254,7 @@ int main(int count, char **words)
 {
     size_t length;
     if (count != 3)
-        fail("usage: scripts_c print|sum|update|relayout|copy FILE");
+        fail("usage: scripts_c print|sum|update|add|sums|relayout|copy FILE");
     char *bytes = read_file(words[2], &length);
     struct table table = load(bytes, length);
     if (!strcmp(words[1], "print")) {
@@ -252,6 +263,12 @@ int main(int count, char **words)
     }
     if (!strcmp(words[1], "update"))
         update(table);
+    else if (!strcmp(words[1], "add"))
+        for (int turn = 0; turn < ADDS; turn++)
+            add(table);
+    else if (!strcmp(words[1], "sums"))
+        for (int turn = 0; turn < ADDS; turn++)
+            print_sum(table);
     else if (!strcmp(words[1], "relayout"))
         relayout(&table);
     else if (!strcmp(words[1], "copy"))
