@@ -12,7 +12,8 @@ if (words[1] != "start") {
     if (words[1] == "print") {
         fwrite(rows, "")
     } else {
-        rows[x > 0, y := as.integer64(x) * 3L + (.I - 1L) %% 7L]
+        hits <- rows[x > 0, which = TRUE]
+        rows[hits, y := as.integer64(x) * 3L + (hits - 1L) %% 7L]
         cat(as.character(sum(rows$y)), "\n", sep = "")
     }
 }
