@@ -1,3 +1,4 @@
 pub mod Lanes
 pub mod Spreads
 pub mod Nears
+pub mod Puts

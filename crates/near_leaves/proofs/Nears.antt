@@ -39,7 +39,7 @@ rows_of f xs from all long room each =
 -- ---- places
 
 -- the places of the first eight rows of sixteen, and of the others
-place_low : (base step half bytes block k : ℕ) → k < 8 → near_place base step half bytes (16 * block + k) ≡ base + block * step + k * bytes
+pub place_low : (base step half bytes block k : ℕ) → k < 8 → near_place base step half bytes (16 * block + k) ≡ base + block * step + k * bytes
 place_low base step half bytes block k small =
     let row : ℕ = 16 * block + k in
     let q : row / 16 ≡ block = omega arith in
@@ -50,7 +50,7 @@ place_low base step half bytes block k small =
     ∙ ap (λ (n : ℕ). base + block * step + 0 * half + n * bytes) r
     ∙ (let all : base + block * step + 0 * half + k * bytes ≡ base + block * step + k * bytes = omega arith in all)
 
-place_high : (base step half bytes block k : ℕ) → k < 8 → near_place base step half bytes (16 * block + (8 + k)) ≡ base + block * step + half + k * bytes
+pub place_high : (base step half bytes block k : ℕ) → k < 8 → near_place base step half bytes (16 * block + (8 + k)) ≡ base + block * step + half + k * bytes
 place_high base step half bytes block k small =
     let row : ℕ = 16 * block + (8 + k) in
     let q : row / 16 ≡ block = omega arith in

@@ -2,9 +2,14 @@
 #![tactic(auto)]
 
 mod near;
+mod put;
+mod rule;
 mod sixteen;
 mod spread;
 mod word;
 
 pub use near::Near;
+pub use put::put_lane;
+pub use rule::NearRule;
+pub use spread::Spread;
 pub use word::LaneWord;

@@ -87,4 +87,21 @@ impl<'a> Near<'a> {
         let first = self.base + block * self.step;
         sixteen(self.blob, first, first + self.half, word)
     }
+
+    /// The same where the word is asked for each block.
+    #[inline(always)]
+    pub fn some_block(&self, block: u64) -> Block
+        requires block_in { 16 * (block + 1) ≤ length self.now.numbers }
+        ensures numbers { result ≡ take 16 (drop (16 * block) self.now.numbers) }
+        ensures narrow { Each1 IsNarrow result }
+    {
+        match self.word() {
+            LaneWord::U8 => self.block(block, LaneWord::U8),
+            LaneWord::U16 => self.block(block, LaneWord::U16),
+            LaneWord::U32 => self.block(block, LaneWord::U32),
+            LaneWord::I8 => self.block(block, LaneWord::I8),
+            LaneWord::I16 => self.block(block, LaneWord::I16),
+            LaneWord::I32 => self.block(block, LaneWord::I32),
+        }
+    }
 }

@@ -15,3 +15,4 @@ pub mod StoredLaws
 pub mod AllLaws
 pub mod MoveLaws
 pub mod RunMoveLaws
+pub mod NearStoreLaws

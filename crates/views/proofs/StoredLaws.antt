@@ -33,7 +33,7 @@ lane_taken answer leaf first (suc lane) (value ∷ values) none inside =
     lane_taken answer leaf (first + 1) lane values (both_none (lane_fault first (answer leaf value)) (first_lane_fault answer leaf (first + 1) values) none).1 (omega arith)
 
 -- the lanes from one on, where it is taken and where it is not
-first_taken : (lane : ℕ) (result : Result ℤ StoreFault) (later : Option LaneFault) → told result ≡ Ok tt → option_or (lane_fault lane result) later ≡ later
+pub first_taken : (lane : ℕ) (result : Result ℤ StoreFault) (later : Option LaneFault) → told result ≡ Ok tt → option_or (lane_fault lane result) later ≡ later
 first_taken lane (Ok kept) later taken = refl
 first_taken lane (Err fault) later taken = absurd (cc)
 
@@ -76,7 +76,7 @@ length-with_column leaf zero (value ∷ values) (numbers ∷ rows) = ap suc (len
 length-with_column leaf (suc row) values [] = refl
 length-with_column leaf (suc row) values (numbers ∷ rows) = ap suc (length-with_column leaf row values rows)
 
-entry_more : (leaf row lane at : ℕ) (values : List ℤ) (rows : List (List ℤ)) → lane < length values → at ≡ row + lane → at < length rows
+pub entry_more : (leaf row lane at : ℕ) (values : List ℤ) (rows : List (List ℤ)) → lane < length values → at ≡ row + lane → at < length rows
     → with_entry (with_column leaf row (take lane values) rows) at leaf (get_or values lane (pos 0)) ≡ with_column leaf row (take (suc lane) values) rows
 entry_more leaf row lane at [] rows inside place below = absurd (omega arith)
 entry_more leaf row lane at (value ∷ values) [] inside place below = absurd (omega arith)

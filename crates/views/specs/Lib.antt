@@ -13,3 +13,4 @@ pub mod Columns
 pub mod Moves
 pub mod MovesLaws
 pub mod UncountedLaws
+pub mod NearStores

@@ -7,6 +7,7 @@ mod fresh;
 mod laws;
 mod moves;
 mod near;
+mod near_store;
 mod row;
 mod rows;
 mod store;

@@ -1,0 +1,41 @@
+use Rattle.std.proofs.Common.{◌≡◌, ◌-◌, ◌++◌, List, ℤ, pos, ℕ, length, take, drop, replicate, sym, ap, subst, ◌∙◌, arith}
+use Rattle.std.specs.Simd.Lanes.{Each1}
+use Rattle.lanes.specs.Blocks.{IsBlock, IsNarrow}
+use Rattle.lanes.specs.BlockLaws.{same}
+use Rattle.views.specs.Columns.{column, column_reads}
+use Rattle.views.specs.Tables.{Table, after_log}
+use Rattle.views.proofs.ColumnLaws.{nothing_loaded, loaded_more, loaded_block}
+use Rattle.views.proofs.view.View.load_each.Goals as goal
+
+pub loop-lane-init : goal.loop-lane-init
+loop-lane-init c = nothing_loaded c.args.leaf c.args.row c.args.self.now
+
+pub row_after-requires : goal.row_after-requires
+row_after-requires c = omega (arith, ap (λ (t : Table). length t.rows) c.loop-lane.invariant.log)
+
+pub loop-lane-preserved : goal.loop-lane-preserved
+loop-lane-preserved c =
+    loaded_more c.args.leaf c.args.row c.loop-lane.lane c.row_after.result c.args.self.now c.loop-lane.self c.narrow_value.new.self c.loop-lane.values c.narrow_value.result
+    c.loop-lane.invariant (omega arith) (omega arith) c.row_after.ensures c.narrow_value.ensures.value c.narrow_value.ensures.narrow c.narrow_value.ensures.same
+
+pub of_array-requires : goal.of_array-requires
+of_array-requires c =
+    loaded_block c.args.leaf c.args.row c.loop-lane.lane c.args.self.now c.loop-lane.self c.loop-lane.values c.loop-lane.invariant (omega arith) (omega arith)
+
+pub returns-clause-lanes : goal.returns-clause-lanes
+returns-clause-lanes c = subst IsBlock (sym (same c.lanes.result c.lanes.ensures.lanes.fit)) c.lanes.ensures.lanes
+
+pub returns-clause-values : goal.returns-clause-values
+returns-clause-values c =
+    let end : c.loop-lane.lane ≡ c.args.lanes = omega arith in
+    same c.lanes.result c.lanes.ensures.lanes.fit ∙ c.lanes.ensures.value ∙ c.of_array.ensures ∙ c.loop-lane.invariant.filled
+    ∙ ap (λ (n : ℕ). take n (drop c.args.row (column c.args.leaf c.args.self.now.rows)) ++ replicate (16 - n) (pos 0)) end
+
+pub returns-clause-narrow : goal.returns-clause-narrow
+returns-clause-narrow c =
+    subst (λ (values : List ℤ). Each1 IsNarrow values) (sym (same c.lanes.result c.lanes.ensures.lanes.fit ∙ c.lanes.ensures.value ∙ c.of_array.ensures)) c.loop-lane.invariant.narrow
+
+pub returns-clause-same : goal.returns-clause-same
+returns-clause-same c =
+    let end : c.loop-lane.lane ≡ c.args.lanes = omega arith in
+    c.loop-lane.invariant.log ∙ ap (λ (n : ℕ). after_log c.args.self.now (column_reads c.args.leaf c.args.row n)) end
