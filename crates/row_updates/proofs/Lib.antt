@@ -1,3 +1,5 @@
 pub mod Each
+pub mod Indexed
 pub mod Logs
+pub mod Lone
 pub mod Rows

@@ -22,7 +22,7 @@ lent_reads row lent (leaf ∷ reads) = lent_reads row (record lent { now = after
 pub lent_log : (row : ℕ) (lent : MutBor Table) (reads : List ℕ) → fold (λ (state : MutBor Table × ℕ) (leaf : ℕ). (record state.0 { now = after_read state.0.now state.1 leaf }, state.1)) (lent, row) reads ≡ (record lent { now = after_log lent.now (map (Read row) reads) }, row)
 lent_log row lent reads = lent_reads row lent reads ∙ ap (λ (s : Table). (record lent { now = s }, row)) (after_reads row lent.now reads)
 
-if_ok_none : {A : Type 0} (result : Result A UpdateFault) → if_ok result [] ≡ []
+pub if_ok_none : {A : Type 0} (result : Result A UpdateFault) → if_ok result [] ≡ []
 if_ok_none (Ok x) = refl
 if_ok_none (Err fault) = refl
 

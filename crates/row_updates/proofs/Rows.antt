@@ -1,11 +1,9 @@
 -- Updates of rows, step by step.
 use Rattle.std.proofs.Common.{◌≡◌, ℕ, suc, ◌+◌, ◌<◌, ◌≤◌, List, [], ◌∷◌, ◌++◌, length, map, get_or, take, drop, set, ℤ, pos, Bool, true, false, Option, Some, None, Result, Ok, Err, is_ok, refl, sym, ap, ◌∙◌, arith, count_by, cond}
-use Rattle.std.specs.List.{range_with_len, slice_get}
+use Rattle.std.specs.List.{range_with_len}
 use Rattle.std.specs.Prelude.{slice_set}
 use Rattle.std.proofs.lemmas.List.{take_more, take_more_set, drop-set-lt, drop_more, get_or-drop, get_or-set_same, set-set, get_or-map, length-set, length-map, get_or-take}
 use Rattle.std.proofs.lemmas.List.Sums.{sum_by-append}
-use Rattle.std.proofs.lemmas.Option.{get_or_from_slice_get}
-use Rattle.extents.specs.Indices.{indices}
 use Rattle.expr_lang.specs.Terms.{Term}
 use Rattle.linearize.specs.Slots.{index_at}
 use Rattle.piece_bits.specs.Tables.{with_entry}
@@ -108,17 +106,13 @@ took_from answer number set (Ok v) value e = let f = fits_from number set v (ans
 took_from answer number set (Err fault) value e = absurd (cc)
 
 -- a right side that has a value was taken
-took : (answer : Answer) (number : ℕ) (row : List ℤ) (index : List ℕ) (set : Setting) (value : ℤ) → new_value answer number row index set ≡ Ok value → is_ok (answer set.leaf value) ≡ true
+pub took : (answer : Answer) (number : ℕ) (row : List ℤ) (index : List ℕ) (set : Setting) (value : ℤ) → new_value answer number row index set ≡ Ok value → is_ok (answer set.leaf value) ≡ true
 took answer number row index set value gives = took_from answer number set (value_of number row index set.value) value gives
 
 pub taken_at : (answer : Answer) (number : ℕ) (row : List ℤ) (index : List ℕ) (sets : List Assign) (values : List ℤ) (place : ℕ) (other : Setting) → length sets ≤ length values → place < length sets → each (new_value answer number row index) (map setting_of sets) ≡ Ok (take (length sets) values) → is_ok (answer (get_or (map setting_of sets) place other).leaf (get_or values place (pos 0))) ≡ true
 taken_at answer number row index sets values place other long small all =
     let at = each_at (new_value answer number row index) (map setting_of sets) (take (length sets) values) place other (pos 0) (settings_long sets place small) all in
     took answer number row index (get_or (map setting_of sets) place other) (get_or values place (pos 0)) (at ∙ ap (λ (v : ℤ). Ok v) (get_or-take (length sets) values place (pos 0) small))
-
--- the index of a row
-pub index_is : (extents e : List ℕ) (row : ℕ) (items slice : List ℕ) → e ≡ extents → slice_get (indices e) row ≡ Some items → slice ≡ items → slice ≡ index_at extents row
-index_is extents e row items slice same entry is = is ∙ sym (get_or_from_slice_get (indices e) row items [] entry) ∙ ap (λ (x : List ℕ). index_at x row) same
 
 -- a row that is given nothing, one with a fault, and one that is updated
 pub row_left : (answer : Answer) (keep : Keeping) (filter : Option (Term ℕ)) (sets : List Setting) (number : ℕ) (row : List ℤ) (index : List ℕ) → tried_row answer filter sets number row index ≡ Ok None → updated_row answer keep filter sets number row index ≡ Ok row

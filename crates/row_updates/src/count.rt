@@ -6,6 +6,7 @@ ghost use Rattle.row_updates.specs.Rows.{IsOver, counted};
 ghost use Rattle.row_updates.specs.Logs.{count_log};
 
 use crate::fault::UpdateFault;
+use crate::index::put_index;
 use crate::value::passes;
 use expr_lang::Bound;
 use std::sync::ledger::Ledger;
@@ -24,10 +25,13 @@ pub fn count_where<L: Ledger>(
     ensures same { OnOk result (view.new ≡ after_log view.old (count_log (bound_term filter.now) view.old.extents view.old.rows (length view.old.rows))) }
     ensures so_far { IfErr result (λ fault. view.new ≡ after_log view.old (count_log (bound_term filter.now) view.old.extents view.old.rows (fault.row + 1))) }
 {
+    let extents = view.extents();
+    let mut numbers = [0; 4];
     let mut count = 0;
-    for row in 0..view.extents().count() {
-        let index = view.extents().index_of(row);
-        count += u64::from(passes(view, row, index.as_slice(), Some(filter), steps)?);
+    for row in 0..extents.count() {
+        put_index(&extents, row, &mut numbers);
+        let index = &numbers[..extents.rank()];
+        count += u64::from(passes(view, row, index, Some(filter), steps)?);
     }
     Ok(count)
 }

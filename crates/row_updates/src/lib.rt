@@ -3,6 +3,7 @@
 
 mod count;
 mod fault;
+mod index;
 mod update;
 mod value;
 

@@ -1,5 +1,5 @@
 // New values of leaves, row by row.
-ghost use Rattle.std.specs.Prelude.{◌≡◌, ◌<◌, ◌≤◌, ◌+◌, ℕ, ℤ, pos, true, is_ok, Ok, OnOk, OnErr, IfOk, IfErr, IfSome, Some, None, if◌then◌else◌, All, [], List, length, map, take, drop, slice_index_or, slice_set};
+ghost use Rattle.std.specs.Prelude.{◌≡◌, ◌<◌, ◌≤◌, ◌+◌, ℕ, ℤ, pos, true, is_ok, Ok, OnOk, OnErr, IfOk, IfErr, IfSome, Some, None, if◌then◌else◌, All, [], ◌∷◌, List, length, map, take, drop, slice_index_or, slice_set};
 ghost use Rattle.expr_lang.specs.Bounds.{bound_term};
 ghost use Rattle.views.specs.Tables.{answer_of, kept_of, after_log, after_stores};
 ghost use Rattle.linearize.specs.Slots.{index_at};
@@ -7,6 +7,7 @@ ghost use Rattle.row_updates.specs.Rows.{IsOver, IsSetOf, Setting, setting_of, f
 ghost use Rattle.row_updates.specs.Logs.{value_log, sides_log, stores_log, tried_log, row_log, update_log};
 
 use crate::fault::{UpdateFault, UpdateKind};
+use crate::index::put_index;
 use crate::value::{passes, value_of};
 use expr_lang::Bound;
 use std::sync::ledger::Ledger;
@@ -41,41 +42,85 @@ pub fn update_rows<L: Ledger>(
     ensures so_far { IfErr result (λ fault. view.new ≡ after_stores view.old view.new.rows
         (update_log view.old (filter_term filter.entry) (map setting_of sets.now) (fault.row + 1))) }
 {
+    let extents = view.extents();
+    let mut numbers = [0; 4];
     let mut values = [0; 64];
-    for row in 0..view.extents().count() {
-        update_row(view, row, filter, sets, &mut values, steps)?;
+    for row in 0..extents.count() {
+        put_index(&extents, row, &mut numbers);
+        let index = &numbers[..extents.rank()];
+        update_row(view, row, index, filter, sets, &mut values, steps)?;
     }
     Ok(())
 }
 
-// Updates one row, or leaves it as it was.
+// Updates one row, or leaves it as it was. One right side alone goes by a way of its own.
+#[inline(always)]
 fn update_row<L: Ledger>(
     view: &mut View,
     row: u64,
+    index: &[u64],
     filter: Option<&Bound>,
     sets: &[Assign],
     values: &mut [i128; 64],
     steps: &mut Steps<L>,
 ) -> Result<(), UpdateFault>
     requires row_in { row < length view.old.rows }
+    requires rank { length index.now ≡ length view.old.extents }
     requires filter { IfSome filter (λ bound. IsOver view.old bound.now) }
     requires sets { All (IsSetOf view.old) sets.now }
     requires few { length sets.now ≤ 64 }
     ensures stored { OnOk result ((new : List ℤ)
         × (updated_row (answer_of view.old) (kept_of view.old) (filter_term filter.entry) (map setting_of sets.now)
-        row (slice_index_or view.old.rows row []) (index_at view.old.extents row) ≡ Ok new)
+        row (slice_index_or view.old.rows row []) index.now ≡ Ok new)
         × (view.new ≡ after_stores view.old (slice_set view.old.rows row new) (row_log (answer_of view.old) (filter_term filter.entry)
-        (map setting_of sets.now) row (slice_index_or view.old.rows row []) (index_at view.old.extents row)))) }
+        (map setting_of sets.now) row (slice_index_or view.old.rows row []) index.now))) }
     ensures refused { IfErr result (λ fault. updated_row (answer_of view.old) (kept_of view.old) (filter_term filter.entry) (map setting_of sets.now)
-        row (slice_index_or view.old.rows row []) (index_at view.old.extents row) ≡ Err fault) }
+        row (slice_index_or view.old.rows row []) index.now ≡ Err fault) }
     ensures named { IfErr result (λ fault. fault.row ≡ row) }
     ensures kept { OnErr result (view.new ≡ after_log view.old (row_log (answer_of view.old) (filter_term filter.entry)
-        (map setting_of sets.now) row (slice_index_or view.old.rows row []) (index_at view.old.extents row))) }
+        (map setting_of sets.now) row (slice_index_or view.old.rows row []) index.now)) }
 {
-    if !try_row(view, row, filter, sets, values, steps)? {
+    if sets.len() == 1 {
+        return update_leaf(view, row, index, filter, &sets[0], steps);
+    }
+    if !try_at(view, row, index, filter, sets, values, steps)? {
         return Ok(());
     }
     store_values(view, row, sets, values, steps);
+    Ok(())
+}
+
+// The same of one right side. Its value is kept in no list, so the test of its range serves its store too.
+#[inline(always)]
+fn update_leaf<L: Ledger>(
+    view: &mut View,
+    row: u64,
+    index: &[u64],
+    filter: Option<&Bound>,
+    set: &Assign,
+    steps: &mut Steps<L>,
+) -> Result<(), UpdateFault>
+    requires row_in { row < length view.old.rows }
+    requires rank { length index.now ≡ length view.old.extents }
+    requires filter { IfSome filter (λ bound. IsOver view.old bound.now) }
+    requires set { IsSetOf view.old set.now }
+    ensures stored { OnOk result ((new : List ℤ)
+        × (updated_row (answer_of view.old) (kept_of view.old) (filter_term filter.entry) (setting_of set.now ∷ [])
+        row (slice_index_or view.old.rows row []) index.now ≡ Ok new)
+        × (view.new ≡ after_stores view.old (slice_set view.old.rows row new) (row_log (answer_of view.old) (filter_term filter.entry)
+        (setting_of set.now ∷ []) row (slice_index_or view.old.rows row []) index.now))) }
+    ensures refused { IfErr result (λ fault. updated_row (answer_of view.old) (kept_of view.old) (filter_term filter.entry) (setting_of set.now ∷ [])
+        row (slice_index_or view.old.rows row []) index.now ≡ Err fault) }
+    ensures named { IfErr result (λ fault. fault.row ≡ row) }
+    ensures kept { OnErr result (view.new ≡ after_log view.old (row_log (answer_of view.old) (filter_term filter.entry)
+        (setting_of set.now ∷ []) row (slice_index_or view.old.rows row []) index.now)) }
+{
+    let passed = passes(view, row, index, filter, steps)?;
+    if !passed {
+        return Ok(());
+    }
+    let value = new_value(view, row, index, set, steps)?;
+    let _taken = view.set(row, set.leaf, value, steps);
     Ok(())
 }
 
@@ -101,11 +146,40 @@ pub fn try_row<L: Ledger>(
     ensures same { view.new ≡ after_log view.old (tried_log (answer_of view.old) (filter_term filter.entry)
         (map setting_of sets.now) row (slice_index_or view.old.rows row []) (index_at view.old.extents row)) }
 {
-    let index = view.extents().index_of(row);
-    if !passes(view, row, index.as_slice(), filter, steps)? {
+    let extents = view.extents();
+    let mut numbers = [0; 4];
+    put_index(&extents, row, &mut numbers);
+    let index = &numbers[..extents.rank()];
+    try_at(view, row, index, filter, sets, values, steps)
+}
+
+// The same at the index of the row.
+fn try_at<L: Ledger>(
+    view: &mut View,
+    row: u64,
+    index: &[u64],
+    filter: Option<&Bound>,
+    sets: &[Assign],
+    values: &mut [i128; 64],
+    steps: &mut Steps<L>,
+) -> Result<bool, UpdateFault>
+    requires row_in { row < length view.old.rows }
+    requires rank { length index.now ≡ length view.old.extents }
+    requires filter { IfSome filter (λ bound. IsOver view.old bound.now) }
+    requires sets { All (IsSetOf view.old) sets.now }
+    requires few { length sets.now ≤ 64 }
+    ensures tried { IfOk result (λ passed. tried_row (answer_of view.old) (filter_term filter.entry) (map setting_of sets.now)
+        row (slice_index_or view.old.rows row []) index.now ≡ Ok (if passed then Some (take (length sets.now) values.new) else None)) }
+    ensures refused { IfErr result (λ fault. tried_row (answer_of view.old) (filter_term filter.entry) (map setting_of sets.now)
+        row (slice_index_or view.old.rows row []) index.now ≡ Err fault) }
+    ensures named { IfErr result (λ fault. fault.row ≡ row) }
+    ensures same { view.new ≡ after_log view.old (tried_log (answer_of view.old) (filter_term filter.entry)
+        (map setting_of sets.now) row (slice_index_or view.old.rows row []) index.now) }
+{
+    if !passes(view, row, index, filter, steps)? {
         return Ok(false);
     }
-    new_values(view, row, index.as_slice(), sets, values, steps)?;
+    new_values(view, row, index, sets, values, steps)?;
     Ok(true)
 }
 
@@ -136,6 +210,7 @@ fn new_values<L: Ledger>(
 }
 
 // The value of one right side on the row as it stands, tested for its leaf.
+#[inline(always)]
 fn new_value<L: Ledger>(
     view: &mut View,
     row: u64,

@@ -14,6 +14,7 @@ use views::{View, laws_of_table};
 
 /// The value of an expression on the row of this number, whose index this is. The table stands, the reads
 /// are counted, and no memory is taken.
+#[inline(always)]
 pub fn value_on<L: Ledger>(
     view: &mut View,
     row: u64,
@@ -33,6 +34,7 @@ pub fn value_on<L: Ledger>(
 }
 
 /// The same, with a fault of this row.
+#[inline(always)]
 pub fn value_of<L: Ledger>(
     view: &mut View,
     row: u64,
@@ -57,6 +59,7 @@ pub fn value_of<L: Ledger>(
 }
 
 /// Whether a row passes the filter: each does where there is none, and else the rows where it is not 0.
+#[inline(always)]
 pub fn passes<L: Ledger>(
     view: &mut View,
     row: u64,

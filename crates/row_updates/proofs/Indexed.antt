@@ -1,0 +1,46 @@
+-- The index of a row of one extent, and an index that is put into numbers.
+use Rattle.std.proofs.Common.{◌≡◌, ℕ, ◌*◌, ◌<◌, ◌≤◌, List, [], ◌∷◌, length, length-take, set, take, Some, sym, ap, ◌∙◌, arith}
+use Rattle.std.specs.List.{slice_get}
+use Rattle.std.proofs.lemmas.Option.{get_or_from_slice_get}
+use Rattle.std.proofs.lemmas.Slice.Zip.{AllZip-long}
+use Rattle.extents.specs.Indices.{indices, IsInside}
+use Rattle.extents.specs.IndicesLaws.{length-indices, place, slice_get-place}
+use Rattle.linearize.specs.Slots.{index_at}
+
+line_place : (n row : ℕ) → place (n ∷ []) (row ∷ []) ≡ row
+line_place n row = omega arith
+
+line_entry : (n row : ℕ) → row < n → slice_get (indices (n ∷ [])) row ≡ Some (row ∷ [])
+line_entry n row below =
+    ap (slice_get (indices (n ∷ []))) (sym (line_place n row)) ∙ slice_get-place (n ∷ []) (row ∷ []) (below, tt)
+
+line_below : (n row : ℕ) → row < length (indices (n ∷ [])) → row < n
+line_below n row small =
+    let count : length (indices (n ∷ [])) ≡ n * 1 = length-indices (n ∷ []) in omega (arith, small, count)
+
+-- in an array of one extent the index of a row is the row
+pub index_of_line : (extents : List ℕ) (row : ℕ) → length extents ≡ 1 → row < length (indices extents) → row ∷ [] ≡ index_at extents row
+index_of_line [] row one small = absurd (omega (arith, one))
+index_of_line (n ∷ []) row one small = sym (get_or_from_slice_get (indices (n ∷ [])) row (row ∷ []) [] (line_entry n row (line_below n row small)))
+index_of_line (n ∷ m ∷ more) row one small = absurd (omega (arith, one))
+
+-- the index of a row, in a place that has an entry of the indices
+pub index_entry : (extents : List ℕ) (row : ℕ) (index : List ℕ) → slice_get (indices extents) row ≡ Some index → index ≡ index_at extents row
+index_entry extents row index entry = sym (get_or_from_slice_get (indices extents) row index [] entry)
+
+pub line_put : (extents numbers : List ℕ) (row : ℕ) → length extents ≡ 1 → 0 < length numbers → row < length (indices extents) → take (length extents) (set numbers 0 row) ≡ index_at extents row
+line_put extents [] row one some small = absurd (omega (arith, some))
+line_put extents (n ∷ more) row one some small = ap (λ k. take k (row ∷ more)) one ∙ index_of_line extents row one small
+
+pub far_put : (extents items slice numbers : List ℕ) (row : ℕ) → slice ≡ items → slice_get (indices extents) row ≡ Some items → IsInside extents items → take (length slice) numbers ≡ slice → take (length extents) numbers ≡ index_at extents row
+far_put extents items slice numbers row is entry inside put =
+    let long : length slice ≡ length extents = ap length is ∙ sym (AllZip-long (λ i n. i < n) items extents inside) in
+    ap (λ k. take k numbers) (sym long) ∙ put ∙ is ∙ index_entry extents row items entry
+
+-- and so it is where they are read again
+pub index_read : (extents e numbers : List ℕ) (row rank : ℕ) → e ≡ extents → rank ≡ length e → take (length e) numbers ≡ index_at e row → take rank numbers ≡ index_at extents row
+index_read extents e numbers row rank same long put =
+    ap (λ k. take k numbers) long ∙ put ∙ ap (λ x. index_at x row) same
+
+pub index_long : (extents e numbers : List ℕ) (rank : ℕ) → e ≡ extents → rank ≡ length e → rank ≤ length numbers → length (take rank numbers) ≡ length extents
+index_long extents e numbers rank same long room = omega (arith, length-take rank numbers, long, ap length same, room)

@@ -1,0 +1,5 @@
+use Rattle.std.proofs.Common.{◌≡◌, length, take}
+use Rattle.row_updates.proofs.index.put_all.Given as goal
+
+abbrev pub invariant-loop-d : goal.invariant-loop-d
+invariant-loop-d l = record { same : take l.d l.numbers ≡ take l.d l.index; long : length l.numbers ≡ 4 }

@@ -1,0 +1,73 @@
+use Rattle.std.proofs.Common.{rules, ◌≡◌, Bor, ◌∙◌, Err, Option, length, map, option_map, get_or, [], ℕ, ap, sym}
+use Rattle.expr_lang.specs.Bounds.{bound_term}
+use Rattle.expr_lang.specs.Terms.{Term}
+use Rattle.expr_lang.specs.declared.bound.Bound.{Bound}
+use Rattle.views.specs.Tables.{Table, answer_of, after_log}
+use Rattle.row_updates.specs.Rows.{setting_of}
+use Rattle.row_updates.specs.Logs.{filter_log, sides_log}
+use Rattle.row_updates.proofs.Logs.{log_more, tried_log_left, tried_log_fault, tried_log_done}
+use Rattle.row_updates.proofs.Rows.{tried_left, tried_stop, tried_done}
+use Rattle.row_updates.proofs.update.try_at.Goals as goal
+
+pub returns-then-not-branch-clause-tried : goal.returns-then-not-branch-clause-tried
+returns-then-not-branch-clause-tried g c =
+    let filter : Option (Term ℕ) = option_map (λ (bound : Bor Bound). bound_term bound.now) c.args.filter in
+    let view = c.args.view.now in
+    let test = rw c.if-not-branch.true at c.in_ok-passes.ensures.value in
+    tried_left (answer_of view) filter (map setting_of c.args.sets.now) c.args.row (get_or view.rows c.args.row []) c.args.index.now test
+
+pub returns-then-not-branch-clause-same : goal.returns-then-not-branch-clause-same
+returns-then-not-branch-clause-same g c =
+    let filter : Option (Term ℕ) = option_map (λ (bound : Bor Bound). bound_term bound.now) c.args.filter in
+    let view = c.args.view.now in
+    let test = rw c.if-not-branch.true at c.in_ok-passes.ensures.value in
+    c.passes.ensures.same ∙ ap (after_log view) (sym (tried_log_left (answer_of view) filter (map setting_of c.args.sets.now) c.args.row (get_or view.rows c.args.row []) c.args.index.now test))
+
+pub returns-in_err-passes-clause-same : goal.returns-in_err-passes-clause-same
+returns-in_err-passes-clause-same g c =
+    let filter : Option (Term ℕ) = option_map (λ (bound : Bor Bound). bound_term bound.now) c.args.filter in
+    let view = c.args.view.now in
+    let test = c.in_err-passes.ensures.value in
+    c.passes.ensures.same ∙ ap (after_log view) (sym (tried_log_fault (answer_of view) filter (map setting_of c.args.sets.now) c.args.row (get_or view.rows c.args.row []) c.args.index.now c.in_err-passes.field-0.0 test))
+
+pub new_values-requires-clause-rank : goal.new_values-requires-clause-rank
+new_values-requires-clause-rank g c = c.requires.rank ∙ ap (λ (s : Table). length s.extents) (sym c.passes.ensures.same)
+
+pub returns-in_err-new_values-clause-refused : goal.returns-in_err-new_values-clause-refused
+returns-in_err-new_values-clause-refused g c =
+    let filter : Option (Term ℕ) = option_map (λ (bound : Bor Bound). bound_term bound.now) c.args.filter in
+    let view = c.args.view.now in
+    let is : c.from_residual-in_err-new_values.result ≡ Err c.in_err-new_values.field-0.0 = search rules in
+    let test = rw c.if-not-branch.false at c.in_ok-passes.ensures.value in
+    let stop = rw c.passes.ensures.same at c.in_err-new_values.ensures.refused in
+    rw is (tried_stop (answer_of view) filter (map setting_of c.args.sets.now) c.args.row (get_or view.rows c.args.row []) c.args.index.now c.in_err-new_values.field-0.0 test stop)
+
+pub returns-in_err-new_values-clause-same : goal.returns-in_err-new_values-clause-same
+returns-in_err-new_values-clause-same g c =
+    let filter : Option (Term ℕ) = option_map (λ (bound : Bor Bound). bound_term bound.now) c.args.filter in
+    let sets = map setting_of c.args.sets.now in
+    let view = c.args.view.now in
+    let row = get_or view.rows c.args.row [] in
+    let place = c.args.index.now in
+    let test = rw c.if-not-branch.false at c.in_ok-passes.ensures.value in
+    let read = log_more view c.passes.new.view c.new_values.new.view (filter_log c.args.row row place filter) (λ answer table. sides_log answer c.args.row (get_or table c.args.row []) place sets) c.passes.ensures.same c.new_values.ensures.same in
+    read ∙ ap (after_log view) (sym (tried_log_done (answer_of view) filter sets c.args.row row place test))
+
+pub returns-clause-tried : goal.returns-clause-tried
+returns-clause-tried g c =
+    let filter : Option (Term ℕ) = option_map (λ (bound : Bor Bound). bound_term bound.now) c.args.filter in
+    let view = c.args.view.now in
+    let test = rw c.if-not-branch.false at c.in_ok-passes.ensures.value in
+    let all = rw c.passes.ensures.same at c.in_ok-new_values.ensures.values in
+    tried_done (answer_of view) filter (map setting_of c.args.sets.now) c.args.row (get_or view.rows c.args.row []) c.args.index.now _ test all
+
+pub returns-clause-same : goal.returns-clause-same
+returns-clause-same g c =
+    let filter : Option (Term ℕ) = option_map (λ (bound : Bor Bound). bound_term bound.now) c.args.filter in
+    let sets = map setting_of c.args.sets.now in
+    let view = c.args.view.now in
+    let row = get_or view.rows c.args.row [] in
+    let place = c.args.index.now in
+    let test = rw c.if-not-branch.false at c.in_ok-passes.ensures.value in
+    let read = log_more view c.passes.new.view c.new_values.new.view (filter_log c.args.row row place filter) (λ answer table. sides_log answer c.args.row (get_or table c.args.row []) place sets) c.passes.ensures.same c.new_values.ensures.same in
+    read ∙ ap (after_log view) (sym (tried_log_done (answer_of view) filter sets c.args.row row place test))
