@@ -1,61 +1,9 @@
--- Lines of a text, and the fields of a line.
-use Rattle.std.proofs.Common.{◌≡◌, ℕ, ◌<◌, ◌≤◌, zero, suc, Bool, true, false, List, [], ◌∷◌, length, get_or, take, drop, refl, sym, ap, ◌∙◌, arith, Some, None}
-use Rattle.std.specs.Prelude.{if◌then◌else◌}
-use Rattle.std.specs.List.{slice_split}
-use Rattle.std.proofs.lemmas.List.{length-take}
-use Rattle.memchr.specs.Find.{IsFirstByte, is_byte2}
-use Rattle.csv_rows.specs.Plain.{is_comma, is_line_end, plain_records, first_part, line_start}
-use Rattle.csv_rows.proofs.PlainLines.{parts_behind, parted, fields_in}
-
--- ends of lines at the start of a text make no record
-pub plain_start : (xs : List ℕ) → plain_records xs ≡ plain_records (line_start xs)
-plain_start [] = refl
-plain_start (c ∷ xs) = by (is_line_end c) refl (plain_start xs) where
-  by : (b : Bool) → is_line_end c ≡ b → plain_records xs ≡ plain_records (line_start xs) → plain_records (c ∷ xs) ≡ plain_records (if b then line_start xs else c ∷ xs)
-  by true is more = rw is more
-  by false is more = refl
-
--- what stands behind the first line
-rest_lines : (xs : List ℕ) → fields_in (parts_behind is_line_end xs) ≡ plain_records (drop (length (first_part is_line_end xs)) xs)
-rest_lines [] = refl
-rest_lines (c ∷ xs) = by (is_line_end c) refl (rest_lines xs) where
-  by : (b : Bool) → is_line_end c ≡ b → fields_in (parts_behind is_line_end xs) ≡ plain_records (drop (length (first_part is_line_end xs)) xs) → fields_in (if b then slice_split is_line_end xs else parts_behind is_line_end xs) ≡ plain_records (drop (length (if b then [] else c ∷ first_part is_line_end xs)) (c ∷ xs))
-  by true is more = rw is refl
-  by false is more = more
-
--- the first line of a text that does not begin with the end of one
-pub line_some : (xs : List ℕ) → 0 < length (line_start xs) → (c : ℕ) × (line : List ℕ) × (first_part is_line_end (line_start xs) ≡ c ∷ line)
-line_some [] = λ some. absurd (omega arith)
-line_some (c ∷ xs) = by (is_line_end c) refl (line_some xs) where
-  by : (b : Bool) → is_line_end c ≡ b → (0 < length (line_start xs) → (d : ℕ) × (line : List ℕ) × (first_part is_line_end (line_start xs) ≡ d ∷ line)) → 0 < length (if b then line_start xs else c ∷ xs) → (d : ℕ) × (line : List ℕ) × (first_part is_line_end (if b then line_start xs else c ∷ xs) ≡ d ∷ line)
-  by true is more = more
-  by false is more = λ some. (c, first_part is_line_end xs, rw is refl)
-
--- the first record of a text, and what is left
-pub plain_next : (bytes text : List ℕ) (end : ℕ) → text ≡ line_start bytes → 0 < length text → end ≤ length text → take end text ≡ first_part is_line_end text → plain_records bytes ≡ slice_split is_comma (take end text) ∷ plain_records (drop end text)
-plain_next bytes text end is some within line =
-    let here : 0 < length (line_start bytes) = rw (← is) some in
-    let (c, rest, begins) = line_some bytes here in
-    let front : first_part is_line_end text ≡ c ∷ rest = ap (first_part is_line_end) is ∙ begins in
-    let size : length (first_part is_line_end text) ≡ end = ap length (sym line) ∙ length-take end text ∙ omega arith in
-    plain_start bytes ∙ ap plain_records (sym is) ∙ ap fields_in (parted is_line_end text)
-    ∙ ap (λ (l : List ℕ). fields_in (l ∷ parts_behind is_line_end text)) front
-    ∙ ap (λ (l : List ℕ). slice_split is_comma l ∷ fields_in (parts_behind is_line_end text)) (sym front ∙ sym line)
-    ∙ ap (λ (rs : List (List (List ℕ))). slice_split is_comma (take end text) ∷ rs) (rest_lines text ∙ ap (λ (n : ℕ). plain_records (drop n text)) size)
-
-pub plain_none : (bytes text : List ℕ) → text ≡ line_start bytes → length text ≡ 0 → plain_records bytes ≡ []
-plain_none bytes [] is none = plain_start bytes ∙ ap plain_records (sym is)
-plain_none bytes (c ∷ text) is none = absurd (omega arith)
-
--- the first part ends at the first byte that passes, or at the end
-pub first_at : (p : ℕ → Bool) (xs : List ℕ) (n : ℕ) → n ≤ length xs → ((k : ℕ) → k < n → p (get_or xs k 0) ≡ false) → (n < length xs → p (get_or xs n 0) ≡ true) → take n xs ≡ first_part p xs
-first_at p [] zero within before here = refl
-first_at p [] (suc n) within before here = absurd (omega arith)
-first_at p (c ∷ xs) zero within before here = let yes : p c ≡ true = here (omega arith) in ap (λ (b : Bool). if b then [] else c ∷ first_part p xs) (sym yes)
-first_at p (c ∷ xs) (suc n) within before here =
-    let no : p c ≡ false = before 0 (omega arith) in
-    ap (λ (rest : List ℕ). c ∷ rest) (first_at p xs n (omega arith) (λ k small. before (suc k) (omega arith)) (λ small. here (omega arith)))
-    ∙ ap (λ (b : Bool). if b then [] else c ∷ first_part p xs) (sym no)
+-- The first line of a text, if no byte of it is a quote.
+use Rattle.std.proofs.Common.{◌≡◌, ℕ, ◌<◌, ◌≤◌, Bool, true, false, nat_eq, List, length, get_or, take, refl, sym, subst, ◌∙◌, arith, Some, None}
+use Rattle.std.specs.Prelude.{◌||◌}
+use Rattle.std.proofs.lemmas.List.{length-take-le, get_or-take, get_or_default}
+use Rattle.memchr.specs.Find.{IsFirstByte, is_byte3}
+use Rattle.csv_rows.specs.Plain.{IsPlain, IsPlainLine}
 
 pub not_true : (b : Bool) → (b ≡ true → ⊥) → b ≡ false
 not_true b never = by b refl where
@@ -63,10 +11,39 @@ not_true b never = by b refl where
   by true is = absurd (never is)
   by false is = is
 
-pub line_found : (xs : List ℕ) (n : ℕ) → IsFirstByte (is_byte2 13 10) xs (Some n) → take n xs ≡ first_part is_line_end xs
-line_found xs n found =
-    let low : n ≤ length xs = omega (arith, found.0.high) in
-    first_at is_line_end xs n low (λ k small. not_true (is_line_end (get_or xs k 0)) (found.0.before k (omega arith) small)) (λ small. found.1)
+none_of : (a b c : Bool) → (a || b || c) ≡ false → ((b || c) ≡ false) × (a ≡ false)
+none_of true b c h = cc h
+none_of false true c h = cc h
+none_of false false true h = cc h
+none_of false false false h = (refl, refl)
 
-pub line_whole : (xs : List ℕ) → IsFirstByte (is_byte2 13 10) xs None → take (length xs) xs ≡ first_part is_line_end xs
-line_whole xs none = first_at is_line_end xs (length xs) (omega arith) (λ k small. not_true (is_line_end (get_or xs k 0)) (none k (omega arith) small)) (λ small. absurd (omega arith))
+not_first : (a b c : Bool) → (a || b || c) ≡ true → a ≡ false → (b || c) ≡ true
+not_first true b c h first = cc first
+not_first false true c h first = refl
+not_first false false true h first = refl
+not_first false false false h first = cc h
+
+-- the bytes before the first quote or line end
+before_end : (xs : List ℕ) (n k d : ℕ) → n ≤ length xs → ((k : ℕ) → k < n → is_byte3 34 13 10 (get_or xs k 0) ≡ true → ⊥) → k < length (take n xs) → IsPlain (get_or (take n xs) k d)
+before_end xs n k d within none less =
+    let under : k < n = omega (arith, length-take-le n xs within) in
+    let here : get_or (take n xs) k d ≡ get_or xs k 0 = get_or-take n xs k d under ∙ get_or_default xs k d 0 (omega arith) in
+    let byte = get_or xs k 0 in
+    subst IsPlain (sym here) (none_of (nat_eq byte 34) (nat_eq byte 13) (nat_eq byte 10) (not_true (is_byte3 34 13 10 byte) (none k under)))
+
+pub plain_found : (xs : List ℕ) (n : ℕ) → IsFirstByte (is_byte3 34 13 10) xs (Some n) → nat_eq (get_or xs n 0) 34 ≡ false → IsPlainLine xs n
+plain_found xs n found no_quote =
+    let small : n < length xs = found.0.high in
+    let byte = get_or xs n 0 in
+    record {
+      within = omega arith;
+      inside = λ k d less. before_end xs n k d (omega arith) (λ k under. found.0.before k (omega arith) under) less;
+      ended = λ small. not_first (nat_eq byte 34) (nat_eq byte 13) (nat_eq byte 10) found.1 no_quote;
+    }
+
+pub plain_whole : (xs : List ℕ) → IsFirstByte (is_byte3 34 13 10) xs None → IsPlainLine xs (length xs)
+plain_whole xs none = record {
+  within = omega arith;
+  inside = λ k d less. before_end xs (length xs) k d (omega arith) (λ k under. none k (omega arith) under) less;
+  ended = λ small. absurd (omega arith);
+}

@@ -33,12 +33,12 @@ comma_none xs none = record {
 }
 
 -- the first field, and those behind its comma
-field_split : (xs : List ℕ) (n : ℕ) → IsFirstField xs n → n < length xs → slice_split is_comma xs ≡ take n xs ∷ slice_split is_comma (drop (n + 1) xs)
+pub field_split : (xs : List ℕ) (n : ℕ) → IsFirstField xs n → n < length xs → slice_split is_comma xs ≡ take n xs ∷ slice_split is_comma (drop (n + 1) xs)
 field_split xs n first small =
     ap (slice_split is_comma) (sym (take-append-drop n xs) ∙ ap (λ (ys : List ℕ). take n xs ++ ys) (drop_more xs n 0 small))
     ∙ slice_split_at is_comma (take n xs) (get_or xs n 0) (drop (n + 1) xs) first.inside (first.ended small)
 
-field_last : (xs : List ℕ) (n : ℕ) → IsFirstField xs n → length xs ≤ n → slice_split is_comma xs ≡ take n xs ∷ []
+pub field_last : (xs : List ℕ) (n : ℕ) → IsFirstField xs n → length xs ≤ n → slice_split is_comma xs ≡ take n xs ∷ []
 field_last xs n first over = ap (slice_split is_comma) (sym (take_all n xs over)) ∙ slice_split_none is_comma (take n xs) first.inside
 
 field_first : (xs : List ℕ) (n : ℕ) → IsFirstField xs n → (others : List (List ℕ)) × (slice_split is_comma xs ≡ take n xs ∷ others)

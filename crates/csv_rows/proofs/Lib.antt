@@ -3,6 +3,7 @@ pub mod Asked
 pub mod Clips
 pub mod ColumnNames
 pub mod Commas
+pub mod CopiedRecords
 pub mod CsvReads
 pub mod Cutting
 pub mod Fields
@@ -10,7 +11,6 @@ pub mod Headers
 pub mod Leaves
 pub mod Numbers
 pub mod PathTexts
-pub mod PlainCounts
 pub mod PlainLines
 pub mod PlainNumbers
 pub mod PlainTexts

@@ -1,68 +1,22 @@
--- The records of a text in which no byte is a quote.
-use Rattle.std.proofs.Common.{◌≡◌, ℕ, suc, Bool, true, false, cond, nat_eq, List, [], ◌∷◌, ◌++◌, map, Option, Some, None, refl, sym, ap, subst, ◌∙◌, arith, append_assoc, append-nil}
-use Rattle.std.specs.Prelude.{filter, if◌then◌else◌}
+-- Records that are lines in which no byte is a quote.
+use Rattle.std.proofs.Common.{◌≡◌, ℕ, suc, ◌<◌, ◌≤◌, Bool, true, false, cond, nat_eq, List, [], ◌∷◌, ◌++◌, Option, Some, None, length, take, drop, refl, sym, ap, subst, ◌∙◌, ⊎_elim, arith, append_assoc, append-nil}
+use Rattle.std.specs.Prelude.{All, ⊤, if◌then◌else◌}
 use Rattle.std.specs.List.{slice_split, onto_first}
+use Rattle.std.proofs.lemmas.Bool.{cases_lt}
 use Rattle.std.proofs.lemmas.Bool.Decides.{nat_tests}
-use Rattle.csv.specs.Machine.{next_record, Read, step, is_end, fields_after, field_after}
+use Rattle.std.proofs.lemmas.List.{take-append-drop, drop_more, drop_all}
+use Rattle.csv.specs.Machine.{next_record, Read, step, start_field, is_end, fields_after, field_after}
 use Rattle.csv.specs.Reading.{default_config}
 use Rattle.csv.specs.declared.parser.State.{State}
 use Rattle.csv.specs.declared.parser.State.TheVariants as st
 use Rattle.csv.specs.declared.parser.Action.{Action}
 use Rattle.csv.specs.declared.parser.Action.TheVariants as act
 use Rattle.csv_rows.specs.Readers.{rows_from}
-use Rattle.csv_rows.specs.Plain.{is_comma, is_line_end, is_some_line, plain_records, HasNoQuote, first_part}
+use Rattle.csv_rows.specs.Plain.{is_comma, is_line_end, line_start, IsPlain, IsPlainLine}
 use Rattle.csv_rows.proofs.CsvReads.{one_record, no_record}
 
--- the parts behind the first one of a list that is cut
-abbrev pub parts_behind : (ℕ → Bool) → List ℕ → List (List ℕ)
-parts_behind p [] = []
-parts_behind p (c ∷ xs) = if p c then slice_split p xs else parts_behind p xs
-
-pub parted : (p : ℕ → Bool) (xs : List ℕ) → slice_split p xs ≡ first_part p xs ∷ parts_behind p xs
-parted p [] = refl
-parted p (c ∷ xs) = by (p c) (parted p xs) where
-  by : (b : Bool) → slice_split p xs ≡ first_part p xs ∷ parts_behind p xs → cond b ([] ∷ slice_split p xs) (onto_first c (slice_split p xs)) ≡ (if b then [] else c ∷ first_part p xs) ∷ (if b then slice_split p xs else parts_behind p xs)
-  by true more = refl
-  by false more = ap (onto_first c) more
-
--- the first line, and the fields of lines
-abbrev pub line_of : List ℕ → List ℕ
-line_of xs = first_part is_line_end xs
-
-abbrev pub lines_behind : List ℕ → List (List ℕ)
-lines_behind xs = parts_behind is_line_end xs
-
-abbrev pub fields_in : List (List ℕ) → List (List (List ℕ))
-fields_in lines = map (slice_split is_comma) (filter is_some_line lines)
-
--- bytes in front of the first field
-abbrev pub onto : List ℕ → List (List ℕ) → List (List ℕ)
-onto p [] = p ∷ []
-onto p (field ∷ fields) = (p ++ field) ∷ fields
-
-pub onto_none : (line : List ℕ) → onto [] (slice_split is_comma line) ≡ slice_split is_comma line
-onto_none line = rw (parted is_comma line) refl
-
--- a byte more in front, where it is no comma
-pub onto_more : (p : List ℕ) (c : ℕ) (fields : List (List ℕ)) → onto (p ++ c ∷ []) fields ≡ onto p (onto_first c fields)
-onto_more p c [] = refl
-onto_more p c (field ∷ fields) = ap (λ (f : List ℕ). f ∷ fields) (append_assoc p (c ∷ []) field)
-
--- what a read inside a record gives: the fields before, those of the line, and the lines behind
-pub record Gives (s : State) (before : List (List ℕ)) (p xs : List ℕ) : Type 0 where
-  pub read : Read
-  pub is : next_record default_config s before p xs ≡ Some read
-  pub fields : read.0 ≡ before ++ onto p (slice_split is_comma (line_of xs))
-  pub rest : rows_from read.1 read.2 ≡ fields_in (lines_behind xs)
-
--- what holds of a text
-pub record IsPlain (xs : List ℕ) : Type 0 where
-  pub inside : (before : List (List ℕ)) (p : List ℕ) → Gives st.InField before p xs
-  pub begun : (before : List (List ℕ)) (p : List ℕ) → Gives st.StartField before p xs
-  pub whole : rows_from st.StartRecord xs ≡ plain_records xs
-
 -- one byte is read
-stepped : (s : State) (before : List (List ℕ)) (p : List ℕ) (c : ℕ) (xs : List ℕ) (r : State × Action) → step default_config s c ≡ r
+pub stepped : (s : State) (before : List (List ℕ)) (p : List ℕ) (c : ℕ) (xs : List ℕ) (r : State × Action) → step default_config s c ≡ r
     → next_record default_config s before p (c ∷ xs) ≡ (if is_end r.1 then Some (fields_after r.1 before p, r.0, xs) else next_record default_config r.0 (fields_after r.1 before p) (field_after r.1 c p) xs)
 unfolding next_record
 stepped s before p c xs r is = ap (λ (q : State × Action). if is_end q.1 then Some (fields_after q.1 before p, q.0, xs) else next_record default_config q.0 (fields_after q.1 before p) (field_after q.1 c p) xs) is
@@ -99,91 +53,165 @@ step_cr c (a_feed is) = rw is refl
 step_cr c (a_comma is) = rw is refl
 step_cr c (another a b e) = rw b refl
 
-after_cr : (xs : List ℕ) → rows_from st.AfterCr xs ≡ rows_from st.StartRecord xs
+pub after_cr : (xs : List ℕ) → rows_from st.AfterCr xs ≡ rows_from st.StartRecord xs
 unfolding next_record
 after_cr [] = same_rows st.AfterCr st.StartRecord [] [] refl
 after_cr (c ∷ xs) = same_rows st.AfterCr st.StartRecord (c ∷ xs) (c ∷ xs) (stepped st.AfterCr [] [] c xs (step default_config st.StartRecord c) (step_cr c (kind_of c)))
 
--- the end of a line
-end_gives : (s after : State) (before : List (List ℕ)) (p : List ℕ) (c : ℕ) (xs : List ℕ) → step default_config s c ≡ (after, act.EndRecord) → is_line_end c ≡ true → rows_from after xs ≡ plain_records xs → Gives s before p (c ∷ xs)
-end_gives s after before p c xs is end rest = record {
-  read = (before ++ p ∷ [], after, xs);
-  is = stepped s before p c xs (after, act.EndRecord) is;
-  fields = rw end (ap (λ (f : List ℕ). before ++ f ∷ []) (sym (append-nil p)));
-  rest = rw end rest;
+-- the end of a line where a record would begin
+pub skipped : (c : ℕ) (xs : List ℕ) → is_line_end c ≡ true → rows_from st.StartRecord (c ∷ xs) ≡ rows_from st.StartRecord xs
+skipped c xs end =
+    let is : step default_config st.StartRecord c ≡ (st.StartRecord, act.Skip) = ap (λ (b : Bool). if b then (st.StartRecord, act.Skip) else start_field default_config c) end in
+    same_rows st.StartRecord st.StartRecord (c ∷ xs) xs (stepped st.StartRecord [] [] c xs (st.StartRecord, act.Skip) is)
+
+start_rows : (xs : List ℕ) → rows_from st.StartRecord xs ≡ rows_from st.StartRecord (line_start xs)
+start_rows [] = refl
+start_rows (c ∷ xs) = by (is_line_end c) refl (start_rows xs) where
+  by : (b : Bool) → is_line_end c ≡ b → rows_from st.StartRecord xs ≡ rows_from st.StartRecord (line_start xs) → rows_from st.StartRecord (c ∷ xs) ≡ rows_from st.StartRecord (if b then line_start xs else c ∷ xs)
+  by true is more = skipped c xs is ∙ more
+  by false is more = refl
+
+-- a record begins with its first field
+pub begun : (c : ℕ) (xs : List ℕ) → is_line_end c ≡ false → rows_from st.StartRecord (c ∷ xs) ≡ rows_from st.StartField (c ∷ xs)
+unfolding next_record
+begun c xs no_end =
+    let is : step default_config st.StartRecord c ≡ step default_config st.StartField c = ap (λ (b : Bool). if b then (st.StartRecord, act.Skip) else start_field default_config c) no_end in
+    same_rows st.StartRecord st.StartField (c ∷ xs) (c ∷ xs) (stepped st.StartRecord [] [] c xs (step default_config st.StartField c) is)
+
+start_byte : (xs : List ℕ) → 0 < length (line_start xs) → (c : ℕ) × (rest : List ℕ) × (line_start xs ≡ c ∷ rest) × (is_line_end c ≡ false)
+start_byte [] = λ some. absurd (omega arith)
+start_byte (c ∷ xs) = by (is_line_end c) refl (start_byte xs) where
+  by : (b : Bool) → is_line_end c ≡ b → (0 < length (line_start xs) → (d : ℕ) × (rest : List ℕ) × (line_start xs ≡ d ∷ rest) × (is_line_end d ≡ false)) → 0 < length (if b then line_start xs else c ∷ xs) → (d : ℕ) × (rest : List ℕ) × ((if b then line_start xs else c ∷ xs) ≡ d ∷ rest) × (is_line_end d ≡ false)
+  by true is more = more
+  by false is more = λ some. (c, xs, refl, is)
+
+-- the first record begins behind the ends of lines, if there is one
+pub record_rows : (bytes text : List ℕ) → text ≡ line_start bytes → 0 < length text → rows_from st.StartRecord bytes ≡ rows_from st.StartField text
+record_rows bytes text is some =
+    let (c, rest, begins, no_end) = start_byte bytes (rw (← is) some) in
+    start_rows bytes ∙ ap (rows_from st.StartRecord) begins ∙ begun c rest no_end ∙ ap (rows_from st.StartField) (sym (is ∙ begins))
+
+pub no_rows : (bytes text : List ℕ) → text ≡ line_start bytes → length text ≡ 0 → rows_from st.StartRecord bytes ≡ []
+unfolding next_record
+no_rows bytes [] is none = start_rows bytes ∙ ap (rows_from st.StartRecord) (sym is) ∙ no_record st.StartRecord [] refl
+no_rows bytes (c ∷ text) is none = absurd (omega arith)
+
+-- bytes in front of the first field
+abbrev onto : List ℕ → List (List ℕ) → List (List ℕ)
+onto p [] = p ∷ []
+onto p (field ∷ fields) = (p ++ field) ∷ fields
+
+onto_none : (line : List ℕ) → onto [] (slice_split is_comma line) ≡ slice_split is_comma line
+onto_none [] = refl
+onto_none (c ∷ line) = by (is_comma c) (slice_split is_comma line) where
+  by : (b : Bool) (fields : List (List ℕ)) → onto [] (cond b ([] ∷ fields) (onto_first c fields)) ≡ cond b ([] ∷ fields) (onto_first c fields)
+  by true fields = refl
+  by false [] = refl
+  by false (field ∷ fields) = refl
+
+-- a byte more in front, where it is no comma
+onto_more : (p : List ℕ) (c : ℕ) (fields : List (List ℕ)) → onto (p ++ c ∷ []) fields ≡ onto p (onto_first c fields)
+onto_more p c [] = refl
+onto_more p c (field ∷ fields) = ap (λ (f : List ℕ). f ∷ fields) (append_assoc p (c ∷ []) field)
+
+-- what a read inside a line gives: the fields before and those of the line, and then the records behind it
+record Gives (s : State) (before : List (List ℕ)) (p line tail : List ℕ) : Type 0 where
+  read : Read
+  is : next_record default_config s before p (line ++ tail) ≡ Some read
+  fields : read.0 ≡ before ++ onto p (slice_split is_comma line)
+  rest : rows_from read.1 read.2 ≡ rows_from st.StartRecord tail
+
+record IsLine (line tail : List ℕ) : Type 0 where
+  inside : (before : List (List ℕ)) (p : List ℕ) → Gives st.InField before p line tail
+  begins : (before : List (List ℕ)) (p : List ℕ) → Gives st.StartField before p line tail
+
+-- the end of a line, or of the text
+abbrev pub EndsHere : List ℕ → Type 0
+EndsHere [] = ⊤
+EndsHere (c ∷ xs) = is_line_end c ≡ true
+
+text_end : IsLine [] []
+unfolding next_record
+text_end = record {
+  inside = λ before p. record { read = (before ++ p ∷ [], st.StartRecord, []); is = refl; fields = ap (λ (f : List ℕ). before ++ f ∷ []) (sym (append-nil p)); rest = refl };
+  begins = λ before p. record { read = (before ++ p ∷ [], st.StartRecord, []); is = refl; fields = ap (λ (f : List ℕ). before ++ f ∷ []) (sym (append-nil p)); rest = refl };
 }
 
+end_gives : (s after : State) (before : List (List ℕ)) (p : List ℕ) (c : ℕ) (xs : List ℕ) → step default_config s c ≡ (after, act.EndRecord) → is_line_end c ≡ true → rows_from after xs ≡ rows_from st.StartRecord xs → Gives s before p [] (c ∷ xs)
+end_gives s after before p c xs is end same = record {
+  read = (before ++ p ∷ [], after, xs);
+  is = stepped s before p c xs (after, act.EndRecord) is;
+  fields = ap (λ (f : List ℕ). before ++ f ∷ []) (sym (append-nil p));
+  rest = same ∙ sym (skipped c xs end);
+}
+
+end_line : (after : State) (c : ℕ) (xs : List ℕ) → step default_config st.InField c ≡ (after, act.EndRecord) → step default_config st.StartField c ≡ (after, act.EndRecord) → is_line_end c ≡ true → rows_from after xs ≡ rows_from st.StartRecord xs → IsLine [] (c ∷ xs)
+end_line after c xs in_field start end same = record {
+  inside = λ before p. end_gives st.InField after before p c xs in_field end same;
+  begins = λ before p. end_gives st.StartField after before p c xs start end same;
+}
+
+ends : (tail : List ℕ) → EndsHere tail → IsLine [] tail
+ends [] here = text_end
+ends (c ∷ xs) here = by (kind_of c) where
+  by : Kind c → IsLine [] (c ∷ xs)
+  by (a_return is) = subst (λ (b : ℕ). IsLine [] (b ∷ xs)) (sym is) (end_line st.AfterCr 13 xs refl refl refl (after_cr xs))
+  by (a_feed is) = subst (λ (b : ℕ). IsLine [] (b ∷ xs)) (sym is) (end_line st.StartRecord 10 xs refl refl refl refl)
+  by (a_comma is) = cc (subst (λ (b : ℕ). is_line_end b ≡ true) is here)
+  by (another a b e) = let inside : is_line_end c ≡ false = rw (a, b) refl in cc (sym inside ∙ here)
+
 -- a comma
-comma_gives : (s : State) (before : List (List ℕ)) (p xs : List ℕ) → step default_config s 44 ≡ (st.StartField, act.EndField) → ((before : List (List ℕ)) (p : List ℕ) → Gives st.StartField before p xs) → Gives s before p (44 ∷ xs)
-comma_gives s before p xs is more =
+comma_gives : (s : State) (before : List (List ℕ)) (p line tail : List ℕ) → step default_config s 44 ≡ (st.StartField, act.EndField) → ((before : List (List ℕ)) (p : List ℕ) → Gives st.StartField before p line tail) → Gives s before p (44 ∷ line) tail
+comma_gives s before p line tail is more =
     let g = more (before ++ p ∷ []) [] in
     record {
       read = g.read;
-      is = stepped s before p 44 xs (st.StartField, act.EndField) is ∙ g.is;
-      fields = g.fields ∙ append_assoc before (p ∷ []) (onto [] (slice_split is_comma (line_of xs)))
-          ∙ ap (λ (fs : List (List ℕ)). before ++ p ∷ fs) (onto_none (line_of xs)) ∙ ap (λ (f : List ℕ). before ++ f ∷ slice_split is_comma (line_of xs)) (sym (append-nil p));
+      is = stepped s before p 44 (line ++ tail) (st.StartField, act.EndField) is ∙ g.is;
+      fields = g.fields ∙ append_assoc before (p ∷ []) (onto [] (slice_split is_comma line))
+          ∙ ap (λ (fs : List (List ℕ)). before ++ p ∷ fs) (onto_none line) ∙ ap (λ (f : List ℕ). before ++ f ∷ slice_split is_comma line) (sym (append-nil p));
       rest = g.rest;
     }
 
 -- any other byte
-other_gives : (s : State) (before : List (List ℕ)) (p : List ℕ) (c : ℕ) (xs : List ℕ) → step default_config s c ≡ (st.InField, act.Copy) → is_line_end c ≡ false → is_comma c ≡ false → ((before : List (List ℕ)) (p : List ℕ) → Gives st.InField before p xs) → Gives s before p (c ∷ xs)
-other_gives s before p c xs is no_end no_comma more =
+other_gives : (s : State) (before : List (List ℕ)) (p : List ℕ) (c : ℕ) (line tail : List ℕ) → step default_config s c ≡ (st.InField, act.Copy) → is_comma c ≡ false → ((before : List (List ℕ)) (p : List ℕ) → Gives st.InField before p line tail) → Gives s before p (c ∷ line) tail
+other_gives s before p c line tail is no_comma more =
     let g = more before (p ++ c ∷ []) in
     record {
       read = g.read;
-      is = stepped s before p c xs (st.InField, act.Copy) is ∙ g.is;
-      fields = rw (no_end, no_comma) (g.fields ∙ ap (λ (fs : List (List ℕ)). before ++ fs) (onto_more p c (slice_split is_comma (line_of xs))));
-      rest = rw no_end g.rest;
+      is = stepped s before p c (line ++ tail) (st.InField, act.Copy) is ∙ g.is;
+      fields = rw no_comma (g.fields ∙ ap (λ (fs : List (List ℕ)). before ++ fs) (onto_more p c (slice_split is_comma line)));
+      rest = g.rest;
     }
 
--- a record that begins
-whole_from : (c : ℕ) (xs : List ℕ) → is_line_end c ≡ false → Gives st.StartRecord [] [] (c ∷ xs) → rows_from st.StartRecord (c ∷ xs) ≡ plain_records (c ∷ xs)
-whole_from c xs no_end g =
-    let some : line_of (c ∷ xs) ≡ c ∷ line_of xs = rw no_end refl in
-    one_record st.StartRecord (c ∷ xs) g.read g.is
-    ∙ ap (λ (f : List (List ℕ)). f ∷ rows_from g.read.1 g.read.2) (g.fields ∙ onto_none (line_of (c ∷ xs)))
-    ∙ ap (λ (rs : List (List (List ℕ))). slice_split is_comma (line_of (c ∷ xs)) ∷ rs) g.rest
-    ∙ ap (λ (line : List ℕ). slice_split is_comma line ∷ fields_in (lines_behind (c ∷ xs))) some
-    ∙ sym (ap fields_in (parted is_line_end (c ∷ xs)) ∙ ap (λ (line : List ℕ). fields_in (line ∷ lines_behind (c ∷ xs))) some)
-
-none_plain : IsPlain []
-unfolding next_record
-none_plain = record {
-  inside = λ before p. record { read = (before ++ p ∷ [], st.StartRecord, []); is = refl; fields = ap (λ (f : List ℕ). before ++ f ∷ []) (sym (append-nil p)); rest = no_record st.StartRecord [] refl };
-  begun = λ before p. record { read = (before ++ p ∷ [], st.StartRecord, []); is = refl; fields = ap (λ (f : List ℕ). before ++ f ∷ []) (sym (append-nil p)); rest = no_record st.StartRecord [] refl };
-  whole = no_record st.StartRecord [] refl;
+byte_line : (c : ℕ) (line tail : List ℕ) → Kind c → IsPlain c → IsLine line tail → IsLine (c ∷ line) tail
+byte_line c line tail (a_return is) plain more = cc (subst (λ (b : ℕ). is_line_end b ≡ false) is plain.0)
+byte_line c line tail (a_feed is) plain more = cc (subst (λ (b : ℕ). is_line_end b ≡ false) is plain.0)
+byte_line c line tail (a_comma is) plain more = subst (λ (b : ℕ). IsLine (b ∷ line) tail) (sym is) (record {
+  inside = λ before p. comma_gives st.InField before p line tail refl more.begins;
+  begins = λ before p. comma_gives st.StartField before p line tail refl more.begins;
+})
+byte_line c line tail (another a b e) plain more = record {
+  inside = λ before p. other_gives st.InField before p c line tail (rw (e, a, b) refl) e more.inside;
+  begins = λ before p. other_gives st.StartField before p c line tail (rw (plain.1, e, a, b) refl) e more.inside;
 }
 
-end_plain : (after : State) (c : ℕ) (xs : List ℕ) → step default_config st.InField c ≡ (after, act.EndRecord) → step default_config st.StartField c ≡ (after, act.EndRecord) → step default_config st.StartRecord c ≡ (st.StartRecord, act.Skip) → is_line_end c ≡ true → rows_from after xs ≡ rows_from st.StartRecord xs → rows_from st.StartRecord xs ≡ plain_records xs → IsPlain (c ∷ xs)
-end_plain after c xs in_field start skip end same whole = record {
-  inside = λ before p. end_gives st.InField after before p c xs in_field end (same ∙ whole);
-  begun = λ before p. end_gives st.StartField after before p c xs start end (same ∙ whole);
-  whole = same_rows st.StartRecord st.StartRecord (c ∷ xs) xs (stepped st.StartRecord [] [] c xs (st.StartRecord, act.Skip) skip) ∙ whole ∙ rw end refl;
-}
+is_line : (line tail : List ℕ) → All IsPlain line → EndsHere tail → IsLine line tail
+is_line [] tail plain here = ends tail here
+is_line (c ∷ line) tail plain here = byte_line c line tail (kind_of c) (plain 0 0 (omega arith)) (is_line line tail (λ k d small. plain (suc k) d (omega arith)) here)
 
-comma_plain : (xs : List ℕ) → IsPlain xs → IsPlain (44 ∷ xs)
-comma_plain xs more = record {
-  inside = λ before p. comma_gives st.InField before p xs refl more.begun;
-  begun = λ before p. comma_gives st.StartField before p xs refl more.begun;
-  whole = whole_from 44 xs refl (comma_gives st.StartRecord [] [] xs refl more.begun);
-}
+-- the record of a line, and those behind it
+pub line_rows : (line tail : List ℕ) → All IsPlain line → EndsHere tail → rows_from st.StartField (line ++ tail) ≡ slice_split is_comma line ∷ rows_from st.StartRecord tail
+line_rows line tail plain here =
+    let g = (is_line line tail plain here).begins [] [] in
+    one_record st.StartField (line ++ tail) g.read g.is
+    ∙ ap (λ (f : List (List ℕ)). f ∷ rows_from g.read.1 g.read.2) (g.fields ∙ onto_none line)
+    ∙ ap (λ (rs : List (List (List ℕ))). slice_split is_comma line ∷ rs) g.rest
 
-other_plain : (c : ℕ) (xs : List ℕ) → nat_eq c 13 ≡ false → nat_eq c 10 ≡ false → nat_eq c 44 ≡ false → nat_eq c 34 ≡ false → IsPlain xs → IsPlain (c ∷ xs)
-other_plain c xs a b e q more =
-    let no_end : is_line_end c ≡ false = rw (a, b) refl in
-    record {
-      inside = λ before p. other_gives st.InField before p c xs (rw (e, a, b) refl) no_end e more.inside;
-      begun = λ before p. other_gives st.StartField before p c xs (rw (q, e, a, b) refl) no_end e more.inside;
-      whole = whole_from c xs no_end (other_gives st.StartRecord [] [] c xs (rw (a, b, q, e) refl) no_end e more.inside);
-    }
+end_here : (text : List ℕ) (count : ℕ) → IsPlainLine text count → EndsHere (drop count text)
+end_here text count line = ⊎_elim
+    (λ (small : count < length text). subst EndsHere (sym (drop_more text count 0 small)) (line.ended small))
+    (λ (over : length text ≤ count). subst EndsHere (sym (drop_all count text over)) tt)
+    (cases_lt count (length text))
 
-byte_plain : (c : ℕ) (xs : List ℕ) → Kind c → nat_eq c 34 ≡ false → IsPlain xs → IsPlain (c ∷ xs)
-byte_plain c xs (a_return is) q more = subst (λ (b : ℕ). IsPlain (b ∷ xs)) (sym is) (end_plain st.AfterCr 13 xs refl refl refl refl (after_cr xs) more.whole)
-byte_plain c xs (a_feed is) q more = subst (λ (b : ℕ). IsPlain (b ∷ xs)) (sym is) (end_plain st.StartRecord 10 xs refl refl refl refl refl more.whole)
-byte_plain c xs (a_comma is) q more = subst (λ (b : ℕ). IsPlain (b ∷ xs)) (sym is) (comma_plain xs more)
-byte_plain c xs (another a b e) q more = other_plain c xs a b e q more
-
--- a text without quotes
-pub is_plain : (xs : List ℕ) → HasNoQuote xs → IsPlain xs
-is_plain [] none = none_plain
-is_plain (c ∷ xs) none = byte_plain c xs (kind_of c) (none 0 0 (omega arith)) (is_plain xs (λ k d small. none (suc k) d (omega arith)))
+pub cut_rows : (text : List ℕ) (count : ℕ) → IsPlainLine text count → rows_from st.StartField text ≡ slice_split is_comma (take count text) ∷ rows_from st.StartRecord (drop count text)
+cut_rows text count line = ap (rows_from st.StartField) (sym (take-append-drop count text)) ∙ line_rows (take count text) (drop count text) line.inside (end_here text count line)

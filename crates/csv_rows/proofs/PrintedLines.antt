@@ -1,20 +1,22 @@
 -- The records of lines of plain parts are these parts.
 use Rattle.std.proofs.Common.{◌≡◌, ℕ, ◌+◌, ◌<◌, Bool, true, false, ◌&&◌, nat_eq, List, [], ◌∷◌, ◌++◌, map, flat_map, refl, ap, ◌∙◌, arith, append_assoc, append-nil, ℤ}
-use Rattle.std.specs.Prelude.{All, filter, if◌then◌else◌}
+use Rattle.std.specs.Prelude.{All, if◌then◌else◌}
 use Rattle.std.specs.List.{slice_split, list_all, enumerate_from}
 use Rattle.std.proofs.lemmas.List.Elements.{All-append, All-cons}
 use Rattle.std.proofs.lemmas.List.Splits.{slice_split_none, slice_split_at}
+use Rattle.csv.specs.Machine.{next_record}
 use Rattle.csv.specs.Reading.{strip_bom}
 use Rattle.csv.specs.declared.parser.State.TheVariants as st
 use Rattle.record_dim.specs.NameBytesLaws.{both}
 use Rattle.layout_io.specs.Decimal.{decimal_text}
 use Rattle.csv_rows.specs.Readers.{rows_from}
 use Rattle.csv_rows.specs.Datasets.{records_of}
-use Rattle.csv_rows.specs.Plain.{is_comma, is_line_end, is_some_line, plain_records, HasNoQuote}
+use Rattle.csv_rows.specs.Plain.{is_comma, IsPlain}
 use Rattle.csv_rows.proofs.PlainTexts.{is_plain_byte, is_plain_text}
 use Rattle.csv_rows.specs.Texts.{with_comma, comma_joined, comma_line, print_text}
 use Rattle.csv_rows.proofs.Commas.{comma_behind}
-use Rattle.csv_rows.proofs.PlainLines.{is_plain}
+use Rattle.csv_rows.proofs.CsvReads.{no_record}
+use Rattle.csv_rows.proofs.PlainLines.{skipped, begun, line_rows}
 use Rattle.csv_rows.proofs.PrintedBytes.{IsPlainByte, plain_byte, plain_bytes}
 
 -- parts that are not the first of a line
@@ -59,30 +61,22 @@ abbrev pub is_plain_row : List (List ℕ) → Bool
 is_plain_row [] = false
 is_plain_row (part ∷ parts) = list_all is_plain_text (part ∷ parts)
 
-pub rows_plain : (rows : List (List (List ℕ))) → list_all is_plain_row rows ≡ true → plain_records (rows_text rows) ≡ rows
-rows_plain [] plain = refl
+pub rows_plain : (rows : List (List (List ℕ))) → list_all is_plain_row rows ≡ true → rows_from st.StartRecord (rows_text rows) ≡ rows
+unfolding next_record
+rows_plain [] plain = no_record st.StartRecord [] refl
 rows_plain ([] ∷ rows) plain = cc plain
 rows_plain (([] ∷ parts) ∷ rows) plain = cc plain
 rows_plain (((c ∷ part) ∷ parts) ∷ rows) plain =
     let (row, rest) = both (list_all is_plain_text ((c ∷ part) ∷ parts)) (list_all is_plain_row rows) plain in
     let (one, more) = both (is_plain_text (c ∷ part)) (list_all is_plain_text parts) row in
     let line = (c ∷ part) ++ joined_behind parts in
-    let ends : All (λ b. is_line_end b ≡ false) line = joined_all (λ b. is_line_end b ≡ false) (λ b is. is.ending) refl (c ∷ part) parts one more in
+    let bytes : All IsPlain line = joined_all IsPlain (λ b is. (is.ending, is.quote)) (refl, refl) (c ∷ part) parts one more in
     let whole : rows_text (((c ∷ part) ∷ parts) ∷ rows) ≡ line ++ 10 ∷ rows_text rows = ap (λ (t : List ℕ). (t ++ 10 ∷ []) ++ rows_text rows) (joined_is (c ∷ part) parts) ∙ append_assoc line (10 ∷ []) (rows_text rows) in
-    ap plain_records whole
-    ∙ ap (λ (lines : List (List ℕ)). map (slice_split is_comma) (filter is_some_line lines)) (slice_split_at is_line_end line 10 (rows_text rows) ends refl)
-    ∙ ap (λ (fields : List (List ℕ)). fields ∷ plain_records (rows_text rows)) (cut_joined (c ∷ part) parts one more)
-    ∙ ap (λ (rs : List (List (List ℕ))). ((c ∷ part) ∷ parts) ∷ rs) (rows_plain rows rest)
-
-rows_quotes : (rows : List (List (List ℕ))) → list_all is_plain_row rows ≡ true → HasNoQuote (rows_text rows)
-rows_quotes [] plain = λ k d small. absurd (omega arith)
-rows_quotes ([] ∷ rows) plain = cc plain
-rows_quotes ((part ∷ parts) ∷ rows) plain =
-    let P = λ (b : ℕ). nat_eq b 34 ≡ false in
-    let (row, rest) = both (list_all is_plain_text (part ∷ parts)) (list_all is_plain_row rows) plain in
-    let (one, more) = both (is_plain_text part) (list_all is_plain_text parts) row in
-    let line : All P (comma_joined (part ∷ parts)) = rw (joined_is part parts) (joined_all P (λ b is. is.quote) refl part parts one more) in
-    All-append P (comma_line (part ∷ parts)) (rows_text rows) (All-append P (comma_joined (part ∷ parts)) (10 ∷ []) line (All-cons P 10 [] refl (λ k d small. absurd (omega arith)))) (rows_quotes rows rest)
+    ap (rows_from st.StartRecord) whole
+    ∙ begun c ((part ++ joined_behind parts) ++ 10 ∷ rows_text rows) (bytes 0 0 (omega arith)).0
+    ∙ line_rows line (10 ∷ rows_text rows) bytes refl
+    ∙ ap (λ (fields : List (List ℕ)). fields ∷ rows_from st.StartRecord (10 ∷ rows_text rows)) (cut_joined (c ∷ part) parts one more)
+    ∙ ap (λ (rs : List (List (List ℕ))). ((c ∷ part) ∷ parts) ∷ rs) (skipped 10 (rows_text rows) refl ∙ rows_plain rows rest)
 
 strip_other : (c : ℕ) (xs : List ℕ) → nat_eq c 239 ≡ false → strip_bom (c ∷ xs) ≡ c ∷ xs
 unfolding strip_bom
@@ -105,7 +99,7 @@ rows_marks (((c ∷ part) ∷ parts) ∷ rows) plain =
 pub rows_read : (rows : List (List (List ℕ))) → list_all is_plain_row rows ≡ true → records_of (rows_text rows) ≡ rows
 rows_read rows plain =
     let marks = rows_marks rows plain in
-    ap (λ (t : List ℕ). rows_from st.StartRecord (strip_bom t)) marks ∙ ap (rows_from st.StartRecord) marks ∙ (is_plain (rows_text rows) (rows_quotes rows plain)).whole ∙ rows_plain rows plain
+    ap (λ (t : List ℕ). rows_from st.StartRecord (strip_bom t)) marks ∙ ap (rows_from st.StartRecord) marks ∙ rows_plain rows plain
 
 rows_mapped : (table : List (List ℤ)) → flat_map (λ row. comma_line (map decimal_text row)) table ≡ rows_text (map (map decimal_text) table)
 rows_mapped [] = refl

@@ -1,4 +1,5 @@
 pub mod Clipped
+pub mod Copies
 pub mod Datasets
 pub mod Loads
 pub mod Plain

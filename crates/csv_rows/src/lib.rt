@@ -2,6 +2,7 @@
 #![tactic(auto)]
 
 mod columns;
+mod copied;
 mod count;
 mod fault;
 mod laws;

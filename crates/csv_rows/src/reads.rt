@@ -3,14 +3,11 @@ ghost use Rattle.std.specs.Prelude.{◌≡◌, ◌+◌, ◌<◌, ◌^◌, ◌∷
 ghost use Rattle.std.specs.List.{slice_get};
 ghost use Rattle.std.specs.Cmp.Lexicographic.{pointwise};
 ghost use Rattle.csv.specs.Reading.{strip_bom};
-ghost use Rattle.csv.specs.Records.{fields_of};
-ghost use Rattle.csv_rows.specs.Datasets.{records_of, unspaced, number_of};
+ghost use Rattle.csv_rows.specs.Datasets.{unspaced, number_of};
 ghost use Rattle.csv_rows.specs.Clipped.{clipped};
-ghost use Rattle.csv_rows.specs.Readers.{rows_left, IsReading, IsAsked};
+ghost use Rattle.csv_rows.specs.Readers.{IsAsked};
 
-use crate::number::{field_number, unspaced};
-use csv::{ByteRecord, Reader, ReaderBuilder};
-use std::alloc::{AllocError as NoMemory, Global};
+use std::alloc::AllocError as NoMemory;
 
 /// Records that are read one after another. The one that was read last is asked for its fields: column after column is the fastest.
 pub trait Records {
@@ -42,56 +39,11 @@ pub trait Records {
         requires { stands self.old }
         ensures number { result ≡ option_map (λ field. option_map clipped (number_of (unspaced field))) (slice_get (fields self.old) column) }
         ensures asked { IsAsked stands fields left self.old self.new };
-}
 
-/// The records that csv reads.
-#[derive(Drop)]
-pub struct Quoted<'a> {
-    reader: Reader<&'a [u8]>,
-    fields: ByteRecord,
-}
-
-impl Records for Quoted<'_> {
-    ghost use Rattle.csv.specs.Records.{fields_of};
-    ghost use Rattle.csv_rows.specs.Readers.{rows_left, IsReading};
-
-    ghost left = { λ records. rows_left records.reader };
-
-    ghost fields = { λ records. fields_of records.fields };
-
-    ghost stands = { λ records. IsReading records.reader };
-
-    fn next(&mut self) -> Result<bool, NoMemory> {
-        let Ok(found) = self.reader.read_byte_record(&mut self.fields) else {
-            return Err(NoMemory);
-        };
-        Ok(found)
-    }
-
-    fn is_named(&mut self, column: usize, name: &[u8]) -> Option<bool> {
-        let field = self.fields.get(column)?;
-        Some(unspaced(field) == name)
-    }
-
-    fn number(&mut self, column: usize) -> Option<Option<i128>> {
-        let field = self.fields.get(column)?;
-        Some(field_number(field))
-    }
-}
-
-/// The records of a dataset, read by csv. It drops a byte order mark of its own.
-pub fn quoted_of(alloc: Global, bytes: &[u8]) -> Quoted<'_>
-    ensures reading { IsReading result.reader }
-    ensures rows { rows_left result.reader ≡ records_of bytes.now }
-{
-    let reader = ReaderBuilder::new()
-        .has_headers(false)
-        .flexible(true)
-        .from_reader(alloc, without_mark(bytes));
-    Quoted {
-        reader,
-        fields: ByteRecord::new(alloc),
-    }
+    /// Says whether the fields of each record to come are kept. Then one is found as fast in any order of the columns.
+    fn keep_fields(&mut self, keeps: bool)
+        requires { stands self.old }
+        ensures { IsAsked stands fields left self.old self.new };
 }
 
 /// The bytes that the records of a dataset are read from: behind a byte order mark, and behind one more, which `csv` drops.

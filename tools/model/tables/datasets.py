@@ -62,6 +62,27 @@ QUOTES = [
     bad('header_in_quotes_with_a_line_end', b'"a\n",b\n1,2\n', 'MissingColumn a'),
 ]
 
+# One record of several has a quote, or some have.
+QUOTED_RECORDS = [
+    good('quotes_in_the_header_alone', b'"a",b\n1,2\n3,4\n', '1,2 | 3,4'),
+    good('quotes_in_the_first_record_alone', b'a,b\n"1",2\n3,4\n5,6\n', '1,2 | 3,4 | 5,6'),
+    good('quotes_in_a_record_amid_others', b'a,b\n1,2\n3,"4"\n5,6\n', '1,2 | 3,4 | 5,6'),
+    good('quotes_in_the_last_record_alone', b'a,b\n1,2\n3,4\n5,"6"\n', '1,2 | 3,4 | 5,6'),
+    good('quotes_in_the_last_record_without_a_line_end', b'a,b\n1,2\n"3","4"', '1,2 | 3,4'),
+    good('quotes_in_a_column_that_names_no_leaf', b'a,note,b\n1,x,2\n3,"y, z",4\n5,x,6\n', '1,2 | 3,4 | 5,6'),
+    good('quotes_round_a_line_end_amid_others', b'a,note,b\n1,x,2\n3,"y\nz",4\n5,x,6\n', '1,2 | 3,4 | 5,6'),
+    good('quotes_round_carriage_returns_and_line_feeds', b'a,note,b\r\n1,x,2\r\n3,"y\r\n\r\nz",4\r\n5,x,6\r\n', '1,2 | 3,4 | 5,6'),
+    good('quotes_before_carriage_returns_alone', b'a,b\r"1",2\r3,4\r5,"6"\r7,8', '1,2 | 3,4 | 5,6 | 7,8'),
+    good('quotes_before_empty_lines', b'a,b\n"1",2\n\n\r\n3,4\n\n5,"6"\n\n', '1,2 | 3,4 | 5,6'),
+    bad('fault_of_a_line_behind_quotes', b'a,b\n"1",2\n3,x\n5,6\n', 'Number record 1 leaf b'),
+    bad('fault_in_quotes_behind_lines', b'a,b\n1,2\n3,"x"\n5,6\n', 'Number record 1 leaf b'),
+    bad('row_in_quotes_behind_lines_is_short', b'a,b\n1,2\n"3"\n5,6\n', 'ShortRow record 1 leaf b'),
+    bad('row_of_one_field_with_a_comma_in_quotes', b'a,b\n1,2\n"3,4"\n5,6\n', 'Number record 1 leaf a'),
+    bad('quotes_that_nothing_closes_amid_others', b'a,b\n1,2\n3,"4\n5,6\n', 'Number record 1 leaf b'),
+    bad('byte_order_mark_in_a_line_behind_quotes', b'a,b\n"1",2\n' + MARK + b'3,4\n', 'Number record 1 leaf a'),
+    bad('byte_order_mark_before_quotes_in_a_row', b'a,b\n1,2\n' + MARK + b'"3",4\n', 'Number record 1 leaf a'),
+]
+
 NUMBERS = [
     good('field_with_blanks_at_its_ends', b'a,b\n 1\t,\t -2  \n', '1,-2'),
     good('field_with_a_plus', b'a,b\n+1,+2\n', '1,2'),
@@ -115,6 +136,8 @@ BACKWARDS = [
     Case('columns_in_the_opposite_order_of_no_row', EIGHT, EIGHT_ON, EIGHT_BACK),
     Case('columns_in_the_opposite_order_with_a_short_row', EIGHT, 'line 2: ShortRow record 1 leaf h[0]', EIGHT_BACK + b'8,7,6,5,4,3,2,1\n8,7,6,5,4,3,2\n'),
     Case('columns_in_the_opposite_order_and_the_first_fault_is_the_first_leafs', EIGHT, 'line 2: Number record 0 leaf h[1]', EIGHT_BACK + b'x,7,6,5,4,3,y,1\n'),
+    Case('columns_in_the_opposite_order_with_quotes', EIGHT, EIGHT_ON + ' | 1,2,3,4,5,6,7,8 | 11,12,13,14,15,16,17,18 | 0,0,0,0,0,0,0,9',
+         EIGHT_BACK + b'8,7,6,5,4,3,2,1\n"18",17,16,"15",14,13,12,11\n9,0,0,0,0,0,0,0\n'),
     Case('columns_in_the_opposite_order_behind_others', EIGHT, EIGHT_ON + ' | 1,2,3,4,5,6,7,8',
          b'x,' * 200 + EIGHT_BACK + b'no,' * 200 + b'8,7,6,5,4,3,2,1\n'),
 ]
@@ -167,6 +190,10 @@ BIG = 'record P { a:u32 } | load V : P [?] as aosoa(16, row) from "d.csv" | '
 BIGS = [
     Case('dataset_of_100000_rows', BIG + 'reduce V sum a | reduce V count where a == i0', '4999950000 | 100000',
          make='{ echo a; seq 0 99999; } >d.csv\n'),
+    Case('dataset_of_100000_rows_behind_quotes', BIG + 'reduce V sum a | reduce V count where a == i0', '4999950000 | 100000',
+         make="{ echo a; echo '\"0\"'; seq 1 99999; } >d.csv\n"),
+    Case('dataset_of_100000_rows_in_quotes', BIG + 'reduce V sum a | reduce V count where a == i0', '4999950000 | 100000',
+         make="{ echo a; seq 0 99999 | sed 's/.*/\"&\"/'; } >d.csv\n"),
     Case('dataset_with_a_fault_in_row_99999', BIG + 'print V', 'line 2: Number record 99999 leaf a',
          make='{ echo a; seq 0 99998; echo x; } >d.csv\n'),
     Case('dataset_with_a_field_of_100000_bytes', BIG + 'print V', 'a | 7',
@@ -181,4 +208,4 @@ PRINTED = [
          b'f,c[0].x,c[0].y,c[1].x,c[1].y\n1,-9223372036854775808,0,5,18446744073709551615\n0,0,0,0,0\n1,-1,1,-1,1\n0,7,8,9,10\n'),
 ]
 
-CASES = ENDS + QUOTES + NUMBERS + COLUMNS + BACKWARDS + RANGES + BIGS + PRINTED
+CASES = ENDS + QUOTES + QUOTED_RECORDS + NUMBERS + COLUMNS + BACKWARDS + RANGES + BIGS + PRINTED

@@ -1,9 +1,0 @@
-use Rattle.std.proofs.Common.{◌≡◌, ◌∙◌, ap, sym, length, arith, rules, true}
-use Rattle.csv_rows.proofs.CsvReads.{few_rows}
-use Rattle.csv_rows.proofs.count.count_quoted.Goals as goal
-
-pub count_left-requires-clause-few : goal.count_left-requires-clause-few
-count_left-requires-clause-few c =
-    let found : c.in_ok-next.field-0 ≡ true = search rules in
-    let rows = ap length (sym c.quoted_of-records.ensures.rows ∙ (rw found at c.in_ok-next.ensures).1) in
-    omega (arith, few_rows c.args.bytes.now, rows)
