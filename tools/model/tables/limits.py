@@ -42,6 +42,8 @@ ROWS = [
     rows('no_row_among_great_dimensions', '[4294967295, 4294967295, 4294967295, 0]', GOES),
     Case('limit_last_of_2_to_the_24_rows_is_set', BYTE + 'view V : P [4096, 4096] as aos(packed, col) | set V[4095, 4095].a = 256',
          'line 3: Range record 16777215 leaf a'),
+    Case('limit_2_to_the_24_rows_of_a_dataset', BYTE + 'load V : P [?] as soa(multi, row) from "d.csv" | reduce V sum a', '50331648',
+         make='{ echo a; yes 3 | head -n 16777216; } >d.csv\n', by_hand=True),
     Case('limit_2_to_the_24_rows_and_one_more_of_a_dataset', BYTE + 'load V : P [?] as soa(multi, row) from "d.csv"', 'line 2: BadExtents TooMany',
          make='{ echo a; yes 0 | head -n 16777217; } >d.csv\n', by_hand=True),
     rows('rank_4', '[1, 2, 3, 4]', GOES), rows('rank_5', '[1, 2, 3, 4, 5]', 'line 2: BadExtents Rank'),
