@@ -24,7 +24,9 @@ fold_next n d =
     ⊎_elim (λ (small : n < 2 ^ 65). ap (λ (w : ℕ). folded (w * 10 + d)) (near n small))
     (λ (great : 2 ^ 65 ≤ n).
     let is : folded n ≡ 2 ^ 65 + n % 2 ^ 64 = far n great in
-    far (folded n * 10 + d) (omega (arith, is)) ∙ (let e : 2 ^ 65 + (folded n * 10 + d) % 2 ^ 64 ≡ 2 ^ 65 + (n * 10 + d) % 2 ^ 64 = omega (arith, is) in e) ∙ sym (far (n * 10 + d) (omega (arith, great))))
+    far (folded n * 10 + d) (omega (arith, is))
+    ∙ (let e : 2 ^ 65 + (folded n * 10 + d) % 2 ^ 64 ≡ 2 ^ 65 + (n * 10 + d) % 2 ^ 64 = omega (arith, is) in e)
+    ∙ sym (far (n * 10 + d) (omega (arith, great))))
     (cases_lt n (2 ^ 65))
 
 pub folded_low : (n : ℕ) → folded n % 2 ^ 64 ≡ n % 2 ^ 64
@@ -60,8 +62,9 @@ shortened_low signed width (pos n) few =
 shortened_low signed width (negsuc n) few =
     let turned : shortened (negsuc n) ≡ negsuc (folded (suc n) - 1) = negative (folded (suc n)) (positive n) in
     let same : (folded (suc n) - 1) % 2 ^ width ≡ n % 2 ^ width = fewer_bits (folded (suc n) - 1) n width few (omega (arith, folded_low (suc n), positive n)) in
-    ap (λ (v : ℤ). low_bits signed width v) turned
-    ∙ ap (decoded signed width) (let e : number (digit (negsuc (folded (suc n) - 1))) width ≡ number (digit (negsuc n)) width = omega (arith, digits_negsuc (folded (suc n) - 1) width, digits_negsuc n width, same) in e)
+    let e : number (digit (negsuc (folded (suc n) - 1))) width ≡ number (digit (negsuc n)) width =
+    omega (arith, digits_negsuc (folded (suc n) - 1) width, digits_negsuc n width, same) in
+    ap (λ (v : ℤ). low_bits signed width v) turned ∙ ap (decoded signed width) e
 
 pub shortened_kept : (kind : LeafType) (hold : Hold) (value : ℤ) → hold.width ≤ 64 → kept kind hold (shortened value) ≡ kept kind hold value
 shortened_kept kind hold value few = ap (declared kind) (shortened_low hold.signed hold.width value few)
