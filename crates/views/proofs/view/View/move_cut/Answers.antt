@@ -1,4 +1,4 @@
-use Rattle.std.proofs.Common.{◌≡◌, ◌∙◌, ◌+◌, ◌*◌, ◌%◌, ◌<◌, ◌≤◌, ◌||◌, ℕ, suc, true, List, [], length, sum_by, refl, sym, ap, subst, arith}
+use Rattle.std.proofs.Common.{◌≡◌, ◌∙◌, ◌+◌, ◌*◌, ◌%◌, ◌<◌, ◌≤◌, ◌||◌, ℕ, zero, suc, true, List, [], length, sum_by, refl, sym, ap, subst, arith}
 use Rattle.std.specs.Prelude.{◌==◌, IfSome}
 use Rattle.std.specs.List.{range_with_len}
 use Rattle.std.proofs.lemmas.Bool.{or_left, or_right, eq-eqb}
@@ -60,8 +60,8 @@ loop-done-preserved g c =
     } where
       first_or : (one two slot done k count number end : ℕ) → k < number → ((slot + done == slot) || is_cut one two (slot + done)) ≡ true
           → (0 < k → is_cut one two (slot + done + k * count) ≡ true) → ((slot + done + k * count == slot) || is_cut one two (slot + done + k * count)) ≡ true
-      first_or one two slot done 0 count number end l begins cuts =
-          let here : slot + done ≡ slot + done + 0 * count = omega arith in
+      first_or one two slot done zero count number end l begins cuts =
+          let here : slot + done ≡ slot + done + zero * count = omega arith in
           subst (λ (at : ℕ). ((at == slot) || is_cut one two at) ≡ true) here begins
       first_or one two slot done (suc k) count number end l begins cuts = or_right _ _ (cuts (omega arith))
 
