@@ -105,35 +105,35 @@ impl View {
     }
 
     // Stores sixteen values in a leaf of the rows from this one on.
-    fn store_block(&mut self, row: u64, leaf: usize, values: &[i64; 16]) -> Result<(), LaneFault>
-        requires rows_in { row + 16 ≤ length self.old.rows }
+    fn store_block(&mut self, first: u64, leaf: usize, values: &[i64; 16]) -> Result<(), LaneFault>
+        requires rows_in { first + 16 ≤ length self.old.rows }
         requires leaf_in { leaf < leaf_count_of self.old }
         requires sixteen { length values.now ≡ 16 }
         ensures taken { OnOk result (first_lane_fault (answer_of self.old) leaf 0 values.now ≡ None) }
-        ensures stored { OnOk result (self.new ≡ after_stores self.old (with_column leaf row (map (kept_of self.old leaf) values.now) self.old.rows) (column_writes leaf row 16)) }
+        ensures stored { OnOk result (self.new ≡ after_stores self.old (with_column leaf first (map (kept_of self.old leaf) values.now) self.old.rows) (column_writes leaf first 16)) }
         ensures named { IfErr result (λ fault. first_lane_fault (answer_of self.old) leaf 0 values.now ≡ Some fault) }
         ensures refused { OnErr result (self.new ≡ self.old) }
     {
-        if self.store_near(row, leaf, values) {
+        if self.store_near(first, leaf, values) {
             return Ok(());
         }
-        self.store_values(row, leaf, values)
+        self.store_values(first, leaf, values)
     }
 
     // The same where the rows stand side by side and each value is sure to be taken; it says whether it is so.
     #[inline(always)]
-    fn store_near(&mut self, row: u64, leaf: usize, values: &[i64; 16]) -> bool
-        requires rows_in { row + 16 ≤ length self.old.rows }
+    fn store_near(&mut self, first: u64, leaf: usize, values: &[i64; 16]) -> bool
+        requires rows_in { first + 16 ≤ length self.old.rows }
         requires leaf_in { leaf < leaf_count_of self.old }
         requires sixteen { length values.now ≡ 16 }
         ensures taken { result ≡ true → first_lane_fault (answer_of self.old) leaf 0 values.now ≡ None }
-        ensures stored { result ≡ true → self.new ≡ after_stores self.old (with_column leaf row (map (kept_of self.old leaf) values.now) self.old.rows) (column_writes leaf row 16) }
+        ensures stored { result ≡ true → self.new ≡ after_stores self.old (with_column leaf first (map (kept_of self.old leaf) values.now) self.old.rows) (column_writes leaf first 16) }
         ensures none { result ≡ false → self.new ≡ self.old }
     {
         if !are_sure(&self.map, leaf, values) {
             return false;
         }
-        store_sixteen(&self.map, &mut self.blobs, row, leaf, values)
+        store_sixteen(&self.map, &mut self.blobs, first, leaf, values)
     }
 
     // Stores values in a leaf of the rows from this one on.

@@ -61,11 +61,11 @@ taken c sure k small =
 
 -- what is stored then
 stored : (c : After-store_sixteen) → c.store_sixteen.result ≡ true → table_under (term_of c.self.inside.expr) c.self.inside.extents (schema_fields c.self.inside.schema) c.store_sixteen.new.blobs.items
-    ≡ with_column c.args.leaf c.args.row c.args.values.now (table_under (term_of c.self.inside.expr) c.self.inside.extents (schema_fields c.self.inside.schema) c.self.inside.blobs.items)
+    ≡ with_column c.args.leaf c.args.first c.args.values.now (table_under (term_of c.self.inside.expr) c.self.inside.extents (schema_fields c.self.inside.schema) c.self.inside.blobs.items)
 stored c wrote =
     let mapping = c.self.invariant.0 in
     sym (table_same mapping c.store_sixteen.new.blobs.items) ∙ c.store_sixteen.ensures.table wrote
-    ∙ ap (with_column c.args.leaf c.args.row c.args.values.now) (table_same mapping c.self.inside.blobs.items)
+    ∙ ap (with_column c.args.leaf c.args.first c.args.values.now) (table_same mapping c.self.inside.blobs.items)
 
 pub invariant_of-self : goal.invariant_of-self
 invariant_of-self c =
@@ -77,7 +77,7 @@ invariant_of-self c =
       mapping,
       kept_either (term_of a.expr) a.extents (schema_fields a.schema) a.blobs.items new c.store_sixteen.result c.self.invariant.1
           (λ wrote.
-          kept_column (term_of a.expr) a.extents (schema_fields a.schema) a.blobs.items c.self.invariant.1 new c.args.row c.args.leaf c.args.values.now leaf_in
+          kept_column (term_of a.expr) a.extents (schema_fields a.schema) a.blobs.items c.self.invariant.1 new c.args.first c.args.leaf c.args.values.now leaf_in
           (laid_there mapping new (c.store_sixteen.ensures.still_laid wrote)) (stored (goal.at.invariant_of-self c).After-store_sixteen wrote)
           (λ k l. fits (goal.at.invariant_of-self c).After-are_sure sure k (omega (arith, l, c.requires.sixteen)))) c.store_sixteen.ensures.none,
       c.self.invariant.2,
@@ -93,5 +93,5 @@ pub returns-clause-stored : goal.returns-clause-stored
 returns-clause-stored c = λ wrote.
     let a = c.self.inside in
     let idle : is_counted (term_of a.expr) ≡ false = ap is_counted (sym c.self.invariant.0.term_is) ∙ c.store_sixteen.ensures.uncounted wrote in
-    seen_column a.schema a.extents a.expr a.blobs.items c.self.view_is c.args.row c.args.leaf 16 c.args.values.now c.store_sixteen.new.blobs.items (tally_of a.counts a.heat)
-    (stored (goal.at.returns-clause-stored c).After-store_sixteen wrote) (sym (idle_logged (column_writes c.args.leaf c.args.row 16) idle c.self.invariant.2))
+    seen_column a.schema a.extents a.expr a.blobs.items c.self.view_is c.args.first c.args.leaf 16 c.args.values.now c.store_sixteen.new.blobs.items (tally_of a.counts a.heat)
+    (stored (goal.at.returns-clause-stored c).After-store_sixteen wrote) (sym (idle_logged (column_writes c.args.leaf c.args.first 16) idle c.self.invariant.2))
