@@ -15,10 +15,7 @@ pub mod StoredLaws
 pub mod AllLaws
 pub mod MoveLaws
 pub mod RunMoveLaws
-<<<<<<< HEAD
 pub mod NearStoreLaws
-=======
 pub mod PieceLaws
 pub mod SlotMoveLaws
 pub mod EachLaws
->>>>>>> c25c5f96baad9ea86750f94c86cd55e3eb85c919

@@ -13,10 +13,7 @@ pub mod Columns
 pub mod Moves
 pub mod MovesLaws
 pub mod UncountedLaws
-<<<<<<< HEAD
 pub mod NearStores
-=======
 pub mod Pieces
 pub mod SpanLaws
 pub mod CutLaws
->>>>>>> c25c5f96baad9ea86750f94c86cd55e3eb85c919

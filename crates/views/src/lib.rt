@@ -7,11 +7,8 @@ mod fresh;
 mod laws;
 mod moves;
 mod near;
-<<<<<<< HEAD
 mod near_store;
-=======
 mod pieces;
->>>>>>> c25c5f96baad9ea86750f94c86cd55e3eb85c919
 mod row;
 mod rows;
 mod store;
