@@ -128,7 +128,7 @@ pub invariant_of-self : goal.invariant_of-self
 invariant_of-self g c =
     let others = c.source.inside.blobs.items in
     let moved : IsMovedEach c.in-Some.to.byte c.in-Some.to.step (get_or others c.in-Some-places_of.from.blob []) c.in-Some-places_of.from.byte c.in-Some-places_of.from.step
-        (c.args.n * (c.width.result / 8)) c.args.pieces (get_or c.self.inside.blobs.items c.in-Some.to.blob []) (get_or c.move_pieces.new.blobs.items c.in-Some.to.blob []) =
+    (c.args.n * (c.width.result / 8)) c.args.pieces (get_or c.self.inside.blobs.items c.in-Some.to.blob []) (get_or c.move_pieces.new.blobs.items c.in-Some.to.blob []) =
     subst (λ (bs : List (List ℕ)). IsMovedEach c.in-Some.to.byte c.in-Some.to.step (get_or bs c.in-Some-places_of.from.blob []) c.in-Some-places_of.from.byte c.in-Some-places_of.from.step
     (c.args.n * (c.width.result / 8)) c.args.pieces (get_or c.self.inside.blobs.items c.in-Some.to.blob []) (get_or c.move_pieces.new.blobs.items c.in-Some.to.blob [])) c.as_slice.ensures.value c.move_pieces.ensures.moved in (
       c.self.invariant.0,
@@ -142,7 +142,7 @@ returns-clause-moved g c = λ wrote.
     let a = c.self.inside in
     let others = c.source.inside.blobs.items in
     let moved : IsMovedEach c.in-Some.to.byte c.in-Some.to.step (get_or others c.in-Some-places_of.from.blob []) c.in-Some-places_of.from.byte c.in-Some-places_of.from.step
-        (c.args.n * (c.width.result / 8)) c.args.pieces (get_or c.self.inside.blobs.items c.in-Some.to.blob []) (get_or c.move_pieces.new.blobs.items c.in-Some.to.blob []) =
+    (c.args.n * (c.width.result / 8)) c.args.pieces (get_or c.self.inside.blobs.items c.in-Some.to.blob []) (get_or c.move_pieces.new.blobs.items c.in-Some.to.blob []) =
     subst (λ (bs : List (List ℕ)). IsMovedEach c.in-Some.to.byte c.in-Some.to.step (get_or bs c.in-Some-places_of.from.blob []) c.in-Some-places_of.from.byte c.in-Some-places_of.from.step
     (c.args.n * (c.width.result / 8)) c.args.pieces (get_or c.self.inside.blobs.items c.in-Some.to.blob []) (get_or c.move_pieces.new.blobs.items c.in-Some.to.blob [])) c.as_slice.ensures.value c.move_pieces.ensures.moved in
     moved_seen c.args.self.now c.args.source.now c.args.leaf c.args.slot (c.args.pieces * c.args.n) (length (kinds_of (schema_fields a.schema))) _ c.self.view_is c.source.view_is (kind_count (schema_fields a.schema))
