@@ -1,125 +1,101 @@
--- Pieces one after another.
-use Rattle.std.proofs.Common.{◌≡◌, ◌⊎◌, ⊎_elim, inl, inr, ℕ, zero, suc, ◌+◌, ◌-◌, ◌*◌, ◌/◌, ◌%◌, ◌<◌, ◌≤◌, Bool, true, false, ◌||◌, List, [], ◌∷◌, ◌++◌, map, take, length, get_or, sum_by, refl, sym, ap, ◌∙◌, arith}
-use Rattle.std.specs.Prelude.{◌==◌}
+-- Rounds of slots one after another.
+use Rattle.std.proofs.Common.{◌≡◌, ⊎_elim, ℕ, ◌+◌, ◌*◌, ◌/◌, ◌%◌, ◌<◌, ◌≤◌, Bool, true, false, ◌||◌, List, [], ◌∷◌, map, take, length, get_or, sum_by, refl, sym, ap, ◌∙◌, subst, arith}
+use Rattle.std.specs.Prelude.{◌==◌, min, if◌then◌else◌}
 use Rattle.std.specs.List.{range_with_len}
 use Rattle.std.proofs.Math.Nat.{mul-mod_left}
-use Rattle.std.proofs.lemmas.Nat.{div-add-mod'}
-use Rattle.std.proofs.lemmas.Bool.{cases_lt}
-use Rattle.std.proofs.lemmas.List.{take_more, take_all, length-map, get_or-map}
-use Rattle.std.proofs.lemmas.List.FromFn.{map-range_with_len_more}
-use Rattle.std.proofs.lemmas.List.Sums.{sum_by-append, sum_by-cons}
+use Rattle.std.proofs.lemmas.Nat.{div-add-mod', mul-le}
+use Rattle.std.proofs.lemmas.Bool.{cases_lt, eqb-true, or_right}
+use Rattle.std.proofs.lemmas.List.{take_all, length-map, get_or-map}
+use Rattle.std.proofs.lemmas.List.Sums.{sum_by-cons, sum_by_more, sum_by-le-sum_by}
 use Rattle.record_dim.specs.declared.leaf_type.LeafType.{LeafType}
 use Rattle.record_dim.specs.declared.leaf_type.LeafType.TheVariants.{Bool as Truth}
 use Rattle.blobs.specs.Moves.{blocks}
+use Rattle.views.specs.CutLaws.{all_pieces}
 use Rattle.views.specs.Moves.{size_of}
+use Rattle.views.specs.Pieces.{is_cut, piece_count, piece_at, slot_steps}
+use Rattle.views.specs.SpanLaws.{span_join, sum_both}
 use Rattle.views.specs.Stores.{kind_at}
-use Rattle.layout_copy.specs.Costs.{is_cut, piece_count, piece_steps, steps_at, steps_before}
+use Rattle.layout_copy.specs.Costs.{piece_steps, steps_at, steps_before}
 
-range_more : (n : ℕ) → range_with_len 0 (n + 1) ≡ range_with_len 0 n ++ n ∷ []
-range_more n =
-    sym (same (range_with_len 0 (n + 1))) ∙ map-range_with_len_more (λ k. k) 0 n n (omega arith) ∙ ap (λ (ns : List ℕ). ns ++ n ∷ []) (same (range_with_len 0 n)) where
-      same : (ns : List ℕ) → map (λ (k : ℕ). k) ns ≡ ns
-      same [] = refl
-      same (k ∷ ns) = ap (λ (more : List ℕ). k ∷ more) (same ns)
+-- slots are cut at the multiples of the lesser of two numbers
+pub cut_at : (one two slot : ℕ) → slot % min one two ≡ 0 → is_cut one two slot ≡ true
+cut_at one two slot none =
+    ⊎_elim
+    (λ (l : one < two).
+    let least : min one two ≡ one = omega (arith, l) in
+    let here : slot % one ≡ 0 = sym (ap (λ (n : ℕ). slot % n) least) ∙ none in
+    let cut : is_cut one two slot ≡ true = rw here refl in cut)
+    (λ (l : two ≤ one).
+    let least : min one two ≡ two = omega (arith, l) in
+    let here : slot % two ≡ 0 = sym (ap (λ (n : ℕ). slot % n) least) ∙ none in
+    let cut : is_cut one two slot ≡ true = rw here (or_right (slot % one == 0) true refl) in cut)
+    (cases_lt one two)
 
-module _ (slots one two : ℕ) (sizes : List ℕ) where
-  abbrev before : ℕ → ℕ
-  before = steps_before slots one two sizes
+-- multiples behind a multiple
+pub multiple_on : (slot k n : ℕ) → slot % n ≡ 0 → (slot + k * n) % n ≡ 0
+multiple_on slot k n none =
+    let whole : slot / n * n ≡ slot = omega (arith, div-add-mod' slot n, none) in
+    let sum : (slot / n + k) * n ≡ slot / n * n + k * n = grind arith in
+    ap (λ (m : ℕ). (m + k * n) % n) (sym whole) ∙ ap (λ (m : ℕ). m % n) (sym sum) ∙ mul-mod_left (slot / n + k) n
 
-  -- one slot more
-  before_more : (slot : ℕ) → before (slot + 1) ≡ before slot + steps_at slots one two sizes slot
+-- what is counted by one test is counted by another that it meets
+by_test : (one two : Bool) (less more : ℕ) → (one ≡ true → two ≡ true) → less ≤ more → (if one || two then less else 0) ≤ (if two then more else 0)
+by_test true true less more meets le = le
+by_test true false less more meets le = absurd (cc (meets refl))
+by_test false true less more meets le = le
+by_test false false less more meets le = omega arith
+
+-- the pieces of a round are no more, and no longer, than those of all slots
+module _ (slots one two slot count : ℕ) (cut : is_cut one two slot ≡ true) (inside : slot + count ≤ slots) where
+  at_most : (size at : ℕ) → piece_at one two size slot (slot + count) at ≤ steps_at slots one two (size ∷ []) at
+  at_most size at =
+      let less : ℕ = piece_count (slot + count) one two at in
+      let more : ℕ = piece_count slots one two at in
+      let fewer : piece_count (slot + count) one two at ≤ piece_count slots one two at = omega (arith, inside) in
+      let bytes : less * size ≤ more * size = mul-le less size more size fewer (let same : size ≤ size = omega arith in same) in
+      let one_size : piece_steps (size ∷ []) more ≡ blocks (more * size) + 0 = sum_by-cons (λ (s : ℕ). blocks (more * s)) size [] in
+      let steps : blocks (less * size) ≤ piece_steps (size ∷ []) more = omega (arith, bytes, one_size) in
+      by_test (at == slot) (is_cut one two at) (blocks (less * size)) (piece_steps (size ∷ []) more) (λ same. ap (is_cut one two) (eqb-true at slot same) ∙ cut) steps
+
+  leaf_round : (size : ℕ) → slot_steps one two size slot count ≤ sum_by (steps_at slots one two (size ∷ [])) (range_with_len slot count)
+  leaf_round size =
+      omega (
+        arith,
+        all_pieces one two size slot count,
+        sum_by-le-sum_by (piece_at one two size slot (slot + count)) (steps_at slots one two (size ∷ [])) (range_with_len slot count) (at_most size),
+      )
+
+  one_more : (size : ℕ) (sizes : List ℕ) (at : ℕ) → steps_at slots one two (size ∷ []) at + steps_at slots one two sizes at ≤ steps_at slots one two (size ∷ sizes) at
+  one_more size sizes at = of (is_cut one two at) where
+    of : (b : Bool) → (if b then piece_steps (size ∷ []) (piece_count slots one two at) else 0) + (if b then piece_steps sizes (piece_count slots one two at) else 0)
+        ≤ (if b then piece_steps (size ∷ sizes) (piece_count slots one two at) else 0)
+    of true =
+        let f : ℕ → ℕ = λ s. blocks (piece_count slots one two at * s) in
+        omega (arith, sum_by-cons f size sizes, sum_by-cons f size [])
+    of false = omega arith
+
+  leaves_round : (sizes : List ℕ) → sum_by (λ size. slot_steps one two size slot count) sizes ≤ sum_by (steps_at slots one two sizes) (range_with_len slot count)
+  leaves_round [] = let none : sum_by (λ (size : ℕ). slot_steps one two size slot count) [] ≡ 0 = refl in omega (arith, none)
+  leaves_round (size ∷ sizes) =
+      let f : ℕ → ℕ = steps_at slots one two (size ∷ []) in
+      let g : ℕ → ℕ = steps_at slots one two sizes in
+      let whole = sum_by-cons (λ (s : ℕ). slot_steps one two s slot count) size sizes in
+      let joined = sum_both f g (range_with_len slot count) in
+      let less = sum_by-le-sum_by (λ (at : ℕ). f at + g at) (steps_at slots one two (size ∷ sizes)) (range_with_len slot count) (one_more size sizes) in
+      omega (arith, whole, joined, less, leaf_round size, leaves_round sizes)
+
+  pub round_counted : (sizes : List ℕ) → steps_before slots one two sizes slot + sum_by (λ size. slot_steps one two size slot count) sizes ≤ steps_before slots one two sizes (slot + count)
   unfolding steps_before
-  before_more slot =
-      let f : ℕ → ℕ = steps_at slots one two sizes in
-      let last : sum_by f (slot ∷ []) ≡ f slot + 0 = sum_by-cons f slot [] in
-      let whole : sum_by f (range_with_len 0 (slot + 1)) ≡ sum_by f (range_with_len 0 slot) + sum_by f (slot ∷ []) =
-      ap (sum_by f) (range_more slot) ∙ sum_by-append f (range_with_len 0 slot) (slot ∷ []) in
-      omega arith
+  round_counted sizes = omega (arith, leaves_round sizes, span_join (steps_at slots one two sizes) slot count)
 
-  -- more slots begin no fewer pieces
-  before_grows : (slot more : ℕ) → before slot ≤ before (slot + more)
-  before_grows slot zero =
-      let none : slot + zero ≡ slot = omega arith in
-      let same : before (slot + zero) ≡ before slot = ap before none in
-      omega arith
-  before_grows slot (suc more) =
-      let so_far : before slot ≤ before (slot + more) = before_grows slot more in
-      let next : before (slot + more + 1) ≡ before (slot + more) + steps_at slots one two sizes (slot + more) = before_more (slot + more) in
-      let end : slot + suc more ≡ slot + more + 1 = omega arith in
-      let same : before (slot + suc more) ≡ before (slot + more + 1) = ap before end in
-      omega arith
-
-  -- the piece that begins at a slot is among those that begin before its end
-  pub piece_counted : (slot count : ℕ) → 0 < count → is_cut one two slot ≡ true → count ≡ piece_count slots one two slot → before slot + piece_steps sizes count ≤ before (slot + count)
-  piece_counted slot count some cut is =
-      let here : steps_at slots one two sizes slot ≡ piece_steps sizes count = rw (cut, is) refl in
-      let next : before (slot + 1) ≡ before slot + steps_at slots one two sizes slot = before_more slot in
-      let grows : before (slot + 1) ≤ before (slot + 1 + (count - 1)) = before_grows (slot + 1) (count - 1) in
-      let end : slot + 1 + (count - 1) ≡ slot + count = omega arith in
-      let same : before (slot + 1 + (count - 1)) ≡ before (slot + count) = ap before end in
-      omega arith
-
--- a piece begins at the first slot
-pub first_cut : (one two : ℕ) → 0 < one → is_cut one two 0 ≡ true
-first_cut one two some =
-    let none : 0 % one ≡ 0 = omega arith in
-    rw none refl
-
--- the next multiple of a number
-next_multiple : (n slot count : ℕ) → 0 < n → count ≡ n - slot % n → (slot + count) % n ≡ 0
-next_multiple n slot count some is =
-    let low : slot % n < n = omega arith in
-    let parts : slot / n * n + slot % n ≡ slot = div-add-mod' slot n in
-    let more : (slot / n + 1) * n ≡ slot / n * n + n = grind arith in
-    let whole : slot + count ≡ (slot / n + 1) * n = omega arith in
-    ap (λ (k : ℕ). k % n) whole ∙ mul-mod_left (slot / n + 1) n
-
-or_true : (test : Bool) → (test || true) ≡ true
-or_true true = refl
-or_true false = refl
-
--- and behind a piece another one, where there is a slot
-pub next_cut : (slots one two slot count : ℕ) → 0 < one → 0 < two → slot < slots → count ≡ piece_count slots one two slot → slot + count < slots
-    → is_cut one two (slot + count) ≡ true
-next_cut slots one two slot count some_one some_two inside is more =
-    let step : (count ≡ one - slot % one) ⊎ (count ≡ two - slot % two) =
-    ⊎_elim (λ (l : one - slot % one < two - slot % two). inl (omega arith)) (λ (l : two - slot % two ≤ one - slot % one). inr (omega arith))
-    (cases_lt (one - slot % one) (two - slot % two)) in
-    ⊎_elim (λ (is_one : count ≡ one - slot % one). rw (next_multiple one slot count some_one is_one) refl)
-    (λ (is_two : count ≡ two - slot % two). rw (next_multiple two slot count some_two is_two) (or_true ((slot + count) % one == 0))) step
-
--- a piece is of slots, and of one block of each side
-pub record IsPieceOf (slots one two slot count : ℕ) : Type 0 where
-  pub some : 0 < count
-  pub inside : slot + count ≤ slots
-  pub first : slot % one + count ≤ one
-  pub second : slot % two + count ≤ two
-
-pub is_piece : (slots one two slot count : ℕ) → 0 < one → 0 < two → slot < slots → count ≡ piece_count slots one two slot → IsPieceOf slots one two slot count
-is_piece slots one two slot count some_one some_two inside is =
-    let first : slot % one < one = omega arith in
-    let second : slot % two < two = omega arith in
-    record { some = omega arith; inside = omega arith; first = omega arith; second = omega arith }
-
--- the blocks of one leaf more
-more_sizes : (sizes : List ℕ) (count leaf : ℕ) → leaf < length sizes
-    → piece_steps (take leaf sizes) count + blocks (count * get_or sizes leaf 0) ≡ piece_steps (take (leaf + 1) sizes) count
-more_sizes sizes count leaf inside =
-    let f : ℕ → ℕ = λ size. blocks (count * size) in
-    let last : sum_by f (get_or sizes leaf 0 ∷ []) ≡ f (get_or sizes leaf 0) + 0 = sum_by-cons f (get_or sizes leaf 0) [] in
-    let whole : sum_by f (take (leaf + 1) sizes) ≡ sum_by f (take leaf sizes) + sum_by f (get_or sizes leaf 0 ∷ []) =
-    ap (sum_by f) (take_more sizes leaf 0 inside) ∙ sum_by-append f (take leaf sizes) (get_or sizes leaf 0 ∷ []) in
-    omega arith
-
-pub leaf_steps : (kinds : List LeafType) (count leaf : ℕ) → leaf < length kinds
-    → piece_steps (take leaf (map size_of kinds)) count + blocks (count * size_of (kind_at kinds leaf)) ≡ piece_steps (take (leaf + 1) (map size_of kinds)) count
-leaf_steps kinds count leaf inside =
+-- one leaf more of a sum over leaves, and all leaves
+pub leaf_sum : (g : ℕ → ℕ) (kinds : List LeafType) (leaf : ℕ) → leaf < length kinds
+    → sum_by g (take leaf (map size_of kinds)) + g (size_of (kind_at kinds leaf)) ≡ sum_by g (take (leaf + 1) (map size_of kinds))
+leaf_sum g kinds leaf inside =
     let size : get_or (map size_of kinds) leaf 0 ≡ size_of (kind_at kinds leaf) = get_or-map size_of kinds leaf Truth 0 inside in
-    ap (λ (n : ℕ). piece_steps (take leaf (map size_of kinds)) count + blocks (count * n)) (sym size)
-    ∙ more_sizes (map size_of kinds) count leaf (let l : leaf < length (map size_of kinds) = omega (arith, inside, length-map kinds size_of) in l)
+    ap (λ (n : ℕ). sum_by g (take leaf (map size_of kinds)) + g n) (sym size)
+    ∙ sym (sum_by_more g (map size_of kinds) leaf 0 (let l : leaf < length (map size_of kinds) = omega (arith, inside, length-map kinds size_of) in l))
 
--- the blocks of all leaves
-pub all_leaves : (kinds : List LeafType) (count leaf : ℕ) → length kinds ≤ leaf
-    → piece_steps (take leaf (map size_of kinds)) count ≡ piece_steps (map size_of kinds) count
-all_leaves kinds count leaf over =
-    ap (λ (sizes : List ℕ). piece_steps sizes count) (take_all leaf (map size_of kinds) (let l : length (map size_of kinds) ≤ leaf = omega (arith, over, length-map kinds size_of) in l))
+pub all_leaves : (g : ℕ → ℕ) (kinds : List LeafType) (leaf : ℕ) → length kinds ≤ leaf → sum_by g (take leaf (map size_of kinds)) ≡ sum_by g (map size_of kinds)
+all_leaves g kinds leaf over =
+    ap (sum_by g) (take_all leaf (map size_of kinds) (let l : length (map size_of kinds) ≤ leaf = omega (arith, over, length-map kinds size_of) in l))

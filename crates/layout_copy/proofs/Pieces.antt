@@ -1,7 +1,8 @@
 -- Tables that are copied leaf after leaf of a piece of slots, and piece after piece.
-use Rattle.std.proofs.Common.{◌≡◌, ⊎_elim, ℕ, ◌+◌, ◌%◌, ◌<◌, ◌≤◌, ℤ, List, [], ◌∷◌, length, Option, Some, None, option_map, refl, sym, ap, ◌∙◌, subst, arith}
+use Rattle.std.proofs.Common.{◌≡◌, ⊎_elim, ℕ, ◌+◌, ◌%◌, ◌<◌, ◌≤◌, ℤ, List, [], ◌∷◌, length, sum_by, Option, Some, None, option_map, refl, sym, ap, ◌∙◌, subst, arith}
 use Rattle.std.specs.Prelude.{IfSome, IsSomeAnd}
 use Rattle.std.proofs.lemmas.Bool.{cases_lt}
+use Rattle.std.proofs.lemmas.List.Sums.{sum_by-cons}
 use Rattle.extents.specs.Indices.{indices}
 use Rattle.extents.specs.declared.order.Order.{Order}
 use Rattle.linearize.specs.Slots.{slot_at, slot_count}
@@ -14,18 +15,14 @@ use Rattle.map_plans.specs.Arrays.{array_of, lanes_in}
 use Rattle.map_any.specs.ArraySlots.{slots_in}
 use Rattle.map_any.specs.Strategies.{AreRuns}
 use Rattle.map_any.specs.declared.arrays.ArraySlots.{ArraySlots}
-use Rattle.views.specs.Moves.{IsInBlock, IsRunMoved}
+use Rattle.views.specs.CutLaws.{same_steps}
+use Rattle.views.specs.Moves.{IsRunMoved}
+use Rattle.views.specs.MovesLaws.{with_rows}
+use Rattle.views.specs.Pieces.{slot_steps, move_steps, HasSlots}
 use Rattle.views.specs.Tables.{Table, IsTable, leaf_count_of}
 use Rattle.layout_copy.specs.Copies.{AreAlike}
-use Rattle.layout_copy.specs.Costs.{run_steps, steps_before}
+use Rattle.layout_copy.specs.Costs.{round_steps, run_steps, steps_before}
 use Rattle.layout_copy.specs.Runs.{order_in, order_by, IsPieceMoved}
-
--- a table with other rows
-abbrev pub with_rows : Table → List (List ℤ) → Table
-with_rows table rows = record table { rows = rows }
-
-pub rows_after : (old now new : Table) → now ≡ with_rows old now.rows → new ≡ with_rows now new.rows → new ≡ with_rows old new.rows
-rows_after old now new is more = more ∙ ap (λ (t : Table). with_rows t new.rows) is
 
 -- what is said of the order of an array's slots
 in_order : (o : Option (Order × Option ℕ)) (P : Order → Type 0) (Q : Order × Option ℕ → Type 0) → IsSomeAnd o Q → IfSome o (λ array. P array.0) → P (order_in o)
@@ -110,16 +107,6 @@ all_below source old new slot alike is now same below all =
     (λ row leaf inside leaf_in. below.each row leaf inside leaf_in (let low : slot_at order old.extents row < slot = omega (arith, slot_at_below order old.extents row inside, all) in low)) in
     same ∙ ap (with_rows old) table
 
--- two tables without rows are one
-pub no_rows : (source old : Table) → AreAlike old source → IsTable source → IsTable old → length source.rows ≡ 0 → old ≡ with_rows old source.rows
-no_rows source old alike is was none =
-    let same : length old.rows ≡ length source.rows = was.rows ∙ ap (λ (e : List ℕ). length (indices e)) alike.1 ∙ sym is.rows in
-    ap (with_rows old) (empty old.rows source.rows (omega arith) none) where
-      empty : (one two : List (List ℤ)) → length one ≡ 0 → length two ≡ 0 → one ≡ two
-      empty [] [] one two = refl
-      empty (x ∷ xs) ys one two = absurd (omega (arith, one))
-      empty [] (y ∷ ys) one two = absurd (omega (arith, two))
-
 -- the slots of a mapping that lays out arrays
 slots_are : (o : Option (Order × Option ℕ)) (extents : List ℕ) (slots : ArraySlots) → option_map (slots_in extents) o ≡ Some slots
     → slot_count (order_in o) extents ≡ slots.slots
@@ -132,30 +119,15 @@ pub order_slots : (table : Table) (slots : ArraySlots) → option_map (slots_in 
     → slot_count (order_by table.mapping) table.extents ≡ slots.slots
 order_slots table slots is = slots_are (array_of table.mapping) table.extents slots is
 
--- slots of one block
-pub block_in : (term : Term) (extents : List ℕ) (slots : ArraySlots) (slot count : ℕ) → option_map (slots_in extents) (array_of term) ≡ Some slots
-    → slot + count ≤ slots.slots → slot % slots.lanes + count ≤ slots.lanes → IsInBlock term extents slot count
-block_in term extents slots slot count is inside block = of (array_of term) is where
-  of : (o : Option (Order × Option ℕ)) → option_map (slots_in extents) o ≡ Some slots
-      → IfSome o (λ array. let n = slot_count array.0 extents in (slot + count ≤ n) × (slot % lanes_in array.1 n + count ≤ lanes_in array.1 n))
+-- slots of a mapping
+pub has_slots : (term : Term) (extents : List ℕ) (slots : ArraySlots) (slot count : ℕ) → option_map (slots_in extents) (array_of term) ≡ Some slots
+    → slot + count ≤ slots.slots → HasSlots term extents slot count
+has_slots term extents slots slot count is inside = of (array_of term) is where
+  of : (o : Option (Order × Option ℕ)) → option_map (slots_in extents) o ≡ Some slots → IfSome o (λ array. slot + count ≤ slot_count array.0 extents)
   of None is = tt
   of (Some array) is =
       let same : slots ≡ slots_in extents array = cc is in
-      (subst (λ (s : ArraySlots). slot + count ≤ s.slots) same inside, subst (λ (s : ArraySlots). slot % s.lanes + count ≤ s.lanes) same block)
-
--- both sides have as many slots
-orders_same : (o p : Option (Order × Option ℕ)) → IsSomeAnd o (λ array. IsSomeAnd p (λ other. array.0 ≡ other.0)) → order_in o ≡ order_in p
-orders_same None p are = absurd are
-orders_same (Some array) None are = absurd are
-orders_same (Some array) (Some other) are = are
-
-pub same_slots : (source target : Table) (from to : ArraySlots) → AreAlike target source → AreRuns target.mapping source.mapping
-    → option_map (slots_in source.extents) (array_of source.mapping) ≡ Some from → option_map (slots_in target.extents) (array_of target.mapping) ≡ Some to → from.slots ≡ to.slots
-same_slots source target from to alike arrays one two =
-    sym (order_slots source from one)
-    ∙ ap (slot_count (order_by source.mapping)) (sym alike.1)
-    ∙ ap (λ (o : Order). slot_count o target.extents) (sym (orders_same (array_of target.mapping) (array_of source.mapping) arrays))
-    ∙ order_slots target to two
+      subst (λ (s : ArraySlots). slot + count ≤ s.slots) same inside
 
 -- the steps of all pieces
 pub all_steps : (source target : Table) (from to : ArraySlots) (sizes : List ℕ) → AreAlike target source → AreRuns target.mapping source.mapping
@@ -175,3 +147,15 @@ all_steps source target from to sizes alike arrays one two =
           let lanes : lanes_in other.1 slots ≡ to.lanes = ap (lanes_in other.1) (sym same) ∙ ap (λ (s : ArraySlots). s.lanes) two_is in
           ap (λ (n : ℕ). steps_before slots (lanes_in array.1 slots) n sizes slots) lanes
           ∙ ap (λ (s : ArraySlots). steps_before s.slots s.lanes to.lanes sizes s.slots) one_is
+
+-- and those of a round
+pub steps_of_round : (source target : Table) (from to : ArraySlots) (sizes : List ℕ) (slot count : ℕ) → AreAlike target source → AreRuns target.mapping source.mapping
+    → option_map (slots_in source.extents) (array_of source.mapping) ≡ Some from → option_map (slots_in target.extents) (array_of target.mapping) ≡ Some to
+    → round_steps (array_of source.mapping) (array_of target.mapping) target.extents sizes slot count ≡ sum_by (λ size. slot_steps from.lanes to.lanes size slot count) sizes
+steps_of_round source target from to [] slot count alike arrays one two = refl
+steps_of_round source target from to (size ∷ sizes) slot count alike arrays one two =
+    let here = same_steps source.mapping target.mapping source.extents target.extents from to size slot count alike.1 arrays one two in
+    let rest = steps_of_round source target from to sizes slot count alike arrays one two in
+    let first = sum_by-cons (λ (s : ℕ). move_steps (array_of source.mapping) (array_of target.mapping) target.extents s slot count) size sizes in
+    let second = sum_by-cons (λ (s : ℕ). slot_steps from.lanes to.lanes s slot count) size sizes in
+    omega (arith, here, rest, first, second)

@@ -15,6 +15,7 @@ use Rattle.map_any.specs.Strategies.{AreRuns, IsStrategy}
 use Rattle.map_any.specs.declared.strategy.Strategy.{Strategy}
 use Rattle.map_any.specs.declared.strategy.Strategy.TheVariants as way
 use Rattle.views.specs.AnswerLaws.{kept_rows-same}
+use Rattle.views.specs.MovesLaws.{with_rows}
 use Rattle.views.specs.Tables.{Table, IsTable, table_holds, leaf_count_of, after_log, after_stores}
 use Rattle.views.specs.Tallies.{Access, Read, Write, all_accesses, all_touches}
 use Rattle.views.specs.UncountedLaws.{holds_uncounted}
@@ -23,7 +24,6 @@ use Rattle.layout_copy.specs.Costs.{cost}
 use Rattle.layout_copy.specs.OwnLaws.{own_values}
 use Rattle.layout_copy.specs.declared.fault.CopyFault.{CopyFault}
 use Rattle.layout_copy.specs.declared.fault.CopyFault.TheVariants.{Mismatch, Narrow}
-use Rattle.layout_copy.proofs.Pieces.{with_rows}
 
 -- there is one strategy of two expressions
 pub one_strategy : (one two : Term) (a b : Strategy) → IsStrategy one two a → IsStrategy one two b → a ≡ b

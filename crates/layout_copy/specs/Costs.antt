@@ -13,14 +13,7 @@ use Rattle.map_plans.specs.Arrays.{array_of, lanes_in}
 use Rattle.map_any.specs.declared.strategy.Strategy.{Strategy}
 use Rattle.map_any.specs.declared.strategy.Strategy.TheVariants as way
 use Rattle.views.specs.Moves.{blob_steps, size_of}
-
--- whether a piece begins at a slot, where slots are cut at the multiples of two numbers
-abbrev pub is_cut : ℕ → ℕ → ℕ → Bool
-is_cut one two slot = (slot % one == 0) || (slot % two == 0)
-
--- how many of so many slots lie from a slot on before the next multiple of either number
-abbrev pub piece_count : ℕ → ℕ → ℕ → ℕ → ℕ
-piece_count slots one two slot = min (slots - slot) (min (one - slot % one) (two - slot % two))
+use Rattle.views.specs.Pieces.{is_cut, piece_count, move_steps}
 
 -- the bytes of each leaf
 abbrev pub leaf_sizes : Fields → List ℕ
@@ -43,6 +36,10 @@ abbrev pub run_steps : Option (Order × Option ℕ) → Option (Order × Option 
 run_steps (Some one) (Some two) extents sizes =
     let slots = slot_count one.0 extents in steps_before slots (lanes_in one.1 slots) (lanes_in two.1 slots) sizes slots
 run_steps _ _ extents sizes = 0
+
+-- those of so many slots from one on, leaf after leaf
+abbrev pub round_steps : Option (Order × Option ℕ) → Option (Order × Option ℕ) → List ℕ → List ℕ → ℕ → ℕ → ℕ
+round_steps one two extents sizes slot count = sum_by (λ size. move_steps one two extents size slot count) sizes
 
 -- the most steps of a copy from a view of one expression to one of another, over these fields and extents: by whole blobs, by runs, or by a
 -- read and a write of each leaf of each row

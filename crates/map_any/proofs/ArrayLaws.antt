@@ -29,7 +29,7 @@ if_some : {X : Type 0} (o : Option X) (P Q : X → Type 0) → ((x : X) → P x 
 if_some None P Q f h = tt
 if_some (Some x) P Q f h = f x h
 
-if_three : {X : Type 0} (o : Option X) (P Q R S : X → Type 0) → ((x : X) → P x → Q x → R x → S x) → IfSome o P → IfSome o Q → IfSome o R → IfSome o S
+pub if_three : {X : Type 0} (o : Option X) (P Q R S : X → Type 0) → ((x : X) → P x → Q x → R x → S x) → IfSome o P → IfSome o Q → IfSome o R → IfSome o S
 if_three None P Q R S f p q r = tt
 if_three (Some x) P Q R S f p q r = f x p q r
 
@@ -81,7 +81,7 @@ module _ (term : Term) (extents : List ℕ) (cells : List Cell) (leaf slot : ℕ
       (λ array is l. begins_fit _ slot leaf _ slot rule.pieces.items (is.places slot l) 0 d (let one : 0 < length rule.pieces.items = omega (arith, is.alone) in one)) h slot_in
 
 -- the layout of such a mapping by rows, and how its cells are stored
-array_rows : (term : Term) (extents : List ℕ) (fields : Fields) (cells : List Cell)
+pub array_rows : (term : Term) (extents : List ℕ) (fields : Fields) (cells : List Cell)
     → IfSome (array_of term) (λ array. layout_of term extents fields cells ≡ in_rows (row_at array.0 extents) (array_layout term (slot_count array.0 extents) (widths_of cells)))
 array_rows (Aos form order) extents fields cells = tt
 array_rows (Soa form order) extents fields cells = refl

@@ -4,4 +4,5 @@ pub mod LeafLaws
 pub mod RunLaws
 pub mod Filling
 pub mod ArrayLaws
+pub mod EvenLaws
 pub mod CellFacts

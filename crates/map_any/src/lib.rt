@@ -12,7 +12,7 @@ mod runs;
 mod strategy;
 
 pub use any::AnyMap;
-pub use arrays::{ArraySlots, BytePlace};
+pub use arrays::{ArraySlots, BytePlace, BytePlaces};
 pub use cell_map::CellMap;
 pub use leaf_rule::{LeafRule, RuleList};
 pub use map_checks::{HoldList, MakeMap};

@@ -15,3 +15,6 @@ pub mod StoredLaws
 pub mod AllLaws
 pub mod MoveLaws
 pub mod RunMoveLaws
+pub mod PieceLaws
+pub mod SlotMoveLaws
+pub mod EachLaws

@@ -311,7 +311,7 @@ pub other_is : (a b : Term) → AreRuns a b → IsSomeAnd (array_of b) (λ y. �
 other_is a b are = other_array (array_of a) (array_of b) are
 
 -- no slot is moved
-none_moved : (o : Option (Order × Option ℕ)) (extents : List ℕ) (rows leaves leaf slot count : ℕ) (source old : List (List ℤ)) → count ≡ 0
+pub none_moved : (o : Option (Order × Option ℕ)) (extents : List ℕ) (rows leaves leaf slot count : ℕ) (source old : List (List ℤ)) → count ≡ 0
     → IfSome o (λ array. IsRunMoved array.0 extents rows leaves leaf slot count source old old)
 none_moved None extents rows leaves leaf slot count source old none = tt
 none_moved (Some array) extents rows leaves leaf slot count source old none = record {

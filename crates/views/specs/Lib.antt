@@ -13,3 +13,6 @@ pub mod Columns
 pub mod Moves
 pub mod MovesLaws
 pub mod UncountedLaws
+pub mod Pieces
+pub mod SpanLaws
+pub mod CutLaws

@@ -11,6 +11,14 @@ use Rattle.piece_bits.specs.MovedLaws.{AreMoved, moved_laid, moved_entry, kept_e
 use Rattle.map_any.specs.ArrayRuns.{IsArrayRun}
 use Rattle.map_any.specs.ArrayRunLaws.{run_row, run_other, runs_alike}
 use Rattle.views.specs.Moves.{IsRunMoved}
+use Rattle.views.specs.Tables.{Table}
+
+-- a table with other rows
+abbrev pub with_rows : Table → List (List ℤ) → Table
+with_rows table rows = record table { rows = rows }
+
+pub rows_after : (old now new : Table) → now ≡ with_rows old now.rows → new ≡ with_rows now new.rows → new ≡ with_rows old new.rows
+rows_after old now new is more = more ∙ ap (λ (t : Table). with_rows t new.rows) is
 
 module _ (layout other : List (List Owner)) (order : Order) (extents : List ℕ) (holds : List Hold) (others old new : List (List ℕ))
     (leaf width slot count source from target at : ℕ)

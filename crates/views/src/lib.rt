@@ -7,6 +7,7 @@ mod fresh;
 mod laws;
 mod moves;
 mod near;
+mod pieces;
 mod row;
 mod rows;
 mod store;

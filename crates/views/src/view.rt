@@ -26,6 +26,7 @@ use steps::Steps;
 
 mod columns;
 mod moves;
+mod slots;
 mod touch;
 
 // The most bytes of a view.

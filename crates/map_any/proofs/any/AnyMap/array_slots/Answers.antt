@@ -1,11 +1,14 @@
-use Rattle.std.proofs.Common.{◌≡◌, length, Some, arith, rules}
+use Rattle.std.proofs.Common.{◌≡◌, ◌<◌, ℕ, length, Some, ◌∙◌, subst, sym, arith, rules}
+use Rattle.std.specs.Prelude.{Option, IfSome}
+use Rattle.extents.specs.declared.order.Order.{Order}
 use Rattle.record_dim.specs.Leaves.{kinds_of, leaves, Leaf}
 use Rattle.record_dim.specs.Schemas.{schema_fields}
 use Rattle.std.proofs.lemmas.List.{length-map}
 use Rattle.map_expr.specs.Terms.{term_of}
 use Rattle.map_checks.specs.Mappings.{leaf_cells}
-use Rattle.map_plans.specs.Arrays.{array_of}
+use Rattle.map_plans.specs.Arrays.{array_of, lanes_in}
 use Rattle.map_any.proofs.ArrayLaws.{few_slots}
+use Rattle.map_any.proofs.EvenLaws.{blocks_have_lanes, lanes_or}
 use Rattle.map_any.proofs.any.AnyMap.array_slots.Goals as goal
 
 pub slots_of-slots-requires : goal.slots_of-slots-requires
@@ -18,3 +21,11 @@ slots_of-slots-requires c =
       few = few_slots (term_of m.expr) m.extents (leaf_cells (kinds_of fields)) m.rules (c.in_ok-order.order, c.in_ok-order.lanes) is
           (omega (arith, kinds, m.ruled.each, c.leaf_count-leaves.ensures.value, c.leaf_count-leaves.ensures.some)) m.arrays;
     }
+
+pub returns-clause-some : goal.returns-clause-some
+returns-clause-some c = λ some.
+    let m = c.args.self.now in
+    let is : array_of (term_of m.expr) ≡ Some (c.in_ok-order.order, c.in_ok-order.lanes) = search rules in
+    let each : (slots : ℕ) → 0 < slots → 0 < lanes_in c.in_ok-order.lanes slots =
+    subst (λ (o : Option (Order × Option ℕ)). IfSome o (λ array. (slots : ℕ) → 0 < slots → 0 < lanes_in array.1 slots)) is (blocks_have_lanes (term_of m.expr) m.numbers) in
+    subst (λ (n : ℕ). 0 < n) (sym (c.unwrap_or.ensures ∙ lanes_or c.in_ok-order.lanes c.slots_of-slots.result)) (each c.slots_of-slots.result some)

@@ -1,14 +1,15 @@
 use Rattle.std.proofs.Common.{◌≡◌, ◌+◌, ◌≤◌, take}
+use Rattle.map_plans.specs.Arrays.{array_of}
+use Rattle.views.specs.MovesLaws.{with_rows}
 use Rattle.views.specs.Tables.{leaf_count_of}
-use Rattle.layout_copy.specs.Costs.{leaf_sizes, piece_steps}
+use Rattle.layout_copy.specs.Costs.{leaf_sizes, round_steps}
 use Rattle.layout_copy.specs.Runs.{order_by, IsPieceMoved}
-use Rattle.layout_copy.proofs.Pieces.{with_rows}
-use Rattle.layout_copy.proofs.runs.copy_piece.Given as goal
+use Rattle.layout_copy.proofs.runs.copy_round.Given as goal
 
 -- the leaves so far were moved
 abbrev pub invariant-loop-leaf : goal.invariant-loop-leaf
 invariant-loop-leaf g l = record {
   same : l.target ≡ with_rows l.initial.target l.target.rows;
   moved : IsPieceMoved (order_by l.initial.target.mapping) l.initial.target.extents (leaf_count_of l.initial.target) l.leaf l.slot l.count l.source.rows l.initial.target.rows l.target.rows;
-  steps : l.steps ≤ l.initial.steps + piece_steps (take l.leaf (leaf_sizes l.initial.target.fields)) l.count;
+  steps : l.steps ≤ l.initial.steps + round_steps (array_of l.source.mapping) (array_of l.initial.target.mapping) l.initial.target.extents (take l.leaf (leaf_sizes l.initial.target.fields)) l.slot l.count;
 }

@@ -1,9 +1,11 @@
-use Rattle.std.proofs.Common.{◌≡◌, ◌+◌, ◌-◌, ◌<◌, ◌≤◌, true}
+use Rattle.std.proofs.Common.{◌≡◌, ◌+◌, ◌-◌, ◌%◌, ◌<◌, ◌≤◌}
+use Rattle.std.specs.Prelude.{min}
+use Rattle.views.specs.MovesLaws.{with_rows}
 use Rattle.views.specs.Tables.{leaf_count_of}
-use Rattle.layout_copy.specs.Costs.{leaf_sizes, is_cut, steps_before}
+use Rattle.layout_copy.specs.Costs.{leaf_sizes, steps_before}
 use Rattle.layout_copy.specs.Runs.{order_by}
-use Rattle.layout_copy.proofs.Pieces.{with_rows, AreBelow}
-use Rattle.layout_copy.proofs.runs.copy_pieces.Given as goal
+use Rattle.layout_copy.proofs.Pieces.{AreBelow}
+use Rattle.layout_copy.proofs.runs.copy_rounds.Given as goal
 
 -- the rows of the slots so far were copied, and a piece begins here
 abbrev pub invariant-loop-slot : goal.invariant-loop-slot
@@ -11,7 +13,7 @@ invariant-loop-slot g l = record {
   inside : l.slot ≤ l.from.slots;
   same : l.target ≡ with_rows l.initial.target l.target.rows;
   below : AreBelow (order_by l.initial.target.mapping) l.initial.target.extents (leaf_count_of l.initial.target) l.slot l.source.rows l.target.rows;
-  cut : l.slot < l.from.slots → is_cut l.from.lanes l.to.lanes l.slot ≡ true;
+  whole : l.slot < l.from.slots → l.slot % min l.from.lanes l.to.lanes ≡ 0;
   steps : l.steps ≤ l.initial.steps + steps_before l.from.slots l.from.lanes l.to.lanes (leaf_sizes l.initial.target.fields) l.slot;
 }
 

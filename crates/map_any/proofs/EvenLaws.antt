@@ -1,0 +1,119 @@
+-- Slots of an array that lie evenly: each so many bits behind the one that is so many slots before it.
+use Rattle.std.proofs.Common.{◌≡◌, ℕ, zero, suc, ◌+◌, ◌*◌, ◌/◌, ◌%◌, ◌<◌, ◌≤◌, List, get_or, map, slice_index, Bool, refl, sym, ap, ◌∙◌, subst, arith}
+use Rattle.std.specs.Prelude.{Option, Some, None, IfSome, unwrap_or}
+use Rattle.std.proofs.lemmas.Nat.{div-add-mod', div-mul-add, mod-mul-add, mod_below}
+use Rattle.extents.specs.declared.order.Order.{Order}
+use Rattle.linearize.specs.Slots.{row_at, slot_count}
+use Rattle.record_dim.specs.Trees.{Fields}
+use Rattle.places.specs.Holds.{widths_of, full_holds}
+use Rattle.places.specs.Rules.{in_rows}
+use Rattle.places.specs.Layout.{Owner}
+use Rattle.places.specs.declared.piece.Cell.{Cell}
+use Rattle.places.specs.declared.piece.Hold.{Hold}
+use Rattle.piece_rules.specs.PieceRules.{begin_in, IsDense}
+use Rattle.piece_rules.specs.declared.rule.PieceRule.{PieceRule}
+use Rattle.map_expr.specs.Terms.{Term, Aos, Soa, Aosoa, BitAos, BitSoa, Split, Byteswap, Bytesplit, Change, Count, Heat, Named}
+use Rattle.map_expr.specs.Checks.{bad_number, bad_granule}
+use Rattle.map_expr.specs.declared.check.BadMapping.{BadMapping}
+use Rattle.map_checks.specs.Mappings.{layout_of, holds_of}
+use Rattle.map_plans.specs.Arrays.{array_of, array_layout, lanes_in, IsArrayOf}
+use Rattle.map_plans.specs.declared.rule.Rule.{Rule}
+use Rattle.map_any.specs.ArrayRuns.{IsArrayRun}
+use Rattle.map_any.specs.ArrayRunLaws.{array_run, array_holds}
+use Rattle.map_any.proofs.ArrayLaws.{if_three, array_rows}
+use Rattle.std.specs.Option.{option_or}
+
+-- the blocks of an expression whose numbers are in their ranges have slots, where there are any
+second_none : (o p : Option BadMapping) → option_or o p ≡ None → p ≡ None
+second_none None p none = none
+second_none (Some bad) p none = absurd (cc none)
+
+pub blocks_have_lanes : (term : Term) → bad_number term ≡ None → IfSome (array_of term) (λ array. (slots : ℕ) → 0 < slots → 0 < lanes_in array.1 slots)
+blocks_have_lanes (Aos form order) good = tt
+blocks_have_lanes (Soa form order) good = λ slots some. some
+blocks_have_lanes (Aosoa zero order) good = absurd (cc good)
+blocks_have_lanes (Aosoa (suc lanes) order) good = λ slots some. omega arith
+blocks_have_lanes (BitAos width order) good = tt
+blocks_have_lanes (BitSoa width order) good = tt
+blocks_have_lanes (Split path first rest) good = tt
+blocks_have_lanes (Byteswap inner) good = tt
+blocks_have_lanes (Bytesplit inner) good = tt
+blocks_have_lanes (Change from to inner) good = tt
+blocks_have_lanes (Count inner) good = blocks_have_lanes inner good
+blocks_have_lanes (Heat granule inner) good = blocks_have_lanes inner (second_none (bad_granule granule) (bad_number inner) good)
+blocks_have_lanes (Named name) good = tt
+
+-- the lanes of blocks, or all slots
+pub lanes_or : (lanes : Option ℕ) (slots : ℕ) → unwrap_or lanes slots ≡ lanes_in lanes slots
+lanes_or None slots = refl
+lanes_or (Some lanes) slots = refl
+
+-- a slot that is a multiple of so many slots behind another, where these are whole blocks
+even_begin : (piece : PieceRule) (slot n k : ℕ) → 0 < piece.lanes → n % piece.lanes ≡ 0
+    → begin_in piece (slot + k * n) ≡ begin_in piece slot + k * (n / piece.lanes * piece.block)
+even_begin piece slot n k some even =
+    let lanes : ℕ = piece.lanes in
+    let block : ℕ = piece.block in
+    let lane : ℕ = piece.lane in
+    let base : ℕ = piece.base in
+    let q : ℕ = n / lanes in
+    let d : ℕ = slot / lanes in
+    let r : ℕ = slot % lanes in
+    let low : r < lanes = mod_below slot lanes some in
+    let whole : q * lanes ≡ n = omega (arith, div-add-mod' n lanes, even) in
+    let parts : d * lanes + r ≡ slot = div-add-mod' slot lanes in
+    let sum : (d + k * q) * lanes + r ≡ d * lanes + r + k * (q * lanes) = grind arith in
+    let place : (d + k * q) * lanes + r ≡ slot + k * n = sum ∙ ap (λ (m : ℕ). d * lanes + r + k * m) whole ∙ ap (λ (m : ℕ). m + k * n) parts in
+    let quotient : (slot + k * n) / lanes ≡ d + k * q = ap (λ (m : ℕ). m / lanes) (sym place) ∙ div-mul-add (d + k * q) lanes r low in
+    let rest : (slot + k * n) % lanes ≡ r = ap (λ (m : ℕ). m % lanes) (sym place) ∙ mod-mul-add (d + k * q) lanes r low in
+    let same : base + (d + k * q) * block + r * lane ≡ base + d * block + r * lane + k * (q * block) = grind arith in
+    ap (λ (m : ℕ). base + m * block + (slot + k * n) % lanes * lane) quotient ∙ ap (λ (m : ℕ). base + (d + k * q) * block + m * lane) rest ∙ same
+
+-- the same in bytes, where each begins at one
+even_bytes : (lanes : ℕ) (piece : PieceRule) (slot n k byte step : ℕ) → IsDense lanes piece → 0 < lanes → 0 < piece.lanes → n % piece.lanes ≡ 0
+    → byte ≡ begin_in piece slot / 8 → step ≡ n / piece.lanes * piece.block / 8 → begin_in piece (slot + k * n) ≡ 8 * (byte + k * step)
+even_bytes lanes piece slot n k byte step dense some slots even byte_is step_is =
+    let bits : ℕ = n / piece.lanes * piece.block in
+    let first : begin_in piece slot % 8 ≡ 0 = dense.bytes slot (mod_below slot lanes some) in
+    let second : begin_in piece (slot + n) % 8 ≡ 0 = dense.bytes (slot + n) (mod_below (slot + n) lanes some) in
+    let one : 1 * n ≡ n = omega arith in
+    let once : 1 * bits ≡ bits = omega arith in
+    let next : begin_in piece (slot + n) ≡ begin_in piece slot + bits =
+    ap (λ (m : ℕ). begin_in piece (slot + m)) (sym one) ∙ even_begin piece slot n 1 slots even ∙ ap (λ (m : ℕ). begin_in piece slot + m) once in
+    let whole : bits ≡ 8 * step = omega (arith, first, second, next, step_is) in
+    let back : begin_in piece slot ≡ 8 * byte = omega (arith, first, byte_is) in
+    let sum : 8 * byte + k * (8 * step) ≡ 8 * (byte + k * step) = grind arith in
+    even_begin piece slot n k slots even ∙ ap (λ (m : ℕ). begin_in piece slot + k * m) whole ∙ ap (λ (m : ℕ). m + k * (8 * step)) back ∙ sum
+
+-- all of what is said of a value
+if_all : {X : Type 0} (o : Option X) (P : ℕ → X → Type 0) → ((k : ℕ) → IfSome o (P k)) → IfSome o (λ x. (k : ℕ) → P k x)
+if_all None P h = tt
+if_all (Some x) P h = h
+
+-- where slots of a leaf lie one behind another that come so many slots behind each other
+pub array_places : (term : Term) (extents : List ℕ) (fields : Fields) (cells : List Cell) (holds : List Hold) (leaf slot n : ℕ) (rule : Rule) (d : PieceRule) (blob byte step : ℕ)
+    → holds ≡ holds_of term fields cells → IsArrayOf term extents cells leaf rule → 0 < (get_or rule.pieces.items 0 d).lanes → n % (get_or rule.pieces.items 0 d).lanes ≡ 0
+    → blob ≡ (get_or rule.pieces.items 0 d).blob → byte ≡ begin_in (get_or rule.pieces.items 0 d) slot / 8
+    → step ≡ n / (get_or rule.pieces.items 0 d).lanes * (get_or rule.pieces.items 0 d).block / 8
+    → IfSome (array_of term) (λ array. (k count : ℕ) → 0 < count → slot + k * n + count ≤ slot_count array.0 extents
+    → (slot + k * n) % lanes_in array.1 (slot_count array.0 extents) + count ≤ lanes_in array.1 (slot_count array.0 extents)
+    → IsArrayRun (layout_of term extents fields cells) array.0 extents leaf (slice_index (map (λ (h : Hold). h.width) holds) leaf) (slot + k * n) count blob (8 * (byte + k * step)))
+array_places term extents fields cells holds leaf slot n rule d blob byte step held of some even blob_is byte_is step_is =
+    if_all (array_of term) _
+    (λ k. if_three (array_of term) _ _ _ _
+    (λ array is rows full count more inside block.
+    let slots : ℕ = slot_count array.0 extents in
+    let lanes : ℕ = lanes_in array.1 slots in
+    let width : ℕ = slice_index (map (λ (h : Hold). h.width) (full_holds cells)) leaf in
+    let piece : PieceRule = get_or rule.pieces.items 0 d in
+    let there : 0 < lanes = omega (arith, block, more) in
+    let bit : begin_in piece (slot + k * n) ≡ 8 * (byte + k * step) = even_bytes lanes piece slot n k byte step (is.dense d) there some even byte_is step_is in
+    let width_is : width ≡ slice_index (map (λ (h : Hold). h.width) holds) leaf = ap (λ (hs : List Hold). slice_index (map (λ (h : Hold). h.width) hs) leaf) (sym full ∙ sym held) in
+    let by_rows : List (List Owner) = in_rows (row_at array.0 extents) (array_layout term slots (widths_of cells)) in
+    let run : IsArrayRun by_rows array.0 extents leaf width (slot + k * n) count piece.blob (begin_in piece (slot + k * n)) =
+    array_run array.0 extents (array_layout term slots (widths_of cells)) slots lanes leaf width (slot + k * n) count rule d is more inside block in
+    subst (λ (l : List (List Owner)). IsArrayRun l array.0 extents leaf (slice_index (map (λ (h : Hold). h.width) holds) leaf) (slot + k * n) count blob (8 * (byte + k * step))) (sym rows)
+    (subst (λ (w : ℕ). IsArrayRun by_rows array.0 extents leaf w (slot + k * n) count blob (8 * (byte + k * step))) width_is
+    (subst (λ (b : ℕ). IsArrayRun by_rows array.0 extents leaf width (slot + k * n) count b (8 * (byte + k * step))) (sym blob_is)
+    (subst (λ (p : ℕ). IsArrayRun by_rows array.0 extents leaf width (slot + k * n) count piece.blob p) bit run))))
+    of (array_rows term extents fields cells) (array_holds term fields cells))

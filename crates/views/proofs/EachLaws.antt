@@ -1,0 +1,115 @@
+-- Pieces of slots that are moved between the blobs of two views, as far behind each other on either side.
+use Rattle.std.proofs.Common.{◌≡◌, ℕ, zero, suc, ◌+◌, ◌*◌, ◌%◌, ◌<◌, ◌≤◌, ℤ, List, [], length, get_or, set, Option, Some, None, refl, sym, ap, ◌∙◌, subst, arith}
+use Rattle.std.specs.Prelude.{IfSome}
+use Rattle.std.proofs.lemmas.List.{get_or-set_same, length-set, set-set, set-get_or}
+use Rattle.extents.specs.Indices.{indices}
+use Rattle.extents.specs.declared.order.Order.{Order}
+use Rattle.linearize.specs.Slots.{slot_count}
+use Rattle.record_dim.specs.Trees.{Fields}
+use Rattle.record_dim.specs.Leaves.{kinds_of}
+use Rattle.places.specs.Layout.{Owner}
+use Rattle.blobs.specs.Moves.{IsMoved}
+use Rattle.piece_bits.specs.MovedLaws.{AreMoved}
+use Rattle.piece_bits.specs.MovedBytesLaws.{moved_bits}
+use Rattle.map_expr.specs.Terms.{Term}
+use Rattle.map_plans.specs.Arrays.{array_of, lanes_in}
+use Rattle.map_any.specs.ArrayRuns.{IsArrayRun}
+use Rattle.map_any.specs.Strategies.{AreRuns}
+use Rattle.views.specs.Kept.{IsKept, table_under}
+use Rattle.views.specs.Moves.{size_of, IsRunMoved}
+use Rattle.views.specs.Pieces.{IsMovedEach}
+use Rattle.views.specs.Stores.{kind_at}
+use Rattle.views.proofs.RunMoveLaws.{IsRunOf, HasRun, none_moved, target_in, target_room, source_in, source_room, run_kept, run_table}
+use Rattle.views.proofs.SlotMoveLaws.{runs_joined}
+
+-- one of all that is said of a mapping's slots
+pub run_at : (term : Term) (layout : List (List Owner)) (extents : List ℕ) (leaf width slot n blob byte step : ℕ)
+    → IfSome (array_of term) (λ array. (k count : ℕ) → 0 < count → slot + k * n + count ≤ slot_count array.0 extents
+    → (slot + k * n) % lanes_in array.1 (slot_count array.0 extents) + count ≤ lanes_in array.1 (slot_count array.0 extents)
+    → IsArrayRun layout array.0 extents leaf width (slot + k * n) count blob (8 * (byte + k * step)))
+    → (k : ℕ) → HasRun term layout extents leaf width (slot + k * n) blob (byte + k * step)
+run_at term layout extents leaf width slot n blob byte step h k = of (array_of term) h where
+  of : (o : Option (Order × Option ℕ)) → IfSome o (λ array. (k count : ℕ) → 0 < count → slot + k * n + count ≤ slot_count array.0 extents
+      → (slot + k * n) % lanes_in array.1 (slot_count array.0 extents) + count ≤ lanes_in array.1 (slot_count array.0 extents)
+      → IsArrayRun layout array.0 extents leaf width (slot + k * n) count blob (8 * (byte + k * step)))
+      → IfSome o (λ array. (count : ℕ) → 0 < count → slot + k * n + count ≤ slot_count array.0 extents
+      → (slot + k * n) % lanes_in array.1 (slot_count array.0 extents) + count ≤ lanes_in array.1 (slot_count array.0 extents)
+      → IsArrayRun layout array.0 extents leaf width (slot + k * n) count blob (8 * (byte + k * step)))
+  of None h = tt
+  of (Some array) h = h k
+
+-- pieces of a leaf of two views over one array
+pub record AreEven (a b : Term) (extents others_extents : List ℕ) (fields trees : Fields) (leaf slot count pieces target at to_step source from from_step len : ℕ) : Type 0 where
+  pub alike : (fields ≡ trees) × (extents ≡ others_extents)
+  pub arrays : AreRuns a b
+  pub leaf_in : leaf < length (kinds_of fields)
+  pub some : 0 < count
+  pub more : 0 < pieces
+  pub len_is : len ≡ count * size_of (kind_at (kinds_of fields) leaf)
+  pub one : (k : ℕ) → k < pieces → IfSome (array_of a) (IsRunOf a extents fields leaf (slot + k * count) count target (at + k * to_step))
+  pub two : (k : ℕ) → k < pieces → IfSome (array_of b) (IsRunOf b others_extents trees leaf (slot + k * count) count source (from + k * from_step))
+
+module _ (a b : Term) (extents others_extents : List ℕ) (fields trees : Fields) (old others : List (List ℕ)) (leaf slot count pieces target at to_step source from from_step len : ℕ)
+    (e : AreEven a b extents others_extents fields trees leaf slot count pieces target at to_step source from from_step len)
+    (kept : IsKept a extents fields old) (others_kept : IsKept b others_extents trees others) where
+  pub each_target_in : target < length old
+  each_target_in =
+      target_in a b extents others_extents fields trees old others old leaf (slot + 0 * count) count target (at + 0 * to_step) source (from + 0 * from_step) len
+      e.alike e.arrays e.leaf_in e.some e.len_is (e.one 0 e.more) (e.two 0 e.more) kept others_kept
+
+  pub each_source_in : source < length others
+  each_source_in =
+      source_in a b extents others_extents fields trees old others old leaf (slot + 0 * count) count target (at + 0 * to_step) source (from + 0 * from_step) len
+      e.alike e.arrays e.leaf_in e.some e.len_is (e.one 0 e.more) (e.two 0 e.more) kept others_kept
+
+  pub each_target_room : (k : ℕ) → k < pieces → at + k * to_step + len ≤ length (get_or old target [])
+  each_target_room k l =
+      target_room a b extents others_extents fields trees old others old leaf (slot + k * count) count target (at + k * to_step) source (from + k * from_step) len
+      e.alike e.arrays e.leaf_in e.some e.len_is (e.one k l) (e.two k l) kept others_kept
+
+  pub each_source_room : (k : ℕ) → k < pieces → from + k * from_step + len ≤ length (get_or others source [])
+  each_source_room k l =
+      source_room a b extents others_extents fields trees old others old leaf (slot + k * count) count target (at + k * to_step) source (from + k * from_step) len
+      e.alike e.arrays e.leaf_in e.some e.len_is (e.one k l) (e.two k l) kept others_kept
+
+  -- what is kept of blobs, and what their table is, once so many slots were moved
+  abbrev After : ℕ → List (List ℕ) → Type 0
+  After done new = IsKept a extents fields new
+      × IfSome (array_of a) (λ array. IsRunMoved array.0 extents (length (indices extents)) (length (kinds_of fields)) leaf slot done
+      (table_under b others_extents trees others) (table_under a extents fields old) (table_under a extents fields new))
+
+  after_pieces : (k : ℕ) → k ≤ pieces → (bytes : List ℕ) → IsMovedEach at to_step (get_or others source []) from from_step len k (get_or old target []) bytes
+      → After (k * count) (set old target bytes)
+  after_pieces zero l bytes is =
+      let whole : set old target bytes ≡ old = ap (set old target) is ∙ set-get_or old target [] in
+      let none : zero * count ≡ 0 = omega arith in
+      subst (After (zero * count)) (sym whole)
+      (kept, none_moved (array_of a) extents (length (indices extents)) (length (kinds_of fields)) leaf slot (zero * count) (table_under b others_extents trees others) (table_under a extents fields old) none)
+  after_pieces (suc k) l bytes h =
+      let mid : List ℕ = h.0 in
+      let blobs : List (List ℕ) = set old target mid in
+      let new : List (List ℕ) = set old target bytes in
+      let so_far = after_pieces k (omega (arith, l)) mid h.1 in
+      let inside : k < pieces = omega (arith, l) in
+      let there : target < length blobs = omega (arith, each_target_in, length-set old target mid) in
+      let here : get_or blobs target [] ≡ mid = get_or-set_same old target mid [] each_target_in in
+      let bits : AreMoved others blobs (set blobs target bytes) source (8 * (from + k * from_step)) target (8 * (at + k * to_step)) (8 * len) =
+      moved_bits others blobs source (from + k * from_step) target (at + k * to_step) len bytes there
+      (subst (λ (bs : List ℕ). IsMoved bs (at + k * to_step) (get_or others source []) (from + k * from_step) len bytes) (sym here) h.2) in
+      let moved : AreMoved others blobs new source (8 * (from + k * from_step)) target (8 * (at + k * to_step)) (8 * len) =
+      subst (λ (bs : List (List ℕ)). AreMoved others blobs bs source (8 * (from + k * from_step)) target (8 * (at + k * to_step)) (8 * len)) (set-set old target mid bytes) bits in
+      let next = run_table a b extents others_extents fields trees blobs others new leaf (slot + k * count) count target (at + k * to_step) source (from + k * from_step) len
+      e.alike e.arrays e.leaf_in e.some e.len_is (e.one k inside) (e.two k inside) so_far.0 others_kept moved in
+      let all : k * count + count ≡ suc k * count = grind arith in (
+        run_kept a b extents others_extents fields trees blobs others new leaf (slot + k * count) count target (at + k * to_step) source (from + k * from_step) len
+            e.alike e.arrays e.leaf_in e.some e.len_is (e.one k inside) (e.two k inside) so_far.0 others_kept moved,
+        subst (λ (n : ℕ). IfSome (array_of a) (λ array. IsRunMoved array.0 extents (length (indices extents)) (length (kinds_of fields)) leaf slot n
+            (table_under b others_extents trees others) (table_under a extents fields old) (table_under a extents fields new))) all
+            (runs_joined (array_of a) extents (length (indices extents)) (length (kinds_of fields)) leaf slot (k * count) count (table_under b others_extents trees others)
+            (table_under a extents fields old) (table_under a extents fields blobs) (table_under a extents fields new) e.leaf_in so_far.1 next),
+      )
+
+  -- once all were
+  pub each_moved : (new : List (List ℕ)) → new ≡ set old target (get_or new target [])
+      → IsMovedEach at to_step (get_or others source []) from from_step len pieces (get_or old target []) (get_or new target []) → After (pieces * count) new
+  each_moved new is h = subst (After (pieces * count)) (sym is) (after_pieces pieces (let l : pieces ≤ pieces = omega arith in l) (get_or new target []) h)

@@ -1,0 +1,17 @@
+use Rattle.std.proofs.Common.{◌≡◌, ◌+◌, ◌*◌, ◌≤◌, length}
+use Rattle.std.specs.Prelude.{IfSome}
+use Rattle.blobs.specs.Moves.{blocks}
+use Rattle.map_plans.specs.Arrays.{array_of}
+use Rattle.views.specs.Moves.{size_of, IsRunMoved}
+use Rattle.views.specs.MovesLaws.{with_rows}
+use Rattle.views.specs.Tables.{leaf_count_of, leaf_type_of}
+use Rattle.views.proofs.view.View.move_apart.Given as goal
+
+-- the slots of the pieces so far
+abbrev pub invariant-loop-k : goal.invariant-loop-k
+invariant-loop-k g l = record {
+  same : l.self ≡ with_rows l.initial.self l.self.rows;
+  moved : IfSome (array_of l.initial.self.mapping) (λ array. IsRunMoved array.0 l.initial.self.extents (length l.initial.self.rows) (leaf_count_of l.initial.self)
+      l.leaf l.slot (l.k * l.n) l.source.rows l.initial.self.rows l.self.rows);
+  steps : l.steps ≤ l.initial.steps + l.k * blocks (l.n * size_of (leaf_type_of l.initial.self l.leaf));
+}

@@ -1,0 +1,132 @@
+use Rattle.std.proofs.Common.{◌≡◌, ◌∙◌, ◌+◌, ◌*◌, ◌%◌, ◌<◌, ◌≤◌, ◌||◌, ℕ, zero, suc, true, List, [], length, sum_by, refl, sym, ap, subst, arith}
+use Rattle.std.specs.Prelude.{◌==◌, IfSome}
+use Rattle.std.specs.List.{range_with_len}
+use Rattle.std.proofs.lemmas.Bool.{or_left, or_right, eq-eqb}
+use Rattle.std.proofs.lemmas.Nat.{row_fits}
+use Rattle.blobs.specs.Moves.{blocks}
+use Rattle.map_plans.specs.Arrays.{array_of}
+use Rattle.map_any.specs.Strategies.{AreRuns}
+use Rattle.views.specs.CutLaws.{slots_within, block_in, same_slots, same_steps, all_pieces}
+use Rattle.views.specs.Moves.{size_of, IsInBlock, IsRunMoved}
+use Rattle.views.specs.MovesLaws.{rows_after}
+use Rattle.views.specs.Pieces.{is_cut, piece_at}
+use Rattle.views.specs.SpanLaws.{span_pieces}
+use Rattle.views.specs.Tables.{Table, leaf_count_of, leaf_type_of}
+use Rattle.views.proofs.PieceLaws.{piece_is}
+use Rattle.views.proofs.RunMoveLaws.{nothing_moved}
+use Rattle.views.proofs.SlotMoveLaws.{runs_more, still_block}
+use Rattle.views.proofs.view.View.move_cut.Goals as goal
+
+pub loop-done-init : goal.loop-done-init
+loop-done-init g c =
+    let none : c.args.slot + 0 ≡ c.args.slot = omega arith in
+    record {
+      inside = omega arith;
+      same = refl;
+      moved = nothing_moved c.args.self.now c.args.leaf c.args.slot 0 c.args.source.now.rows refl;
+      begins = λ some. or_left (c.args.slot + 0 == c.args.slot) _ (eq-eqb (c.args.slot + 0) c.args.slot none);
+      steps = omega arith;
+    }
+
+pub loop-done-preserved : goal.loop-done-preserved
+loop-done-preserved g c =
+    let a = c.args in
+    let old : Table = c.args.self.now in
+    let now : Table = c.loop-done.self in
+    let done : ℕ = c.loop-done.done in
+    let count : ℕ = c.pieces_at-pieces.result.count in
+    let number : ℕ = c.pieces_at-pieces.result.number in
+    let same = c.loop-done.invariant.same in
+    let are = c.pieces_at-pieces.ensures in
+    let size : ℕ = size_of (leaf_type_of old a.leaf) in
+    let value : ℕ → ℕ = piece_at a.from.lanes a.to.lanes size a.slot (a.slot + a.n) in
+    let one : ℕ = blocks (count * size) in
+    let still : number * blocks (count * size_of (leaf_type_of now a.leaf)) ≡ number * one = ap (λ (t : Table). number * blocks (count * size_of (leaf_type_of t a.leaf))) same in
+    let place : (k : ℕ) → a.slot + done + k * count ≡ a.slot + (done + k * count) = λ k. omega arith in
+    let each : (k : ℕ) → k < number → value (a.slot + (done + k * count)) ≡ one = λ k l.
+    ap value (sym (place k)) ∙ piece_is a.from.lanes a.to.lanes size a.slot (a.slot + a.n) (a.slot + done + k * count) count
+    (first_or a.from.lanes a.to.lanes a.slot done k count number (a.slot + a.n) l (c.loop-done.invariant.begins c.loop-done-test.true)
+    (λ some. are.cuts k some (let le : k ≤ number = omega (arith, l) in le)
+    (let in_it : a.slot + done + k * count < a.slot + a.n = omega (arith, row_fits k count number count l (omega arith), are.inside, are.some) in in_it)))
+    (are.each k l) in
+    record {
+      inside = omega (arith, are.inside);
+      same = rows_after old now c.move_blocks.new.self same c.move_blocks.ensures.same;
+      moved = runs_more old now a.leaf a.slot done (number * count) a.source.now.rows c.move_blocks.new.self.rows same c.laws_of_table.ensures.table c.laws_of_table-in-loop-done.ensures.table
+          c.requires.leaf_in c.loop-done.invariant.moved c.move_blocks.ensures.moved;
+      begins = λ more. or_right _ _ (ap (is_cut a.from.lanes a.to.lanes) (sym (place number))
+          ∙ are.cuts number are.more (let le : number ≤ number = omega arith in le) (let in_it : a.slot + done + number * count < a.slot + a.n = omega (arith, more) in in_it));
+      steps = omega (arith, c.move_blocks.ensures.steps, c.loop-done.invariant.steps, still, span_pieces value a.slot done count number one are.some each);
+    } where
+      first_or : (one two slot done k count number end : ℕ) → k < number → ((slot + done == slot) || is_cut one two (slot + done)) ≡ true
+          → (0 < k → is_cut one two (slot + done + k * count) ≡ true) → ((slot + done + k * count == slot) || is_cut one two (slot + done + k * count)) ≡ true
+      first_or one two slot done zero count number end l begins cuts =
+          let here : slot + done ≡ slot + done + zero * count = omega arith in
+          subst (λ (at : ℕ). ((at == slot) || is_cut one two at) ≡ true) here begins
+      first_or one two slot done (suc k) count number end l begins cuts = or_right _ _ (cuts (omega arith))
+
+-- there are slots on both sides
+pub pieces_at-pieces-requires-clause-first : goal.pieces_at-pieces-requires-clause-first
+pieces_at-pieces-requires-clause-first g c =
+    let a = c.args in
+    let within = slots_within a.self.now.mapping a.self.now.extents a.to a.slot a.n c.requires.to c.requires.slots in
+    let same = same_slots a.source.now.mapping a.self.now.mapping a.source.now.extents a.self.now.extents a.from a.to c.requires.alike.1 c.requires.arrays c.requires.from c.requires.to in
+    c.requires.from_lanes (omega (arith, within, same, c.loop-done-test.true))
+
+pub pieces_at-pieces-requires-clause-second : goal.pieces_at-pieces-requires-clause-second
+pieces_at-pieces-requires-clause-second g c =
+    let a = c.args in
+    c.requires.to_lanes (omega (arith, slots_within a.self.now.mapping a.self.now.extents a.to a.slot a.n c.requires.to c.requires.slots, c.loop-done-test.true))
+
+pub move_blocks-requires-clause-leaf_in : goal.move_blocks-requires-clause-leaf_in
+move_blocks-requires-clause-leaf_in g c = omega (arith, ap leaf_count_of c.loop-done.invariant.same, c.requires.leaf_in)
+
+pub move_blocks-requires-clause-arrays : goal.move_blocks-requires-clause-arrays
+move_blocks-requires-clause-arrays g c = subst (λ (t : Table). AreRuns t.mapping c.args.source.now.mapping) (sym c.loop-done.invariant.same) c.requires.arrays
+
+pub move_blocks-requires-clause-alike : goal.move_blocks-requires-clause-alike
+move_blocks-requires-clause-alike g c =
+    subst (λ (t : Table). (t.fields ≡ c.args.source.now.fields) × (t.extents ≡ c.args.source.now.extents)) (sym c.loop-done.invariant.same) c.requires.alike
+
+pub move_blocks-requires-clause-block : goal.move_blocks-requires-clause-block
+move_blocks-requires-clause-block g c k l =
+    let a = c.args in
+    let are = c.pieces_at-pieces.ensures in
+    let count : ℕ = c.pieces_at-pieces.result.count in
+    let number : ℕ = c.pieces_at-pieces.result.number in
+    let within = slots_within a.self.now.mapping a.self.now.extents a.to a.slot a.n c.requires.to c.requires.slots in
+    still_block a.self.now c.loop-done.self (a.slot + c.loop-done.done + k * count) count c.loop-done.invariant.same
+    (block_in a.self.now.mapping a.self.now.extents a.to (a.slot + c.loop-done.done + k * count) count c.requires.to
+    (omega (arith, row_fits k count number count l (omega arith), are.inside, within)) (are.second k l))
+
+pub move_blocks-requires-clause-other_block : goal.move_blocks-requires-clause-other_block
+move_blocks-requires-clause-other_block g c k l =
+    let a = c.args in
+    let are = c.pieces_at-pieces.ensures in
+    let count : ℕ = c.pieces_at-pieces.result.count in
+    let number : ℕ = c.pieces_at-pieces.result.number in
+    let within = slots_within a.self.now.mapping a.self.now.extents a.to a.slot a.n c.requires.to c.requires.slots in
+    let same = same_slots a.source.now.mapping a.self.now.mapping a.source.now.extents a.self.now.extents a.from a.to c.requires.alike.1 c.requires.arrays c.requires.from c.requires.to in
+    block_in a.source.now.mapping a.source.now.extents a.from (a.slot + c.loop-done.done + k * count) count c.requires.from
+    (omega (arith, row_fits k count number count l (omega arith), are.inside, within, same)) (are.first k l)
+
+pub returns-clause-moved : goal.returns-clause-moved
+returns-clause-moved g c =
+    let old : Table = c.args.self.now in
+    let all : c.loop-done.done ≡ c.args.n = omega (arith, c.loop-done.invariant.inside, c.loop-done-test.false) in
+    subst (λ (m : ℕ). IfSome (array_of old.mapping) (λ array. IsRunMoved array.0 old.extents (length old.rows) (leaf_count_of old) c.args.leaf c.args.slot m
+    c.args.source.now.rows old.rows c.loop-done.self.rows)) all c.loop-done.invariant.moved
+
+pub returns-clause-steps : goal.returns-clause-steps
+returns-clause-steps g c =
+    let a = c.args in
+    let size : ℕ = size_of (leaf_type_of a.self.now a.leaf) in
+    let all : c.loop-done.done ≡ a.n = omega (arith, c.loop-done.invariant.inside, c.loop-done-test.false) in
+    let sum = ap (λ (m : ℕ). sum_by (piece_at a.from.lanes a.to.lanes size a.slot (a.slot + a.n)) (range_with_len a.slot m)) all in
+    omega (
+      arith,
+      c.loop-done.invariant.steps,
+      sum,
+      all_pieces a.from.lanes a.to.lanes size a.slot a.n,
+      same_steps a.source.now.mapping a.self.now.mapping a.source.now.extents a.self.now.extents a.from a.to size a.slot a.n c.requires.alike.1 c.requires.arrays c.requires.from c.requires.to,
+    )

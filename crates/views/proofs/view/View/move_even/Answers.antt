@@ -1,0 +1,157 @@
+use Rattle.std.proofs.Common.{◌≡◌, ◌∙◌, ◌+◌, ◌*◌, ◌/◌, ◌^◌, ◌<◌, ◌≤◌, ℕ, List, [], map, length, get_or, slice_index, refl, sym, ap, subst, arith}
+use Rattle.std.proofs.lemmas.Nat.{mul-le}
+use Rattle.std.proofs.lemmas.Option.{get_or_from_slice_get}
+use Rattle.record_dim.specs.LeafTypes.{width_of}
+use Rattle.record_dim.specs.Leaves.{kinds_of}
+use Rattle.record_dim.specs.Schemas.{schema_fields}
+use Rattle.record_dim.specs.Trees.{Fields}
+use Rattle.record_dim.specs.declared.leaf_type.LeafType.{LeafType}
+use Rattle.record_dim.specs.declared.leaf_type.LeafType.TheVariants.{Bool as Truth}
+use Rattle.blobs.specs.Moves.{blocks}
+use Rattle.map_expr.specs.Terms.{term_of}
+use Rattle.map_any.specs.Strategies.{AreRuns}
+use Rattle.map_any.specs.Maps.{extents_of, term_of_map}
+use Rattle.map_checks.specs.Mappings.{layout_by}
+use Rattle.places.specs.declared.piece.Hold.{Hold}
+use Rattle.views.specs.Kept.{tally_of, table_under}
+use Rattle.views.specs.Moves.{size_of, IsInBlock}
+use Rattle.views.specs.Pieces.{IsMovedEach}
+use Rattle.views.specs.Stores.{kind_at}
+use Rattle.views.specs.Tables.{Table, leaf_type_of}
+use Rattle.views.proofs.EachLaws.{run_at, AreEven, each_target_in, each_target_room, each_source_in, each_source_room, each_moved}
+use Rattle.views.proofs.KeptLaws.{kind_count, row_count}
+use Rattle.views.proofs.MoveLaws.{views_alike, seen_moved}
+use Rattle.views.proofs.Opened.{cell_count, leaf_seen}
+use Rattle.views.proofs.RunMoveLaws.{few_slots, moved_seen, runs_seen, one_seen, block_seen, few_bits, run_there, slot_there, other_is}
+use Rattle.views.proofs.view.View.move_even.Given as given
+use Rattle.views.proofs.view.View.move_even.Goals as goal
+use Rattle.views.proofs.view.View.move_even.Goals.{After-as_slice}
+
+module _ (g : given.Over) (c : After-as_slice g) where
+  -- what is said of the pieces on both sides
+  even : AreEven (term_of c.self.inside.expr) (term_of c.source.inside.expr) c.self.inside.extents c.source.inside.extents (schema_fields c.self.inside.schema) (schema_fields c.source.inside.schema)
+      c.args.leaf c.args.slot c.args.n c.args.pieces c.in-Some.to.blob c.in-Some.to.byte c.in-Some.to.step c.in-Some-places_of.from.blob c.in-Some-places_of.from.byte c.in-Some-places_of.from.step
+      (c.args.n * (c.width.result / 8))
+  even =
+      let a = c.self.inside in
+      let b = c.source.inside in
+      let n : ℕ = c.args.n in
+      let slot : ℕ = c.args.slot in
+      let leaf : ℕ = c.args.leaf in
+      let alike : (schema_fields a.schema ≡ schema_fields b.schema) × (a.extents ≡ b.extents) = views_alike c.args.self.now c.args.source.now c.self.view_is c.source.view_is c.requires.alike in
+      let leaf_in : leaf < length (kinds_of (schema_fields a.schema)) = leaf_seen a.schema a.extents a.expr a.blobs.items c.self.invariant.1 c.args.self.now c.self.view_is leaf c.requires.leaf_in in
+      let other_in : leaf < length (kinds_of (schema_fields b.schema)) = subst (λ (f : Fields). leaf < length (kinds_of f)) alike.0 leaf_in in
+      let kind : kind_at (kinds_of (schema_fields a.schema)) leaf ≡ c.leaf_type.result = get_or_from_slice_get (kinds_of (schema_fields a.schema)) leaf c.leaf_type.result Truth c.leaf_type.ensures in
+      record {
+        alike = alike;
+        arrays = runs_seen c.args.self.now c.args.source.now c.self.view_is c.source.view_is c.requires.arrays;
+        leaf_in = leaf_in;
+        some = c.requires.some;
+        more = c.requires.more;
+        len_is = ap (λ (w : ℕ). n * (w / 8)) c.width.ensures ∙ ap (λ (k : LeafType). n * size_of k) (sym kind);
+        one = λ k l. run_there c.self.invariant.0 leaf (slot + k * n) n c.in-Some.to.blob (c.in-Some.to.byte + k * c.in-Some.to.step) leaf_in c.requires.some
+            (block_seen c.args.self.now (slot + k * n) n c.self.view_is (c.requires.block k l)) (run_at (term_of_map a.map) (layout_by (term_of a.map.expr) a.map.extents (schema_fields a.map.schema)) (extents_of a.map) leaf (slice_index (map (λ (h : Hold). h.width) a.map.holds) leaf) slot n c.in-Some.to.blob c.in-Some.to.byte c.in-Some.to.step c.in-Some.ensures k);
+        two = λ k l. run_there c.source.invariant.0 leaf (slot + k * n) n c.in-Some-places_of.from.blob (c.in-Some-places_of.from.byte + k * c.in-Some-places_of.from.step) other_in c.requires.some
+            (block_seen c.args.source.now (slot + k * n) n c.source.view_is (c.requires.other_block k l))
+            (run_at (term_of_map b.map) (layout_by (term_of b.map.expr) b.map.extents (schema_fields b.map.schema)) (extents_of b.map) leaf (slice_index (map (λ (h : Hold). h.width) b.map.holds) leaf) slot n c.in-Some-places_of.from.blob c.in-Some-places_of.from.byte c.in-Some-places_of.from.step c.in-Some-places_of.ensures k);
+      }
+
+first_place : (slot n : ℕ) → slot + 0 * n ≡ slot
+first_place slot n = omega arith
+
+pub places_of-requires-clause-leaf_in : goal.places_of-requires-clause-leaf_in
+places_of-requires-clause-leaf_in g c =
+    let a = c.self.inside in
+    omega (arith, leaf_seen a.schema a.extents a.expr a.blobs.items c.self.invariant.1 c.args.self.now c.self.view_is c.args.leaf c.requires.leaf_in, cell_count c.self.invariant.0)
+
+pub places_of-requires-clause-slot_in : goal.places_of-requires-clause-slot_in
+places_of-requires-clause-slot_in g c =
+    slot_there c.self.invariant.0 _ c.args.slot c.args.n (one_seen c.args.self.now c.args.source.now.mapping c.self.view_is c.requires.arrays)
+    (block_seen c.args.self.now c.args.slot c.args.n c.self.view_is
+    (subst (λ (s : ℕ). IsInBlock c.args.self.now.mapping c.args.self.now.extents s c.args.n) (first_place c.args.slot c.args.n) (c.requires.block 0 c.requires.more))) c.requires.some
+
+pub places_of-requires-2-clause-leaf_in : goal.places_of-requires-2-clause-leaf_in
+places_of-requires-2-clause-leaf_in g c =
+    let a = c.self.inside in
+    let b = c.source.inside in
+    let alike : (schema_fields a.schema ≡ schema_fields b.schema) × (a.extents ≡ b.extents) = views_alike c.args.self.now c.args.source.now c.self.view_is c.source.view_is c.requires.alike in
+    let leaf_in : c.args.leaf < length (kinds_of (schema_fields a.schema)) = leaf_seen a.schema a.extents a.expr a.blobs.items c.self.invariant.1 c.args.self.now c.self.view_is c.args.leaf c.requires.leaf_in in
+    let other_in : c.args.leaf < length (kinds_of (schema_fields b.schema)) = subst (λ (f : Fields). c.args.leaf < length (kinds_of f)) alike.0 leaf_in in
+    omega (arith, other_in, cell_count c.source.invariant.0)
+
+pub places_of-requires-2-clause-slot_in : goal.places_of-requires-2-clause-slot_in
+places_of-requires-2-clause-slot_in g c =
+    let a = c.self.inside in
+    let b = c.source.inside in
+    let arrays : AreRuns (term_of a.expr) (term_of b.expr) = runs_seen c.args.self.now c.args.source.now c.self.view_is c.source.view_is c.requires.arrays in
+    slot_there c.source.invariant.0 _ c.args.slot c.args.n (other_is (term_of a.expr) (term_of b.expr) arrays)
+    (block_seen c.args.source.now c.args.slot c.args.n c.source.view_is
+    (subst (λ (s : ℕ). IsInBlock c.args.source.now.mapping c.args.source.now.extents s c.args.n) (first_place c.args.slot c.args.n) (c.requires.other_block 0 c.requires.more))) c.requires.some
+
+pub overflow_mul-bytes : goal.overflow_mul-bytes
+overflow_mul-bytes g c =
+    let a = c.self.inside in
+    let block : IsInBlock c.args.self.now.mapping c.args.self.now.extents c.args.slot c.args.n =
+    subst (λ (s : ℕ). IsInBlock c.args.self.now.mapping c.args.self.now.extents s c.args.n) (first_place c.args.slot c.args.n) (c.requires.block 0 c.requires.more) in
+    let few : c.args.n ≤ 2 ^ 24 =
+    few_slots (term_of a.expr) c.args.source.now.mapping a.extents (schema_fields a.schema) c.args.slot c.args.n (one_seen c.args.self.now c.args.source.now.mapping c.self.view_is c.requires.arrays)
+    (block_seen c.args.self.now c.args.slot c.args.n c.self.view_is block) c.self.invariant.1.within in
+    let width : width_of c.leaf_type.result ≤ 64 = few_bits c.leaf_type.result in
+    let small : c.width.result / 8 ≤ 8 = omega (arith, c.width.ensures) in
+    let all : c.args.n * (c.width.result / 8) ≤ 2 ^ 24 * 8 = mul-le c.args.n (c.width.result / 8) (2 ^ 24) 8 few small in
+    omega arith
+
+pub move_pieces-requires-clause-target : goal.move_pieces-requires-clause-target
+move_pieces-requires-clause-target g c =
+    each_target_in _ _ _ _ _ _ c.self.inside.blobs.items c.source.inside.blobs.items _ _ _ _ _ _ _ _ _ _ _
+    (even g (goal.at.move_pieces-requires-clause-target g c).After-as_slice) c.self.invariant.1 c.source.invariant.1
+
+pub move_pieces-requires-clause-room : goal.move_pieces-requires-clause-room
+move_pieces-requires-clause-room g c =
+    each_target_room _ _ _ _ _ _ c.self.inside.blobs.items c.source.inside.blobs.items _ _ _ _ _ _ _ _ _ _ _
+    (even g (goal.at.move_pieces-requires-clause-room g c).After-as_slice) c.self.invariant.1 c.source.invariant.1
+
+pub move_pieces-requires-clause-source : goal.move_pieces-requires-clause-source
+move_pieces-requires-clause-source g c =
+    subst (λ (bs : List (List ℕ)). c.in-Some-places_of.from.blob < length bs) (sym c.as_slice.ensures.value)
+    (each_source_in _ _ _ _ _ _ c.self.inside.blobs.items c.source.inside.blobs.items _ _ _ _ _ _ _ _ _ _ _
+    (even g (goal.at.move_pieces-requires-clause-source g c).After-as_slice) c.self.invariant.1 c.source.invariant.1)
+
+pub move_pieces-requires-clause-there : goal.move_pieces-requires-clause-there
+move_pieces-requires-clause-there g c k l =
+    subst (λ (bs : List (List ℕ)). c.in-Some-places_of.from.byte + k * c.in-Some-places_of.from.step + c.args.n * (c.width.result / 8) ≤ length (get_or bs c.in-Some-places_of.from.blob []))
+    (sym c.as_slice.ensures.value)
+    (each_source_room _ _ _ _ _ _ c.self.inside.blobs.items c.source.inside.blobs.items _ _ _ _ _ _ _ _ _ _ _
+    (even g (goal.at.move_pieces-requires-clause-there g c).After-as_slice) c.self.invariant.1 c.source.invariant.1 k l)
+
+pub invariant_of-self : goal.invariant_of-self
+invariant_of-self g c =
+    let others = c.source.inside.blobs.items in
+    let moved : IsMovedEach c.in-Some.to.byte c.in-Some.to.step (get_or others c.in-Some-places_of.from.blob []) c.in-Some-places_of.from.byte c.in-Some-places_of.from.step
+    (c.args.n * (c.width.result / 8)) c.args.pieces (get_or c.self.inside.blobs.items c.in-Some.to.blob []) (get_or c.move_pieces.new.blobs.items c.in-Some.to.blob []) =
+    subst (λ (bs : List (List ℕ)). IsMovedEach c.in-Some.to.byte c.in-Some.to.step (get_or bs c.in-Some-places_of.from.blob []) c.in-Some-places_of.from.byte c.in-Some-places_of.from.step
+    (c.args.n * (c.width.result / 8)) c.args.pieces (get_or c.self.inside.blobs.items c.in-Some.to.blob []) (get_or c.move_pieces.new.blobs.items c.in-Some.to.blob [])) c.as_slice.ensures.value c.move_pieces.ensures.moved in (
+      c.self.invariant.0,
+      (each_moved _ _ _ _ _ _ c.self.inside.blobs.items others _ _ _ _ _ _ _ _ _ _ _ (even g (goal.at.invariant_of-self g c).After-as_slice) c.self.invariant.1 c.source.invariant.1
+          c.move_pieces.new.blobs.items c.move_pieces.ensures.beside moved).0,
+      c.self.invariant.2,
+    )
+
+pub returns-clause-moved : goal.returns-clause-moved
+returns-clause-moved g c = λ wrote.
+    let a = c.self.inside in
+    let others = c.source.inside.blobs.items in
+    let moved : IsMovedEach c.in-Some.to.byte c.in-Some.to.step (get_or others c.in-Some-places_of.from.blob []) c.in-Some-places_of.from.byte c.in-Some-places_of.from.step
+    (c.args.n * (c.width.result / 8)) c.args.pieces (get_or c.self.inside.blobs.items c.in-Some.to.blob []) (get_or c.move_pieces.new.blobs.items c.in-Some.to.blob []) =
+    subst (λ (bs : List (List ℕ)). IsMovedEach c.in-Some.to.byte c.in-Some.to.step (get_or bs c.in-Some-places_of.from.blob []) c.in-Some-places_of.from.byte c.in-Some-places_of.from.step
+    (c.args.n * (c.width.result / 8)) c.args.pieces (get_or c.self.inside.blobs.items c.in-Some.to.blob []) (get_or c.move_pieces.new.blobs.items c.in-Some.to.blob [])) c.as_slice.ensures.value c.move_pieces.ensures.moved in
+    moved_seen c.args.self.now c.args.source.now c.args.leaf c.args.slot (c.args.pieces * c.args.n) (length (kinds_of (schema_fields a.schema))) _ c.self.view_is c.source.view_is (kind_count (schema_fields a.schema))
+    (sym (row_count (term_of a.expr) a.extents (schema_fields a.schema) a.blobs.items c.self.invariant.1))
+    (each_moved _ _ _ _ _ _ c.self.inside.blobs.items others _ _ _ _ _ _ _ _ _ _ _ (even g (goal.at.returns-clause-moved g c).After-as_slice) c.self.invariant.1 c.source.invariant.1
+    c.move_pieces.new.blobs.items c.move_pieces.ensures.beside moved).1
+
+pub returns-clause-steps : goal.returns-clause-steps
+returns-clause-steps g c = λ wrote.
+    let e = even g (goal.at.returns-clause-steps g c).After-as_slice in
+    let same = ap (λ (m : ℕ). c.args.pieces * blocks m) e.len_is ∙ ap (λ (s : Table). c.args.pieces * blocks (c.args.n * size_of (leaf_type_of s c.args.leaf))) c.self.view_is in
+    omega (arith, c.move_pieces.ensures.steps, same)
