@@ -6,6 +6,8 @@ mod any_maps;
 #[cfg(test)]
 mod blob_runs;
 #[cfg(test)]
+mod cell_maps;
+#[cfg(test)]
 mod counters;
 #[cfg(test)]
 mod datasets;
@@ -15,3 +17,5 @@ mod kernels;
 mod orders;
 #[cfg(test)]
 mod stored_values;
+#[cfg(test)]
+mod tables;

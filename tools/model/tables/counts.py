@@ -122,6 +122,22 @@ KERNELS = ('kernel V axpy(2, x, y) lanes {0} | kernel V clamp(y, 0, 9) lanes {0}
 LANES = [Case(f'counts_after_each_kernel_by_{lanes}', 'record P { x:i16, y:i32 } | view V : P [17] as count(heat(64, soa(multi, row))) | ' + KERNELS.format(lanes) + 'counts V | heat V',
               f'0 | 0 | 0 | 0 | {HEADER} | x,51,0 | y,68,34 | blob,granule,accesses | 0,0,51 | 1,0,96 | 1,1,6') for lanes in (1, 2, 4, 8, 16)]
 
+# two packed records of 7 bytes; the second leaf of the first record lies in bytes 1 to 4, and the last of the second in bytes 12 and 13
+CROSSING = 'record P { f0:u8, f1:u32, f2:u16 } | view V : P [2] as count(heat(4, aos(packed, row))) | '
+
+
+def crossing(name, commands, counts, granules, printed=''):
+    due = [HEADER] + [f'f{leaf},{each}' for leaf, each in enumerate(counts)] + ['blob,granule,accesses'] + [f'0,{granule},{times}' for granule, times in granules]
+    return Case(f'counts_beside_granules_after_{name}', CROSSING + commands + 'counts V | heat V', printed + ' | '.join(due))
+
+
+GRANULES = [
+    crossing('sets_and_reads', 'set V[0].f1 = 258 | set V[1].f2 = 7 | reduce V count where i0 == 0 and f1 == 258 and f1 > 0 | reduce V count where i0 == 1 and f0 == 0 | ',
+             ['1,0', '2,1', '0,1'], [(0, 3), (1, 4), (3, 1)], '1 | 1 | '),
+    crossing('a_copy_onto_itself', 'copy V to V | ', ['2,2'] * 3, [(0, 4), (1, 6), (2, 2), (3, 2)]),
+    crossing('a_copy_onto_itself_and_one_to_it', 'view W : P [2] as aos(packed, row) | copy V to V | copy W to V | ', ['2,4'] * 3, [(0, 6), (1, 9), (2, 3), (3, 3)]),
+]
+
 SAMPLES = b'b,a\n1,2\n3,4\n5,6\n7,8\n'
 OTHERS = [
     Case('counts_of_a_loaded_view', PAIR + 'load V : P [?] as count(soa(multi, row)) from "d.csv" | counts V', f'{HEADER} | a,0,4 | b,0,4', SAMPLES),
@@ -165,4 +181,4 @@ REFUSED = [
     Case('counts_not_counted_of_a_loaded_view', LOAD + 'counts V', 'line 3: NotCounted', b'a,b\n'),
 ]
 
-CASES = COMMANDS + COPIES + LEFT_OUT + LAID + LANES + OTHERS + REFUSED
+CASES = COMMANDS + COPIES + LEFT_OUT + LAID + LANES + GRANULES + OTHERS + REFUSED
