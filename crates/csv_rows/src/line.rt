@@ -46,7 +46,9 @@ impl<'a> Line<'a> {
         Some(&rest[..count])
     }
 
-    /// The number of the field of a column, if there is such a column, and it is a number.
+    /// The number of the field of a column, if there is such a column, and it is a number. What most fields need stands in the loop of the
+    /// caller.
+    #[inline(always)]
     pub fn number(&mut self, column: usize) -> Option<Option<i128>>
         requires { IsField self.old.text.now self.old.column self.old.start }
         ensures text { self.new.text.now ≡ self.old.text.now }
@@ -60,12 +62,40 @@ impl<'a> Line<'a> {
             self.step(count);
             return Some(Some(value));
         }
+        self.far_number(column)
+    }
+
+    // The same of any field.
+    #[inline(never)]
+    fn far_number(&mut self, column: usize) -> Option<Option<i128>>
+        requires { IsField self.old.text.now self.old.column self.old.start }
+        ensures text { self.new.text.now ≡ self.old.text.now }
+        ensures at { IsField self.new.text.now self.new.column self.new.start }
+        ensures number { result ≡ option_map (λ field. option_map clipped (number_of (unspaced field))) (slice_get (slice_split is_comma self.old.text.now) column) }
+    {
         let field = self.field(column)?;
         Some(field_number(field))
     }
 
     // Goes to the field of a column, if there is one.
+    #[inline(always)]
     fn seek(&mut self, column: usize) -> bool
+        requires { IsField self.old.text.now self.old.column self.old.start }
+        ensures text { self.new.text.now ≡ self.old.text.now }
+        ensures at { IsField self.new.text.now self.new.column self.new.start }
+        ensures there { MatchBool result
+            (self.new.column ≡ column)
+            (slice_get (slice_split is_comma self.old.text.now) column ≡ None) }
+    {
+        if self.column == column {
+            return true;
+        }
+        self.seek_far(column)
+    }
+
+    // The same of a column at which the line does not stand.
+    #[inline(never)]
+    fn seek_far(&mut self, column: usize) -> bool
         requires { IsField self.old.text.now self.old.column self.old.start }
         ensures text { self.new.text.now ≡ self.old.text.now }
         ensures at { IsField self.new.text.now self.new.column self.new.start }
@@ -98,6 +128,7 @@ impl<'a> Line<'a> {
     }
 
     // What is left of the line from the field on.
+    #[inline(always)]
     fn rest(&self) -> &'a [u8]
         requires { self.now.start ≤ length self.now.text.now }
         ensures { result.now ≡ drop self.now.start self.now.text.now }
@@ -106,6 +137,7 @@ impl<'a> Line<'a> {
     }
 
     // Goes behind the field, if another one follows.
+    #[inline(always)]
     fn step(&mut self, count: usize) -> bool
         requires at { IsField self.old.text.now self.old.column self.old.start }
         requires field { IsFirstField (drop self.old.start self.old.text.now) count }

@@ -65,6 +65,7 @@ impl Records for Lines<'_> {
         Some(unspaced(field) == name)
     }
 
+    #[inline(always)]
     fn number(&mut self, column: usize) -> Option<Option<i128>> {
         if self.is_copied {
             let field = self.copied.fields.get(column)?;

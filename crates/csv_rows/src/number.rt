@@ -47,6 +47,7 @@ fn digits_number(digits: &[u8]) -> Option<i128>
 
 /// The number of the first field of what is left of a line, and the field's length, where it is one as most are: up to 18 digits, behind a
 /// minus or not.
+#[inline(always)]
 pub fn plain_number(bytes: &[u8]) -> Option<(i128, usize)>
     ensures field { IfSome result (λ found. IsFirstField bytes.now found.1) }
     ensures number { IfSome result (λ found. option_map clipped (number_of (unspaced (take found.1 bytes.now))) ≡ Some found.0) }
@@ -69,6 +70,7 @@ fn negated(value: u64) -> i128
 }
 
 // The same of digits alone.
+#[inline(always)]
 fn plain_digits(bytes: &[u8]) -> Option<(u64, usize)>
     ensures field { IfSome result (λ found. IsFirstField bytes.now found.1) }
     ensures number { IfSome result (λ found. digits_number (take found.1 bytes.now) ≡ Some found.0) }
@@ -81,6 +83,7 @@ fn plain_digits(bytes: &[u8]) -> Option<(u64, usize)>
 }
 
 // Whether a field ends here: at a comma, or at the end of the line.
+#[inline(always)]
 fn ends_field(bytes: &[u8], end: usize) -> bool
     requires { end ≤ length bytes.now }
     ensures { result ≡ true → end < length bytes.now → is_comma (get_or bytes.now end 0) ≡ true }
@@ -91,13 +94,29 @@ fn ends_field(bytes: &[u8], end: usize) -> bool
 // The most digits that are read by the word: their number lies below 2^64 whatever they are.
 const MAX_DIGITS: usize = 18;
 
-// The digits at the start, 18 at most, as a number, and how many they are.
+// The digits at the start, 18 at most, as a number, and how many they are. Where so many bytes are left, their number is known when this
+// is built, and no loop counts them.
+#[inline(always)]
 fn leading_digits(bytes: &[u8]) -> (u64, usize)
     ensures within { result.1 ≤ length bytes.now }
     ensures number { all_digits (take result.1 bytes.now) ≡ Some result.0 }
     ensures ended { result.1 < 18 → result.1 < length bytes.now → is_ascii_digit (get_or bytes.now result.1 0) ≡ false }
 {
-    let most = bytes.len().min(MAX_DIGITS);
+    if bytes.len() >= MAX_DIGITS {
+        return first_digits(bytes, MAX_DIGITS);
+    }
+    first_digits(bytes, bytes.len())
+}
+
+// The same of so many bytes at most.
+#[inline(always)]
+fn first_digits(bytes: &[u8], most: usize) -> (u64, usize)
+    requires within { most ≤ length bytes.now }
+    requires few { most ≤ 18 }
+    ensures within { result.1 ≤ most }
+    ensures number { all_digits (take result.1 bytes.now) ≡ Some result.0 }
+    ensures ended { result.1 < most → is_ascii_digit (get_or bytes.now result.1 0) ≡ false }
+{
     let mut value = 0;
     for count in 0..most {
         if !bytes[count].is_ascii_digit() {

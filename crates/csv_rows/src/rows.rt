@@ -62,6 +62,7 @@ fn read_row<R: Records>(
 }
 
 // The value of a leaf.
+#[inline(always)]
 fn value_at<R: Records>(
     records: &mut R,
     column: usize,

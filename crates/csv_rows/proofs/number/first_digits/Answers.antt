@@ -1,7 +1,7 @@
 use Rattle.std.proofs.Common.{rules, arith, ◌≡◌, ◌<◌, true, get_or, length}
 use Rattle.std.specs.Char.{is_ascii_digit}
 use Rattle.csv_rows.proofs.Numbers.{one_digit, power_next, low_power}
-use Rattle.csv_rows.proofs.number.leading_digits.Goals as goal
+use Rattle.csv_rows.proofs.number.first_digits.Goals as goal
 
 pub overflow_mul-value : goal.overflow_mul-value
 overflow_mul-value c =

@@ -1,6 +1,6 @@
 use Rattle.std.proofs.Common.{◌≡◌, ◌≤◌, ◌-◌}
 use Rattle.csv_rows.specs.Plain.{IsField}
-use Rattle.csv_rows.proofs.line.Line.seek.Given as goal
+use Rattle.csv_rows.proofs.line.Line.seek_far.Given as goal
 
 abbrev pub invariant-loop-self : goal.invariant-loop-self
 invariant-loop-self l = record {
