@@ -8,8 +8,7 @@ use Rattle.std.proofs.lemmas.List.Sums.{sum_by_more}
 use Rattle.extents.specs.Indices.{indices}
 use Rattle.record_dim.specs.Trees.{Fields}
 use Rattle.record_dim.specs.Leaves.{leaves, kinds_of}
-use Rattle.record_dim.specs.Schemas.{schema_fields}
-use Rattle.map_expr.specs.Terms.{Term as MapTerm, term_of}
+use Rattle.map_expr.specs.Terms.{Term as MapTerm}
 use Rattle.map_checks.specs.Mappings.{leaf_cells, layout_by, accepted, most_slots}
 use Rattle.piece_bits.specs.Tables.{zeros}
 use Rattle.views.specs.Tables.{Table, owners_of, leaf_count_of}

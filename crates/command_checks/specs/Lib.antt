@@ -2,6 +2,8 @@ pub mod AlikeLaws
 pub mod Bases
 pub mod BasesLaws
 pub mod Entries
+pub mod Indexed
+pub mod Lists
 pub mod Places
 pub mod PlacesLaws
 pub mod Gives

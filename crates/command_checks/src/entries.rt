@@ -1,4 +1,3 @@
-use crate::mapping_entry::MappingEntry;
 use record_dim::{Name, Schema};
 use views::View;
 
@@ -15,12 +14,6 @@ pub struct ViewEntry {
     pub name: Name,
     pub view: View,
 }
-
-/// The records of a session, in the order in which they were named.
-pub type RecordList = Vec<RecordEntry>;
-
-/// The mappings of a session, in the order in which they were named.
-pub type MappingList = Vec<MappingEntry>;
 
 /// The live views of a session, in the order in which they were named.
 pub type ViewList = Vec<ViewEntry>;

@@ -2,7 +2,9 @@
 #![tactic(auto)]
 
 mod entries;
+mod entry_lists;
 mod fault;
+mod index;
 mod kernels;
 mod leaves;
 mod mapping_entry;
@@ -10,7 +12,8 @@ mod mappings;
 mod names;
 mod tables;
 
-pub use entries::{MappingList, RecordEntry, RecordList, ViewEntry, ViewList};
+pub use entries::{RecordEntry, ViewEntry, ViewList};
+pub use entry_lists::{MappingList, RecordList};
 pub use fault::StepFault;
 pub use kernels::fit_kernel;
 pub use leaves::{bound, leaf_of, leaf_text};

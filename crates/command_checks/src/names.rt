@@ -7,16 +7,18 @@ ghost use Rattle.worlds.specs.Outcomes.{known, free};
 ghost use Rattle.command_checks.specs.Places.{IsAt};
 ghost use Rattle.command_checks.specs.Entries.{record_of, mapping_of, view_of};
 ghost use Rattle.command_checks.specs.Gives.{Gives, GivesUp};
+ghost use Rattle.command_checks.specs.Lists.{records_of, mappings_of};
 
-use crate::entries::{RecordEntry, ViewEntry};
+use crate::entries::ViewEntry;
+use crate::entry_lists::{MappingList, RecordList};
 use crate::fault::StepFault;
-use crate::mapping_entry::MappingEntry;
+use crate::index::place_of;
 use record_dim::{Name, Schema};
 use worlds::{CommandFault, UnknownName};
 
 /// That no record has the name already.
-pub fn free_record(records: &[RecordEntry], name: Name) -> Result<(), StepFault>
-    ensures { Gives (λ done. tt) result (free name (map record_of records.now)) }
+pub fn free_record(records: &RecordList, name: Name) -> Result<(), StepFault>
+    ensures { Gives (λ done. tt) result (free name (records_of records.now)) }
 {
     match record_place(records, name) {
         Some(_) => Err(taken(name)),
@@ -25,8 +27,8 @@ pub fn free_record(records: &[RecordEntry], name: Name) -> Result<(), StepFault>
 }
 
 /// That no mapping has the name already.
-pub fn free_mapping(mappings: &[MappingEntry], name: Name) -> Result<(), StepFault>
-    ensures { Gives (λ done. tt) result (free name (map mapping_of mappings.now)) }
+pub fn free_mapping(mappings: &MappingList, name: Name) -> Result<(), StepFault>
+    ensures { Gives (λ done. tt) result (free name (mappings_of mappings.now)) }
 {
     match mapping_place(mappings, name) {
         Some(_) => Err(taken(name)),
@@ -45,16 +47,16 @@ pub fn free_view(views: &[ViewEntry], name: Name) -> Result<(), StepFault>
 }
 
 /// The schema of the record of this name.
-pub fn schema_of(records: &[RecordEntry], name: Name) -> Result<&Schema, StepFault>
-    ensures { Gives (λ schema. schema_fields schema.now) result (known name (map record_of records.now)) }
+pub fn schema_of(records: &RecordList, name: Name) -> Result<&Schema, StepFault>
+    ensures { Gives (λ schema. schema_fields schema.now) result (known name (records_of records.now)) }
 {
     let place = known_record(records, name)?;
-    Ok(&records[place].schema)
+    Ok(&records.entries[place].schema)
 }
 
-fn known_record(records: &[RecordEntry], name: Name) -> Result<usize, StepFault>
-    ensures at { IfOk result (IsAt record_of name records.now) }
-    ensures unknown { IfErr result (GivesUp (known name (map record_of records.now))) }
+fn known_record(records: &RecordList, name: Name) -> Result<usize, StepFault>
+    ensures at { IfOk result (IsAt record_of name records.now.entries.items) }
+    ensures unknown { IfErr result (GivesUp (known name (records_of records.now))) }
 {
     match record_place(records, name) {
         Some(place) => Ok(place),
@@ -63,9 +65,9 @@ fn known_record(records: &[RecordEntry], name: Name) -> Result<usize, StepFault>
 }
 
 /// The place of the mapping of this name.
-pub fn known_mapping(mappings: &[MappingEntry], name: Name) -> Result<usize, StepFault>
-    ensures at { IfOk result (IsAt mapping_of name mappings.now) }
-    ensures unknown { IfErr result (GivesUp (known name (map mapping_of mappings.now))) }
+pub fn known_mapping(mappings: &MappingList, name: Name) -> Result<usize, StepFault>
+    ensures at { IfOk result (IsAt mapping_of name mappings.now.entries.items) }
+    ensures unknown { IfErr result (GivesUp (known name (mappings_of mappings.now))) }
 {
     match mapping_place(mappings, name) {
         Some(place) => Ok(place),
@@ -84,16 +86,16 @@ pub fn known_view(views: &[ViewEntry], name: Name) -> Result<usize, StepFault>
     }
 }
 
-fn record_place(records: &[RecordEntry], name: Name) -> Option<usize>
-    ensures { result ≡ position_from (λ entry. same_name entry.name name) 0 records.now }
+fn record_place(records: &RecordList, name: Name) -> Option<usize>
+    ensures { result ≡ position_from (λ entry. same_name entry.name name) 0 records.now.entries.items }
 {
-    records.iter().position(|entry| entry.name == name)
+    place_of(&records.places, name)
 }
 
-fn mapping_place(mappings: &[MappingEntry], name: Name) -> Option<usize>
-    ensures { result ≡ position_from (λ entry. same_name entry.name name) 0 mappings.now }
+fn mapping_place(mappings: &MappingList, name: Name) -> Option<usize>
+    ensures { result ≡ position_from (λ entry. same_name entry.name name) 0 mappings.now.entries.items }
 {
-    mappings.iter().position(|entry| entry.name == name)
+    place_of(&mappings.places, name)
 }
 
 fn view_place(views: &[ViewEntry], name: Name) -> Option<usize>

@@ -25,18 +25,29 @@ impl Session {
         requires { IsRecord dim.now }
         ensures { Gives left_of result (define (world_of self) name (tree_of dim.now)) }
     {
-        free_record(self.records.as_slice(), name)?;
+        free_record(&self.records, name)?;
         let schema = new_schema(self.alloc, dim)?;
         self.with_record(name, schema)
     }
 
     // One record more.
-    fn with_record(mut self, name: Name, schema: Schema) -> Result<Session, StepFault>
+    fn with_record(self, name: Name, schema: Schema) -> Result<Session, StepFault>
         ensures added { IfOk result (λ next. Stands next (with_record (world_of self) name (schema_fields schema))) }
         ensures starved { IfErr result (λ fault. fault ≡ StepFault.NoMemory) }
     {
-        self.records.push(RecordEntry { name, schema })?;
-        Ok(self)
+        let Session {
+            alloc,
+            records,
+            mappings,
+            views,
+        } = self;
+        let records = records.with(RecordEntry { name, schema })?;
+        Ok(Session {
+            alloc,
+            records,
+            mappings,
+            views,
+        })
     }
 
     /// Names a mapping expression, the names in it replaced.
@@ -44,20 +55,31 @@ impl Session {
     pub(crate) fn mapping(self, name: Name, expr: &MapExpr) -> Result<Session, StepFault>
         ensures { Gives left_of result (mapping (world_of self) name (term_of expr.now)) }
     {
-        free_mapping(self.mappings.as_slice(), name)?;
-        let whole = nameless(self.alloc, self.mappings.as_slice(), expr)?;
+        free_mapping(&self.mappings, name)?;
+        let whole = nameless(self.alloc, &self.mappings, expr)?;
         fits(&whole)?;
         self.with_mapping(name, whole)
     }
 
     // One mapping more.
-    fn with_mapping(mut self, name: Name, expr: MapExpr) -> Result<Session, StepFault>
+    fn with_mapping(self, name: Name, expr: MapExpr) -> Result<Session, StepFault>
         requires { is_nameless (term_of expr) ≡ true }
         ensures added { IfOk result (λ next. Stands next (with_mapping (world_of self) name (term_of expr))) }
         ensures starved { IfErr result (λ fault. fault ≡ StepFault.NoMemory) }
     {
-        self.mappings.push(MappingEntry { name, expr })?;
-        Ok(self)
+        let Session {
+            alloc,
+            records,
+            mappings,
+            views,
+        } = self;
+        let mappings = mappings.with(MappingEntry { name, expr })?;
+        Ok(Session {
+            alloc,
+            records,
+            mappings,
+            views,
+        })
     }
 }
 

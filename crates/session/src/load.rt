@@ -17,7 +17,7 @@ ghost use Rattle.session.specs.Loads.{named_of, new_of, filled_table, Loads, Loa
 
 use crate::session::Session;
 use crate::view::{Found, New, named};
-use command_checks::{MappingEntry, RecordEntry, StepFault, ViewEntry, leaf_text, made, resolved};
+use command_checks::{MappingList, RecordList, StepFault, ViewEntry, leaf_text, made, resolved};
 use csv_rows::{RowFault, count_rows, load_rows};
 use extents::{ExtentWord, Extents, Shape};
 use layout_io::{ReadEnd, Shelf, read_all};
@@ -51,8 +51,8 @@ impl Session {
     {
         let view = loaded_view(
             self.alloc,
-            self.records.as_slice(),
-            self.mappings.as_slice(),
+            &self.records,
+            &self.mappings,
             self.views.as_slice(),
             new,
             file,
@@ -69,8 +69,8 @@ ghost use Rattle.session.specs.Stands.{world_in};
 // The view of a dataset in a file.
 fn loaded_view<H: Shelf, L: Ledger>(
     alloc: Global,
-    records: &[RecordEntry],
-    mappings: &[MappingEntry],
+    records: &RecordList,
+    mappings: &MappingList,
     views: &[ViewEntry],
     new: &New<'_>,
     file: &FileName,

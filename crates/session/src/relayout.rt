@@ -34,7 +34,7 @@ impl Session {
         ensures bound { WithinRelayout (world_of self) name (term_of expr.now) steps.old steps.new }
     {
         let place = known_view(self.views.as_slice(), name)?;
-        let expr = nameless(self.alloc, self.mappings.as_slice(), expr)?;
+        let expr = nameless(self.alloc, &self.mappings, expr)?;
         let fresh = zeros_beside(self.alloc, self.views.as_slice(), place, &expr)?;
         laid_over(self.alloc, &mut self.views[place].view, fresh, steps)?;
         Ok(self)

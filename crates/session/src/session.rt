@@ -45,8 +45,8 @@ impl Session {
     {
         Session {
             alloc,
-            records: Vec::new(alloc),
-            mappings: Vec::new(alloc),
+            records: RecordList::new(alloc),
+            mappings: MappingList::new(alloc),
             views: Vec::new(alloc),
         }
     }
@@ -193,6 +193,14 @@ fn every_field(session: &Session) {
         mappings,
         views,
     } = session;
+    let RecordList {
+        entries: records,
+        places: _,
+    } = records;
+    let MappingList {
+        entries: mappings,
+        places: _,
+    } = mappings;
     for RecordEntry { name: _, schema: _ } in records {}
     for MappingEntry { name: _, expr: _ } in mappings {}
     for ViewEntry { name: _, view: _ } in views {}

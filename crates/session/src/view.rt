@@ -8,7 +8,7 @@ ghost use Rattle.command_checks.specs.Gives.{Gives};
 
 use crate::session::Session;
 use command_checks::{
-    MappingEntry, RecordEntry, StepFault, ViewEntry, free_view, has_room, made, nameless, resolved,
+    MappingList, RecordList, StepFault, ViewEntry, free_view, has_room, made, nameless, resolved,
     schema_of, shaped,
 };
 use extents::{ExtentWord, Shape};
@@ -47,8 +47,8 @@ impl Session {
     {
         let view = new_view(
             self.alloc,
-            self.records.as_slice(),
-            self.mappings.as_slice(),
+            &self.records,
+            &self.mappings,
             self.views.as_slice(),
             new,
         )?;
@@ -68,8 +68,8 @@ impl Session {
 /// What the names of a new view stand for, and its shape: the tests that need no file.
 pub fn named<'a>(
     alloc: Global,
-    records: &'a [RecordEntry],
-    mappings: &[MappingEntry],
+    records: &'a RecordList,
+    mappings: &MappingList,
     views: &[ViewEntry],
     new: &New<'_>,
 ) -> Result<Found<'a>, StepFault>
@@ -95,8 +95,8 @@ pub fn named<'a>(
 #[tactic(auto, unfolding(worlds::specs::View::new_table))]
 fn new_view(
     alloc: Global,
-    records: &[RecordEntry],
-    mappings: &[MappingEntry],
+    records: &RecordList,
+    mappings: &MappingList,
     views: &[ViewEntry],
     new: &New<'_>,
 ) -> Result<View, StepFault>

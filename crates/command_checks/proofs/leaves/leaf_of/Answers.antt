@@ -2,7 +2,6 @@ use Rattle.std.proofs.Common.{◌<◌, ◌∙◌, ap, length}
 use Rattle.std.proofs.lemmas.List.{length-map}
 use Rattle.std.proofs.lemmas.Option.{slice_get_within}
 use Rattle.record_dim.specs.Leaves.{paths_of}
-use Rattle.record_dim.specs.Schemas.{schema_fields}
 use Rattle.expr_lang.specs.BindingLaws.{leaf_number_is}
 use Rattle.worlds.specs.Outcomes.{some_or}
 use Rattle.worlds.specs.declared.fault.CommandFault.TheVariants.{Unknown}

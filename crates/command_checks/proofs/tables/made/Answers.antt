@@ -1,10 +1,9 @@
-use Rattle.std.proofs.Common.{◌∙◌, sym, ap, map, ⊎_elim}
+use Rattle.std.proofs.Common.{◌∙◌, sym, ap, map}
 use Rattle.map_expr.specs.Terms.{term_of}
 use Rattle.record_dim.specs.Schemas.{schema_fields}
 use Rattle.worlds.specs.Outcomes.{Goes}
-use Rattle.worlds.specs.Tables.{blob_bits, live_bits, zeros_of}
 use Rattle.command_checks.specs.Entries.{view_of}
-use Rattle.command_checks.proofs.Limits.{table_new, made_goes, made_full, made_big, bits_over, bits_within, bits_past}
+use Rattle.command_checks.proofs.Limits.{table_new, made_goes, made_full, bits_over, bits_within}
 use Rattle.command_checks.proofs.tables.made.Goals as goal
 
 pub returns-then-live-gt-MAX_LIVE_BYTES-clause-made : goal.returns-then-live-gt-MAX_LIVE_BYTES-clause-made

@@ -1,11 +1,22 @@
-use Rattle.std.proofs.Common.{rules, refl}
+use Rattle.std.proofs.Common.{rules, map, refl}
 use Rattle.command_checks.specs.Entries.{view_of}
 use Rattle.command_checks.specs.Places.{IsAt}
 use Rattle.command_checks.specs.declared.entries.ViewEntry.{ViewEntry}
-use Rattle.session.specs.Stands.{world_of}
-use Rattle.session.proofs.Exits.{known_at}
+use Rattle.command_checks.specs.GivesLaws.{GivesUp-then}
+use Rattle.worlds.specs.OnView.{on_view}
+use Rattle.worlds.specs.Outcomes.{known}
+use Rattle.session.specs.Stands.{Stands, world_of}
+use Rattle.session.proofs.Exits.{gave_up, known_at}
 use Rattle.session.proofs.Views.{view_stops, view_done}
 use Rattle.session.proofs.session.Session.on_view.Goals as goal
+
+pub returns-in_err-place-clause-answers : goal.returns-in_err-place-clause-answers
+unfolding on_view
+returns-in_err-place-clause-answers g c =
+    let fault = c.in_err-place.field-0.0 in
+    let unknown = rw c.as_slice.ensures.value at c.in_err-place.ensures.unknown in
+    gave_up Stands g.K.Sink.taken g.K.Sink.faults c.args.out.now (on_view (world_of c.args.self) c.args.name (g.W.Work.does c.args.work.now)) fault c.from_residual.result (search rules)
+    (GivesUp-then (known c.args.name (map view_of c.args.self.views.items)) _ fault unknown)
 
 pub returns-in_err-run-clause-answers : goal.returns-in_err-run-clause-answers
 returns-in_err-run-clause-answers g c =

@@ -24,7 +24,7 @@ returns-in_err-expr-clause-laid g c =
     let d = first_of items c.in_ok-place.place at.inside in
     let fault = c.in_err-expr.field-0.0 in
     let is : c.from_residual-in_err-expr.result ≡ Err fault = search rules in
-    let whole = rw c.as_slice-2.ensures.value at c.in_err-expr.ensures.whole in
+    let whole = c.in_err-expr.ensures.whole in
     rw is (goes_gives _ _ _ fault (known_place c.args.name items c.in_ok-place.place d at) (GivesUp-then _ _ fault whole))
 
 pub returns-in_err-fresh-clause-laid : goal.returns-in_err-fresh-clause-laid
@@ -35,8 +35,8 @@ returns-in_err-fresh-clause-laid g c =
     let d = first_of items c.in_ok-place.place at.inside in
     let fault = c.in_err-fresh.field-0.0 in
     let is : c.from_residual-in_err-fresh.result ≡ Err fault = search rules in
-    let whole = rw c.as_slice-2.ensures.value at c.in_ok-expr.ensures.whole in
-    let made = rw c.as_slice-3.ensures.value at (c.in_err-fresh.ensures.made d) in
+    let whole = c.in_ok-expr.ensures.whole in
+    let made = rw c.as_slice-2.ensures.value at (c.in_err-fresh.ensures.made d) in
     rw is (goes_gives _ _ _ fault (known_place c.args.name items c.in_ok-place.place d at) (goes_gives _ _ _ fault whole (GivesUp-then _ _ fault (GivesUp-then _ _ fault made))))
 
 pub returns-in_err-laid_over-clause-laid : goal.returns-in_err-laid_over-clause-laid
@@ -47,9 +47,9 @@ returns-in_err-laid_over-clause-laid g c =
     let entry = c.index_mut.result.now in
     let fault = c.in_err-laid_over.field-0.0 in
     let is : c.from_residual-in_err-laid_over.result ≡ Err fault = search rules in
-    let whole = rw c.as_slice-2.ensures.value at c.in_ok-expr.ensures.whole in
-    let made = rw c.as_slice-3.ensures.value at (c.in_ok-fresh.ensures.made entry) in
-    let zeros = rw c.as_slice-3.ensures.value at (c.in_ok-fresh.ensures.zeros entry) in
+    let whole = c.in_ok-expr.ensures.whole in
+    let made = rw c.as_slice-2.ensures.value at (c.in_ok-fresh.ensures.made entry) in
+    let zeros = rw c.as_slice-2.ensures.value at (c.in_ok-fresh.ensures.zeros entry) in
     let laid = laid_at items c.in_ok-place.place entry (term_of c.in_ok-expr.expr) c.in_ok-fresh.fresh c.index_mut.ensures.value made zeros in
     rw is (goes_gives _ _ _ fault (known_at c.args.name items c.in_ok-place.place entry at c.index_mut.ensures.value)
     (goes_gives _ _ _ fault whole (GivesUp-then _ _ fault (subst (λ (o : Outcome Table). GivesUp o fault) (sym laid) c.in_err-laid_over.ensures.copied))))
@@ -61,9 +61,9 @@ returns-clause-laid g c =
     let at : IsAt view_of c.args.name items c.in_ok-place.place = rw c.as_slice.ensures.value at c.in_ok-place.ensures.at in
     let entry = c.index_mut.result.now in
     let changed : ViewEntry = record { name = entry.name; view = c.laid_over.new.view } in
-    let whole = rw c.as_slice-2.ensures.value at c.in_ok-expr.ensures.whole in
-    let made = rw c.as_slice-3.ensures.value at (c.in_ok-fresh.ensures.made entry) in
-    let zeros = rw c.as_slice-3.ensures.value at (c.in_ok-fresh.ensures.zeros entry) in
+    let whole = c.in_ok-expr.ensures.whole in
+    let made = rw c.as_slice-2.ensures.value at (c.in_ok-fresh.ensures.made entry) in
+    let zeros = rw c.as_slice-2.ensures.value at (c.in_ok-fresh.ensures.zeros entry) in
     let laid = laid_at items c.in_ok-place.place entry (term_of c.in_ok-expr.expr) c.in_ok-fresh.fresh c.index_mut.ensures.value made zeros in
     let same = table_changed c.args.self c.args.name c.in_ok-place.place entry changed at c.index_mut.ensures.value refl in
     goes_then _ _ _ (known_at c.args.name items c.in_ok-place.place entry at c.index_mut.ensures.value) ∙ goes_then _ _ _ whole ∙ goes_then _ _ _ (laid ∙ c.in_ok-laid_over.ensures.copied)
@@ -83,9 +83,9 @@ returns-in_err-laid_over-clause-bound g c =
     let items = c.args.self.views.items in
     let at : IsAt view_of c.args.name items c.in_ok-place.place = rw c.as_slice.ensures.value at c.in_ok-place.ensures.at in
     let entry = c.index_mut.result.now in
-    let whole = rw c.as_slice-2.ensures.value at c.in_ok-expr.ensures.whole in
-    let made = rw c.as_slice-3.ensures.value at (c.in_ok-fresh.ensures.made entry) in
-    let zeros = rw c.as_slice-3.ensures.value at (c.in_ok-fresh.ensures.zeros entry) in
+    let whole = c.in_ok-expr.ensures.whole in
+    let made = rw c.as_slice-2.ensures.value at (c.in_ok-fresh.ensures.made entry) in
+    let zeros = rw c.as_slice-2.ensures.value at (c.in_ok-fresh.ensures.zeros entry) in
     let same = made_at items c.in_ok-place.place entry (term_of c.in_ok-expr.expr) c.in_ok-fresh.fresh c.index_mut.ensures.value made zeros in
     laid_within (world_of c.args.self) c.args.name (term_of c.args.expr.now) (term_of c.in_ok-expr.expr) entry.view c.in_ok-fresh.fresh c.args.steps.now c.laid_over.new.steps
     (known_at c.args.name items c.in_ok-place.place entry at c.index_mut.ensures.value) whole same.0 same.1 c.in_err-laid_over.ensures.bound
@@ -95,9 +95,9 @@ returns-clause-bound g c =
     let items = c.args.self.views.items in
     let at : IsAt view_of c.args.name items c.in_ok-place.place = rw c.as_slice.ensures.value at c.in_ok-place.ensures.at in
     let entry = c.index_mut.result.now in
-    let whole = rw c.as_slice-2.ensures.value at c.in_ok-expr.ensures.whole in
-    let made = rw c.as_slice-3.ensures.value at (c.in_ok-fresh.ensures.made entry) in
-    let zeros = rw c.as_slice-3.ensures.value at (c.in_ok-fresh.ensures.zeros entry) in
+    let whole = c.in_ok-expr.ensures.whole in
+    let made = rw c.as_slice-2.ensures.value at (c.in_ok-fresh.ensures.made entry) in
+    let zeros = rw c.as_slice-2.ensures.value at (c.in_ok-fresh.ensures.zeros entry) in
     let same = made_at items c.in_ok-place.place entry (term_of c.in_ok-expr.expr) c.in_ok-fresh.fresh c.index_mut.ensures.value made zeros in
     laid_within (world_of c.args.self) c.args.name (term_of c.args.expr.now) (term_of c.in_ok-expr.expr) entry.view c.in_ok-fresh.fresh c.args.steps.now c.laid_over.new.steps
     (known_at c.args.name items c.in_ok-place.place entry at c.index_mut.ensures.value) whole same.0 same.1 c.in_ok-laid_over.ensures.bound
