@@ -141,6 +141,7 @@ fn runs_from<L: Ledger>(
     is_copied(answer, &mut target)
 }
 
+// The same, of a view that is made first.
 fn runs_between<L: Ledger>(
     alloc: Global,
     one: &MapExpr,
@@ -157,13 +158,14 @@ fn runs_between<L: Ledger>(
     runs_from(alloc, &mut source, two, steps)
 }
 
+// Whether a copy by runs has the numbers.
 fn goes_by_runs<L: Ledger>(alloc: Global, steps: &mut Steps<L>) -> Result<bool, Fail>
     ensures { steps.new ≤ steps.old + 125 }
 {
     runs_between(alloc, &soa(SoaForm::Multi), &aosoa(8), steps)
 }
 
-// The numbers of a view go to one of zeros by blobs.
+// The numbers of a view go to one of zeros by whole blobs.
 fn blobs_from<L: Ledger>(
     alloc: Global,
     source: &mut View,
@@ -180,6 +182,7 @@ fn blobs_from<L: Ledger>(
     is_copied(answer, &mut target)
 }
 
+// The same, of a view that is made first.
 fn blobs_between<L: Ledger>(
     alloc: Global,
     one: &MapExpr,
@@ -219,6 +222,7 @@ fn fields_from<L: Ledger>(
     is_copied(answer, &mut target)
 }
 
+// The same, of a view that is made first.
 fn fields_between<L: Ledger>(
     alloc: Global,
     one: &MapExpr,
