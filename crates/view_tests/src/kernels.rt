@@ -3,10 +3,8 @@
 ghost use Rattle.std.specs.Prelude.{◌≡◌, ◌+◌, ◌<◌, ◌≤◌, IsTrue, length};
 ghost use Rattle.views.specs.Columns.{IsNarrowLeaf};
 
-use crate::stored_values::{aos, set, view_of};
-use instrument::write_counts;
+use crate::tables::{aos, has_counted, set, view_of};
 use lane_kernels::{Kernel, KernelFault, run_lanes};
-use layout_io::MemorySink;
 use map_any::MapExpr;
 use places::AosForm;
 use record_dim::LeafType;
@@ -54,14 +52,21 @@ fn sum_of(view: &mut View) -> Result<Answer, Fail> {
     summed::<Brand>(view, Blank::new(1))
 }
 
+// Rows and the numbers in their first leaf.
+const NUMBERS: [(u64, i128); 5] = [(0, 3), (15, 40), (991, 500), (992, 6000), (999, 10000)];
+
+fn put_numbers(view: &mut View) -> Result<(), Fail> {
+    for (row, value) in &NUMBERS {
+        set(view, *row, 0, *value)?;
+    }
+    Ok(())
+}
+
 #[test]
 fn a_sum_over_1000_rows_by_16_lanes_takes_at_most_86_steps(rt: HostRuntime) -> Result<(), Fail> {
     let kinds = [LeafType::U16];
     let mut view = view_of(rt.alloc(), &kinds, 1000, &aos(AosForm::Packed))?;
-    for (row, value) in [(0, 3), (15, 40), (991, 500), (992, 6000), (999, 10000)] {
-        let stored = set(&mut view, row, 0, value)?;
-        assert!(rt; stored == Ok(()));
-    }
+    put_numbers(&mut view)?;
     assert!(rt; sum_of(&mut view)? == Ok(Some(16543)));
     Ok(())
 }
@@ -92,38 +97,21 @@ fn refusing(alloc: Global, row: u64) -> Result<View, Fail> {
     let inner = Box::new(alloc, aos(AosForm::Packed))?;
     let kinds = [LeafType::U8, LeafType::I8];
     let mut view = view_of(alloc, &kinds, 22, &MapExpr::Count(inner))?;
-    set(&mut view, row, 0, 200)?.ok().ok_or("refused")?;
+    set(&mut view, row, 0, 200)?;
     Ok(view)
 }
 
-// Whether these are the counts by leaf of a view.
-fn has_counts(alloc: Global, view: &View, text: &str) -> Result<bool, Fail> {
-    let mut sink = MemorySink::new(alloc, 100)?;
-    let counts = view.counts().ok_or("no counts")?;
-    write_counts(counts, view.schema(), &mut sink)?;
-    Ok(sink.taken() == text.as_bytes())
-}
-
-// Whether the addition by so many lanes is refused in a row, after so many reads of each leaf and a write of the second in each row before it.
-// The write that made the row counts too.
-fn is_refused(
-    alloc: Global,
-    view: &mut View,
-    row: u64,
-    lanes: usize,
-    reads: u64,
-) -> Result<bool, Fail> {
+// Whether the addition by so many lanes is refused in a row, after so many reads of each leaf and a write of the second in each row before
+// it. The write that made the row counts too.
+fn is_refused(view: &mut View, row: u64, lanes: usize, reads: u64) -> Result<bool, Fail> {
     let answer = added(view, lanes)?;
-    let text = format!(in alloc; "leaf,reads,writes\nf0,{reads},1\nf1,{reads},{row}\n")?;
-    Ok(
-        answer == Err(KernelFault::Range { row, leaf: 1 })
-            && has_counts(alloc, view, text.as_str())?,
-    )
+    let refused = answer == Err(KernelFault::Range { row, leaf: 1 });
+    Ok(refused && has_counted(view, 0, reads, 1) && has_counted(view, 1, reads, row))
 }
 
 fn reads_so(alloc: Global, row: u64, lanes: usize, reads: u64) -> Result<bool, Fail> {
     let mut view = refusing(alloc, row)?;
-    is_refused(alloc, &mut view, row, lanes, reads)
+    is_refused(&mut view, row, lanes, reads)
 }
 
 // A row that is refused, the lanes, and the reads of each leaf.

@@ -2,19 +2,15 @@
 #![tactic(auto)]
 
 #[cfg(test)]
-mod any_maps;
-#[cfg(test)]
-mod blob_runs;
-#[cfg(test)]
 mod cell_maps;
 #[cfg(test)]
-mod counters;
-#[cfg(test)]
-mod datasets;
+mod copies;
 #[cfg(test)]
 mod kernels;
 #[cfg(test)]
 mod orders;
+#[cfg(test)]
+mod row_faults;
 #[cfg(test)]
 mod stored_values;
 #[cfg(test)]

@@ -1,15 +1,20 @@
-// Schemas, extents and mapping expressions of tests.
-ghost use Rattle.std.specs.Prelude.{◌≡◌};
+// Views that tests make, and their numbers.
+ghost use Rattle.std.specs.Prelude.{◌≡◌, ◌<◌, IfOk, length};
 ghost use Rattle.extents.specs.declared.order.Order.TheVariants.{Row};
-ghost use Rattle.map_expr.specs.Terms.{Aos, term_of};
+ghost use Rattle.map_expr.specs.Terms.{Aos, Soa, Aosoa, term_of};
 ghost use Rattle.map_checks.specs.Mappings.{IsBuiltTerm};
+ghost use Rattle.views.specs.Tables.{leaf_count_of};
 
 use extents::{ExtentWord, Extents, Order, Shape};
 use map_any::MapExpr;
-use places::AosForm;
+use places::{AosForm, SoaForm};
 use record_dim::{Dim, Field, FieldList, LeafType, Name, Schema};
 use std::alloc::Global;
+use std::marker::Brand;
+use std::sync::ledger::{Blank, Ledger};
 use std::test::Fail;
+use steps::Steps;
+use views::{StoreFault, View};
 
 // A flat schema with a leaf of each of these types.
 pub(crate) fn schema_of(alloc: Global, kinds: &[LeafType]) -> Result<Schema, Fail> {
@@ -31,6 +36,20 @@ pub(crate) fn extents_of(words: &[ExtentWord], rows: u64) -> Result<Extents, Fai
     Ok(shape.resolve(Some(rows)).ok().ok_or("no extents")?)
 }
 
+pub(crate) fn view_of(
+    alloc: Global,
+    kinds: &[LeafType],
+    rows: u64,
+    expr: &MapExpr,
+) -> Result<View, Fail>
+    requires { IsBuiltTerm (term_of expr.now) }
+    ensures { IfOk result (λ view. view.mapping ≡ term_of expr.now) }
+{
+    let schema = schema_of(alloc, kinds)?;
+    let view = View::new(alloc, &schema, extents_of(&[ExtentWord::Rows], rows)?, expr);
+    Ok(view.ok().ok_or("no view")?)
+}
+
 pub(crate) fn aos(form: AosForm) -> MapExpr
     ensures built { IsBuiltTerm (term_of result) }
     ensures term { term_of result ≡ Aos form Row }
@@ -39,4 +58,85 @@ pub(crate) fn aos(form: AosForm) -> MapExpr
         form,
         order: Order::Row,
     }
+}
+
+pub(crate) fn soa(form: SoaForm) -> MapExpr
+    ensures built { IsBuiltTerm (term_of result) }
+    ensures term { term_of result ≡ Soa form Row }
+{
+    MapExpr::Soa {
+        form,
+        order: Order::Row,
+    }
+}
+
+pub(crate) fn aosoa(lanes: u32) -> MapExpr
+    ensures built { IsBuiltTerm (term_of result) }
+    ensures term { term_of result ≡ Aosoa lanes Row }
+{
+    MapExpr::Aosoa {
+        lanes,
+        order: Order::Row,
+    }
+}
+
+fn set_from<L: Ledger>(
+    view: &mut View,
+    row: u64,
+    leaf: usize,
+    value: i128,
+    blank: Blank,
+) -> Result<(), StoreFault>
+    requires name { blank.name ≡ L.name }
+    requires parts { blank.parts ≡ L.parts }
+    requires some { 0 < blank.parts }
+    requires row_in { row < length view.old.rows }
+    requires leaf_in { leaf < leaf_count_of view.old }
+    ensures { view.new.mapping ≡ view.old.mapping }
+{
+    let mut steps = Steps::<L>::new(blank);
+    view.set(row, leaf, value, &mut steps)
+}
+
+fn get_from<L: Ledger>(view: &mut View, row: u64, leaf: usize, blank: Blank) -> i128
+    requires name { blank.name ≡ L.name }
+    requires parts { blank.parts ≡ L.parts }
+    requires some { 0 < blank.parts }
+    requires row_in { row < length view.old.rows }
+    requires leaf_in { leaf < leaf_count_of view.old }
+{
+    let mut steps = Steps::<L>::new(blank);
+    view.get(row, leaf, &mut steps)
+}
+
+// Stores a value, or tells why not.
+pub(crate) fn set(
+    view: &mut View,
+    row: u64,
+    leaf: usize,
+    value: i128,
+) -> Result<Option<StoreFault>, Fail>
+    ensures { view.new.mapping ≡ view.old.mapping }
+{
+    if row < view.extents().count() && leaf < view.schema().leaf_count() {
+        return Ok(set_from::<Brand>(view, row, leaf, value, Blank::new(1)).err());
+    }
+    Err(Fail::new("outside"))
+}
+
+pub(crate) fn get(view: &mut View, row: u64, leaf: usize) -> Result<i128, Fail> {
+    if row < view.extents().count() && leaf < view.schema().leaf_count() {
+        return Ok(get_from::<Brand>(view, row, leaf, Blank::new(1)));
+    }
+    Err(Fail::new("outside"))
+}
+
+// Whether a leaf was read and written so often.
+pub(crate) fn has_counted(view: &View, leaf: usize, reads: u64, writes: u64) -> bool {
+    let Some(counts) = view.counts() else {
+        return false;
+    };
+    leaf < view.schema().leaf_count()
+        && counts.reads(leaf) == reads
+        && counts.writes(leaf) == writes
 }

@@ -1,4 +1,4 @@
-use Rattle.view_tests.proofs.stored_values.get.Given as goal
+use Rattle.view_tests.proofs.tables.get.Given as goal
 
 abbrev pub ghosts-get_from : goal.ghosts-get_from
 ghosts-get_from a = record { name = a.blank.name; parts = a.blank.parts }
