@@ -103,12 +103,13 @@ kept_in kind hold value = declared_in kind (held hold value)
 pub fitting_kept : (kind : LeafType) (hold : Hold) (value : ℤ) → 1 ≤ hold.width → IsDeclared kind value → IsIn hold.signed hold.width value → kept kind hold value ≡ value
 fitting_kept kind hold value some inside held_in = ap (declared kind) (low_same hold.signed hold.width value some held_in) ∙ declared_same kind value inside
 
--- what is kept fits a hold that has the sign of the type, however narrow it is
-wider_in : (signed : Bool) (few width : ℕ) (value : ℤ) → 1 ≤ few → few ≤ width → IsIn signed few value → IsIn signed width value
+-- a number of few bits is one of more
+pub wider_in : (signed : Bool) (few width : ℕ) (value : ℤ) → 1 ≤ few → few ≤ width → IsIn signed few value → IsIn signed width value
 wider_in false few width value some less inside = (inside.0, omega (arith, ints, inside.1, pow_mono less))
 wider_in true few width value some less inside =
     (omega (arith, ints, inside.0, pow_mono {i = few - 1} {j = width - 1} (omega (arith, less))), omega (arith, ints, inside.1, pow_mono {i = few - 1} {j = width - 1} (omega (arith, less))))
 
+-- what is kept fits a hold that has the sign of the type, however narrow it is
 pub own_sign_held : (kind : LeafType) (hold : Hold) (value : ℤ) → 1 ≤ hold.width → hold.signed ≡ is_signed kind → IsIn hold.signed hold.width (kept kind hold value)
 own_sign_held kind hold value some same =
     let bits = value_bits kind in

@@ -1,0 +1,4 @@
+pub mod Modes
+pub mod TableLaws
+pub mod EntryLaws
+pub mod ImageLaws
