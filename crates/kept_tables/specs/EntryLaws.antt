@@ -13,10 +13,10 @@ use Rattle.piece_bits.specs.Tables.{with_entry, HasShape, hold_at, signs_and_wid
 use Rattle.piece_bits.specs.TableLaws.{table_shape, with_entry_same, with_entry_other}
 use Rattle.piece_bits.specs.EntriesLaws.{image_from_padding}
 use Rattle.kept_numbers.specs.Kept.{value_bits, declared, held, kept}
-use Rattle.kept_numbers.specs.KeptLaws.{low_in, low_same, some_bits, wider_in, held_digit, kept_in, fitting_kept}
+use Rattle.kept_numbers.specs.KeptLaws.{low_in, low_same, some_bits, wider_in, held_digit, kept_in, declared_same, fitting_kept}
 use Rattle.kept_tables.specs.declared.mode.StoreMode.{StoreMode}
 use Rattle.kept_tables.specs.declared.mode.StoreMode.TheVariants.{Strict, Wrap}
-use Rattle.kept_tables.specs.Modes.{kind_at, declared_table, Stays, IsSettled, AllSettled}
+use Rattle.kept_tables.specs.Modes.{kind_at, declared_table, Fits, Stays, IsSettled, AllSettled}
 use Rattle.kept_tables.specs.TableLaws.{declared_entry}
 
 -- what stays lies in the declared range, and is kept as it is
@@ -28,6 +28,10 @@ pub stays_kept : (mode : StoreMode) (kind : LeafType) (hold : Hold) (value : ℤ
 stays_kept Strict kind hold value some stays = fitting_kept kind hold value some stays.declared stays.held
 stays_kept Wrap kind hold value some stays = stays
 
+pub fitting_stays : (mode : StoreMode) (kind : LeafType) (hold : Hold) (value : ℤ) → 1 ≤ hold.width → Fits kind hold value → Stays mode kind hold value
+fitting_stays Strict kind hold value some fits = fits
+fitting_stays Wrap kind hold value some fits = fitting_kept kind hold value some fits.declared fits.held
+
 -- what the image of such a value says is settled, and stands for it
 pub stays_settled : (mode : StoreMode) (kind : LeafType) (hold : Hold) (value : ℤ) → 1 ≤ hold.width → Stays mode kind hold value →
     (declared kind (held hold value) ≡ value) × IsSettled mode kind hold (held hold value)
@@ -37,14 +41,37 @@ stays_settled mode kind hold value some stays =
       record { stays = subst (Stays mode kind hold) (sym back) stays; image = ap (held hold) (sym back) },
     )
 
--- where the hold has room for the entry, or has the type's sign, a settled raw number is its own entry: no mode is looked at
-own_entry : (mode : StoreMode) (kind : LeafType) (hold : Hold) (raw : ℤ) → 1 ≤ hold.width → IsSettled mode kind hold raw → IsIn hold.signed hold.width (declared kind raw) → declared kind raw ≡ raw
+-- a settled number lies in the range of its hold
+pub raw_held : (mode : StoreMode) (kind : LeafType) (hold : Hold) (raw : ℤ) → 1 ≤ hold.width → IsSettled mode kind hold raw → IsIn hold.signed hold.width raw
+raw_held mode kind hold raw some settled = subst (IsIn hold.signed hold.width) (sym settled.image) (low_in hold.signed hold.width (declared kind raw) some)
+
+-- a fitting value is its own raw number, in either mode
+pub fitting_held : (hold : Hold) (value : ℤ) → 1 ≤ hold.width → IsIn hold.signed hold.width value → held hold value ≡ value
+fitting_held hold value some inside = low_same hold.signed hold.width value some inside
+
+-- where the hold has room for the entry, a settled raw number is its own entry
+pub own_entry : (mode : StoreMode) (kind : LeafType) (hold : Hold) (raw : ℤ) → 1 ≤ hold.width → IsSettled mode kind hold raw → IsIn hold.signed hold.width (declared kind raw) → declared kind raw ≡ raw
 own_entry mode kind hold raw some settled inside = sym (settled.image ∙ low_same hold.signed hold.width (declared kind raw) some inside)
 
-pub same_sign : (mode : StoreMode) (kind : LeafType) (hold : Hold) (raw : ℤ) → 1 ≤ hold.width → IsIn hold.signed hold.width raw → hold.signed ≡ is_signed kind →
+-- a value that fits is settled as it is, in either mode
+pub fitting_settled : (mode : StoreMode) (kind : LeafType) (hold : Hold) (value : ℤ) → 1 ≤ hold.width → Fits kind hold value → IsSettled mode kind hold value
+fitting_settled mode kind hold value some fits =
+    let same : declared kind value ≡ value = declared_same kind value fits.declared in
+    record {
+      stays = subst (Stays mode kind hold) (sym same) (fitting_stays mode kind hold value some fits);
+      image = sym (ap (held hold) same ∙ fitting_held hold value some fits.held);
+    }
+
+-- where each entry fits, a raw number is its entry
+pub strict_entry : (kind : LeafType) (hold : Hold) (raw : ℤ) → 1 ≤ hold.width → IsSettled Strict kind hold raw → declared kind raw ≡ raw
+strict_entry kind hold raw some settled = own_entry Strict kind hold raw some settled settled.stays.held
+
+-- so it is where the hold has the type's sign: no mode is looked at
+pub same_sign : (mode : StoreMode) (kind : LeafType) (hold : Hold) (raw : ℤ) → 1 ≤ hold.width → hold.signed ≡ is_signed kind →
     IsSettled mode kind hold raw → declared kind raw ≡ raw
-same_sign mode kind hold raw some raw_in same settled =
+same_sign mode kind hold raw some same settled =
     let bits : ℕ = value_bits kind in
+    let raw_in : IsIn hold.signed hold.width raw = raw_held mode kind hold raw some settled in
     ⊎_elim (λ (narrow : hold.width < bits).
     let here : IsIn (is_signed kind) bits raw =
     wider_in (is_signed kind) hold.width bits raw some (omega (arith, narrow)) (subst (λ (s : Bool). IsIn s hold.width raw) same raw_in) in

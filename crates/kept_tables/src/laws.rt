@@ -1,6 +1,6 @@
 // What holds of the table that raw numbers stand for, in either mode.
 ghost use Rattle.std.specs.Prelude.{ℕ, ℤ, ◌≡◌, ◌<◌, ◌≤◌, List, length, map};
-ghost use Rattle.record_dim.specs.LeafTypes.{IsIn, is_signed};
+ghost use Rattle.record_dim.specs.LeafTypes.{is_signed};
 ghost use Rattle.record_dim.specs.declared.leaf_type.LeafType.{LeafType};
 ghost use Rattle.places.specs.declared.piece.Hold.{Hold};
 ghost use Rattle.places.specs.Layout.{Owner, Pad, owner_at};
@@ -36,6 +36,6 @@ pub fn table_laws()
     ensures changed { (rows : ℕ) (kinds : List LeafType) (raw : List (List ℤ)) → HasShape rows (length kinds) raw → (row leaf : ℕ) (value : ℤ)
         → row < rows → leaf < length kinds
         → declared_table kinds (with_entry raw row leaf value) ≡ with_entry (declared_table kinds raw) row leaf (declared (kind_at kinds leaf) value) }
-    ensures entry { (mode : StoreMode) (kind : LeafType) (hold : Hold) (raw : ℤ) → 1 ≤ hold.width → IsIn hold.signed hold.width raw
+    ensures entry { (mode : StoreMode) (kind : LeafType) (hold : Hold) (raw : ℤ) → 1 ≤ hold.width
         → hold.signed ≡ is_signed kind → IsSettled mode kind hold raw → declared kind raw ≡ raw }
 {}

@@ -15,11 +15,12 @@ use Rattle.map_expr.specs.Terms.{Term}
 use Rattle.map_plans.specs.Arrays.{array_of, lanes_in}
 use Rattle.map_any.specs.ArrayRuns.{IsArrayRun}
 use Rattle.map_any.specs.Strategies.{AreRuns}
-use Rattle.views.specs.Kept.{IsKept, table_under}
+use Rattle.kept_tables.specs.declared.mode.StoreMode.TheVariants.{Strict}
+use Rattle.views.specs.Kept.{IsKept, raw_under}
 use Rattle.views.specs.Moves.{size_of, IsRunMoved}
 use Rattle.views.specs.Pieces.{IsMovedEach}
 use Rattle.views.specs.Stores.{kind_at}
-use Rattle.views.proofs.RunMoveLaws.{IsRunOf, HasRun, none_moved, target_in, target_room, source_in, source_room, run_kept, run_table}
+use Rattle.views.proofs.RunMoveLaws.{IsRunOf, HasRun, none_moved, target_in, target_room, source_in, source_room, run_kept, run_raw}
 use Rattle.views.proofs.SlotMoveLaws.{runs_joined}
 
 -- one of all that is said of a mapping's slots
@@ -51,7 +52,7 @@ pub record AreEven (a b : Term) (extents others_extents : List ℕ) (fields tree
 
 module _ (a b : Term) (extents others_extents : List ℕ) (fields trees : Fields) (old others : List (List ℕ)) (leaf slot count pieces target at to_step source from from_step len : ℕ)
     (e : AreEven a b extents others_extents fields trees leaf slot count pieces target at to_step source from from_step len)
-    (kept : IsKept a extents fields old) (others_kept : IsKept b others_extents trees others) where
+    (kept : IsKept Strict a extents fields old) (others_kept : IsKept Strict b others_extents trees others) where
   pub each_target_in : target < length old
   each_target_in =
       target_in a b extents others_extents fields trees old others old leaf (slot + 0 * count) count target (at + 0 * to_step) source (from + 0 * from_step) len
@@ -72,11 +73,11 @@ module _ (a b : Term) (extents others_extents : List ℕ) (fields trees : Fields
       source_room a b extents others_extents fields trees old others old leaf (slot + k * count) count target (at + k * to_step) source (from + k * from_step) len
       e.alike e.arrays e.leaf_in e.some e.len_is (e.one k l) (e.two k l) kept others_kept
 
-  -- what is kept of blobs, and what their table is, once so many slots were moved
+  -- what is kept of blobs, and what their raw numbers are, once so many slots were moved
   abbrev After : ℕ → List (List ℕ) → Type 0
-  After done new = IsKept a extents fields new
+  After done new = IsKept Strict a extents fields new
       × IfSome (array_of a) (λ array. IsRunMoved array.0 extents (length (indices extents)) (length (kinds_of fields)) leaf slot done
-      (table_under b others_extents trees others) (table_under a extents fields old) (table_under a extents fields new))
+      (raw_under b others_extents trees others) (raw_under a extents fields old) (raw_under a extents fields new))
 
   after_pieces : (k : ℕ) → k ≤ pieces → (bytes : List ℕ) → IsMovedEach at to_step (get_or others source []) from from_step len k (get_or old target []) bytes
       → After (k * count) (set old target bytes)
@@ -84,7 +85,7 @@ module _ (a b : Term) (extents others_extents : List ℕ) (fields trees : Fields
       let whole : set old target bytes ≡ old = ap (set old target) is ∙ set-get_or old target [] in
       let none : zero * count ≡ 0 = omega arith in
       subst (After (zero * count)) (sym whole)
-      (kept, none_moved (array_of a) extents (length (indices extents)) (length (kinds_of fields)) leaf slot (zero * count) (table_under b others_extents trees others) (table_under a extents fields old) none)
+      (kept, none_moved (array_of a) extents (length (indices extents)) (length (kinds_of fields)) leaf slot (zero * count) (raw_under b others_extents trees others) (raw_under a extents fields old) none)
   after_pieces (suc k) l bytes h =
       let mid : List ℕ = h.0 in
       let blobs : List (List ℕ) = set old target mid in
@@ -98,15 +99,15 @@ module _ (a b : Term) (extents others_extents : List ℕ) (fields trees : Fields
       (subst (λ (bs : List ℕ). IsMoved bs (at + k * to_step) (get_or others source []) (from + k * from_step) len bytes) (sym here) h.2) in
       let moved : AreMoved others blobs new source (8 * (from + k * from_step)) target (8 * (at + k * to_step)) (8 * len) =
       subst (λ (bs : List (List ℕ)). AreMoved others blobs bs source (8 * (from + k * from_step)) target (8 * (at + k * to_step)) (8 * len)) (set-set old target mid bytes) bits in
-      let next = run_table a b extents others_extents fields trees blobs others new leaf (slot + k * count) count target (at + k * to_step) source (from + k * from_step) len
+      let next = run_raw a b extents others_extents fields trees blobs others new leaf (slot + k * count) count target (at + k * to_step) source (from + k * from_step) len
       e.alike e.arrays e.leaf_in e.some e.len_is (e.one k inside) (e.two k inside) so_far.0 others_kept moved in
       let all : k * count + count ≡ suc k * count = grind arith in (
         run_kept a b extents others_extents fields trees blobs others new leaf (slot + k * count) count target (at + k * to_step) source (from + k * from_step) len
             e.alike e.arrays e.leaf_in e.some e.len_is (e.one k inside) (e.two k inside) so_far.0 others_kept moved,
         subst (λ (n : ℕ). IfSome (array_of a) (λ array. IsRunMoved array.0 extents (length (indices extents)) (length (kinds_of fields)) leaf slot n
-            (table_under b others_extents trees others) (table_under a extents fields old) (table_under a extents fields new))) all
-            (runs_joined (array_of a) extents (length (indices extents)) (length (kinds_of fields)) leaf slot (k * count) count (table_under b others_extents trees others)
-            (table_under a extents fields old) (table_under a extents fields blobs) (table_under a extents fields new) e.leaf_in so_far.1 next),
+            (raw_under b others_extents trees others) (raw_under a extents fields old) (raw_under a extents fields new))) all
+            (runs_joined (array_of a) extents (length (indices extents)) (length (kinds_of fields)) leaf slot (k * count) count (raw_under b others_extents trees others)
+            (raw_under a extents fields old) (raw_under a extents fields blobs) (raw_under a extents fields new) e.leaf_in so_far.1 next),
       )
 
   -- once all were

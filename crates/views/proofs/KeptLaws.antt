@@ -21,11 +21,17 @@ use Rattle.map_expr.specs.Terms.{Term}
 use Rattle.map_checks.specs.Mappings.{leaf_cells, layout_by, holds_by, IsTooBigFor}
 use Rattle.blobs.specs.Bits.{bits_of, bit_in}
 use Rattle.piece_bits.specs.Tables.{AreLaid, HasShape, hold_at, with_entry, zeros}
-use Rattle.piece_bits.specs.TableLaws.{table_shape, with_entry_same, with_entry_other, zeros_entry}
-use Rattle.piece_bits.specs.EntriesLaws.{image_from_padding, blob_is, zeros_read}
+use Rattle.piece_bits.specs.TableLaws.{table_shape, tables_same, zeros_shape, zeros_entry}
+use Rattle.piece_bits.specs.EntriesLaws.{blob_is, zeros_read}
 use Rattle.piece_bits.specs.CellsLaws.{bit_in_lt, hold_widths}
+use Rattle.kept_numbers.specs.Kept.{declared}
+use Rattle.kept_tables.specs.declared.mode.StoreMode.{StoreMode}
+use Rattle.kept_tables.specs.declared.mode.StoreMode.TheVariants.{Strict}
+use Rattle.kept_tables.specs.Modes.{declared_table, Stays, IsSettled}
+use Rattle.kept_tables.specs.TableLaws.{declared_shape, declared_entry, declared_with_entry}
+use Rattle.kept_tables.specs.EntryLaws.{fitting_settled, strict_entry, image_of_table, settled_after}
 use Rattle.views.specs.Stores.{kind_at, Fits, AllFit}
-use Rattle.views.specs.Kept.{IsKept, table_under}
+use Rattle.views.specs.Kept.{IsKept, raw_under, table_under}
 
 -- as many types as leaves
 pub kind_count : (fields : Fields) → length (kinds_of fields) ≡ length (leaves fields)
@@ -43,21 +49,40 @@ sum_lengths (owners ∷ layout) (blob ∷ blobs) count each =
     let rest : 8 * sum_by (length {A = ℕ}) blobs ≡ sum_by (length {A = Owner}) layout = sum_lengths layout blobs (omega arith) (λ b l. each (suc b) (omega arith)) in
     omega (arith, sum_by-cons (length {A = ℕ}) blob blobs, sum_by-cons (length {A = Owner}) owners layout)
 
-module _ (term : Term) (extents : List ℕ) (fields : Fields) (blobs : List (List ℕ)) (kept : IsKept term extents fields blobs) where
+-- a hold of a layout that keeps the laws has a bit at least
+some_width : (layout : List (List Owner)) (slots : ℕ) (holds : List Hold) → IsLaidOut layout slots (map (λ (h : Hold). h.width) holds) → (leaf : ℕ) → leaf < length holds → 1 ≤ (hold_at holds leaf).width
+some_width layout slots holds lawful leaf l =
+    (hold_widths layout slots holds lawful leaf (hold_at holds leaf) l (slice_get-get_or holds leaf (record { signed = false; width = 0 }) l)).0
+
+module _ (mode : StoreMode) (term : Term) (extents : List ℕ) (fields : Fields) (blobs : List (List ℕ)) (kept : IsKept mode term extents fields blobs) where
+  pub raw_shape : HasShape (length (indices extents)) (length (kinds_of fields)) (raw_under term extents fields blobs)
+  raw_shape =
+      let shape = table_shape (layout_by term extents fields) (length (indices extents)) (holds_by term fields) (bit_in blobs) in
+      record { row_count = shape.row_count; leaf_count = λ row l. shape.leaf_count row l ∙ kept.paired }
+
   -- the table has a row for each index and in it a number for each leaf
+  shaped : HasShape (length (indices extents)) (length (kinds_of fields)) (table_under term extents fields blobs)
+  shaped = declared_shape (length (indices extents)) (kinds_of fields) (raw_under term extents fields blobs) raw_shape
+
   pub row_count : length (table_under term extents fields blobs) ≡ length (indices extents)
-  row_count = (table_shape (layout_by term extents fields) (length (indices extents)) (holds_by term fields) (bit_in blobs)).row_count
+  row_count = shaped.row_count
 
   pub kept_shape : (leaves : ℕ) → length (kinds_of fields) ≡ leaves → HasShape (length (table_under term extents fields blobs)) leaves (table_under term extents fields blobs)
-  kept_shape leaves same =
-      let shape = table_shape (layout_by term extents fields) (length (indices extents)) (holds_by term fields) (bit_in blobs) in
-      record {
-        row_count = refl;
-        leaf_count = λ row l. shape.leaf_count row (omega (arith, row_count)) ∙ kept.paired ∙ same;
-      }
+  kept_shape leaves same = record { row_count = refl; leaf_count = λ row l. shaped.leaf_count row (omega (arith, row_count)) ∙ same }
 
-  pub kept_fits : AllFit (length (table_under term extents fields blobs)) (kinds_of fields) (holds_by term fields) (table_under term extents fields blobs)
-  kept_fits = λ row leaf l m. kept.fit row leaf (omega (arith, row_count)) m
+  -- an entry is its raw number, brought into the range of its leaf
+  pub entry_is_declared : (row leaf : ℕ) → row < length (indices extents) → leaf < length (kinds_of fields) →
+      entry (table_under term extents fields blobs) row leaf ≡ declared (kind_at (kinds_of fields) leaf) (entry (raw_under term extents fields blobs) row leaf)
+  entry_is_declared row leaf l m = declared_entry (length (indices extents)) (kinds_of fields) (raw_under term extents fields blobs) raw_shape row leaf l m
+
+  pub hold_some : (leaf : ℕ) → leaf < length (kinds_of fields) → 1 ≤ (hold_at (holds_by term fields) leaf).width
+  hold_some leaf m = some_width (layout_by term extents fields) (length (indices extents)) (holds_by term fields) kept.lawful leaf (omega (arith, m, kept.paired))
+
+  -- it stays
+  pub entry_stays : (row leaf : ℕ) → row < length (indices extents) → leaf < length (kinds_of fields) →
+      Stays mode (kind_at (kinds_of fields) leaf) (hold_at (holds_by term fields) leaf) (entry (table_under term extents fields blobs) row leaf)
+  entry_stays row leaf l m =
+      subst (λ (v : ℤ). Stays mode (kind_at (kinds_of fields) leaf) (hold_at (holds_by term fields) leaf) v) (sym (entry_is_declared row leaf l m)) (kept.settled row leaf l m).stays
 
   -- the bytes of all blobs
   pub byte_count : 8 * sum_by (length {A = ℕ}) blobs ≡ sum_by (length {A = Owner}) (layout_by term extents fields)
@@ -74,41 +99,46 @@ module _ (term : Term) (extents : List ℕ) (fields : Fields) (blobs : List (Lis
       bits_of (get_or blobs b []) ≡ get_or (image (layout_by term extents fields) (table_under term extents fields blobs)) b []
   kept_blob b l =
       blob_is (layout_by term extents fields) (table_under term extents fields blobs) blobs b l (kept.laid.sized.lengths b l)
-      (image_from_padding (layout_by term extents fields) (length (indices extents)) (holds_by term fields) kept.lawful (bit_in blobs) (bit_in_lt blobs) kept.laid.padded.padding)
+      (image_of_table mode (layout_by term extents fields) (length (indices extents)) (kinds_of fields) (holds_by term fields) kept.lawful kept.paired (bit_in blobs) (bit_in_lt blobs)
+      kept.laid.padded.padding kept.settled)
 
-  -- one fitting value is written
-  pub kept_set : (new : List (List ℕ)) (row leaf : ℕ) (value : ℤ) → row < length (indices extents) → leaf < length (kinds_of fields) → AreLaid (layout_by term extents fields) new →
-      table_under term extents fields new ≡ with_entry (table_under term extents fields blobs) row leaf value →
-      Fits (kind_at (kinds_of fields) leaf) (hold_at (holds_by term fields) leaf) value → IsKept term extents fields new
-  kept_set new row leaf value row_in leaf_in laid is fits =
-      let holds = holds_by term fields in
-      let slots = length (indices extents) in
-      let old = table_under term extents fields blobs in
-      let shape = table_shape (layout_by term extents fields) slots holds (bit_in blobs) in
-      let in_holds : leaf < length holds = omega (arith, kept.paired) in
-      record {
-        lawful = kept.lawful;
-        paired = kept.paired;
-        within = kept.within;
-        laid = laid;
-        fit = λ r c l m.
-            subst (λ (t : List (List ℤ)). Fits (kind_at (kinds_of fields) c) (hold_at holds c) (entry t r c)) (sym is)
-            (⊎_elim (λ (same_row : r ≡ row).
-            ⊎_elim (λ (same_leaf : c ≡ leaf).
-            let there : Fits (kind_at (kinds_of fields) leaf) (hold_at holds leaf) (entry (with_entry old row leaf value) row leaf) =
-            subst (λ (v : ℤ). Fits (kind_at (kinds_of fields) leaf) (hold_at holds leaf) v)
-            (sym (with_entry_same slots (length holds) old shape row leaf value row_in in_holds)) fits in
-            subst (λ (x : ℕ). Fits (kind_at (kinds_of fields) c) (hold_at holds c) (entry (with_entry old row leaf value) x c)) (sym same_row)
-            (subst (λ (x : ℕ). Fits (kind_at (kinds_of fields) x) (hold_at holds x) (entry (with_entry old row leaf value) row x)) (sym same_leaf) there))
-            (λ (apart : c ≡ leaf → ⊥).
-            subst (λ (v : ℤ). Fits (kind_at (kinds_of fields) c) (hold_at holds c) v)
-            (sym (with_entry_other slots (length holds) old shape row leaf value row_in in_holds r c (λ e. apart e.1))) (kept.fit r c l m))
-            (cases_eq c leaf))
-            (λ (apart : r ≡ row → ⊥).
-            subst (λ (v : ℤ). Fits (kind_at (kinds_of fields) c) (hold_at holds c) v)
-            (sym (with_entry_other slots (length holds) old shape row leaf value row_in in_holds r c (λ e. apart e.0))) (kept.fit r c l m))
-            (cases_eq r row));
-      }
+  -- one raw number is written that is settled
+  module _ (new : List (List ℕ)) (row leaf : ℕ) (raw : ℤ) (row_in : row < length (indices extents)) (leaf_in : leaf < length (kinds_of fields))
+      (is : raw_under term extents fields new ≡ with_entry (raw_under term extents fields blobs) row leaf raw) where
+    pub kept_set : IsSettled mode (kind_at (kinds_of fields) leaf) (hold_at (holds_by term fields) leaf) raw → AreLaid (layout_by term extents fields) new → IsKept mode term extents fields new
+    kept_set settled laid = record {
+      lawful = kept.lawful;
+      paired = kept.paired;
+      within = kept.within;
+      laid = laid;
+      settled = settled_after mode (layout_by term extents fields) (length (indices extents)) (kinds_of fields) (holds_by term fields) kept.lawful kept.paired
+          (raw_under term extents fields blobs) (raw_under term extents fields new) raw_shape kept.settled row leaf (declared (kind_at (kinds_of fields) leaf) raw) row_in leaf_in
+          settled.stays (is ∙ ap (with_entry (raw_under term extents fields blobs) row leaf) settled.image);
+    }
+
+    pub table_set : table_under term extents fields new ≡ with_entry (table_under term extents fields blobs) row leaf (declared (kind_at (kinds_of fields) leaf) raw)
+    table_set =
+        ap (declared_table (kinds_of fields)) is
+        ∙ declared_with_entry (length (indices extents)) (kinds_of fields) (raw_under term extents fields blobs) raw_shape row leaf raw row_in leaf_in
+
+-- where each entry fits, a raw number is its entry
+module _ (term : Term) (extents : List ℕ) (fields : Fields) (blobs : List (List ℕ)) (kept : IsKept Strict term extents fields blobs) where
+  pub entry_is_raw : (row leaf : ℕ) → row < length (indices extents) → leaf < length (kinds_of fields) →
+      entry (table_under term extents fields blobs) row leaf ≡ entry (raw_under term extents fields blobs) row leaf
+  entry_is_raw row leaf l m =
+      entry_is_declared Strict term extents fields blobs kept row leaf l m
+      ∙ strict_entry (kind_at (kinds_of fields) leaf) (hold_at (holds_by term fields) leaf) (entry (raw_under term extents fields blobs) row leaf)
+      (hold_some Strict term extents fields blobs kept leaf m) (kept.settled row leaf l m)
+
+  pub raw_is_table : raw_under term extents fields blobs ≡ table_under term extents fields blobs
+  raw_is_table =
+      let shape = raw_shape Strict term extents fields blobs kept in
+      tables_same (length (indices extents)) (length (kinds_of fields)) (raw_under term extents fields blobs) (table_under term extents fields blobs) shape
+      (declared_shape (length (indices extents)) (kinds_of fields) (raw_under term extents fields blobs) shape)
+      (λ row leaf l m. sym (entry_is_raw row leaf l m))
+
+  pub kept_fits : AllFit (length (table_under term extents fields blobs)) (kinds_of fields) (holds_by term fields) (table_under term extents fields blobs)
+  kept_fits = λ row leaf l m. entry_stays Strict term extents fields blobs kept row leaf (omega (arith, row_count Strict term extents fields blobs kept)) m
 
 -- 0 fits every leaf
 zero_held : (hold : Hold) → 1 ≤ hold.width → IsIn hold.signed hold.width (pos 0)
@@ -133,24 +163,36 @@ module _ (term : Term) (extents : List ℕ) (fields : Fields) (blobs : List (Lis
     (lawful : IsLaidOut (layout_by term extents fields) (length (indices extents)) (map (λ (h : Hold). h.width) (holds_by term fields)))
     (paired : length (holds_by term fields) ≡ length (kinds_of fields)) (within : IsTooBigFor term extents fields (leaf_cells (kinds_of fields)) → ⊥)
     (laid : AreLaid (layout_by term extents fields) blobs) (none : (b p : ℕ) → bit_in blobs b p ≡ 0) where
-  pub zero_table : table_under term extents fields blobs ≡ zeros (length (indices extents)) (length (holds_by term fields))
-  zero_table = zeros_read (layout_by term extents fields) (length (indices extents)) (holds_by term fields) (bit_in blobs) none
+  raw_zeros : raw_under term extents fields blobs ≡ zeros (length (indices extents)) (length (holds_by term fields))
+  raw_zeros = zeros_read (layout_by term extents fields) (length (indices extents)) (holds_by term fields) (bit_in blobs) none
 
-  pub kept_zeros : IsKept term extents fields blobs
-  kept_zeros =
-      let holds = holds_by term fields in
-      record {
-        lawful = lawful;
-        paired = paired;
-        within = within;
-        laid = laid;
-        fit = λ row leaf l m.
-            (let in_holds : leaf < length holds = omega (arith, paired) in
-            let zero : entry (table_under term extents fields blobs) row leaf ≡ pos 0 =
-            ap (λ (t : List (List ℤ)). entry t row leaf) zero_table ∙ zeros_entry (length (indices extents)) (length holds) row leaf l in_holds in
-            let width : 1 ≤ (hold_at holds leaf).width =
-            (hold_widths (layout_by term extents fields) (length (indices extents)) holds lawful leaf (hold_at holds leaf) in_holds
-            (slice_get-get_or holds leaf (record { signed = false; width = 0 }) in_holds)).0 in
-            subst (λ (v : ℤ). Fits (kind_at (kinds_of fields) leaf) (hold_at holds leaf) v) (sym zero)
-            (record { declared = zero_declared (kind_at (kinds_of fields) leaf); held = zero_held (hold_at holds leaf) width }));
-      }
+  zero_some : (leaf : ℕ) → leaf < length (kinds_of fields) → 1 ≤ (hold_at (holds_by term fields) leaf).width
+  zero_some leaf m = some_width (layout_by term extents fields) (length (indices extents)) (holds_by term fields) lawful leaf (omega (arith, m, paired))
+
+  -- a raw number is 0, which stands for itself
+  zero_raw : (row leaf : ℕ) → row < length (indices extents) → leaf < length (kinds_of fields) → entry (raw_under term extents fields blobs) row leaf ≡ pos 0
+  zero_raw row leaf l m =
+      ap (λ (t : List (List ℤ)). entry t row leaf) raw_zeros ∙ zeros_entry (length (indices extents)) (length (holds_by term fields)) row leaf l (omega (arith, m, paired))
+
+  zero_fits : (leaf : ℕ) → leaf < length (kinds_of fields) → Fits (kind_at (kinds_of fields) leaf) (hold_at (holds_by term fields) leaf) (pos 0)
+  zero_fits leaf m = record { declared = zero_declared (kind_at (kinds_of fields) leaf); held = zero_held (hold_at (holds_by term fields) leaf) (zero_some leaf m) }
+
+  pub kept_zeros : (mode : StoreMode) → IsKept mode term extents fields blobs
+  kept_zeros mode = record {
+    lawful = lawful;
+    paired = paired;
+    within = within;
+    laid = laid;
+    settled = λ row leaf l m.
+        subst (λ (v : ℤ). IsSettled mode (kind_at (kinds_of fields) leaf) (hold_at (holds_by term fields) leaf) v) (sym (zero_raw row leaf l m))
+        (fitting_settled mode (kind_at (kinds_of fields) leaf) (hold_at (holds_by term fields) leaf) (pos 0) (zero_some leaf m) (zero_fits leaf m));
+  }
+
+  pub zero_table : table_under term extents fields blobs ≡ zeros (length (indices extents)) (length (holds_by term fields))
+  zero_table =
+      let rows : ℕ = length (indices extents) in
+      let shape : HasShape rows (length (kinds_of fields)) (zeros rows (length (kinds_of fields))) = zeros_shape rows (length (kinds_of fields)) in
+      tables_same rows (length (kinds_of fields)) (table_under term extents fields blobs) (zeros rows (length (kinds_of fields)))
+      (declared_shape rows (kinds_of fields) (raw_under term extents fields blobs) (raw_shape Strict term extents fields blobs (kept_zeros Strict))) shape
+      (λ row leaf l m. entry_is_raw term extents fields blobs (kept_zeros Strict) row leaf l m ∙ zero_raw row leaf l m ∙ sym (zeros_entry rows (length (kinds_of fields)) row leaf l m))
+      ∙ ap (zeros rows) (sym paired)

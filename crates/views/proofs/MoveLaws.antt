@@ -6,7 +6,6 @@ use Rattle.extents.specs.Indices.{indices}
 use Rattle.record_dim.specs.Trees.{Fields}
 use Rattle.record_dim.specs.Leaves.{kinds_of}
 use Rattle.places.specs.Holds.{IsTooBig}
-use Rattle.places.specs.Image.{entry}
 use Rattle.places.specs.Laws.{IsLaidOut}
 use Rattle.places.specs.Layout.{Owner}
 use Rattle.places.specs.declared.piece.Cell.{Cell}
@@ -19,12 +18,13 @@ use Rattle.map_expr.specs.declared.expr.MapExpr.{MapExpr}
 use Rattle.record_dim.specs.Schemas.{schema_fields}
 use Rattle.record_dim.specs.declared.schema.Schema.{Schema}
 use Rattle.views.proofs.Opened.{seen_from}
-use Rattle.views.specs.Kept.{IsKept, table_under}
+use Rattle.kept_tables.specs.declared.mode.StoreMode.{StoreMode}
+use Rattle.kept_tables.specs.Modes.{declared_table, AllSettled}
+use Rattle.views.specs.Kept.{IsKept, raw_under, table_under}
 use Rattle.views.specs.Tables.{Table}
 use Rattle.views.specs.UncountedLaws.{layout_uncounted, holds_uncounted, slots_uncounted}
 use Rattle.views.specs.Tallies.{Tally}
 use Rattle.views.specs.Moves.{blob_steps}
-use Rattle.views.specs.Stores.{AllFit}
 
 -- the bytes of blobs of a layout's lengths, and the blocks that they are
 sized_blocks : (layout : List (List Owner)) (blobs : List (List ℕ)) → length blobs ≡ length layout
@@ -79,16 +79,20 @@ module _ (a b : Term) (extents others : List ℕ) (fields trees : Fields) (same 
   rows_same : length (indices others) ≡ length (indices extents)
   rows_same = ap (λ (e : List ℕ). length (indices e)) (sym alike.1)
 
-  -- the table that blobs hold
-  pub moved_table : (blobs : List (List ℕ)) → table_under a extents fields blobs ≡ table_under b others trees blobs
-  moved_table blobs =
+  -- the raw numbers that blobs hold, and the table
+  moved_raw : (blobs : List (List ℕ)) → raw_under a extents fields blobs ≡ raw_under b others trees blobs
+  moved_raw blobs =
       ap (λ (l : List (List Owner)). table_in l (length (indices extents)) (holds_by a fields) blobs) (sym layouts_same)
       ∙ ap (λ (n : ℕ). table_in (layout_by b others trees) n (holds_by a fields) blobs) (sym rows_same)
       ∙ ap (λ (hs : List Hold). table_in (layout_by b others trees) (length (indices others)) hs blobs) (sym holds_same)
 
+  pub moved_table : (blobs : List (List ℕ)) → table_under a extents fields blobs ≡ table_under b others trees blobs
+  moved_table blobs =
+      ap (declared_table (kinds_of fields)) (moved_raw blobs) ∙ ap (λ (f : Fields). declared_table (kinds_of f) (raw_under b others trees blobs)) alike.0
+
   -- what is kept of the blobs
-  pub moved_kept : (blobs : List (List ℕ)) → IsKept b others trees blobs → IsKept a extents fields blobs
-  moved_kept blobs kept = record {
+  pub moved_kept : (mode : StoreMode) (blobs : List (List ℕ)) → IsKept mode b others trees blobs → IsKept mode a extents fields blobs
+  moved_kept mode blobs kept = record {
     lawful =
         subst (λ (hs : List Hold). IsLaidOut (layout_by a extents fields) (length (indices extents)) (map (λ (h : Hold). h.width) hs)) holds_same
         (subst (λ (n : ℕ). IsLaidOut (layout_by a extents fields) n (map (λ (h : Hold). h.width) (holds_by b trees))) rows_same
@@ -98,11 +102,11 @@ module _ (a b : Term) (extents others : List ℕ) (fields trees : Fields) (same 
         kept.within (subst (λ (l : List (List Owner)). IsTooBig (most_slots b others) l) (sym layouts_same)
         (subst (λ (n : ℕ). IsTooBig n (layout_by a extents fields)) (sym slots_same) big));
     laid = subst (λ (l : List (List Owner)). AreLaid l blobs) layouts_same kept.laid;
-    fit =
-        subst (λ (t : List (List ℤ)). AllFit (length (indices extents)) (kinds_of fields) (holds_by a fields) t) (sym (moved_table blobs))
-        (subst (λ (hs : List Hold). AllFit (length (indices extents)) (kinds_of fields) hs (table_under b others trees blobs)) holds_same
-        (subst (λ (n : ℕ). AllFit n (kinds_of fields) (holds_by b trees) (table_under b others trees blobs)) rows_same
-        (subst (λ (f : Fields). AllFit (length (indices others)) (kinds_of f) (holds_by b trees) (table_under b others trees blobs)) (sym alike.0) kept.fit)));
+    settled =
+        subst (λ (t : List (List ℤ)). AllSettled mode (length (indices extents)) (kinds_of fields) (holds_by a fields) t) (sym (moved_raw blobs))
+        (subst (λ (hs : List Hold). AllSettled mode (length (indices extents)) (kinds_of fields) hs (raw_under b others trees blobs)) holds_same
+        (subst (λ (n : ℕ). AllSettled mode n (kinds_of fields) (holds_by b trees) (raw_under b others trees blobs)) rows_same
+        (subst (λ (f : Fields). AllSettled mode (length (indices others)) (kinds_of f) (holds_by b trees) (raw_under b others trees blobs)) (sym alike.0) kept.settled)));
   }
 
 -- two views over one array, by their fields

@@ -20,9 +20,9 @@ use Rattle.short_rules.specs.Walks.{leads}
 use Rattle.short_rules.specs.declared.short.ShortRule.{ShortRule}
 use Rattle.near_leaves.specs.Nears.{NearLeaf, IsNearOf, stands_at}
 use Rattle.views.specs.Columns.{in_leaf, column}
-use Rattle.views.specs.Kept.{IsMappingOf, table_under}
+use Rattle.views.specs.Kept.{IsMappingOf, raw_under}
 use Rattle.views.proofs.AccessLaws.{word_there, word_read}
-use Rattle.views.proofs.Opened.{table_same}
+use Rattle.views.proofs.Opened.{raw_same}
 
 near_column : (f : ℕ → ℤ) (leaf rows all : ℕ) (table : List (List ℤ)) → length table ≡ rows → all ≤ rows → ((row : ℕ) → row < rows → f row ≡ entry table row leaf)
     → map f (range_with_len 0 all) ≡ take all (column leaf table)
@@ -67,7 +67,7 @@ near_seen leaf rows table seen None all same is = tt
 near_seen leaf rows table seen (Some near) all same is =
     is ∙ ap (λ (n : ℕ). take (16 * (n / 16)) (column leaf table)) all ∙ ap (λ (t : List (List ℤ)). take (16 * (length seen / 16)) (column leaf t)) same
 
-pub table_lent : {term mapped : Term} {extents inside : List ℕ} {fields : Fields} {layout : List (List Owner)} {slots : ℕ} {cells : List Cell} {holds : List Hold}
+pub raw_lent : {term mapped : Term} {extents inside : List ℕ} {fields : Fields} {layout : List (List Owner)} {slots : ℕ} {cells : List Cell} {holds : List Hold}
     → IsMappingOf term extents fields mapped inside layout slots cells holds → (lent blobs : List (List ℕ)) → lent ≡ blobs
-    → table_in layout slots holds lent ≡ table_under term extents fields blobs
-table_lent {term} {mapped} {extents} {inside} {fields} {layout} {slots} {cells} {holds} mapping lent blobs same = ap (table_in layout slots holds) same ∙ table_same mapping blobs
+    → table_in layout slots holds lent ≡ raw_under term extents fields blobs
+raw_lent {term} {mapped} {extents} {inside} {fields} {layout} {slots} {cells} {holds} mapping lent blobs same = ap (table_in layout slots holds) same ∙ raw_same mapping blobs

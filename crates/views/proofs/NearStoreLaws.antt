@@ -22,7 +22,6 @@ use Rattle.map_expr.specs.Terms.{Term, term_of}
 use Rattle.map_checks.specs.Mappings.{layout_by, holds_by}
 use Rattle.piece_rules.specs.declared.rule.PieceRule.{PieceRule}
 use Rattle.piece_bits.specs.Tables.{AreLaid, hold_at, table_in, with_entry}
-use Rattle.piece_bits.specs.TableLaws.{table_shape}
 use Rattle.piece_bits.specs.Words.{word_bit, word_place, word_signed, word_width}
 use Rattle.piece_bits.specs.declared.word.Word.TheVariants as stored
 use Rattle.short_rules.specs.Shorts.{start_in, IsShortIn}
@@ -34,13 +33,16 @@ use Rattle.near_leaves.proofs.Lanes.{lane_width}
 use Rattle.near_leaves.specs.declared.rule.NearRule.{NearRule}
 use Rattle.near_leaves.specs.declared.word.LaneWord.{LaneWord}
 use Rattle.views.specs.Columns.{with_column, column_writes, first_lane_fault}
-use Rattle.views.specs.Kept.{IsKept, table_under}
+use Rattle.kept_tables.specs.declared.mode.StoreMode.TheVariants.{Strict}
+use Rattle.kept_tables.specs.Modes.{IsSettled}
+use Rattle.kept_tables.specs.EntryLaws.{fitting_settled}
+use Rattle.views.specs.Kept.{IsKept, raw_under, table_under}
 use Rattle.views.specs.NearStores.{HavePlaces, IsColumnPut}
 use Rattle.views.specs.Stores.{Answer, Fits, kind_at, told}
 use Rattle.views.specs.Tables.{Table, kept_of, after_stores}
 use Rattle.views.specs.Tallies.{Tally, tallied}
 use Rattle.views.proofs.AccessLaws.{blob_there, word_there, word_put, word_lies}
-use Rattle.views.proofs.KeptLaws.{row_count}
+use Rattle.views.proofs.KeptLaws.{raw_shape, hold_some, raw_is_table}
 use Rattle.views.proofs.Opened.{seen_from}
 use Rattle.views.proofs.StoredLaws.{first_taken, no_column, entry_more, all_kept}
 
@@ -199,24 +201,34 @@ column_all P leaf zero (value ∷ values) (numbers ∷ rows) leaves shape leaf_i
     column_all P leaf zero values rows leaves (λ q l. shape (suc q) (omega arith)) leaf_in (λ k l. each (suc k) (omega arith)) (λ q d l m. all (suc q) d (omega arith) m) r c (omega arith) inside
 
 -- fitting values of a leaf are written
-pub kept_column : (term : Term) (extents : List ℕ) (fields : Fields) (blobs : List (List ℕ)) → IsKept term extents fields blobs → (new : List (List ℕ)) (row leaf : ℕ) (values : List ℤ)
-    → leaf < length (kinds_of fields) → AreLaid (layout_by term extents fields) new → table_under term extents fields new ≡ with_column leaf row values (table_under term extents fields blobs)
-    → ((k : ℕ) → k < length values → Fits (kind_at (kinds_of fields) leaf) (hold_at (holds_by term fields) leaf) (get_or values k (pos 0))) → IsKept term extents fields new
-kept_column term extents fields blobs kept new row leaf values leaf_in laid is fits =
-    let holds = holds_by term fields in
-    let old = table_under term extents fields blobs in
-    let rows : length old ≡ length (indices extents) = row_count term extents fields blobs kept in
-    let shape = table_shape (layout_by term extents fields) (length (indices extents)) holds (bit_in blobs) in
-    record {
-      lawful = kept.lawful;
-      paired = kept.paired;
-      within = kept.within;
-      laid = laid;
-      fit = λ r c l m.
-          subst (λ (t : List (List ℤ)). Fits (kind_at (kinds_of fields) c) (hold_at holds c) (entry t r c)) (sym is)
-          (column_all (λ d v. Fits (kind_at (kinds_of fields) d) (hold_at holds d) v) leaf row values old (length (kinds_of fields))
-          (λ q n. shape.leaf_count q (omega (arith, n, rows)) ∙ kept.paired) leaf_in fits (λ q d n o. kept.fit q d (omega (arith, n, rows)) o) r c (omega (arith, l, rows)) m);
-    }
+module _ (term : Term) (extents : List ℕ) (fields : Fields) (blobs : List (List ℕ)) (kept : IsKept Strict term extents fields blobs) (new : List (List ℕ)) (row leaf : ℕ) (values : List ℤ)
+    (leaf_in : leaf < length (kinds_of fields)) (laid : AreLaid (layout_by term extents fields) new)
+    (is : raw_under term extents fields new ≡ with_column leaf row values (raw_under term extents fields blobs))
+    (fits : (k : ℕ) → k < length values → Fits (kind_at (kinds_of fields) leaf) (hold_at (holds_by term fields) leaf) (get_or values k (pos 0))) where
+  pub kept_column : IsKept Strict term extents fields new
+  kept_column =
+      let kinds = kinds_of fields in
+      let holds = holds_by term fields in
+      let old = raw_under term extents fields blobs in
+      let shape = raw_shape Strict term extents fields blobs kept in
+      let some = hold_some Strict term extents fields blobs kept leaf leaf_in in
+      record {
+        lawful = kept.lawful;
+        paired = kept.paired;
+        within = kept.within;
+        laid = laid;
+        settled = λ r c l m.
+            subst (λ (t : List (List ℤ)). IsSettled Strict (kind_at kinds c) (hold_at holds c) (entry t r c)) (sym is)
+            (column_all (λ d v. IsSettled Strict (kind_at kinds d) (hold_at holds d) v) leaf row values old (length kinds)
+            (λ q n. shape.leaf_count q (omega (arith, n, shape.row_count))) leaf_in
+            (λ k n. fitting_settled Strict (kind_at kinds leaf) (hold_at holds leaf) (get_or values k (pos 0)) some (fits k n))
+            (λ q d n o. kept.settled q d (omega (arith, n, shape.row_count)) o) r c (omega (arith, l, shape.row_count)) m);
+      }
+
+  pub table_column : table_under term extents fields new ≡ with_column leaf row values (table_under term extents fields blobs)
+  table_column =
+      sym (raw_is_table term extents fields new kept_column) ∙ is
+      ∙ ap (with_column leaf row values) (raw_is_table term extents fields blobs kept)
 
 -- the view after values of a leaf were stored
 pub seen_column : (schema : Schema) (extents : List ℕ) (expr : MapExpr) (blobs : List (List ℕ)) {tally : Tally} {seen : Table} → seen_from schema extents expr blobs tally ≡ seen
@@ -231,10 +243,10 @@ seen_column schema extents expr blobs {tally} {seen} is row leaf count values st
     ∙ ap (λ (vs : List ℤ). after_stores seen (with_column leaf row vs seen.rows) (column_writes leaf row count)) (sym (all_kept seen leaf values))
 
 -- where blobs are new ones or the old ones
-pub kept_either : (term : Term) (extents : List ℕ) (fields : Fields) (old new : List (List ℕ)) (stored : Bool) → IsKept term extents fields old
-    → (stored ≡ true → IsKept term extents fields new) → (stored ≡ false → new ≡ old) → IsKept term extents fields new
+pub kept_either : (term : Term) (extents : List ℕ) (fields : Fields) (old new : List (List ℕ)) (stored : Bool) → IsKept Strict term extents fields old
+    → (stored ≡ true → IsKept Strict term extents fields new) → (stored ≡ false → new ≡ old) → IsKept Strict term extents fields new
 kept_either term extents fields old new stored kept wrote left =
-    ⊎_elim wrote (λ (e : stored ≡ false). subst (λ (blobs : List (List ℕ)). IsKept term extents fields blobs) (sym (left e)) kept) (cases_Bool stored)
+    ⊎_elim wrote (λ (e : stored ≡ false). subst (λ (blobs : List (List ℕ)). IsKept Strict term extents fields blobs) (sym (left e)) kept) (cases_Bool stored)
 
 -- ---- sixteen values that are read
 

@@ -22,9 +22,13 @@ use Rattle.piece_bits.specs.Tables.{AreLaid, table_in, hold_at, with_entry}
 use Rattle.views.specs.Tables.{Table, leaf_count_of, answer_of, after_log, after_stores, after_write, IsTable}
 use Rattle.views.specs.Stores.{kind_at, store_answer, Fits}
 use Rattle.views.specs.Tallies.{Access, Write, Tally, touched, tallied, all_touches}
-use Rattle.views.specs.Kept.{IsKept, IsMappingOf, IsTallied, table_under}
+use Rattle.kept_numbers.specs.KeptLaws.{declared_same}
+use Rattle.kept_tables.specs.declared.mode.StoreMode.TheVariants.{Strict}
+use Rattle.kept_tables.specs.Modes.{IsSettled}
+use Rattle.kept_tables.specs.EntryLaws.{fitting_settled}
+use Rattle.views.specs.Kept.{IsKept, IsMappingOf, IsTallied, raw_under, table_under}
 use Rattle.views.proofs.CountLaws.{idle_logged}
-use Rattle.views.proofs.KeptLaws.{kind_count, row_count, kept_shape, kept_fits, kept_set}
+use Rattle.views.proofs.KeptLaws.{kind_count, row_count, kept_shape, kept_fits, hold_some, entry_is_raw, kept_set, table_set}
 use Rattle.views.specs.AnswerLaws.{kept_of-same}
 use Rattle.views.proofs.StoreLaws.{stored_fits}
 
@@ -40,9 +44,9 @@ module _ {term : Term} {extents : List ℕ} {fields : Fields} {mapped : Term} {i
   pub cell_count : length cells ≡ length (kinds_of fields)
   cell_count = ap (length {A = Cell}) mapping.cells_are ∙ length-leaf_cells (kinds_of fields)
 
-  -- the table that its layout says is that of the expression
-  pub table_same : (blobs : List (List ℕ)) → table_in layout slots holds blobs ≡ table_under term extents fields blobs
-  table_same blobs =
+  -- the raw numbers that its layout says are those of the expression
+  pub raw_same : (blobs : List (List ℕ)) → table_in layout slots holds blobs ≡ raw_under term extents fields blobs
+  raw_same blobs =
       ap (λ (w : List (List Owner)). table_in w slots holds blobs) mapping.layout_is
       ∙ ap (λ (w : ℕ). table_in (layout_by term extents fields) w holds blobs) mapping.slots_are
       ∙ ap (λ (w : List Hold). table_in (layout_by term extents fields) (length (indices extents)) w blobs) mapping.holds_are
@@ -55,9 +59,9 @@ module _ {term : Term} {extents : List ℕ} {fields : Fields} {mapped : Term} {i
   laid_here lent blobs same laid = subst (λ (w : List (List ℕ)). AreLaid layout w) (sym same) (subst (λ (w : List (List Owner)). AreLaid w blobs) (sym mapping.layout_is) laid)
 
   pub read_here : (lent blobs : List (List ℕ)) → lent ≡ blobs → (row leaf : ℕ) →
-      entry (table_in layout slots holds lent) row leaf ≡ entry (table_under term extents fields blobs) row leaf
+      entry (table_in layout slots holds lent) row leaf ≡ entry (raw_under term extents fields blobs) row leaf
   read_here lent blobs same row leaf =
-      ap (λ (w : List (List ℕ)). entry (table_in layout slots holds w) row leaf) same ∙ ap (λ (t : List (List ℤ)). entry t row leaf) (table_same blobs)
+      ap (λ (w : List (List ℕ)). entry (table_in layout slots holds w) row leaf) same ∙ ap (λ (t : List (List ℤ)). entry t row leaf) (raw_same blobs)
 
   pub lawful_there : IsLaidOut layout slots (map (λ (h : Hold). h.width) holds) →
       IsLaidOut (layout_by term extents fields) (length (indices extents)) (map (λ (h : Hold). h.width) (holds_by term fields))
@@ -109,17 +113,17 @@ seen_from schema extents expr blobs tally = record {
   tally = tally;
 }
 
-module _ (schema : Schema) (extents : List ℕ) (expr : MapExpr) (blobs : List (List ℕ)) (kept : IsKept (term_of expr) extents (schema_fields schema) blobs)
+module _ (schema : Schema) (extents : List ℕ) (expr : MapExpr) (blobs : List (List ℕ)) (kept : IsKept Strict (term_of expr) extents (schema_fields schema) blobs)
     {tally : Tally} (seen : Table) (is : seen_from schema extents expr blobs tally ≡ seen) where
   pub rows_seen : length seen.rows ≡ length (indices extents)
-  rows_seen = ap (λ (s : Table). length s.rows) (sym is) ∙ row_count (term_of expr) extents (schema_fields schema) blobs kept
+  rows_seen = ap (λ (s : Table). length s.rows) (sym is) ∙ row_count Strict (term_of expr) extents (schema_fields schema) blobs kept
 
   pub table_seen : IsTable seen
   table_seen =
       let fields = schema_fields schema in
       let here : IsTable (seen_from schema extents expr blobs tally) = record {
-        rows = row_count (term_of expr) extents fields blobs kept;
-        shape = kept_shape (term_of expr) extents fields blobs kept (length (leaves (schema_fields schema))) (kind_count (schema_fields schema));
+        rows = row_count Strict (term_of expr) extents fields blobs kept;
+        shape = kept_shape Strict (term_of expr) extents fields blobs kept (length (leaves (schema_fields schema))) (kind_count (schema_fields schema));
         fits = kept_fits (term_of expr) extents fields blobs kept;
       } in
       subst (λ (s : Table). IsTable s) is here
@@ -139,22 +143,35 @@ module _ (schema : Schema) (extents : List ℕ) (expr : MapExpr) (blobs : List (
       let here : store_answer kind hold value ≡ Ok value = ap (λ (s : Table). answer_of s leaf value) is ∙ taken in
       stored_fits kind hold value here
 
-  -- a fitting value is written
-  pub kept_after : (row leaf : ℕ) (value : ℤ) (new : List (List ℕ)) → row < length seen.rows → leaf < leaf_count_of seen → answer_of seen leaf value ≡ Ok value →
-      AreLaid (layout_by (term_of expr) extents (schema_fields schema)) new →
-      table_under (term_of expr) extents (schema_fields schema) new
-      ≡ with_entry (table_under (term_of expr) extents (schema_fields schema) blobs) row leaf value →
-      IsKept (term_of expr) extents (schema_fields schema) new
-  kept_after row leaf value new row_in leaf_in taken laid table =
-      kept_set (term_of expr) extents (schema_fields schema) blobs kept
-      new row leaf value (omega (arith, rows_seen)) (leaf_seen leaf leaf_in) laid table (fits_seen leaf value taken)
+  -- a raw number that a fitting value is
+  settled_seen : (leaf : ℕ) (value : ℤ) → leaf < leaf_count_of seen → answer_of seen leaf value ≡ Ok value →
+      IsSettled Strict (kind_at (kinds_of (schema_fields schema)) leaf) (hold_at (holds_by (term_of expr) (schema_fields schema)) leaf) value
+  settled_seen leaf value leaf_in taken =
+      fitting_settled Strict (kind_at (kinds_of (schema_fields schema)) leaf) (hold_at (holds_by (term_of expr) (schema_fields schema)) leaf) value
+      (hold_some Strict (term_of expr) extents (schema_fields schema) blobs kept leaf (leaf_seen leaf leaf_in)) (fits_seen leaf value taken)
 
--- an entry that is read is one of the table that callers see
-pub entry_seen : (schema : Schema) (extents : List ℕ) (expr : MapExpr) (blobs : List (List ℕ)) {tally : Tally} {seen : Table} {mapped : Term} {inside : List ℕ}
-    {layout : List (List Owner)} {slots : ℕ} {cells : List Cell} {holds : List Hold} → IsMappingOf (term_of expr) extents (schema_fields schema) mapped inside layout slots cells holds
-    → seen_from schema extents expr blobs tally ≡ seen → (lent : List (List ℕ)) → lent ≡ blobs → (row leaf : ℕ)
-    → entry (table_in layout slots holds lent) row leaf ≡ entry seen.rows row leaf
-entry_seen schema extents expr blobs mapping is lent same row leaf = read_here mapping lent blobs same row leaf ∙ ap (λ (s : Table). entry s.rows row leaf) is
+  -- it is written
+  module _ (row leaf : ℕ) (value : ℤ) (new : List (List ℕ)) (row_in : row < length seen.rows) (leaf_in : leaf < leaf_count_of seen) (taken : answer_of seen leaf value ≡ Ok value)
+      (raw : raw_under (term_of expr) extents (schema_fields schema) new ≡ with_entry (raw_under (term_of expr) extents (schema_fields schema) blobs) row leaf value) where
+    pub kept_after : AreLaid (layout_by (term_of expr) extents (schema_fields schema)) new → IsKept Strict (term_of expr) extents (schema_fields schema) new
+    kept_after laid =
+        kept_set Strict (term_of expr) extents (schema_fields schema) blobs kept new row leaf value (omega (arith, row_in, rows_seen)) (leaf_seen leaf leaf_in) raw
+        (settled_seen leaf value leaf_in taken) laid
+
+    pub table_after : table_under (term_of expr) extents (schema_fields schema) new ≡ with_entry (table_under (term_of expr) extents (schema_fields schema) blobs) row leaf value
+    table_after =
+        table_set Strict (term_of expr) extents (schema_fields schema) blobs kept new row leaf value (omega (arith, row_in, rows_seen)) (leaf_seen leaf leaf_in) raw
+        ∙ ap (with_entry (table_under (term_of expr) extents (schema_fields schema) blobs) row leaf)
+        (declared_same (kind_at (kinds_of (schema_fields schema)) leaf) value (fits_seen leaf value taken).declared)
+
+  -- an entry that is read is one of the table that callers see
+  pub entry_seen : {mapped : Term} {inside : List ℕ} {layout : List (List Owner)} {slots : ℕ} {cells : List Cell} {holds : List Hold}
+      → IsMappingOf (term_of expr) extents (schema_fields schema) mapped inside layout slots cells holds → (lent : List (List ℕ)) → lent ≡ blobs
+      → (row leaf : ℕ) → row < length seen.rows → leaf < leaf_count_of seen → entry (table_in layout slots holds lent) row leaf ≡ entry seen.rows row leaf
+  entry_seen mapping lent same row leaf row_in leaf_in =
+      read_here mapping lent blobs same row leaf
+      ∙ sym (entry_is_raw (term_of expr) extents (schema_fields schema) blobs kept row leaf (omega (arith, row_in, rows_seen)) (leaf_seen leaf leaf_in))
+      ∙ ap (λ (s : Table). entry s.rows row leaf) is
 
 -- the view after accesses that left its table, after a value was stored that no counter sees, and after a store
 module _ (schema : Schema) (extents : List ℕ) (expr : MapExpr) (blobs : List (List ℕ)) {tally : Tally} {seen : Table} (is : seen_from schema extents expr blobs tally ≡ seen) where

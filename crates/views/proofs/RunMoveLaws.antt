@@ -18,7 +18,7 @@ use Rattle.places.specs.Layout.{Owner}
 use Rattle.places.specs.declared.piece.Cell.{Cell}
 use Rattle.places.specs.declared.piece.Hold.{Hold}
 use Rattle.piece_bits.specs.MovedLaws.{AreMoved}
-use Rattle.piece_bits.specs.Tables.{AreLaid, AreSized, table_in, hold_at}
+use Rattle.piece_bits.specs.Tables.{AreLaid, AreSized, HasShape, table_in, hold_at}
 use Rattle.map_expr.specs.Terms.{Term, Aos, Soa, Aosoa, BitAos, BitSoa, Split, Byteswap, Bytesplit, Change, Count, Heat, Named}
 use Rattle.map_checks.specs.LeafCells.{leaf_cells_kinds, holds_by_kind}
 use Rattle.map_checks.specs.Mappings.{leaf_cells, layout_by, holds_by, most_slots, IsTooBigFor}
@@ -26,11 +26,16 @@ use Rattle.map_plans.specs.Arrays.{array_of, lanes_in}
 use Rattle.map_any.specs.ArrayRuns.{IsArrayRun}
 use Rattle.map_any.specs.ArrayRunLaws.{array_holds}
 use Rattle.map_any.specs.Strategies.{AreRuns}
-use Rattle.views.specs.Kept.{IsKept, IsMappingOf, table_under}
+use Rattle.kept_tables.specs.declared.mode.StoreMode.TheVariants.{Strict}
+use Rattle.kept_tables.specs.Modes.{declared_table, IsSettled, AllSettled}
+use Rattle.kept_tables.specs.TableLaws.{declared_entry}
+use Rattle.kept_numbers.specs.Kept.{declared}
+use Rattle.views.specs.Kept.{IsKept, IsMappingOf, raw_under, table_under}
+use Rattle.views.proofs.KeptLaws.{raw_shape}
 use Rattle.views.specs.Moves.{size_of, IsInBlock, IsInRun, IsRunMoved}
 use Rattle.views.specs.Tables.{Table, leaf_count_of}
 use Rattle.views.specs.MovesLaws.{run_laid, run_moved}
-use Rattle.views.specs.Stores.{kind_at, Fits, AllFit}
+use Rattle.views.specs.Stores.{kind_at}
 
 -- what is said of a value three times says another thing of it
 if_three : {X : Type 0} (o : Option X) (P Q R S : X → Type 0) → ((x : X) → P x → Q x → R x → S x) → IfSome o P → IfSome o Q → IfSome o R → IfSome o S
@@ -136,7 +141,7 @@ module _ (a b : Term) (extents others_extents : List ℕ) (fields trees : Fields
     (alike : (fields ≡ trees) × (extents ≡ others_extents)) (arrays : AreRuns a b) (leaf_in : leaf < length (kinds_of fields)) (some : 0 < count)
     (len_is : len ≡ count * size_of (kind_at (kinds_of fields) leaf))
     (one : IfSome (array_of a) (IsRunOf a extents fields leaf slot count target at)) (two : IfSome (array_of b) (IsRunOf b others_extents trees leaf slot count source from))
-    (kept : IsKept a extents fields old) (others_kept : IsKept b others_extents trees others) where
+    (kept : IsKept Strict a extents fields old) (others_kept : IsKept Strict b others_extents trees others) where
   abbrev OneOrder : Order × Option ℕ → Order × Option ℕ → Type 0
   OneOrder x y = x.0 ≡ y.0
 
@@ -146,8 +151,8 @@ module _ (a b : Term) (extents others_extents : List ℕ) (fields trees : Fields
       (subst (λ (f : Fields). IfSome (array_of b) (IsRunOf b extents f leaf slot count source from)) (sym alike.0)
       (subst (λ (e : List ℕ). IfSome (array_of b) (IsRunOf b e trees leaf slot count source from)) (sym alike.1) two))
 
-  there : IsKept b extents fields others
-  there = subst (λ (f : Fields). IsKept b extents f others) (sym alike.0) (subst (λ (e : List ℕ). IsKept b e trees others) (sym alike.1) others_kept)
+  there : IsKept Strict b extents fields others
+  there = subst (λ (f : Fields). IsKept Strict b extents f others) (sym alike.0) (subst (λ (e : List ℕ). IsKept Strict b e trees others) (sym alike.1) others_kept)
 
   abbrev width : ℕ
   width = width_of (kind_at (kinds_of fields) leaf)
@@ -203,20 +208,20 @@ module _ (a b : Term) (extents others_extents : List ℕ) (fields trees : Fields
     width_is = ap (λ (h : Hold). h.width) (full_hold (kinds_of fields) holds leaf leaf_in both.of_one.full)
 
     is_moved : IsRunMoved order extents (length (indices extents)) (length holds) leaf slot count
-        (table_in other (length (indices extents)) holds others) (table_under a extents fields old) (table_under a extents fields new)
+        (table_in other (length (indices extents)) holds others) (raw_under a extents fields old) (raw_under a extents fields new)
     is_moved =
         run_moved layout other order extents holds others old new leaf width slot count source (8 * from) target (8 * at) kept.lawful other_lawful in_holds width_is
         (some_width (kind_at (kinds_of fields) leaf)) both.of_one.run other_run moved_bits
 
-    same_table : table_in other (length (indices extents)) holds others ≡ table_under b extents fields others
-    same_table = ap (λ (hs : List Hold). table_in other (length (indices extents)) hs others) (sym holds_same)
+    same_raw : table_in other (length (indices extents)) holds others ≡ raw_under b extents fields others
+    same_raw = ap (λ (hs : List Hold). table_in other (length (indices extents)) hs others) (sym holds_same)
 
-    source_fits : AllFit (length (indices extents)) (kinds_of fields) holds (table_in other (length (indices extents)) holds others)
-    source_fits =
-        subst (λ (hs : List Hold). AllFit (length (indices extents)) (kinds_of fields) hs (table_in other (length (indices extents)) hs others)) holds_same there.fit
+    source_settled : AllSettled Strict (length (indices extents)) (kinds_of fields) holds (table_in other (length (indices extents)) holds others)
+    source_settled =
+        subst (λ (hs : List Hold). AllSettled Strict (length (indices extents)) (kinds_of fields) hs (table_in other (length (indices extents)) hs others)) holds_same there.settled
 
     -- what is kept of the blobs then
-    pub run_kept : IsKept a extents fields new
+    pub run_kept : IsKept Strict a extents fields new
     run_kept = record {
       lawful = kept.lawful;
       paired = kept.paired;
@@ -224,19 +229,19 @@ module _ (a b : Term) (extents others_extents : List ℕ) (fields trees : Fields
       laid =
           run_laid layout other order extents holds others old new leaf width slot count source (8 * from) target (8 * at) kept.lawful other_lawful in_holds width_is
           (some_width (kind_at (kinds_of fields) leaf)) both.of_one.run other_run moved_bits kept.laid there.laid;
-      fit = λ row c row_in c_in.
-          let Fit : ℤ → Type 0 = λ value. Fits (kind_at (kinds_of fields) c) (hold_at holds c) value in
+      settled = λ row c row_in c_in.
+          let Settled : ℤ → Type 0 = λ value. IsSettled Strict (kind_at (kinds_of fields) c) (hold_at holds c) value in
           let in_table : c < length holds = omega (arith, kept.paired) in
-          let stands : ((c ≡ leaf) → IsInRun order extents slot count row → ⊥) → Fit (entry (table_under a extents fields new) row c) =
-          λ apart. subst Fit (sym (is_moved.stands row c row_in in_table apart)) (kept.fit row c row_in c_in) in
+          let stands : ((c ≡ leaf) → IsInRun order extents slot count row → ⊥) → Settled (entry (raw_under a extents fields new) row c) =
+          λ apart. subst Settled (sym (is_moved.stands row c row_in in_table apart)) (kept.settled row c row_in c_in) in
           ⊎_elim
           (λ (same : c ≡ leaf).
           ⊎_elim (λ (low : slot_at order extents row < slot). stands (λ e run. absurd (let l : slot ≤ slot_at order extents row = run.0 in omega arith)))
           (λ (from_slot : slot ≤ slot_at order extents row).
           ⊎_elim
           (λ (before : slot_at order extents row < slot + count).
-          subst Fit (sym (ap (entry (table_under a extents fields new) row) same ∙ is_moved.moved row row_in (from_slot, before) ∙ ap (entry (table_in other (length (indices extents)) holds others) row) (sym same)))
-          (source_fits row c row_in c_in))
+          subst Settled (sym (ap (entry (raw_under a extents fields new) row) same ∙ is_moved.moved row row_in (from_slot, before) ∙ ap (entry (table_in other (length (indices extents)) holds others) row) (sym same)))
+          (source_settled row c row_in c_in))
           (λ (past : slot + count ≤ slot_at order extents row). stands (λ e run. absurd (let l : slot_at order extents row < slot + count = run.1 in omega arith)))
           (cases_lt (slot_at order extents row) (slot + count)))
           (cases_lt (slot_at order extents row) slot))
@@ -244,20 +249,54 @@ module _ (a b : Term) (extents others_extents : List ℕ) (fields trees : Fields
           (cases_eq c leaf);
     }
 
-    -- and what the table is
-    pub run_table : IfSome (array_of a) (λ array. IsRunMoved array.0 extents (length (indices extents)) (length (kinds_of fields)) leaf slot count
-        (table_under b others_extents trees others) (table_under a extents fields old) (table_under a extents fields new))
-    run_table =
+    -- and what the raw numbers are
+    pub run_raw : IfSome (array_of a) (λ array. IsRunMoved array.0 extents (length (indices extents)) (length (kinds_of fields)) leaf slot count
+        (raw_under b others_extents trees others) (raw_under a extents fields old) (raw_under a extents fields new))
+    run_raw =
         let Moved : List (List ℤ) → Type 0 = λ t. IsRunMoved order extents (length (indices extents)) (length (kinds_of fields)) leaf slot count t
-        (table_under a extents fields old) (table_under a extents fields new) in
+        (raw_under a extents fields old) (raw_under a extents fields new) in
         let here : Moved (table_in other (length (indices extents)) holds others) =
         subst (λ (n : ℕ). IsRunMoved order extents (length (indices extents)) n leaf slot count (table_in other (length (indices extents)) holds others)
-        (table_under a extents fields old) (table_under a extents fields new)) kept.paired is_moved in
-        let far : Moved (table_under b others_extents trees others) =
-        subst (λ (f : Fields). Moved (table_under b others_extents f others)) alike.0
-        (subst (λ (e : List ℕ). Moved (table_under b e fields others)) alike.1 (subst Moved same_table here)) in
+        (raw_under a extents fields old) (raw_under a extents fields new)) kept.paired is_moved in
+        let far : Moved (raw_under b others_extents trees others) =
+        subst (λ (f : Fields). Moved (raw_under b others_extents f others)) alike.0
+        (subst (λ (e : List ℕ). Moved (raw_under b e fields others)) alike.1 (subst Moved same_raw here)) in
         subst (λ (o : Option (Order × Option ℕ)). IfSome o (λ array. IsRunMoved array.0 extents (length (indices extents)) (length (kinds_of fields)) leaf slot count
-        (table_under b others_extents trees others) (table_under a extents fields old) (table_under a extents fields new))) (sym both.is_one) far
+        (raw_under b others_extents trees others) (raw_under a extents fields old) (raw_under a extents fields new))) (sym both.is_one) far
+
+-- the same of the tables that raw numbers stand for
+run_declared : (by : Order) (extents : List ℕ) (rows leaf slot count : ℕ) (kinds : List LeafType) (source old new : List (List ℤ)) → leaf < length kinds
+    → HasShape rows (length kinds) source → HasShape rows (length kinds) old → HasShape rows (length kinds) new → IsRunMoved by extents rows (length kinds) leaf slot count source old new
+    → IsRunMoved by extents rows (length kinds) leaf slot count (declared_table kinds source) (declared_table kinds old) (declared_table kinds new)
+run_declared by extents rows leaf slot count kinds source old new leaf_in one two three is = record {
+  moved = λ row l run.
+      declared_entry rows kinds new three row leaf l leaf_in ∙ ap (declared (kind_at kinds leaf)) (is.moved row l run) ∙ sym (declared_entry rows kinds source one row leaf l leaf_in);
+  stands = λ row other l m apart.
+      declared_entry rows kinds new three row other l m ∙ ap (declared (kind_at kinds other)) (is.stands row other l m apart) ∙ sym (declared_entry rows kinds old two row other l m);
+}
+
+if_one : {X : Type 0} (o : Option X) (P Q : X → Type 0) → ((x : X) → P x → Q x) → IfSome o P → IfSome o Q
+if_one None P Q f p = tt
+if_one (Some x) P Q f p = f x p
+
+pub run_table : (a b : Term) (extents others_extents : List ℕ) (fields trees : Fields) (old others new : List (List ℕ)) (leaf slot count : ℕ)
+    → (fields ≡ trees) × (extents ≡ others_extents) → leaf < length (kinds_of fields) → IsKept Strict a extents fields old → IsKept Strict b others_extents trees others → IsKept Strict a extents fields new
+    → IfSome (array_of a) (λ array. IsRunMoved array.0 extents (length (indices extents)) (length (kinds_of fields)) leaf slot count
+    (raw_under b others_extents trees others) (raw_under a extents fields old) (raw_under a extents fields new))
+    → IfSome (array_of a) (λ array. IsRunMoved array.0 extents (length (indices extents)) (length (kinds_of fields)) leaf slot count
+    (table_under b others_extents trees others) (table_under a extents fields old) (table_under a extents fields new))
+run_table a b extents others_extents fields trees old others new leaf slot count alike leaf_in kept others_kept new_kept =
+    let rows : ℕ = length (indices extents) in
+    let kinds : List LeafType = kinds_of fields in
+    let source : List (List ℤ) = raw_under b others_extents trees others in
+    let shape : HasShape rows (length kinds) source =
+    subst (λ (f : Fields). HasShape rows (length (kinds_of f)) source) (sym alike.0)
+    (subst (λ (e : List ℕ). HasShape (length (indices e)) (length (kinds_of trees)) source) (sym alike.1) (raw_shape Strict b others_extents trees others others_kept)) in
+    let same : declared_table kinds source ≡ table_under b others_extents trees others = ap (λ (f : Fields). declared_table (kinds_of f) source) alike.0 in
+    if_one (array_of a) _ _ (λ array is.
+    subst (λ (t : List (List ℤ)). IsRunMoved array.0 extents rows (length kinds) leaf slot count t (table_under a extents fields old) (table_under a extents fields new)) same
+    (run_declared array.0 extents rows leaf slot count kinds source (raw_under a extents fields old) (raw_under a extents fields new) leaf_in shape
+    (raw_shape Strict a extents fields old kept) (raw_shape Strict a extents fields new new_kept) is))
 
 -- a mapping that lays out arrays over few slots, as those of views are
 slots_are : (term : Term) (extents : List ℕ) → IfSome (array_of term) (λ array. slot_count array.0 extents ≡ most_slots term extents)

@@ -15,7 +15,8 @@ use Rattle.instrument.specs.Counters.{HeatCounts, leaf_counts, heat_counts, gran
 use Rattle.instrument.specs.declared.counts.Counts.{Counts}
 use Rattle.instrument.specs.declared.heat.Heat.{Heat}
 use Rattle.views.specs.Tallies.{Tally, blob_lengths}
-use Rattle.views.specs.Stores.{AllFit}
+use Rattle.kept_tables.specs.Modes.{declared_table, AllSettled}
+use Rattle.kept_tables.specs.declared.mode.StoreMode.{StoreMode}
 
 -- a mapping is of an expression over an array, and has its layout, rows, leaves and holds
 pub record IsMappingOf (term : Term) (extents : List ℕ) (fields : Fields) (mapped : Term) (mapped_extents : List ℕ)
@@ -27,17 +28,21 @@ pub record IsMappingOf (term : Term) (extents : List ℕ) (fields : Fields) (map
   pub cells_are : cells ≡ leaf_cells (kinds_of fields)
   pub holds_are : holds ≡ holds_by term fields
 
--- the table that blobs hold under the layout of an expression
-abbrev pub table_under : Term → List ℕ → Fields → List (List ℕ) → List (List ℤ)
-table_under term extents fields blobs = table_in (layout_by term extents fields) (length (indices extents)) (holds_by term fields) blobs
+-- the raw numbers that blobs hold under the layout of an expression, and the table that they stand for
+abbrev pub raw_under : Term → List ℕ → Fields → List (List ℕ) → List (List ℤ)
+raw_under term extents fields blobs = table_in (layout_by term extents fields) (length (indices extents)) (holds_by term fields) blobs
 
--- the layout of the expression keeps the laws of layouts and is within the limits, the blobs are laid out by it, and every value fits
-pub record IsKept (term : Term) (extents : List ℕ) (fields : Fields) (blobs : List (List ℕ)) : Type 0 where
+abbrev pub table_under : Term → List ℕ → Fields → List (List ℕ) → List (List ℤ)
+table_under term extents fields blobs = declared_table (kinds_of fields) (raw_under term extents fields blobs)
+
+-- the layout of the expression keeps the laws of layouts and is within the limits, the blobs are laid out by it, and each raw number is
+-- what the image of an entry says that stays in a view of this mode
+pub record IsKept (mode : StoreMode) (term : Term) (extents : List ℕ) (fields : Fields) (blobs : List (List ℕ)) : Type 0 where
   pub lawful : IsLaidOut (layout_by term extents fields) (length (indices extents)) (map (λ hold. hold.width) (holds_by term fields))
   pub paired : length (holds_by term fields) ≡ length (kinds_of fields)
   pub within : IsTooBigFor term extents fields (leaf_cells (kinds_of fields)) → ⊥
   pub laid : AreLaid (layout_by term extents fields) blobs
-  pub fit : AllFit (length (indices extents)) (kinds_of fields) (holds_by term fields) (table_under term extents fields blobs)
+  pub settled : AllSettled mode (length (indices extents)) (kinds_of fields) (holds_by term fields) (raw_under term extents fields blobs)
 
 -- what the counters of a view mean
 abbrev pub tally_of : Option Counts → Option Heat → Tally

@@ -7,12 +7,9 @@ use Rattle.record_dim.specs.LeafTypes.{least_of, greatest_of, least_in, greatest
 use Rattle.places.specs.declared.piece.Hold.{Hold}
 use Rattle.places.specs.Image.{entry}
 use Rattle.piece_bits.specs.Tables.{hold_at}
+pub use Rattle.kept_tables.specs.Modes.{kind_at, Fits}
 use Rattle.views.specs.declared.fault.StoreFault.{StoreFault}
 use Rattle.views.specs.declared.fault.StoreFault.TheVariants.{Range, Narrow}
-
--- the type of a leaf
-abbrev pub kind_at : List LeafType → ℕ → LeafType
-kind_at kinds leaf = slice_index_or kinds leaf Truth
 
 -- whether a value lies between two numbers, both included
 abbrev pub is_between : ℤ → ℤ → ℤ → Bool
@@ -52,11 +49,6 @@ kept_rows keep rows = map (kept_row keep) rows
 abbrev pub told : Result ℤ StoreFault → Result Unit StoreFault
 told (Ok kept) = Ok tt
 told (Err fault) = Err fault
-
--- a value lies in the declared range of its leaf and in the range of its hold
-pub record Fits (kind : LeafType) (hold : Hold) (value : ℤ) : Type 0 where
-  pub declared : IsDeclared kind value
-  pub held : IsIn hold.signed hold.width value
 
 -- every value of a table fits
 abbrev pub AllFit : ℕ → List LeafType → List Hold → List (List ℤ) → Type 0

@@ -66,6 +66,7 @@ impl Model for View {
     ghost use Rattle.record_dim.specs.Leaves.{leaves};
     ghost use Rattle.map_checks.specs.Mappings.{layout_by};
     ghost use Rattle.map_any.specs.Maps.{extents_of, term_of_map};
+    ghost use Rattle.kept_tables.specs.declared.mode.StoreMode.TheVariants.{Strict};
     ghost use Rattle.views.specs.Kept.{IsKept, IsMappingOf, IsTallied, table_under, tally_of};
 
     ghost view = { λ v. record {
@@ -78,7 +79,7 @@ impl Model for View {
 
     ghost invariant = { λ v. IsMappingOf (term_of v.expr) v.extents (schema_fields v.schema) (term_of_map v.map) (extents_of v.map) (⟦<AnyMap as Mapping>⟧.layout v.map)
         (⟦<AnyMap as Mapping>⟧.slot_count v.map) (⟦<AnyMap as Mapping>⟧.cell_list v.map) (⟦<AnyMap as Mapping>⟧.hold_list v.map)
-        × IsKept (term_of v.expr) v.extents (schema_fields v.schema) v.blobs.items
+        × IsKept Strict (term_of v.expr) v.extents (schema_fields v.schema) v.blobs.items
         × IsTallied (term_of v.expr) (layout_by (term_of v.expr) v.extents (schema_fields v.schema)) (length (leaves (schema_fields v.schema)))
         (tally_of v.counts v.heat) };
 }

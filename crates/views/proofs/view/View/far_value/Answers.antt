@@ -28,6 +28,14 @@ pub short_read-requires-clause-laid : goal.short_read-requires-clause-laid
 short_read-requires-clause-laid c =
     laid_here c.self.invariant.0 c.as_slice.result.now c.self.inside.blobs.items c.as_slice.ensures.value c.self.invariant.1.laid
 
+pub returns-in-Some-clause-value : goal.returns-in-Some-clause-value
+returns-in-Some-clause-value c =
+    let a = c.self.inside in
+    let fits : SFits w128 c.in-Some.value = search rules in
+    to_z-of_z w128 c.in-Some.value fits ∙ c.in-Some.ensures.value
+    ∙ entry_seen a.schema a.extents a.expr a.blobs.items c.self.invariant.1 c.args.self.now c.self.view_is c.self.invariant.0 c.as_slice.result.now c.as_slice.ensures.value c.args.row c.args.leaf
+    c.requires.row_in c.requires.leaf_in
+
 pub returns-in-Some-clause-fits : goal.returns-in-Some-clause-fits
 returns-in-Some-clause-fits c =
     let a = c.self.inside in
@@ -35,7 +43,8 @@ returns-in-Some-clause-fits c =
     let row = c.args.row in
     let leaf = c.args.leaf in
     let read : c.in-Some.value ≡ entry seen.rows row leaf =
-    c.in-Some.ensures.value ∙ entry_seen a.schema a.extents a.expr a.blobs.items c.self.invariant.0 c.self.view_is c.as_slice.result.now c.as_slice.ensures.value row leaf in
+    c.in-Some.ensures.value ∙ entry_seen a.schema a.extents a.expr a.blobs.items c.self.invariant.1 c.args.self.now c.self.view_is c.self.invariant.0 c.as_slice.result.now c.as_slice.ensures.value row leaf
+    c.requires.row_in c.requires.leaf_in in
     let table = table_seen a.schema a.extents a.expr a.blobs.items c.self.invariant.1 seen c.self.view_is in
     let leaf_in : leaf < length (leaf_types_of seen) = omega (arith, kind_count seen.fields, c.requires.leaf_in) in
     let fits : SFits w128 c.in-Some.value = search rules in

@@ -5,6 +5,7 @@ use Rattle.blobs.specs.Moves.{blocks}
 use Rattle.map_expr.specs.Terms.{term_of, uncounted}
 use Rattle.map_checks.specs.Mappings.{layout_by}
 use Rattle.piece_bits.specs.Tables.{AreSized}
+use Rattle.kept_tables.specs.declared.mode.StoreMode.TheVariants.{Strict}
 use Rattle.views.specs.Kept.{IsKept, tally_of, table_under}
 use Rattle.views.specs.Moves.{blob_steps}
 use Rattle.views.specs.Tables.{Table, owners_of}
@@ -18,7 +19,7 @@ move_all-requires g c =
     let layout : List (List Owner) = layout_by (term_of a.expr) a.extents (schema_fields a.schema) in
     let alike : (schema_fields a.schema ≡ schema_fields b.schema) × (a.extents ≡ b.extents) = views_alike c.args.self.now c.args.source.now c.self.view_is c.source.view_is c.requires.alike in
     let same : uncounted (term_of a.expr) ≡ uncounted (term_of b.expr) = views_one c.args.self.now c.args.source.now c.self.view_is c.source.view_is c.requires.blobs in
-    let kept = moved_kept (term_of a.expr) (term_of b.expr) a.extents b.extents (schema_fields a.schema) (schema_fields b.schema) same alike b.blobs.items c.source.invariant.1 in
+    let kept = moved_kept (term_of a.expr) (term_of b.expr) a.extents b.extents (schema_fields a.schema) (schema_fields b.schema) same alike Strict b.blobs.items c.source.invariant.1 in
     record {
       lengths = same_lengths layout a.blobs.items c.as_slice.result.now c.self.invariant.1.laid.sized
           (subst (λ (bs : List (List ℕ)). AreSized layout bs) (sym c.as_slice.ensures.value) kept.laid.sized);
@@ -30,9 +31,9 @@ invariant_of-self g c =
     let b = c.source.inside in
     let alike : (schema_fields a.schema ≡ schema_fields b.schema) × (a.extents ≡ b.extents) = views_alike c.args.self.now c.args.source.now c.self.view_is c.source.view_is c.requires.alike in
     let same : uncounted (term_of a.expr) ≡ uncounted (term_of b.expr) = views_one c.args.self.now c.args.source.now c.self.view_is c.source.view_is c.requires.blobs in
-    let kept = moved_kept (term_of a.expr) (term_of b.expr) a.extents b.extents (schema_fields a.schema) (schema_fields b.schema) same alike b.blobs.items c.source.invariant.1 in (
+    let kept = moved_kept (term_of a.expr) (term_of b.expr) a.extents b.extents (schema_fields a.schema) (schema_fields b.schema) same alike Strict b.blobs.items c.source.invariant.1 in (
       c.self.invariant.0,
-      subst (λ (bs : List (List ℕ)). IsKept (term_of a.expr) a.extents (schema_fields a.schema) bs) (sym (c.move_all.ensures.blobs ∙ c.as_slice.ensures.value)) kept,
+      subst (λ (bs : List (List ℕ)). IsKept Strict (term_of a.expr) a.extents (schema_fields a.schema) bs) (sym (c.move_all.ensures.blobs ∙ c.as_slice.ensures.value)) kept,
       c.self.invariant.2,
     )
 
@@ -55,7 +56,7 @@ returns-clause-steps g c =
     let layout : List (List Owner) = layout_by (term_of a.expr) a.extents (schema_fields a.schema) in
     let alike : (schema_fields a.schema ≡ schema_fields b.schema) × (a.extents ≡ b.extents) = views_alike c.args.self.now c.args.source.now c.self.view_is c.source.view_is c.requires.alike in
     let same : uncounted (term_of a.expr) ≡ uncounted (term_of b.expr) = views_one c.args.self.now c.args.source.now c.self.view_is c.source.view_is c.requires.blobs in
-    let kept = moved_kept (term_of a.expr) (term_of b.expr) a.extents b.extents (schema_fields a.schema) (schema_fields b.schema) same alike b.blobs.items c.source.invariant.1 in
+    let kept = moved_kept (term_of a.expr) (term_of b.expr) a.extents b.extents (schema_fields a.schema) (schema_fields b.schema) same alike Strict b.blobs.items c.source.invariant.1 in
     let count : sum_by (λ (blob : List ℕ). blocks (length blob)) c.as_slice.result.now ≡ blob_steps (owners_of c.args.self.now) =
     ap (λ (bs : List (List ℕ)). sum_by (λ (blob : List ℕ). blocks (length blob)) bs) c.as_slice.ensures.value
     ∙ blocks_are layout b.blobs.items kept.laid.sized ∙ ap (λ (s : Table). blob_steps (owners_of s)) c.self.view_is in

@@ -15,10 +15,11 @@ use Rattle.views.specs.Kept.{tally_of, table_under}
 use Rattle.views.specs.Moves.{size_of, IsInBlock}
 use Rattle.views.specs.Stores.{kind_at}
 use Rattle.views.specs.Tables.{Table, leaf_type_of}
+use Rattle.kept_tables.specs.declared.mode.StoreMode.TheVariants.{Strict}
 use Rattle.views.proofs.KeptLaws.{kind_count, row_count}
 use Rattle.views.proofs.MoveLaws.{views_alike, seen_moved}
 use Rattle.views.proofs.Opened.{cell_count, leaf_seen}
-use Rattle.views.proofs.RunMoveLaws.{few_slots, nothing_moved, moved_seen, runs_seen, one_seen, block_seen, few_bits, run_there, slot_there, other_is, target_in, target_room, source_in, source_room, run_kept, run_table}
+use Rattle.views.proofs.RunMoveLaws.{few_slots, nothing_moved, moved_seen, runs_seen, one_seen, block_seen, few_bits, run_there, slot_there, other_is, target_in, target_room, source_in, source_room, run_kept, run_raw, run_table}
 use Rattle.views.proofs.view.View.move_run.Goals as goal
 
 pub returns-then-n-eq0-clause-moved : goal.returns-then-n-eq0-clause-moved
@@ -190,9 +191,12 @@ returns-clause-moved g c =
     let moved : AreMoved b.blobs.items a.blobs.items c.move_between.new.blobs.items c.place_of-from.result.blob (8 * c.place_of-from.result.byte) c.place_of-to.result.blob (8 * c.place_of-to.result.byte) (8 * (n * (c.width.result / 8))) =
     subst (λ (bs : List (List ℕ)). AreMoved bs a.blobs.items c.move_between.new.blobs.items c.place_of-from.result.blob (8 * c.place_of-from.result.byte) c.place_of-to.result.blob (8 * c.place_of-to.result.byte) (8 * (n * (c.width.result / 8)))) c.as_slice.ensures.value c.move_between.ensures.moved in
     moved_seen c.args.self.now c.args.source.now c.args.leaf c.args.slot n (length (kinds_of (schema_fields a.schema))) _ c.self.view_is c.source.view_is (kind_count (schema_fields a.schema))
-    (sym (row_count (term_of a.expr) a.extents (schema_fields a.schema) a.blobs.items c.self.invariant.1))
-    (run_table (term_of a.expr) (term_of b.expr) a.extents b.extents (schema_fields a.schema) (schema_fields b.schema) a.blobs.items b.blobs.items c.move_between.new.blobs.items c.args.leaf c.args.slot n
+    (sym (row_count Strict (term_of a.expr) a.extents (schema_fields a.schema) a.blobs.items c.self.invariant.1))
+    (run_table (term_of a.expr) (term_of b.expr) a.extents b.extents (schema_fields a.schema) (schema_fields b.schema) a.blobs.items b.blobs.items c.move_between.new.blobs.items c.args.leaf c.args.slot n alike leaf_in c.self.invariant.1 c.source.invariant.1
+    (run_kept (term_of a.expr) (term_of b.expr) a.extents b.extents (schema_fields a.schema) (schema_fields b.schema) a.blobs.items b.blobs.items c.move_between.new.blobs.items c.args.leaf c.args.slot n
     c.place_of-to.result.blob c.place_of-to.result.byte c.place_of-from.result.blob c.place_of-from.result.byte (n * (c.width.result / 8)) alike arrays leaf_in some bytes one two c.self.invariant.1 c.source.invariant.1 moved)
+    (run_raw (term_of a.expr) (term_of b.expr) a.extents b.extents (schema_fields a.schema) (schema_fields b.schema) a.blobs.items b.blobs.items c.move_between.new.blobs.items c.args.leaf c.args.slot n
+    c.place_of-to.result.blob c.place_of-to.result.byte c.place_of-from.result.blob c.place_of-from.result.byte (n * (c.width.result / 8)) alike arrays leaf_in some bytes one two c.self.invariant.1 c.source.invariant.1 moved))
 
 pub returns-clause-same : goal.returns-clause-same
 returns-clause-same g c =

@@ -27,7 +27,8 @@ read_by_rule-requires-clause-laid c =
 value : (c : goal.After-read_by_rule) → c.read_by_rule.result ≡ entry c.args.self.now.rows c.args.row c.args.leaf
 value c =
     let a = c.self.inside in
-    c.read_by_rule.ensures ∙ entry_seen a.schema a.extents a.expr a.blobs.items c.self.invariant.0 c.self.view_is c.as_slice.result.now c.as_slice.ensures.value c.args.row c.args.leaf
+    c.read_by_rule.ensures ∙ entry_seen a.schema a.extents a.expr a.blobs.items c.self.invariant.1 c.args.self.now c.self.view_is c.self.invariant.0 c.as_slice.result.now c.as_slice.ensures.value c.args.row c.args.leaf
+    c.requires.row_in c.requires.leaf_in
 
 pub returns-clause-value : goal.returns-clause-value
 returns-clause-value c =

@@ -8,11 +8,11 @@ use Rattle.map_expr.specs.Terms.{term_of}
 use Rattle.map_any.specs.Counters.{is_counted}
 use Rattle.map_checks.specs.Mappings.{holds_by}
 use Rattle.piece_bits.specs.Tables.{hold_at, with_entry}
-use Rattle.views.specs.Kept.{table_under, tally_of}
+use Rattle.views.specs.Kept.{raw_under, tally_of}
 use Rattle.views.specs.Tables.{Table, answer_of}
 use Rattle.views.specs.Tallies.{Write}
 use Rattle.views.proofs.CountLaws.{idle_tallied}
-use Rattle.views.proofs.Opened.{rows_seen, leaf_seen, cell_count, fits_seen, kept_after, table_same, laid_there, seen_from, seen_written}
+use Rattle.views.proofs.Opened.{rows_seen, leaf_seen, cell_count, fits_seen, kept_after, table_after, raw_same, laid_there, seen_from, seen_written}
 use Rattle.views.proofs.view.View.store_far.Goals as goal
 use Rattle.views.proofs.view.View.store_far.Goals.{After-short_write}
 
@@ -36,14 +36,14 @@ short_write-requires-clause-held c =
     (subst (λ (v : ℤ). IsIn (hold_at holds c.args.leaf).signed (hold_at holds c.args.leaf).width v) (sym (to_z-of_z w128 c.args.value fits)) held)
 
 -- what is stored then
-stored : (c : goal.After-short_write) → c.short_write.result ≡ true → table_under (term_of c.self.inside.expr) c.self.inside.extents (schema_fields c.self.inside.schema) c.short_write.new.blobs.items
-    ≡ with_entry (table_under (term_of c.self.inside.expr) c.self.inside.extents (schema_fields c.self.inside.schema) c.self.inside.blobs.items) c.args.row c.args.leaf c.args.value
+stored : (c : goal.After-short_write) → c.short_write.result ≡ true → raw_under (term_of c.self.inside.expr) c.self.inside.extents (schema_fields c.self.inside.schema) c.short_write.new.blobs.items
+    ≡ with_entry (raw_under (term_of c.self.inside.expr) c.self.inside.extents (schema_fields c.self.inside.schema) c.self.inside.blobs.items) c.args.row c.args.leaf c.args.value
 stored c wrote =
     let mapping = c.self.invariant.0 in
     let fits : SFits w128 c.args.value = search rules in
-    let old = table_under (term_of c.self.inside.expr) c.self.inside.extents (schema_fields c.self.inside.schema) c.self.inside.blobs.items in
-    sym (table_same mapping c.short_write.new.blobs.items) ∙ c.short_write.ensures.table wrote
-    ∙ ap (λ (t : List (List ℤ)). with_entry t c.args.row c.args.leaf (to_z w128 (of_z w128 c.args.value))) (table_same mapping c.self.inside.blobs.items)
+    let old = raw_under (term_of c.self.inside.expr) c.self.inside.extents (schema_fields c.self.inside.schema) c.self.inside.blobs.items in
+    sym (raw_same mapping c.short_write.new.blobs.items) ∙ c.short_write.ensures.table wrote
+    ∙ ap (λ (t : List (List ℤ)). with_entry t c.args.row c.args.leaf (to_z w128 (of_z w128 c.args.value))) (raw_same mapping c.self.inside.blobs.items)
     ∙ ap (with_entry old c.args.row c.args.leaf) (to_z-of_z w128 c.args.value fits)
 
 pub invariant_of-self : goal.invariant_of-self
@@ -53,8 +53,8 @@ invariant_of-self c =
     let new = c.short_write.new.blobs.items in (
       mapping,
       kept_after a.schema a.extents a.expr a.blobs.items c.self.invariant.1 c.args.self.now c.self.view_is c.args.row c.args.leaf c.args.value new
-          c.requires.row_in c.requires.leaf_in c.requires.kept (laid_there mapping new (c.short_write.ensures.still_laid c.if-short_write.true))
-          (stored (goal.at.invariant_of-self c).After-short_write c.if-short_write.true),
+          c.requires.row_in c.requires.leaf_in c.requires.kept (stored (goal.at.invariant_of-self c).After-short_write c.if-short_write.true)
+          (laid_there mapping new (c.short_write.ensures.still_laid c.if-short_write.true)),
       c.self.invariant.2,
     )
 
@@ -65,7 +65,8 @@ returns-then-short_write c =
     let access = Write c.args.row c.args.leaf in
     let idle : is_counted (term_of a.expr) ≡ false = ap is_counted (sym c.self.invariant.0.term_is) ∙ c.short_write.ensures.uncounted wrote in
     seen_written a.schema a.extents a.expr a.blobs.items c.self.view_is c.args.row c.args.leaf c.args.value c.short_write.new.blobs.items (tally_of a.counts a.heat)
-    (stored (goal.at.returns-then-short_write c).After-short_write wrote)
+    (table_after a.schema a.extents a.expr a.blobs.items c.self.invariant.1 c.args.self.now c.self.view_is c.args.row c.args.leaf c.args.value c.short_write.new.blobs.items
+    c.requires.row_in c.requires.leaf_in c.requires.kept (stored (goal.at.returns-then-short_write c).After-short_write wrote))
     (sym (idle_tallied access idle c.self.invariant.2))
 
 pub set_by_rule-requires-clause-kept : goal.set_by_rule-requires-clause-kept

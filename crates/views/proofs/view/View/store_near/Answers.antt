@@ -10,12 +10,12 @@ use Rattle.map_checks.specs.LeafCells.{kinds_are}
 use Rattle.map_checks.specs.Mappings.{holds_by}
 use Rattle.piece_bits.specs.Tables.{hold_at}
 use Rattle.views.specs.Columns.{column_writes, with_column}
-use Rattle.views.specs.Kept.{table_under, tally_of}
+use Rattle.views.specs.Kept.{raw_under, tally_of}
 use Rattle.views.specs.Stores.{Fits, kind_at, store_answer, told}
 use Rattle.views.specs.Tables.{Table, answer_of}
 use Rattle.views.proofs.CountLaws.{idle_logged}
-use Rattle.views.proofs.NearStoreLaws.{kept_column, kept_either, none_refused, seen_column}
-use Rattle.views.proofs.Opened.{rows_seen, leaf_seen, cell_count, laid_here, laid_there, table_same}
+use Rattle.views.proofs.NearStoreLaws.{kept_column, table_column, kept_either, none_refused, seen_column}
+use Rattle.views.proofs.Opened.{rows_seen, leaf_seen, cell_count, laid_here, laid_there, raw_same}
 use Rattle.views.proofs.StoreLaws.{fitting_stored}
 use Rattle.views.proofs.view.View.store_near.Goals as goal
 use Rattle.views.proofs.view.View.store_near.Goals.{After-are_sure, After-store_sixteen}
@@ -60,12 +60,12 @@ taken c sure k small =
     ∙ ap told (fitting_stored (kind_at (kinds_of (schema_fields a.schema)) c.args.leaf) (hold_at (holds_by (term_of a.expr) (schema_fields a.schema)) c.args.leaf) value fit.declared fit.held)
 
 -- what is stored then
-stored : (c : After-store_sixteen) → c.store_sixteen.result ≡ true → table_under (term_of c.self.inside.expr) c.self.inside.extents (schema_fields c.self.inside.schema) c.store_sixteen.new.blobs.items
-    ≡ with_column c.args.leaf c.args.first c.args.values.now (table_under (term_of c.self.inside.expr) c.self.inside.extents (schema_fields c.self.inside.schema) c.self.inside.blobs.items)
+stored : (c : After-store_sixteen) → c.store_sixteen.result ≡ true → raw_under (term_of c.self.inside.expr) c.self.inside.extents (schema_fields c.self.inside.schema) c.store_sixteen.new.blobs.items
+    ≡ with_column c.args.leaf c.args.first c.args.values.now (raw_under (term_of c.self.inside.expr) c.self.inside.extents (schema_fields c.self.inside.schema) c.self.inside.blobs.items)
 stored c wrote =
     let mapping = c.self.invariant.0 in
-    sym (table_same mapping c.store_sixteen.new.blobs.items) ∙ c.store_sixteen.ensures.table wrote
-    ∙ ap (with_column c.args.leaf c.args.first c.args.values.now) (table_same mapping c.self.inside.blobs.items)
+    sym (raw_same mapping c.store_sixteen.new.blobs.items) ∙ c.store_sixteen.ensures.table wrote
+    ∙ ap (with_column c.args.leaf c.args.first c.args.values.now) (raw_same mapping c.self.inside.blobs.items)
 
 pub invariant_of-self : goal.invariant_of-self
 invariant_of-self c =
@@ -92,6 +92,10 @@ returns-clause-taken c = λ wrote.
 pub returns-clause-stored : goal.returns-clause-stored
 returns-clause-stored c = λ wrote.
     let a = c.self.inside in
+    let sure : c.are_sure.result ≡ true = search rules in
+    let leaf_in = leaf_seen a.schema a.extents a.expr a.blobs.items c.self.invariant.1 c.args.self.now c.self.view_is c.args.leaf c.requires.leaf_in in
     let idle : is_counted (term_of a.expr) ≡ false = ap is_counted (sym c.self.invariant.0.term_is) ∙ c.store_sixteen.ensures.uncounted wrote in
     seen_column a.schema a.extents a.expr a.blobs.items c.self.view_is c.args.first c.args.leaf 16 c.args.values.now c.store_sixteen.new.blobs.items (tally_of a.counts a.heat)
-    (stored (goal.at.returns-clause-stored c).After-store_sixteen wrote) (sym (idle_logged (column_writes c.args.leaf c.args.first 16) idle c.self.invariant.2))
+    (table_column (term_of a.expr) a.extents (schema_fields a.schema) a.blobs.items c.self.invariant.1 c.store_sixteen.new.blobs.items c.args.first c.args.leaf c.args.values.now leaf_in
+    (laid_there c.self.invariant.0 c.store_sixteen.new.blobs.items (c.store_sixteen.ensures.still_laid wrote)) (stored (goal.at.returns-clause-stored c).After-store_sixteen wrote)
+    (λ k l. fits (goal.at.returns-clause-stored c).After-are_sure sure k (omega (arith, l, c.requires.sixteen)))) (sym (idle_logged (column_writes c.args.leaf c.args.first 16) idle c.self.invariant.2))
