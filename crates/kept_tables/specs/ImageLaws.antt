@@ -17,7 +17,8 @@ use Rattle.kept_tables.specs.Modes.{kind_at, declared_table, Stays}
 use Rattle.kept_tables.specs.TableLaws.{declared_shape, declared_entry}
 use Rattle.kept_tables.specs.EntryLaws.{stays_settled}
 
-module _ (layout : List (List Owner)) (slots : ℕ) (holds : List Hold) (laid : IsLaidOut layout slots (map (λ (h : Hold). h.width) holds)) (table : List (List ℤ)) (bits : ℕ → ℕ → ℕ) (is : IsImage layout table bits) where
+module _ (layout : List (List Owner)) (slots : ℕ) (holds : List Hold) (laid : IsLaidOut layout slots (map (λ (h : Hold). h.width) holds))
+    (table : List (List ℤ)) (bits : ℕ → ℕ → ℕ) (is : IsImage layout table bits) where
   -- the raw number of an entry is what its image says
   pub image_raw : (row leaf : ℕ) → row < slots → leaf < length holds → entry (table_of layout slots (signs_and_widths holds) bits) row leaf ≡ held (hold_at holds leaf) (entry table row leaf)
   image_raw row leaf l m =
