@@ -1,5 +1,5 @@
 -- A number that is further from 0 than any leaf reaches.
-use Rattle.std.proofs.Common.{◌≡◌, ◌⊎◌, inl, inr, ℕ, suc, ◌^◌, ◌-◌, ◌<◌, List, ◌≤◌, min, Bool, true, false, ◌&&◌, ℤ, pos, negsuc, neg_ℤ, ◌<ℤ◌, Result, Err, Option, Some, None, refl, sym, ap, ◌∙◌, arith, ⊎_elim}
+use Rattle.std.proofs.Common.{◌≡◌, ◌⊎◌, inl, inr, ℕ, suc, ◌^◌, ◌-◌, ◌<◌, List, ◌≤◌, Bool, true, false, ◌&&◌, ℤ, pos, negsuc, neg_ℤ, ◌<ℤ◌, Result, Err, Option, Some, None, refl, sym, ap, ◌∙◌, arith, ⊎_elim}
 use Rattle.std.specs.Prelude.{int_le, option_map}
 use Rattle.std.specs.List.{slice_get}
 use Rattle.std.proofs.lemmas.Int.{ints}
@@ -10,7 +10,8 @@ use Rattle.record_dim.specs.LeafTypes.{least_of, greatest_of}
 use Rattle.places.specs.declared.piece.Hold.{Hold}
 use Rattle.views.specs.Stores.{store_answer}
 use Rattle.views.specs.declared.fault.StoreFault.TheVariants.{Range}
-use Rattle.csv_rows.specs.Clipped.{clipped}
+use Rattle.kept_numbers.specs.Far.{folded, shortened}
+use Rattle.kept_numbers.specs.FarLaws.{folded_near, folded_far}
 use Rattle.csv_rows.specs.Datasets.{◌>>=◌, Place, unspaced, number_of, the_field, the_number, taken, value_at}
 use Rattle.csv_rows.specs.declared.fault.RowFault.{RowFault}
 use Rattle.csv_rows.specs.declared.fault.RowFault.TheVariants.{ShortRow, Number}
@@ -57,17 +58,20 @@ far_below : (kind : LeafType) (hold : Hold) (n : ℕ) → 2 ^ 65 ≤ suc n → s
 far_below kind hold n far = rw (and_first (int_le (least_of kind) (negsuc n)) (int_le (negsuc n) (greatest_of kind)) (int_le-false (least_of kind) (negsuc n) (below_all kind n far))) refl
 
 -- a number is kept as it is, or is refused as what is kept of it
-pub kept : (kind : LeafType) (hold : Hold) (z : ℤ) → (clipped z ≡ z) ⊎ ((store_answer kind hold z ≡ Err Range) × (store_answer kind hold (clipped z) ≡ Err Range))
+pub kept : (kind : LeafType) (hold : Hold) (z : ℤ) → (shortened z ≡ z) ⊎ ((store_answer kind hold z ≡ Err Range) × (store_answer kind hold (shortened z) ≡ Err Range))
 kept kind hold (pos n) =
-    ⊎_elim (λ (near : n < 2 ^ 65). let same : min (2 ^ 65) n ≡ n = omega arith in inl (ap pos same))
-    (λ (far : 2 ^ 65 ≤ n). let most : min (2 ^ 65) n ≡ 2 ^ 65 = omega arith in inr (far_above kind hold n far, ap (λ m. store_answer kind hold (pos m)) most ∙ far_above kind hold (2 ^ 65) (omega arith)))
+    ⊎_elim (λ (near : n < 2 ^ 65). inl (ap pos (folded_near n near)))
+    (λ (far : 2 ^ 65 ≤ n). inr (far_above kind hold n far, far_above kind hold (folded n) (folded_far n far)))
     (cases_lt n (2 ^ 65))
 kept kind hold (negsuc n) =
-    ⊎_elim (λ (near : suc n < 2 ^ 65). let same : min (2 ^ 65) (suc n) ≡ suc n = omega arith in inl (ap (λ m. neg_ℤ (pos m)) same))
-    (λ (far : 2 ^ 65 ≤ suc n). let most : min (2 ^ 65) (suc n) ≡ suc (2 ^ 65 - 1) = omega arith in inr (far_below kind hold n far, ap (λ m. store_answer kind hold (neg_ℤ (pos m))) most ∙ far_below kind hold (2 ^ 65 - 1) (omega arith)))
+    ⊎_elim (λ (near : suc n < 2 ^ 65). inl (ap (λ m. neg_ℤ (pos m)) (folded_near (suc n) near)))
+    (λ (far : 2 ^ 65 ≤ suc n).
+    let most : 2 ^ 65 ≤ folded (suc n) = folded_far (suc n) far in
+    let next : folded (suc n) ≡ suc (folded (suc n) - 1) = omega (arith, most) in
+    inr (far_below kind hold n far, ap (λ m. store_answer kind hold (neg_ℤ (pos m))) next ∙ far_below kind hold (folded (suc n) - 1) (omega (arith, most))))
     (cases_lt (suc n) (2 ^ 65))
 
-none_from : (number : Option ℤ) → option_map clipped number ≡ None → number ≡ None
+none_from : (number : Option ℤ) → option_map shortened number ≡ None → number ≡ None
 none_from None e = refl
 none_from (Some z) e = absurd (cc e)
 
@@ -76,13 +80,13 @@ value_of place number = the_number place number >>= (λ value. taken place (stor
 
 -- the number of a field, as it was asked for
 abbrev pub number_in : List ℕ → Option ℤ
-number_in field = option_map clipped (number_of (unspaced field))
+number_in field = option_map shortened (number_of (unspaced field))
 
-clip_of : (place : Place) (number : Option ℤ) (value : ℤ) → option_map clipped number ≡ Some value → value_of place number ≡ taken place (store_answer place.kind place.hold value)
+clip_of : (place : Place) (number : Option ℤ) (value : ℤ) → option_map shortened number ≡ Some value → value_of place number ≡ taken place (store_answer place.kind place.hold value)
 clip_of place None value is = absurd (cc is)
 clip_of place (Some z) value is = ⊎_elim
-    (λ (same : clipped z ≡ z). ap (λ v. taken place (store_answer place.kind place.hold v)) (sym same ∙ some_is is))
-    (λ (far : (store_answer place.kind place.hold z ≡ Err Range) × (store_answer place.kind place.hold (clipped z) ≡ Err Range)).
+    (λ (same : shortened z ≡ z). ap (λ v. taken place (store_answer place.kind place.hold v)) (sym same ∙ some_is is))
+    (λ (far : (store_answer place.kind place.hold z ≡ Err Range) × (store_answer place.kind place.hold (shortened z) ≡ Err Range)).
     ap (taken place) far.0 ∙ sym (ap (λ v. taken place (store_answer place.kind place.hold v)) (sym (some_is is)) ∙ ap (taken place) far.1))
     (kept place.kind place.hold z)
 

@@ -11,7 +11,7 @@ not_true b never = by b refl where
   by true is = absurd (never is)
   by false is = is
 
-none_of : (a b c : Bool) → (a || b || c) ≡ false → ((b || c) ≡ false) × (a ≡ false)
+pub none_of : (a b c : Bool) → (a || b || c) ≡ false → ((b || c) ≡ false) × (a ≡ false)
 none_of true b c h = cc h
 none_of false true c h = cc h
 none_of false false true h = cc h

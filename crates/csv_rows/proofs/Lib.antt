@@ -1,5 +1,6 @@
 pub mod Accesses
 pub mod Asked
+pub mod BareTexts
 pub mod Clips
 pub mod ColumnNames
 pub mod Commas
@@ -7,6 +8,7 @@ pub mod CopiedRecords
 pub mod CsvReads
 pub mod Cutting
 pub mod Fields
+pub mod FirstLines
 pub mod Headers
 pub mod Leaves
 pub mod Numbers

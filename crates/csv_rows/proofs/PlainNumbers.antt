@@ -1,14 +1,17 @@
 -- Numbers as most are written: digits, behind a minus or not.
-use Rattle.std.proofs.Common.{◌≡◌, ℕ, zero, suc, ◌+◌, ◌<◌, ◌≤◌, Bool, true, false, pos, neg_ℤ, List, [], ◌∷◌, length, take, drop, get_or, Some, None, refl, sym, ap, subst, ◌∙◌, arith}
-use Rattle.std.specs.Prelude.{if◌then◌else◌, option_map, min, ◌^◌}
+use Rattle.std.proofs.Common.{◌≡◌, ℕ, zero, suc, ◌+◌, ◌<◌, ◌≤◌, Bool, true, false, ℤ, pos, neg_ℤ, ◌-ℤ◌, FitsSigned, Option, List, [], ◌∷◌, length, take, drop, get_or, Some, None, refl, sym, ap, subst, ◌∙◌, arith}
+use Rattle.std.specs.Prelude.{if◌then◌else◌, ◌||◌, option_map, ◌^◌}
+use Rattle.std.specs.Int.{w128}
 use Rattle.std.specs.Char.{is_ascii_digit}
 use Rattle.std.specs.List.{list_all}
 use Rattle.std.specs.Str.Parse.{digits_value}
 use Rattle.std.proofs.lemmas.Bool.Decides.{nat_tests}
+use Rattle.std.proofs.lemmas.Int.{ints}
 use Rattle.std.proofs.lemmas.List.Sums.{AllPass-from_list_all}
 use Rattle.csv_rows.specs.Datasets.{unspaced, all_digits, digits_number, number_of}
-use Rattle.csv_rows.specs.Clipped.{clipped}
-use Rattle.csv_rows.specs.Plain.{is_comma, IsFirstField}
+use Rattle.kept_numbers.specs.Far.{folded, shortened}
+use Rattle.kept_numbers.specs.FarLaws.{folded_near}
+use Rattle.csv_rows.specs.Plain.{is_comma, is_line_end, IsFieldHere}
 use Rattle.csv_rows.proofs.CsvReads.{some_is}
 use Rattle.csv_rows.proofs.PrintedBytes.{AreDigits, unspaced_same, digits_write, minus_writes}
 
@@ -35,35 +38,36 @@ no_digits xs i small other = by (list_all is_ascii_digit xs) refl where
   by true all = cc (sym other ∙ AllPass-from_list_all is_ascii_digit xs all i 0 small)
   by false all = refl
 
-no_comma : (c : ℕ) → is_ascii_digit c ≡ true → is_comma c ≡ false
-no_comma c digit = grind (arith, nat_tests)
+no_comma : (c : ℕ) → is_ascii_digit c ≡ true → (is_comma c ≡ false) × (is_line_end c ≡ false)
+no_comma c digit = (grind (arith, nat_tests), grind (arith, nat_tests))
 
 -- digits up to a comma or the end are the first field
-pub digits_field : (xs : List ℕ) (count n : ℕ) → count ≤ length xs → all_digits (take count xs) ≡ Some n → (count < length xs → is_comma (get_or xs count 0) ≡ true) → IsFirstField xs count
+pub digits_field : (xs : List ℕ) (count n : ℕ) → count ≤ length xs → all_digits (take count xs) ≡ Some n → (count < length xs → (is_comma (get_or xs count 0) || is_line_end (get_or xs count 0)) ≡ true) → IsFieldHere xs count
 digits_field xs count n within known ended = record {
   within = within;
   inside = λ k d small. no_comma (get_or (take count xs) k d) (AllPass-from_list_all is_ascii_digit (take count xs) (all_known (take count xs) n known).0 k d small);
   ended = ended;
 }
 
-clip_plain : (n : ℕ) → n < 2 ^ 65 → clipped (pos n) ≡ pos n
-clip_plain n small = let same : min (2 ^ 65) n ≡ n = omega arith in ap pos same
+clip_plain : (n : ℕ) → n < 2 ^ 65 → shortened (pos n) ≡ pos n
+clip_plain n small = ap pos (folded_near n small)
 
-clip_minus : (n : ℕ) → n < 2 ^ 65 → clipped (neg_ℤ (pos n)) ≡ neg_ℤ (pos n)
+clip_minus : (n : ℕ) → n < 2 ^ 65 → shortened (neg_ℤ (pos n)) ≡ neg_ℤ (pos n)
 clip_minus zero small = clip_plain zero small
-clip_minus (suc n) small = let same : min (2 ^ 65) (suc n) ≡ suc n = omega arith in ap (λ (m : ℕ). neg_ℤ (pos m)) same
+clip_minus (suc n) small = ap (λ (m : ℕ). neg_ℤ (pos m)) (folded_near (suc n) small)
 
-pub plain_read : (xs : List ℕ) (n : ℕ) → n < 2 ^ 65 → digits_number xs ≡ Some n → option_map clipped (number_of (unspaced xs)) ≡ Some (pos n)
+pub plain_read : (xs : List ℕ) (n : ℕ) → n < 2 ^ 65 → digits_number xs ≡ Some n → option_map shortened (number_of (unspaced xs)) ≡ Some (pos n)
 plain_read xs n small is =
     let text = digits_write n xs (digits_known xs n is) in
-    ap (λ (t : List ℕ). option_map clipped (number_of t)) (unspaced_same xs text.plain) ∙ ap (option_map clipped) text.number ∙ ap Some (clip_plain n small)
+    ap (λ (t : List ℕ). option_map shortened (number_of t)) (unspaced_same xs text.plain) ∙ ap (option_map shortened) text.number ∙ ap Some (clip_plain n small)
 
 -- the same behind a minus
-minus_inside : (xs : List ℕ) (count k d : ℕ) → ((k d : ℕ) → k < length (take count xs) → is_comma (get_or (take count xs) k d) ≡ false) → k < suc (length (take count xs)) → is_comma (get_or (45 ∷ take count xs) k d) ≡ false
-minus_inside xs count zero d others small = refl
+minus_inside : (xs : List ℕ) (count k d : ℕ) → ((k d : ℕ) → k < length (take count xs) → (is_comma (get_or (take count xs) k d) ≡ false) × (is_line_end (get_or (take count xs) k d) ≡ false)) → k < suc (length (take count xs))
+    → (is_comma (get_or (45 ∷ take count xs) k d) ≡ false) × (is_line_end (get_or (45 ∷ take count xs) k d) ≡ false)
+minus_inside xs count zero d others small = (refl, refl)
 minus_inside xs count (suc k) d others small = others k d (omega arith)
 
-minus_front : (xs : List ℕ) (count : ℕ) → IsFirstField xs count → IsFirstField (45 ∷ xs) (suc count)
+minus_front : (xs : List ℕ) (count : ℕ) → IsFieldHere xs count → IsFieldHere (45 ∷ xs) (suc count)
 minus_front xs count first =
     let within : count ≤ length xs = first.within in
     record {
@@ -72,16 +76,41 @@ minus_front xs count first =
       ended = λ small. first.ended (omega arith);
     }
 
-pub minus_field : (xs : List ℕ) (count : ℕ) → 0 < length xs → get_or xs 0 0 ≡ 45 → IsFirstField (drop 1 xs) count → IsFirstField xs (count + 1)
+pub minus_field : (xs : List ℕ) (count : ℕ) → 0 < length xs → get_or xs 0 0 ≡ 45 → IsFieldHere (drop 1 xs) count → IsFieldHere xs (count + 1)
 minus_field [] count some minus first = absurd (omega arith)
 minus_field (c ∷ xs) count some minus first =
     let next : suc count ≡ count + 1 = omega arith in
-    subst (IsFirstField (c ∷ xs)) next (subst (λ (d : ℕ). IsFirstField (d ∷ xs) (suc count)) (sym minus) (minus_front xs count first))
+    subst (IsFieldHere (c ∷ xs)) next (subst (λ (d : ℕ). IsFieldHere (d ∷ xs) (suc count)) (sym minus) (minus_front xs count first))
 
-pub minus_read : (xs : List ℕ) (count n : ℕ) → 0 < length xs → get_or xs 0 0 ≡ 45 → n < 2 ^ 65 → digits_number (take count (drop 1 xs)) ≡ Some n → option_map clipped (number_of (unspaced (take (count + 1) xs))) ≡ Some (neg_ℤ (pos n))
+pub minus_read : (xs : List ℕ) (count n : ℕ) → 0 < length xs → get_or xs 0 0 ≡ 45 → n < 2 ^ 65 → digits_number (take count (drop 1 xs)) ≡ Some n → option_map shortened (number_of (unspaced (take (count + 1) xs))) ≡ Some (neg_ℤ (pos n))
 minus_read [] count n some minus small is = absurd (omega arith)
 minus_read (c ∷ xs) count n some minus small is =
     let next : count + 1 ≡ suc count = omega arith in
     let text = minus_writes n (take count xs) (digits_known (take count xs) n is) in
-    ap (λ (m : ℕ). option_map clipped (number_of (unspaced (take m (c ∷ xs))))) next ∙ ap (λ (d : ℕ). option_map clipped (number_of (unspaced (d ∷ take count xs)))) minus
-    ∙ ap (λ (t : List ℕ). option_map clipped (number_of t)) (unspaced_same (45 ∷ take count xs) text.plain) ∙ ap (option_map clipped) text.number ∙ ap Some (clip_minus n small)
+    ap (λ (m : ℕ). option_map shortened (number_of (unspaced (take m (c ∷ xs))))) next ∙ ap (λ (d : ℕ). option_map shortened (number_of (unspaced (d ∷ take count xs)))) minus
+    ∙ ap (λ (t : List ℕ). option_map shortened (number_of t)) (unspaced_same (45 ∷ take count xs) text.plain) ∙ ap (option_map shortened) text.number ∙ ap Some (clip_minus n small)
+
+-- the number behind a minus, however long it is
+minus_shortened : (n : ℕ) → shortened (neg_ℤ (pos n)) ≡ neg_ℤ (pos (folded n))
+minus_shortened zero = refl
+minus_shortened (suc n) = refl
+
+zero_minus : (n : ℕ) → pos 0 -ℤ pos n ≡ neg_ℤ (pos n)
+zero_minus n = omega (arith, ints)
+
+minus_given : (digits : Option ℕ) (value : ℤ) → Some value ≡ option_map (λ n. pos (folded n)) digits → Some (pos 0 -ℤ value) ≡ option_map shortened (option_map (λ n. neg_ℤ (pos n)) digits)
+minus_given None value is = cc is
+minus_given (Some n) value is = ap (λ (z : ℤ). Some (pos 0 -ℤ z)) (some_is is) ∙ ap (λ (z : ℤ). Some z) (zero_minus (folded n) ∙ sym (minus_shortened n))
+
+fits_minus : (n : ℕ) → FitsSigned w128 (pos n) → FitsSigned w128 (pos 0 -ℤ pos n)
+fits_minus n fits = subst (FitsSigned w128) (sym (zero_minus n)) (record { sfits = omega (arith, ints, fits.sfits) })
+
+pub given_fits : (digits : Option ℕ) (value : ℤ) → Some value ≡ option_map (λ n. pos (folded n)) digits → FitsSigned w128 value → FitsSigned w128 (pos 0 -ℤ value)
+given_fits None value is fits = cc is
+given_fits (Some n) value is fits =
+    let same : value ≡ pos (folded n) = some_is is in
+    subst (λ (z : ℤ). FitsSigned w128 (pos 0 -ℤ z)) (sym same) (fits_minus (folded n) (subst (FitsSigned w128) same fits))
+
+pub minus_number : (xs : List ℕ) (value : ℤ) → 0 < length xs → get_or xs 0 0 ≡ 45 → Some value ≡ option_map (λ n. pos (folded n)) (digits_number (drop 1 xs)) → Some (pos 0 -ℤ value) ≡ option_map shortened (number_of xs)
+minus_number [] value some minus is = absurd (omega arith)
+minus_number (c ∷ xs) value some minus is = subst (λ (d : ℕ). Some (pos 0 -ℤ value) ≡ option_map shortened (number_of (d ∷ xs))) (sym minus) (minus_given (digits_number xs) value is)

@@ -1,5 +1,5 @@
--- Lines without quotes, and their fields.
-use Rattle.std.specs.Prelude.{ℕ, ◌≡◌, ◌≤◌, ◌<◌, ◌==◌, ◌||◌, Bool, true, false, List, [], ◌∷◌, take, drop, length, get_or, All, if◌then◌else◌}
+-- Lines without quotes, their fields, and the texts in which they stand.
+use Rattle.std.specs.Prelude.{ℕ, suc, ◌≡◌, ◌≤◌, ◌<◌, ◌+◌, ◌-◌, ◌==◌, ◌||◌, Bool, true, false, List, [], ◌∷◌, Option, IfSome, take, drop, length, get_or, All, if◌then◌else◌}
 use Rattle.std.specs.List.{slice_split}
 
 abbrev pub is_comma : ℕ → Bool
@@ -13,6 +13,17 @@ is_line_end byte = byte == 13 || byte == 10
 abbrev pub line_start : List ℕ → List ℕ
 line_start [] = []
 line_start (c ∷ xs) = if is_line_end c then line_start xs else c ∷ xs
+
+-- the first line of a text by its length, and what stands from its end on
+abbrev pub line_length : List ℕ → ℕ
+line_length [] = 0
+line_length (c ∷ xs) = if is_line_end c then 0 else suc (line_length xs)
+
+abbrev pub first_line : List ℕ → List ℕ
+first_line text = take (line_length text) text
+
+abbrev pub behind_line : List ℕ → List ℕ
+behind_line text = drop (line_length text) text
 
 -- a byte of a line without quotes
 abbrev pub IsPlain : ℕ → Type 0
@@ -35,3 +46,19 @@ pub record IsField (line : List ℕ) (column start : ℕ) : Type 0 where
   pub within : start ≤ length line
   pub low : column ≤ start
   pub behind : drop column (slice_split is_comma line) ≡ slice_split is_comma (drop start line)
+
+-- the first field of what is left of the first line of a text has so many bytes
+pub record IsFieldHere (bytes : List ℕ) (count : ℕ) : Type 0 where
+  pub within : count ≤ length bytes
+  pub inside : All (λ byte. (is_comma byte ≡ false) × (is_line_end byte ≡ false)) (take count bytes)
+  pub ended : count < length bytes → (is_comma (get_or bytes count 0) || is_line_end (get_or bytes count 0)) ≡ true
+
+-- where the first line of a text is read: at the field of this column, which begins at this place; the line's length may be known
+pub record IsAt (text : List ℕ) (column start : ℕ) (known : Option ℕ) : Type 0 where
+  pub field : IsField (first_line text) column start
+  pub is : IfSome known (λ count. count ≡ line_length text)
+
+-- a text has no quote before its last so many bytes, and a line ends where these begin, if they are neither none nor all
+pub record IsBare (text : List ℕ) (quoted : ℕ) : Type 0 where
+  pub bare : (k : ℕ) → k + quoted < length text → (get_or text k 0 == 34) ≡ false
+  pub ended : 0 < quoted → quoted < length text → is_line_end (get_or text (length text - quoted) 0) ≡ true

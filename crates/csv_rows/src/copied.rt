@@ -8,12 +8,12 @@ ghost use Rattle.csv.specs.declared.parser.Action.TheVariants as act;
 ghost use Rattle.csv.specs.declared.parser.State.TheVariants as st;
 ghost use Rattle.csv.specs.declared.parser.Terminator.TheVariants as term;
 ghost use Rattle.csv_rows.specs.Copies.{state_of, action_of, read_byte};
-ghost use Rattle.csv_rows.specs.Plain.{is_comma};
+ghost use Rattle.csv_rows.specs.Plain.{is_comma, IsPlainLine};
 ghost use Rattle.csv_rows.specs.Readers.{rows_from};
 
 use crate::lines::is_line_end;
 use csv::ByteRecord;
-use memchr::memchr;
+use memchr::{memchr, memchr3};
 use std::alloc::{AllocError as NoMemory, Global};
 
 /// The fields of a record that has a quote, or whose fields are kept.
@@ -50,9 +50,21 @@ impl Copied {
         }
     }
 
-    /// Copies the fields of a text's first record, whose first field begins here, and answers how many bytes it has with the end of its
-    /// line.
-    pub fn read(&mut self, text: &[u8]) -> Result<usize, NoMemory>
+    /// Copies the fields of a text's first record, whose first field begins here, and answers how many bytes it has, maybe with the end of
+    /// its line.
+    pub fn read_record(&mut self, text: &[u8]) -> Result<usize, NoMemory>
+        ensures within { IfOk result (λ count. count ≤ length text.now) }
+        ensures copied { IfOk result (λ count. rows_from st.StartField text.now ≡ fields_of self.new.fields ∷ rows_from st.StartRecord (drop count text.now)) }
+    {
+        let Some(end) = plain_length(text) else {
+            return self.read(text);
+        };
+        self.read_line(&text[..end])?;
+        Ok(end)
+    }
+
+    // The same, byte by byte.
+    fn read(&mut self, text: &[u8]) -> Result<usize, NoMemory>
         ensures within { IfOk result (λ count. count ≤ length text.now) }
         ensures copied { IfOk result (λ count. rows_from st.StartField text.now ≡ fields_of self.new.fields ∷ rows_from st.StartRecord (drop count text.now)) }
     {
@@ -72,8 +84,8 @@ impl Copied {
         Ok(text.len())
     }
 
-    /// Copies the fields of a line without quotes.
-    pub fn read_line(&mut self, line: &[u8]) -> Result<(), NoMemory>
+    // Copies the fields of a line without quotes.
+    fn read_line(&mut self, line: &[u8]) -> Result<(), NoMemory>
         ensures { OnOk result (fields_of self.new.fields ≡ slice_split is_comma line.now) }
     {
         self.fields.clear();
@@ -113,6 +125,21 @@ impl Copied {
         self.fields.push_field(self.field.as_slice())?;
         self.field.clear();
         Ok(())
+    }
+}
+
+// The length of the first line, if it has no quote.
+fn plain_length(bytes: &[u8]) -> Option<usize>
+    ensures { IfSome result (λ count. IsPlainLine bytes.now count) }
+{
+    match memchr3(b'"', b'\r', b'\n', bytes) {
+        Some(end) => {
+            if bytes[end] == b'"' {
+                return None;
+            }
+            Some(end)
+        }
+        None => Some(bytes.len()),
     }
 }
 

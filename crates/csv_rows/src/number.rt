@@ -1,20 +1,23 @@
 // The number that a field spells.
-ghost use Rattle.std.specs.Prelude.{◌≡◌, ◌≤◌, ◌<◌, ◌^◌, ℕ, pos, neg_ℤ, Some, true, false, IfSome, min, option_map, take, length, get_or};
+ghost use Rattle.std.specs.Prelude.{◌≡◌, ◌≤◌, ◌<◌, ◌^◌, ◌||◌, ℕ, pos, neg_ℤ, Some, true, false, IfSome, option_map, take, length, get_or};
 ghost use Rattle.std.specs.Char.{is_ascii_digit};
 ghost use Rattle.csv_rows.specs.Datasets.{is_blank, behind_blanks, before_blanks, unspaced, all_digits, digits_number, number_of};
-ghost use Rattle.csv_rows.specs.Clipped.{clipped};
-ghost use Rattle.csv_rows.specs.Plain.{is_comma, IsFirstField};
+ghost use Rattle.kept_numbers.specs.Far.{folded, shortened};
+ghost use Rattle.csv_rows.specs.Plain.{is_comma, is_line_end, IsFieldHere};
 
-/// The number of a field: without blanks at its ends an optional sign, and one or more digits. A number that is further from 0 than 2^65
-/// is answered as 2^65 of its sign, which no leaf can store either.
+use crate::lines::is_line_end;
+use kept_numbers::folded;
+
+/// The number of a field: without blanks at its ends an optional sign, and one or more digits. Of a number that is 2^65
+/// from 0 or further, one is answered that is as well, and has the same 64 low bits: no leaf can store either.
 pub fn field_number(field: &[u8]) -> Option<i128>
-    ensures { result ≡ option_map clipped (number_of (unspaced field.now)) }
+    ensures { result ≡ option_map shortened (number_of (unspaced field.now)) }
 {
     signed_number(unspaced(field))
 }
 
 fn signed_number(text: &[u8]) -> Option<i128>
-    ensures { result ≡ option_map clipped (number_of text.now) }
+    ensures { result ≡ option_map shortened (number_of text.now) }
 {
     if text.is_empty() {
         return None;
@@ -30,7 +33,7 @@ fn signed_number(text: &[u8]) -> Option<i128>
 }
 
 fn digits_number(digits: &[u8]) -> Option<i128>
-    ensures { result ≡ option_map (λ n. pos (min (2 ^ 65) n)) (digits_number digits.now) }
+    ensures { result ≡ option_map (λ n. pos (folded n)) (digits_number digits.now) }
 {
     if digits.is_empty() {
         return None;
@@ -45,12 +48,12 @@ fn digits_number(digits: &[u8]) -> Option<i128>
     Some(many_digits(digits)? as i128)
 }
 
-/// The number of the first field of what is left of a line, and the field's length, where it is one as most are: up to 18 digits, behind a
+/// The number of the first field of what is left of the first line of a text, and the field's length, where it is one as most are: up to 18 digits, behind a
 /// minus or not.
 #[inline(always)]
 pub fn plain_number(bytes: &[u8]) -> Option<(i128, usize)>
-    ensures field { IfSome result (λ found. IsFirstField bytes.now found.1) }
-    ensures number { IfSome result (λ found. option_map clipped (number_of (unspaced (take found.1 bytes.now))) ≡ Some found.0) }
+    ensures field { IfSome result (λ found. IsFieldHere bytes.now found.1) }
+    ensures number { IfSome result (λ found. option_map shortened (number_of (unspaced (take found.1 bytes.now))) ≡ Some found.0) }
 {
     if bytes.is_empty() {
         return None;
@@ -72,7 +75,7 @@ fn negated(value: u64) -> i128
 // The same of digits alone.
 #[inline(always)]
 fn plain_digits(bytes: &[u8]) -> Option<(u64, usize)>
-    ensures field { IfSome result (λ found. IsFirstField bytes.now found.1) }
+    ensures field { IfSome result (λ found. IsFieldHere bytes.now found.1) }
     ensures number { IfSome result (λ found. digits_number (take found.1 bytes.now) ≡ Some found.0) }
 {
     let (value, count) = leading_digits(bytes);
@@ -82,13 +85,13 @@ fn plain_digits(bytes: &[u8]) -> Option<(u64, usize)>
     Some((value, count))
 }
 
-// Whether a field ends here: at a comma, or at the end of the line.
+// Whether a field ends here: at a comma, or with the line.
 #[inline(always)]
 fn ends_field(bytes: &[u8], end: usize) -> bool
     requires { end ≤ length bytes.now }
-    ensures { result ≡ true → end < length bytes.now → is_comma (get_or bytes.now end 0) ≡ true }
+    ensures { result ≡ true → end < length bytes.now → (is_comma (get_or bytes.now end 0) || is_line_end (get_or bytes.now end 0)) ≡ true }
 {
-    end == bytes.len() || bytes[end] == b','
+    end == bytes.len() || bytes[end] == b',' || is_line_end(bytes[end])
 }
 
 // The most digits that are read by the word: their number lies below 2^64 whatever they are.
@@ -128,22 +131,17 @@ fn first_digits(bytes: &[u8], most: usize) -> (u64, usize)
 }
 
 fn many_digits(digits: &[u8]) -> Option<u128>
-    ensures { result ≡ option_map (min (2 ^ 65)) (all_digits digits.now) }
+    ensures number { result ≡ option_map folded (all_digits digits.now) }
+    ensures small { IfSome result (λ n. n < 2 ^ 66) }
 {
     let mut value = 0u128;
     for digit in digits {
         if !digit.is_ascii_digit() {
             return None;
         }
-        value = clip(value * 10 + u128::from(*digit - b'0'));
+        value = folded(value * 10 + u128::from(*digit - b'0'));
     }
     Some(value)
-}
-
-fn clip(value: u128) -> u128
-    ensures { result ≡ min (2 ^ 65) value }
-{
-    if value < 1 << 65 { value } else { 1 << 65 }
 }
 
 /// A field without blanks at its ends.

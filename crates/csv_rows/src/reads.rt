@@ -4,7 +4,7 @@ ghost use Rattle.std.specs.List.{slice_get};
 ghost use Rattle.std.specs.Cmp.Lexicographic.{pointwise};
 ghost use Rattle.csv.specs.Reading.{strip_bom};
 ghost use Rattle.csv_rows.specs.Datasets.{unspaced, number_of};
-ghost use Rattle.csv_rows.specs.Clipped.{clipped};
+ghost use Rattle.kept_numbers.specs.Far.{shortened};
 ghost use Rattle.csv_rows.specs.Readers.{IsAsked};
 
 use std::alloc::AllocError as NoMemory;
@@ -37,7 +37,7 @@ pub trait Records {
     /// The number of the field of a column, if there is such a column, and it is a number.
     fn number(&mut self, column: usize) -> Option<Option<i128>>
         requires { stands self.old }
-        ensures number { result ≡ option_map (λ field. option_map clipped (number_of (unspaced field))) (slice_get (fields self.old) column) }
+        ensures number { result ≡ option_map (λ field. option_map shortened (number_of (unspaced field))) (slice_get (fields self.old) column) }
         ensures asked { IsAsked stands fields left self.old self.new };
 
     /// Says whether the fields of each record to come are kept. Then one is found as fast in any order of the columns.

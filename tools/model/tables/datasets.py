@@ -31,6 +31,9 @@ ENDS = [
     good('dataset_with_carriage_returns_and_line_feeds', b'a,b\r\n1,2\r\n3,4\r\n', '1,2 | 3,4'),
     good('dataset_with_carriage_returns_alone', b'a,b\r1,2\r3,4\r', '1,2 | 3,4'),
     good('dataset_with_ends_of_every_kind', b'a,b\n1,2\r3,4\r\n5,6', '1,2 | 3,4 | 5,6'),
+    good('dataset_with_carriage_returns_behind_ignored_fields', b'a,b,note,more\r\n1,2,x,y\r\n\r\n3,4,z,\r5,6,,\n', '1,2 | 3,4 | 5,6'),
+    good('dataset_with_carriage_returns_and_no_last_line_end', b'a,b\r\n1,2\r\n3,-4', '1,2 | 3,-4'),
+    good('dataset_with_ignored_fields_and_no_last_line_end', b'a,b,c\n1,2,x\n3,4,y', '1,2 | 3,4'),
     good('dataset_without_a_last_line_end', b'a,b\n1,2\n3,4', '1,2 | 3,4'),
     good('dataset_with_empty_lines', b'\n\na,b\n\n1,2\n\r\n\n3,4\n\n', '1,2 | 3,4'),
     good('dataset_with_a_header_alone', b'a,b\n', ''),
@@ -72,6 +75,16 @@ QUOTED_RECORDS = [
     good('quotes_in_a_record_amid_others', b'a,b\n1,2\n3,"4"\n5,6\n', '1,2 | 3,4 | 5,6'),
     good('quotes_in_the_last_record_alone', b'a,b\n1,2\n3,4\n5,"6"\n', '1,2 | 3,4 | 5,6'),
     good('quotes_in_the_last_record_without_a_line_end', b'a,b\n1,2\n"3","4"', '1,2 | 3,4'),
+    good('quotes_in_the_first_and_the_last_record', b'a,b\n"1",2\n3,4\n5,"6"', '1,2 | 3,4 | 5,6'),
+    good('quotes_in_the_header_and_the_last_record', b'"a",b\n1,2\n3,4\n5,"6"\n', '1,2 | 3,4 | 5,6'),
+    good('quotes_in_a_header_without_line_end', b'a,"b"', ''),
+    good('quotes_in_every_other_record', b'a,b\n"1",2\n3,4\n5,"6"\n7,8\n"9","10"\n11,12\n', '1,2 | 3,4 | 5,6 | 7,8 | 9,10 | 11,12'),
+    good('quotes_amid_empty_lines', b'\n\n"a",b\n\n\n1,2\n\n3,"4"\n\r\n\n5,6\n\n', '1,2 | 3,4 | 5,6'),
+    good('quotes_inside_a_field_behind_the_leaves', b'a,b,note\n1,2,x\n3,4,5" wide\n5,6,x\n', '1,2 | 3,4 | 5,6'),
+    good('quotes_round_a_line_end_behind_the_leaves', b'a,b,note\n1,2,x\n3,4,"y\n7,8,z"\n5,6,x\n', '1,2 | 3,4 | 5,6'),
+    good('quotes_round_a_line_end_behind_the_leaves_of_the_last_record', b'a,b,note\n1,2,x\n3,4,"y\n7,8,z"', '1,2 | 3,4'),
+    bad('row_before_quotes_is_short', b'a,b\n1\n"3",4\n', 'ShortRow record 0 leaf b'),
+    bad('field_before_a_line_with_quotes', b'a,b\n1,2\n3,4x\n"5",6\n', 'Number record 1 leaf b'),
     good('quotes_in_a_column_that_names_no_leaf', b'a,note,b\n1,x,2\n3,"y, z",4\n5,x,6\n', '1,2 | 3,4 | 5,6'),
     good('quotes_round_a_line_end_amid_others', b'a,note,b\n1,x,2\n3,"y\nz",4\n5,x,6\n', '1,2 | 3,4 | 5,6'),
     good('quotes_round_carriage_returns_and_line_feeds', b'a,note,b\r\n1,x,2\r\n3,"y\r\n\r\nz",4\r\n5,x,6\r\n', '1,2 | 3,4 | 5,6'),
@@ -94,6 +107,13 @@ NUMBERS = [
     good('field_with_leading_zeros', b'a,b\n0001,-0002\n', '1,-2'),
     good('field_of_100_digits', b'a,b\n' + b'0' * 99 + b'7,-' + b'0' * 99 + b'8\n', '7,-8'),
     good('field_of_5000_zeros', b'a,b\n' + b'0' * 5000 + b',1\n', '0,1'),
+    good('fields_of_17_to_20_digits', b'a,b\n' + b'0' * 16 + b'1,' + b'0' * 17 + b'2\n' + b'0' * 18 + b'3,-' + b'0' * 19 + b'4\n', '1,2 | 3,-4'),
+    good('fields_of_18_digits_behind_signs', b'a,b\n+' + b'0' * 17 + b'1,-' + b'0' * 17 + b'2\n', '1,-2'),
+    bad('field_of_18_digits_past_its_range', b'a,b\n1,' + b'9' * 18 + b'\n', 'Range record 0 leaf b'),
+    bad('field_of_19_digits_past_its_range', b'a,b\n1,' + b'9' * 19 + b'\n', 'Range record 0 leaf b'),
+    number('field_of_17_digits_and_a_letter', b'0' * 16 + b'1x'),
+    number('field_of_18_digits_and_a_letter', b'0' * 17 + b'1x'),
+    number('field_of_19_digits_and_a_letter', b'0' * 18 + b'1x'),
     bad('field_of_100_digits_past_its_range', b'a,b\n' + b'9' * 100 + b',1\n', 'Range record 0 leaf a'),
     bad('field_of_100_digits_below_its_range', b'a,b\n1,-' + b'9' * 100 + b'\n', 'Range record 0 leaf b'),
     bad('field_past_64_bits_that_wraps_to_its_range', b'a,b\n18446744073709551617,1\n', 'Range record 0 leaf a'),
@@ -189,6 +209,15 @@ RANGES = [case for kind, least, greatest in EDGES for case in (
     edge(kind, 'below_its_range', [greatest, least - 1], 'line 2: Range record 1 leaf x'),
     edge(kind, 'above_its_range', [least, greatest, greatest + 1], 'line 2: Range record 2 leaf x'))]
 
+# Numbers beyond every range, some of which have the low bits of one within.
+BEYOND = [('2_to_the_65_less_one', 2 ** 65 - 1), ('2_to_the_65', 2 ** 65), ('2_to_the_65_and_one', 2 ** 65 + 1), ('2_to_the_66', 2 ** 66),
+          ('10_times_2_to_the_65_and_one', 10 * 2 ** 65 + 1), ('20_nines', 10 ** 20 - 1), ('40_digits_and_a_low_one', 2 ** 64 * 10 ** 20 + 1)]
+FAR = [case for name, value in BEYOND for case in (
+    edge('u64', f'of_{name}', [1, value], 'line 2: Range record 1 leaf x'),
+    edge('i64', f'of_minus_{name}', [1, -value], 'line 2: Range record 1 leaf x'))] + [
+    edge('u64', 'of_its_greatest_behind_zeros', ['0' * 30 + str(2 ** 64 - 1)], f'x | {2 ** 64 - 1}'),
+    edge('i64', 'of_its_least_behind_zeros', ['-' + '0' * 30 + str(2 ** 63)], f'x | {-2 ** 63}')]
+
 BIG = 'record P { a:u32 } | load V : P [?] as aosoa(16, row) from "d.csv" | '
 BIGS = [
     Case('dataset_of_100000_rows', BIG + 'reduce V sum a | reduce V count where a == i0', '4999950000 | 100000',
@@ -211,4 +240,4 @@ PRINTED = [
          b'f,c[0].x,c[0].y,c[1].x,c[1].y\n1,-9223372036854775808,0,5,18446744073709551615\n0,0,0,0,0\n1,-1,1,-1,1\n0,7,8,9,10\n'),
 ]
 
-CASES = ENDS + QUOTES + QUOTED_RECORDS + NUMBERS + COLUMNS + BACKWARDS + RANGES + BIGS + PRINTED
+CASES = ENDS + QUOTES + QUOTED_RECORDS + NUMBERS + COLUMNS + BACKWARDS + RANGES + FAR + BIGS + PRINTED

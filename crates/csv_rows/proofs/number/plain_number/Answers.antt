@@ -4,7 +4,7 @@ use Rattle.std.proofs.lemmas.Bool.Decides.{nat_tests}
 use Rattle.std.proofs.lemmas.Int.{to_z-of_z}
 use Rattle.std.proofs.lemmas.List.{take_rest}
 use Rattle.csv_rows.specs.Datasets.{digits_number}
-use Rattle.csv_rows.specs.Plain.{IsFirstField}
+use Rattle.csv_rows.specs.Plain.{IsFieldHere}
 use Rattle.csv_rows.proofs.PlainNumbers.{plain_read, minus_field, minus_read}
 use Rattle.csv_rows.proofs.number.plain_number.Goals as goal
 
@@ -13,7 +13,7 @@ returns-then-bytes-eq45-clause-field c =
     let bytes = c.args.bytes.now in
     let some : 0 < length bytes = grind (arith, nat_tests) in
     let minus : get_or bytes 0 0 ≡ 45 = search rules in
-    let first : IsFirstField (drop 1 bytes) c.in_ok-value.count = rw (take_rest bytes 1) at c.in_ok-value.ensures.field in
+    let first : IsFieldHere (drop 1 bytes) c.in_ok-value.count = rw (take_rest bytes 1) at c.in_ok-value.ensures.field in
     minus_field bytes c.in_ok-value.count some minus first
 
 pub returns-then-bytes-eq45-clause-number : goal.returns-then-bytes-eq45-clause-number

@@ -1,15 +1,15 @@
 use Rattle.std.proofs.Common.{◌∙◌, List, ℕ, Some, take, drop, sym, ap}
 use Rattle.std.specs.List.{slice_get, slice_split}
-use Rattle.csv_rows.specs.Plain.{is_comma, IsFirstField}
-use Rattle.csv_rows.proofs.Fields.{field_found}
+use Rattle.csv_rows.specs.Plain.{is_comma, first_line, IsFieldHere}
+use Rattle.csv_rows.proofs.FirstLines.{here_found}
 use Rattle.csv_rows.proofs.line.Line.field.Goals as goal
 
 pub returns-clause-field : goal.returns-clause-field
 returns-clause-field c =
     let line = c.seek.new.self in
     let count = c.first_field-count.result in
-    let first : IsFirstField (drop line.start line.text.now) count = rw c.rest-rest.ensures at c.first_field-count.ensures in
+    let here : IsFieldHere (drop line.start line.text.now) count = rw c.rest-rest.ensures at c.first_field-count.ensures in
     ap (λ (xs : List ℕ). Some (take count xs)) c.rest-rest.ensures
-    ∙ sym (field_found line.text.now line.column line.start count c.seek.ensures.at first)
-    ∙ ap (slice_get (slice_split is_comma line.text.now)) c.if-not-seek.ensures.there
-    ∙ ap (λ (text : List ℕ). slice_get (slice_split is_comma text) c.args.column) c.seek.ensures.text
+    ∙ sym (here_found line.text.now line.column line.start count c.seek.ensures.at.field here)
+    ∙ ap (slice_get (slice_split is_comma (first_line line.text.now))) c.if-not-seek.ensures.there
+    ∙ ap (λ (text : List ℕ). slice_get (slice_split is_comma (first_line text)) c.args.column) c.seek.ensures.text

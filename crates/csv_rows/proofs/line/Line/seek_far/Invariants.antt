@@ -1,10 +1,10 @@
 use Rattle.std.proofs.Common.{◌≡◌, ◌≤◌, ◌-◌}
-use Rattle.csv_rows.specs.Plain.{IsField}
+use Rattle.csv_rows.specs.Plain.{IsAt}
 use Rattle.csv_rows.proofs.line.Line.seek_far.Given as goal
 
 abbrev pub invariant-loop-self : goal.invariant-loop-self
 invariant-loop-self l = record {
-  at : IsField l.self.text.now l.self.column l.self.start;
+  at : IsAt l.self.text.now l.self.column l.self.start l.self.known;
   text : l.self.text.now ≡ l.fn.self.text.now;
   low : l.self.column ≤ l.column;
 }

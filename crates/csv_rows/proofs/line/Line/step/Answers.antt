@@ -1,16 +1,34 @@
-use Rattle.std.proofs.Common.{arith, ◌<◌, ◌≤◌, length, drop}
-use Rattle.std.proofs.lemmas.List.{length-drop}
-use Rattle.csv_rows.proofs.Fields.{field_behind, fields_end}
+use Rattle.std.proofs.Common.{arith, ◌≡◌, ◌<◌, ◌+◌, ◌∙◌, true, length, drop, get_or, subst, ap}
+use Rattle.std.proofs.lemmas.List.{length-drop, get_or-drop}
+use Rattle.csv_rows.specs.Plain.{is_comma, first_line, IsField}
+use Rattle.csv_rows.proofs.FirstLines.{here_behind, here_end, here_last}
 use Rattle.csv_rows.proofs.line.Line.step.Goals as goal
 
-pub returns-then-count-self-clause-more : goal.returns-then-count-self-clause-more
-returns-then-count-self-clause-more c =
+pub returns-then-not-has_comma-clause-more : goal.returns-then-not-has_comma-clause-more
+returns-then-not-has_comma-clause-more c =
     let line = c.args.self.now in
-    let over : length (drop line.start line.text.now) ≤ c.args.count = omega (arith, length-drop line.start line.text.now) in
-    fields_end line.text.now line.column line.start c.args.count c.requires.at c.requires.field over
+    let text = line.text.now in
+    here_last text line.column line.start c.args.count c.requires.at.field c.requires.field
+    (λ small. ap is_comma (get_or-drop line.start text c.args.count 0) ∙ c.if-not-has_comma.ensures (omega (arith, small, length-drop line.start text)))
+
+pub returns-then-not-has_comma-clause-at : goal.returns-then-not-has_comma-clause-at
+returns-then-not-has_comma-clause-at c =
+    let line = c.args.self.now in
+    let text = line.text.now in
+    record {
+      field = c.requires.at.field;
+      is = here_end text line.column line.start c.args.count c.requires.at.field c.requires.field
+          (λ small. ap is_comma (get_or-drop line.start text c.args.count 0) ∙ c.if-not-has_comma.ensures (omega (arith, small, length-drop line.start text)));
+    }
 
 pub returns-clause-at : goal.returns-clause-at
 returns-clause-at c =
     let line = c.args.self.now in
-    let small : c.args.count < length (drop line.start line.text.now) = omega (arith, length-drop line.start line.text.now, c.requires.field.within) in
-    field_behind line.text.now line.column line.start c.args.count c.requires.at c.requires.field small
+    let text = line.text.now in
+    let small : c.args.count < length (drop line.start text) = omega (arith, c.if-not-has_comma.ensures.0, length-drop line.start text) in
+    let comma : is_comma (get_or (drop line.start text) c.args.count 0) ≡ true = ap is_comma (get_or-drop line.start text c.args.count 0) ∙ c.if-not-has_comma.ensures.1 in
+    let place : line.start + (c.args.count + 1) ≡ line.start + c.args.count + 1 = omega arith in
+    record {
+      field = subst (IsField (first_line text) (line.column + 1)) place (here_behind text line.column line.start c.args.count c.requires.at.field c.requires.field small comma);
+      is = c.requires.at.is;
+    }

@@ -2,14 +2,14 @@ use Rattle.std.proofs.Common.{rules, ◌≡◌, ◌∙◌, ap, sym, Bool, List, 
 use Rattle.std.specs.List.{slice_get}
 use Rattle.csv.specs.Records.{fields_of}
 use Rattle.csv_rows.specs.Datasets.{unspaced, number_of}
-use Rattle.csv_rows.specs.Clipped.{clipped}
+use Rattle.kept_numbers.specs.Far.{shortened}
 use Rattle.csv_rows.specs.Readers.{fields_read}
 use Rattle.csv_rows.proofs.CsvReads.{same_at}
 use Rattle.csv_rows.proofs.lines.LinesRecords.number.Goals as goal
 
 pub returns-in_err-field-clause-number : goal.returns-in_err-field-clause-number
 returns-in_err-field-clause-number c =
-    let number : List ℕ → Option ℤ = λ field. option_map clipped (number_of (unspaced field)) in
+    let number : List ℕ → Option ℤ = λ field. option_map shortened (number_of (unspaced field)) in
     let none : c.from_residual.result ≡ None = search rules in
     let fields = fields_of c.args.self.now.copied.fields in
     let read : fields_read c.args.self.now.is_copied fields c.args.self.now.line.text.now ≡ fields = ap (λ (b : Bool). fields_read b fields c.args.self.now.line.text.now) c.if-self.true in
@@ -17,7 +17,7 @@ returns-in_err-field-clause-number c =
 
 pub returns-then-self-clause-number : goal.returns-then-self-clause-number
 returns-then-self-clause-number c =
-    let number : List ℕ → Option ℤ = λ field. option_map clipped (number_of (unspaced field)) in
+    let number : List ℕ → Option ℤ = λ field. option_map shortened (number_of (unspaced field)) in
     let fields = fields_of c.args.self.now.copied.fields in
     let read : fields_read c.args.self.now.is_copied fields c.args.self.now.line.text.now ≡ fields = ap (λ (b : Bool). fields_read b fields c.args.self.now.line.text.now) c.if-self.true in
     ap (λ (n : Option ℤ). Some n) c.field_number.ensures

@@ -1,6 +1,6 @@
 use Rattle.std.proofs.Common.{rules, ◌≡◌, false, nat_eq, get_or}
 use Rattle.csv_rows.proofs.Cutting.{plain_found, plain_whole}
-use Rattle.csv_rows.proofs.lines.plain_length.Goals as goal
+use Rattle.csv_rows.proofs.copied.plain_length.Goals as goal
 
 pub returns-else-bytes-end-eq34 : goal.returns-else-bytes-end-eq34
 returns-else-bytes-end-eq34 c =
