@@ -17,14 +17,14 @@ use Rattle.views.specs.declared.fault.LaneFault.{LaneFault}
 use Rattle.views.specs.declared.fault.StoreFault.{StoreFault}
 use Rattle.views.specs.declared.fault.StoreFault.TheVariants as store
 use Rattle.lane_kernels.specs.Kernels.{stored, with_store, fault_named, answer_fault, store_fault, first_fault, empty_fault, run_rows, number_of, rows_before, IsRun}
-use Rattle.lane_kernels.specs.Changes.{changing, changed_leaf, changed_value, block_reads, after_block, IsDone, IsStopped}
+use Rattle.lane_kernels.specs.Changes.{changing, changed_leaf, changed_value, block_reads, after_block, AreChanged, IsDone, IsStopped}
 use Rattle.lane_kernels.specs.Logs.{reads_on, writes_on, rows_log, rows_read, stopped_log, fault_log}
 use Rattle.lane_kernels.specs.declared.changes.Change.{Change}
 use Rattle.lane_kernels.specs.declared.changes.Change.TheVariants.{Axpy, Clamp}
 use Rattle.lane_kernels.specs.declared.fault.KernelFault.{KernelFault}
 use Rattle.lane_kernels.specs.declared.kernel.Kernel.{Kernel}
 use Rattle.lane_kernels.proofs.Logs.{logs_from}
-use Rattle.lane_kernels.proofs.Stepping.{IsAt, IsStep, at_start, step_read}
+use Rattle.lane_kernels.proofs.Stepping.{IsStep, at_start, step_read}
 use Rattle.lane_kernels.specs.Blocks.{step_of}
 
 -- what a change stores in a row
@@ -166,12 +166,6 @@ log_stopped layout tally change row step lane =
     ∙ ap (tallied layout tally) (apart reads more writes last)
     ∙ ap (λ (log : List Access). tallied layout tally (log ++ (writes ++ last))) (sym (logs_from (reads_on kernel) row step))
     ∙ ap (λ (log : List Access). tallied layout tally (flat_map (reads_on kernel) (range_with_len 0 (row + step)) ++ log)) (sym (logs_from (writes_on kernel) row lane))
-
--- the rows before this one are changed, and had no fault
-pub record AreChanged (old : Table) (change : Change) (lanes : ℕ) (view : Table) (row : ℕ) : Type 0 where
-  pub same : view ≡ after_stores old (run_rows (kept_of old) (changing change) row old.rows) (rows_log (changing change) row)
-  pub clean : first_fault (answer_of old) (changing change) 0 (take row old.rows) ≡ None
-  pub at : IsAt lanes (length old.rows) row
 
 pub none_changed : (old : Table) (change : Change) (lanes : ℕ) → 0 < lanes → AreChanged old change lanes old 0
 none_changed old change lanes some = record { same = sym (after_log-none old); clean = refl; at = at_start lanes (length old.rows) some }

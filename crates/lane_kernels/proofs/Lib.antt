@@ -6,3 +6,4 @@ pub mod Changed
 pub mod Values
 pub mod BlockStores
 pub mod NearRows
+pub mod NearChanges

@@ -35,7 +35,8 @@ use Rattle.lane_kernels.specs.declared.reductions.Reduction.{Reduction}
 use Rattle.lane_kernels.specs.declared.reductions.Reduction.TheVariants.{Sum, Least, Greatest, Count}
 use Rattle.lane_kernels.proofs.Rows.{rows_stand}
 use Rattle.lane_kernels.proofs.Logs.{logs_from}
-use Rattle.lane_kernels.proofs.Stepping.{IsAt, IsStep}
+use Rattle.lane_kernels.specs.Blocks.{IsAt}
+use Rattle.lane_kernels.proofs.Stepping.{IsStep}
 
 -- a value of at most 32 bits
 declared_constant : (kind : LeafType) (value : ℤ) → width_of kind ≤ 32 → IsDeclared kind value → IsNarrow value

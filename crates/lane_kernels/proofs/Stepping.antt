@@ -2,17 +2,8 @@
 use Rattle.std.proofs.Common.{◌≡◌, ℕ, zero, suc, ◌+◌, ◌-◌, ◌*◌, ◌/◌, ◌%◌, ◌<◌, ◌≤◌, ◌⊎◌, inl, inr, sym, ap, ◌∙◌, arith}
 use Rattle.std.proofs.Math.Nat.{add-div_right, add-mod_right, add-mul-div_right, div-eq_of_lt, mul_comm, mul-add, mul-le-mul_left}
 use Rattle.std.proofs.lemmas.Bool.Decides.{nat_tests}
-use Rattle.lane_kernels.specs.Blocks.{step_of}
+use Rattle.lane_kernels.specs.Blocks.{step_of, IsAt, cost}
 use Rattle.lane_kernels.specs.Logs.{rows_read}
-
--- before this row stand whole blocks alone, or all of them
-pub record IsAt (lanes count row : ℕ) : Type 0 where
-  pub inside : row ≤ count
-  pub even : (row % lanes ≡ 0) ⊎ (row / lanes ≡ count / lanes)
-
--- the steps that it takes to come to a row
-abbrev pub cost : ℕ → ℕ → ℕ
-cost lanes row = row / lanes + row % lanes
 
 pub at_start : (lanes count : ℕ) → 0 < lanes → IsAt lanes count 0
 at_start lanes count some = record { inside = omega arith; even = inl (omega arith) }

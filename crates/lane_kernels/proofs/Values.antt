@@ -41,6 +41,16 @@ take_map_lanes f (suc n) (x ∷ xs) = ap (λ (more : List ℤ). f x ∷ more) (t
 pub each_lane : (f : ℤ → ℤ) (x n : ℕ) (xs : List ℤ) (rows : List (List ℤ)) → take n xs ≡ map (in_leaf x) rows → take n (map f xs) ≡ map (λ row. f (in_leaf x row)) rows
 each_lane f x n xs rows is = take_map_lanes f n xs ∙ ap (map f) is ∙ map_both f (in_leaf x) rows
 
+-- sixteen rows of two columns, and of one
+pub both_columns : (f : ℤ → ℤ → ℤ) (x y row n : ℕ) (xs ys : List ℤ) (rows : List (List ℤ)) → xs ≡ take n (drop row (column x rows)) → ys ≡ take n (drop row (column y rows))
+    → zip2 f xs ys ≡ map (λ values. f (in_leaf x values) (in_leaf y values)) (take n (drop row rows))
+both_columns f x y row n xs ys rows is also =
+    ap (λ (first : List ℤ). zip2 f first ys) (is ∙ column_rows x row n rows) ∙ ap (zip2 f (map (in_leaf x) (take n (drop row rows)))) (also ∙ column_rows y row n rows)
+    ∙ zip2-map f (in_leaf x) (in_leaf y) (take n (drop row rows))
+
+pub one_column : (f : ℤ → ℤ) (x row n : ℕ) (xs : List ℤ) (rows : List (List ℤ)) → xs ≡ take n (drop row (column x rows)) → map f xs ≡ map (λ values. f (in_leaf x values)) (take n (drop row rows))
+one_column f x row n xs rows is = ap (map f) (is ∙ column_rows x row n rows) ∙ map_both f (in_leaf x) (take n (drop row rows))
+
 pub kept_each : (f : ℤ → ℤ) (g : List ℤ → ℤ) (rows : List (List ℤ)) → map f (map g rows) ≡ map (λ row. f (g row)) rows
 kept_each f g rows = map_both f g rows
 

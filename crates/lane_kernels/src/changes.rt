@@ -3,10 +3,11 @@ ghost use Rattle.std.specs.Prelude.{◌≡◌, ◌+◌, ◌≤◌, ◌^◌, OnOk
 ghost use Rattle.lanes.specs.Blocks.{IsBlock};
 ghost use Rattle.views.specs.Tables.{after_log};
 ghost use Rattle.lane_kernels.specs.Kernels.{IsKernelOf, IsRun, row_cost, kernel_cost};
-ghost use Rattle.lane_kernels.specs.Changes.{changing, changed_leaf, changed_value, block_reads, IsDone, IsStopped};
+ghost use Rattle.lane_kernels.specs.Changes.{changing, read_leaf, changed_leaf, changed_value, block_reads, IsDone, IsStopped};
 
 use crate::blocks::step_at;
 use crate::fault::KernelFault;
+use crate::near_changes::change_blocks;
 use lanes::Block;
 use std::simd::Simd;
 use std::sync::ledger::Ledger;
@@ -18,6 +19,19 @@ use views::{LaneFault, View};
 pub enum Change {
     Axpy { a: i64, x: usize, y: usize },
     Clamp { x: usize, lo: i64, hi: i64 },
+}
+
+impl Change {
+    /// The leaf whose value is read first, and the one that is stored in.
+    pub fn leaves(&self) -> (usize, usize)
+        ensures read { result.0 ≡ read_leaf self.now }
+        ensures changed { result.1 ≡ changed_leaf self.now }
+    {
+        match *self {
+            Change::Axpy { x, y, .. } => (x, y),
+            Change::Clamp { x, .. } => (x, x),
+        }
+    }
 }
 
 /// Stores in each row, up to the first that does not take its value. It gives no number.
@@ -34,7 +48,7 @@ pub fn change_rows<L: Ledger>(
     ensures steps { steps.new ≤ steps.old + kernel_cost (changing change.now) lanes (length view.old.rows) }
 {
     let count = view.extents().count();
-    let mut row = 0;
+    let mut row = change_blocks(view, change, lanes, steps);
     while row < count {
         let step = step_at(row, lanes, count);
         change_block(view, row, step, change, steps)?;

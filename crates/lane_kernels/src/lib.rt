@@ -6,6 +6,7 @@ mod changes;
 mod fault;
 mod kernel;
 mod near;
+mod near_changes;
 mod plain;
 mod reductions;
 

@@ -1,16 +1,19 @@
 -- The places and the numbers of a near leaf.
-use Rattle.std.proofs.Common.{◌≡◌, ℕ, ◌+◌, ◌-◌, ◌*◌, ◌/◌, ◌%◌, ◌<◌, ◌≤◌, ⊎_elim, List, length, get_or, take, drop, map, ℤ, pos, sym, ap, ◌∙◌, arith, length-take, length-drop}
+use Rattle.std.proofs.Common.{◌≡◌, ℕ, ◌+◌, ◌-◌, ◌*◌, ◌/◌, ◌%◌, ◌^◌, ◌<◌, ◌≤◌, ⊎_elim, List, length, get_or, take, drop, map, ℤ, pos, sym, ap, ◌∙◌, arith, length-take, length-drop}
 use Rattle.std.specs.List.{range_with_len}
 use Rattle.std.proofs.lemmas.Bool.{cases_lt}
 use Rattle.std.proofs.lemmas.List.{length-map, get_or-map, get_or-take, get_or-drop, get_or_default, same_lists}
 use Rattle.std.proofs.lemmas.List.FromFn.{length-range_with_len, get_or-range_with_len}
+use Rattle.piece_bits.specs.Words.{word_bit, word_width}
 use Rattle.short_rules.specs.Shorts.{start_in}
 use Rattle.short_rules.specs.declared.short.ShortRule.{ShortRule}
 use Rattle.near_leaves.specs.Lanes.{lane_bytes, number_at, IsStoredAs}
 use Rattle.near_leaves.specs.Nears.{near_place, near_numbers, stands_at, NearLeaf, IsNear, IsSpread}
+use Rattle.near_leaves.specs.Puts.{IsNearRule}
+use Rattle.near_leaves.specs.declared.rule.NearRule.{NearRule}
 use Rattle.near_leaves.specs.declared.spread.Spread.{Spread}
 use Rattle.near_leaves.specs.declared.word.LaneWord.{LaneWord}
-use Rattle.near_leaves.proofs.Lanes.{stored_number}
+use Rattle.near_leaves.proofs.Lanes.{stored_number, lane_width}
 
 -- ---- lists of numbers by their rows
 
@@ -110,7 +113,7 @@ module _ (word : LaneWord) (bytes : List ℕ) (base step half blocks : ℕ) (nea
         (cases_lt k 8))
         ∙ ap (λ (n : NearLeaf). take 16 (drop (16 * block) n.numbers)) is
 
--- ---- a short form whose rows are spread so
+-- ---- a short form whose rows are spread so, and one whose rule is known
 
 module _ (short : ShortRule) (bytes : List ℕ) (rows : ℕ) (word : LaneWord) (stored_as : IsStoredAs short.word word) (spread : Spread)
     (spread_so : IsSpread short (lane_bytes word) spread) where
@@ -118,3 +121,19 @@ module _ (short : ShortRule) (bytes : List ℕ) (rows : ℕ) (word : LaneWord) (
   spread_numbers =
       map_rows (λ row. number_at word bytes (near_place short.base spread.step spread.half (lane_bytes word) row)) (stands_at short bytes) 0 (16 * (rows / 16)) (λ row.
       stored_number short.word word short.field bytes (start_in short row) (near_place short.base spread.step spread.half (lane_bytes word) row) stored_as (spread_so.place row))
+
+module _ (short : ShortRule) (bytes : List ℕ) (rows : ℕ) (rule : NearRule) (is : IsNearRule short rule) where
+  pub rule_numbers : near_numbers rule.word bytes rule.base rule.spread.step rule.spread.half (rows / 16) ≡ map (stands_at short bytes) (range_with_len 0 (16 * (rows / 16)))
+  rule_numbers =
+      ap (λ (base : ℕ). near_numbers rule.word bytes base rule.spread.step rule.spread.half (rows / 16)) is.base
+      ∙ spread_numbers short bytes rows rule.word is.stored rule.spread is.spread
+
+  pub rule_near : rows ≤ 2 ^ 24 → ((row : ℕ) → row < rows → word_bit short.word (start_in short row) + word_width short.word short.field ≤ 8 * length bytes)
+      → IsNear rule.word bytes rule.base rule.spread.step rule.spread.half (rows / 16)
+  rule_near few room = record {
+    room = λ row inside.
+        (let here : near_place rule.base rule.spread.step rule.spread.half (lane_bytes rule.word) row ≡ start_in short row =
+        ap (λ (base : ℕ). near_place base rule.spread.step rule.spread.half (lane_bytes rule.word) row) is.base ∙ sym (is.spread.place row) in
+        omega (arith, here, room row (omega (arith, inside)), is.stored.bit (start_in short row), is.stored.wide short.field, lane_width rule.word));
+    few = omega (arith, few);
+  }

@@ -5,10 +5,10 @@ ghost use Rattle.piece_bits.specs.Words.{word_bit, word_width};
 ghost use Rattle.piece_bits.specs.declared.word.Word.TheVariants.{Scattered};
 ghost use Rattle.short_rules.specs.Shorts.{start_in};
 ghost use Rattle.short_rules.specs.Walks.{leads};
-ghost use Rattle.near_leaves.specs.Nears.{IsNearOf};
+ghost use Rattle.near_leaves.specs.Nears.{IsNear, IsNearOf, near_numbers};
 
+use crate::rule::NearRule;
 use crate::sixteen::sixteen;
-use crate::spread::spread_of;
 use crate::word::LaneWord;
 use blobs::Blob;
 use lanes::Block;
@@ -49,16 +49,25 @@ impl<'a> Near<'a> {
             → word_bit short.now.word (start_in short.now row) + word_width short.now.word short.now.field ≤ 8 * length blob.now }
         ensures { IfSome result (IsNearOf short.now blob.now rows) }
     {
-        let word = LaneWord::of(short.word)?;
-        let spread = spread_of(short, word)?;
-        Some(Near {
+        let rule = NearRule::of(short)?;
+        Some(Near::by(blob, rule, rows / 16))
+    }
+
+    /// The leaf of so many times sixteen rows that stand in a blob as a rule says.
+    #[inline(always)]
+    pub fn by(blob: &'a Blob, rule: NearRule, blocks: u64) -> Near<'a>
+        requires { IsNear rule.word blob.now rule.base rule.spread.step rule.spread.half blocks }
+        ensures word { result.word ≡ rule.word }
+        ensures numbers { result.numbers ≡ near_numbers rule.word blob.now rule.base rule.spread.step rule.spread.half blocks }
+    {
+        Near {
             blob,
-            word,
-            base: short.base,
-            step: spread.step,
-            half: spread.half,
-            blocks: rows / 16,
-        })
+            word: rule.word,
+            base: rule.base,
+            step: rule.spread.step,
+            half: rule.spread.half,
+            blocks,
+        }
     }
 
     /// How many times sixteen rows there are.

@@ -1,6 +1,6 @@
 -- Blobs that are moved whole, one after another.
-use Rattle.std.proofs.Common.{◌≡◌, ℕ, ◌+◌, ◌-◌, ◌<◌, ◌≤◌, List, [], ◌∷◌, ◌++◌, append_assoc, append-nil, length, map, take, drop, get_or, set, sum_by, sym, ap, ◌∙◌, arith, length-append}
-use Rattle.std.proofs.lemmas.List.{take_all, drop_all, take_more, drop_more, length-take, length-map, get_or-map, set-append_right, get_or-append_right, get_or-drop, get_or_default, length-drop, ext_get_or}
+use Rattle.std.proofs.Common.{◌≡◌, ℕ, ◌+◌, ◌-◌, ◌<◌, ◌≤◌, List, [], length, map, take, drop, get_or, sum_by, sym, ap, ◌∙◌, arith, length-append}
+use Rattle.std.proofs.lemmas.List.{length-take, length-map, get_or-map, get_or-append_right, get_or-drop, get_or_default, length-drop, ext_get_or}
 use Rattle.std.proofs.lemmas.List.Sums.{sum_by_more}
 use Rattle.blobs.specs.Moves.{IsMoved, blocks}
 use Rattle.views.specs.HalfLaws.{half}

@@ -9,7 +9,7 @@ use Rattle.map_any.specs.Counters.{has_count, granule_of}
 use Rattle.places.specs.Layout.{Owner}
 use Rattle.instrument.specs.Counters.{LeafCounts, HeatCounts, counted, warmed, no_counts, no_heat, granules_of}
 use Rattle.instrument.specs.CounterLaws.{count-from_zero, heat-from_zero}
-use Rattle.views.specs.Tallies.{Access, Read, Write, Tally, touched, counts_touched, heat_touched, tallied, no_tally, blob_lengths}
+use Rattle.views.specs.Tallies.{Access, Read, Write, counts_touched, heat_touched, tallied, no_tally, blob_lengths}
 use Rattle.views.specs.TallyLaws.{tallied-counts, tallied-heat}
 use Rattle.views.specs.Entries.{reads_leaf, writes_leaf, touches, AreCounts, AreHeat, AreEntries}
 

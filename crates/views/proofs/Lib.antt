@@ -16,6 +16,7 @@ pub mod AllLaws
 pub mod MoveLaws
 pub mod RunMoveLaws
 pub mod NearStoreLaws
+pub mod NearColumnLaws
 pub mod PieceLaws
 pub mod SlotMoveLaws
 pub mod EachLaws

@@ -1,5 +1,5 @@
 -- What blobs hold under one expression they hold under another that lays them out the same.
-use Rattle.std.proofs.Common.{◌≡◌, ◌⊎◌, ⊎_elim, ℕ, suc, ◌*◌, ◌/◌, ◌+◌, ◌%◌, ◌<◌, ◌≤◌, ℤ, List, [], ◌∷◌, map, length, get_or, refl, sym, ap, ◌∙◌, subst, arith}
+use Rattle.std.proofs.Common.{◌≡◌, ℕ, suc, ◌*◌, ◌/◌, ◌+◌, ◌<◌, ℤ, List, [], ◌∷◌, map, length, get_or, refl, sym, ap, ◌∙◌, subst, arith}
 use Rattle.std.specs.Prelude.{sum_by}
 use Rattle.std.proofs.lemmas.List.Sums.{sum_by-cons}
 use Rattle.extents.specs.Indices.{indices}
@@ -8,12 +8,11 @@ use Rattle.record_dim.specs.Leaves.{kinds_of}
 use Rattle.places.specs.Holds.{IsTooBig}
 use Rattle.places.specs.Laws.{IsLaidOut}
 use Rattle.places.specs.Layout.{Owner}
-use Rattle.places.specs.declared.piece.Cell.{Cell}
 use Rattle.places.specs.declared.piece.Hold.{Hold}
 use Rattle.blobs.specs.Moves.{blocks}
-use Rattle.piece_bits.specs.Tables.{AreLaid, AreSized, table_in, hold_at}
+use Rattle.piece_bits.specs.Tables.{AreLaid, AreSized, table_in}
 use Rattle.map_expr.specs.Terms.{Term, uncounted, term_of}
-use Rattle.map_checks.specs.Mappings.{leaf_cells, layout_by, holds_by, most_slots, IsTooBigFor}
+use Rattle.map_checks.specs.Mappings.{leaf_cells, layout_by, holds_by, most_slots}
 use Rattle.map_expr.specs.declared.expr.MapExpr.{MapExpr}
 use Rattle.record_dim.specs.Schemas.{schema_fields}
 use Rattle.record_dim.specs.declared.schema.Schema.{Schema}

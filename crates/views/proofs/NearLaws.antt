@@ -46,7 +46,7 @@ near_leads short bytes rows (Some near) is some = is.leads
 module _ {layout : List (List Owner)} {slots : ℕ} (holds : List Hold) (leaf : ℕ) {rules : List PieceRule} {short : ShortRule} {count : ℕ}
     (laid : IsLaidOut layout slots (map (λ (h : Hold). h.width) holds)) (paired : length holds ≡ count) (leaf_in : leaf < count)
     (h : leads short.walk ≡ true → IsShortIn layout slots leaf (slice_index (map (λ (h : Hold). h.width) holds) leaf) (hold_at holds leaf) rules short)
-    (blobs : List (List ℕ)) (are_laid : AreLaid layout blobs) (bytes : List ℕ) (there : bytes ≡ get_or blobs short.blob []) (rows : ℕ) (all : rows ≡ slots) where
+    (blobs : List (List ℕ)) (are_laid : AreLaid layout blobs) (bytes : List ℕ) (there : bytes ≡ get_or blobs short.blob []) (rows : ℕ) (all : rows ≤ slots) where
   pub near_there : leads short.walk ≡ true → short.word ≢ stored.Scattered → (row : ℕ) → row < rows
       → word_bit short.word (start_in short row) + word_width short.word short.field ≤ 8 * length bytes
   near_there lead alone row inside = word_there holds row leaf laid paired (omega (arith, inside, all)) leaf_in (h lead) (start_in short row) refl blobs are_laid alone bytes there

@@ -1,17 +1,16 @@
 -- Sixteen rows of a leaf that are stored at once.
-use Rattle.std.proofs.Common.{◌≡◌, ℕ, zero, suc, ◌+◌, ◌*◌, ◌-◌, ◌/◌, ◌%◌, ◌^◌, ◌<◌, ◌≤◌, Bool, true, false, List, [], ◌∷◌, length, map, take, drop, replicate, get_or, set, slice_index, ◌++◌, ℤ, pos, None, Ok, refl, sym, ap, ◌∙◌, subst, ⊎_elim, arith}
+use Rattle.std.proofs.Common.{◌≡◌, ℕ, zero, suc, ◌+◌, ◌*◌, ◌/◌, ◌^◌, ◌<◌, ◌≤◌, Bool, List, [], ◌∷◌, length, map, take, get_or, set, slice_index, ℤ, pos, None, Ok, refl, sym, ap, ◌∙◌, subst, ⊎_elim, arith}
 use Rattle.std.specs.Int.{bit_at}
 use Rattle.std.specs.List.{range_with_len}
-use Rattle.std.proofs.lemmas.Bool.{cases_Bool, cases_eq, cases_lt}
-use Rattle.std.proofs.lemmas.List.{length-map, get_or-set_same, get_or-set_other, set-set, append-nil, drop-take, take-take}
+use Rattle.std.proofs.lemmas.Bool.{cases_eq}
+use Rattle.std.proofs.lemmas.List.{length-map, get_or-set_same, get_or-set_other, set-set}
 use Rattle.std.proofs.lemmas.List.FromFn.{length-range_with_len}
 use Rattle.extents.specs.Indices.{indices}
-use Rattle.record_dim.specs.LeafTypes.{IsIn, IsDeclared}
+use Rattle.record_dim.specs.LeafTypes.{IsIn}
 use Rattle.record_dim.specs.Leaves.{kinds_of}
 use Rattle.record_dim.specs.Trees.{Fields}
 use Rattle.record_dim.specs.Schemas.{schema_fields}
 use Rattle.record_dim.specs.declared.schema.Schema.{Schema}
-use Rattle.record_dim.specs.declared.leaf_type.LeafType.{LeafType}
 use Rattle.places.specs.Image.{number, digit, entry}
 use Rattle.places.specs.Layout.{Owner}
 use Rattle.places.specs.Laws.{IsLaidOut}
@@ -22,8 +21,7 @@ use Rattle.map_expr.specs.Terms.{Term, term_of}
 use Rattle.map_checks.specs.Mappings.{layout_by, holds_by}
 use Rattle.piece_rules.specs.declared.rule.PieceRule.{PieceRule}
 use Rattle.piece_bits.specs.Tables.{AreLaid, hold_at, table_in, with_entry}
-use Rattle.piece_bits.specs.Words.{word_bit, word_place, word_signed, word_width}
-use Rattle.piece_bits.specs.declared.word.Word.TheVariants as stored
+use Rattle.piece_bits.specs.Words.{word_bit, word_place, word_width}
 use Rattle.short_rules.specs.Shorts.{start_in, IsShortIn}
 use Rattle.short_rules.specs.declared.short.ShortRule.{ShortRule}
 use Rattle.near_leaves.specs.Lanes.{lane_bytes, lane_hold}
@@ -72,6 +70,10 @@ pub all_put : (layout : List (List Owner)) (slots : ℕ) (holds : List Hold) (bl
     → take lane values ≡ values → IsColumnPut layout slots holds blob leaf row values old now
 all_put layout slots holds blob leaf row lane values old now has end = subst (λ (vs : List ℤ). IsColumnPut layout slots holds blob leaf row vs old now) end has.put
 
+-- the number of a block by its first row
+pub first_block : (block : ℕ) → block ≡ 16 * block / 16
+first_block block = omega arith
+
 module _ {layout : List (List Owner)} {slots : ℕ} (holds : List Hold) (leaf row : ℕ) {rules : List PieceRule} {short : ShortRule} {count : ℕ} (near : NearRule) (values : List ℤ) (bytes : List ℕ)
     (laid : IsLaidOut layout slots (map (λ (h : Hold). h.width) holds)) (paired : length holds ≡ count) (leaf_in : leaf < count)
     (can : HavePlaces layout slots holds leaf row rules short near values bytes) where
@@ -100,8 +102,11 @@ module _ {layout : List (List Owner)} {slots : ℕ} (holds : List Hold) (leaf ro
       (subst (λ (v : ℤ). IsIn hold.signed hold.width v) (sym is) (can.held lane small))))
 
   -- one lane more
-  module _ (word : LaneWord) (lane at : ℕ) (value : ℤ) (now new : List ℕ) (has : HasPut layout slots holds short.blob leaf row lane values bytes now) (small : lane < 16)
+  module _ (blob : ℕ) (its : blob ≡ short.blob) (word : LaneWord) (lane at : ℕ) (value : ℤ) (now new : List ℕ) (put_so_far : HasPut layout slots holds blob leaf row lane values bytes now) (small : lane < 16)
       (same : word ≡ near.word) (there : at ≡ start_in short (row + lane)) (is : value ≡ get_or values lane (pos 0)) (put : IsPut word at value now new) where
+    has : HasPut layout slots holds short.blob leaf row lane values bytes now
+    has = subst (λ (b : ℕ). HasPut layout slots holds b leaf row lane values bytes now) its put_so_far
+
     row_in : row + lane < slots
     row_in = omega (arith, small, can.rows_in)
 
@@ -154,11 +159,11 @@ module _ {layout : List (List Owner)} {slots : ℕ} (holds : List Hold) (leaf ro
           ∙ entry_more leaf row lane (row + lane) values table (omega (arith, small, can.sixteen)) refl (omega (arith, row_in, size))
           ∙ ap (λ (n : ℕ). with_column leaf row (take n values) table) next
 
-    pub put_more : HasPut layout slots holds short.blob leaf row (lane + 1) values bytes new
-    put_more = record {
+    pub put_more : HasPut layout slots holds blob leaf row (lane + 1) values bytes new
+    put_more = subst (λ (b : ℕ). HasPut layout slots holds b leaf row (lane + 1) values bytes new) (sym its) (record {
       size = near_put.len ∙ has.size;
       put = λ blobs are_laid from. (lies blobs are_laid from, shown blobs are_laid from);
-    }
+    })
 
 -- ---- the blob of a near leaf
 
@@ -242,31 +247,7 @@ seen_column schema extents expr blobs {tally} {seen} is row leaf count values st
     ∙ ap (λ (s : Table). after_stores s (with_column leaf row values s.rows) (column_writes leaf row count)) is
     ∙ ap (λ (vs : List ℤ). after_stores seen (with_column leaf row vs seen.rows) (column_writes leaf row count)) (sym (all_kept seen leaf values))
 
--- where blobs are new ones or the old ones
-pub kept_either : (term : Term) (extents : List ℕ) (fields : Fields) (old new : List (List ℕ)) (stored : Bool) → IsKept Strict term extents fields old
-    → (stored ≡ true → IsKept Strict term extents fields new) → (stored ≡ false → new ≡ old) → IsKept Strict term extents fields new
-kept_either term extents fields old new stored kept wrote left =
-    ⊎_elim wrote (λ (e : stored ≡ false). subst (λ (blobs : List (List ℕ)). IsKept Strict term extents fields blobs) (sym (left e)) kept) (cases_Bool stored)
-
--- ---- sixteen values that are read
-
--- a whole block of the first rows of a column
-pub near_block : (values numbers block : List ℤ) (row lanes index all : ℕ) → lanes ≡ 16 → row % 16 ≡ 0 → index ≡ row / 16 → row + lanes ≤ all → numbers ≡ take (16 * (all / 16)) values
-    → block ≡ take 16 (drop (16 * index) numbers) → block ≡ take lanes (drop row values) ++ replicate (16 - lanes) (pos 0)
-near_block values numbers block row lanes index all many whole at inside is read =
-    let from : 16 * index ≡ row = omega (arith, whole, at) in
-    let rest : ℕ = 16 * (all / 16) - row in
-    let parts : 16 * (all / 16) ≡ row + rest = omega (arith, whole, inside, many) in
-    subst (λ (n : ℕ). block ≡ take n (drop row values) ++ replicate (16 - n) (pos 0)) (sym many)
-    (read ∙ ap (λ (n : ℕ). take 16 (drop n numbers)) from ∙ ap (λ (xs : List ℤ). take 16 (drop row xs)) is
-    ∙ ap (λ (n : ℕ). take 16 (drop row (take n values))) parts ∙ ap (take 16) (drop-take row rest values)
-    ∙ take-take 16 rest (drop row values) (omega (arith, whole, inside, many)) ∙ sym (append-nil (take 16 (drop row values))))
-
 -- ---- values that are all taken
-
-pub each_more : (P : ℕ → Type 0) (lane : ℕ) → ((k : ℕ) → k < lane → P k) → P lane → (k : ℕ) → k < lane + 1 → P k
-each_more P lane each more k below =
-    ⊎_elim (λ (less : k < lane). each k less) (λ (last : lane ≤ k). (let same : lane ≡ k = omega (arith, below, last) in subst P same more)) (cases_lt k lane)
 
 pub none_refused : (answer : Answer) (leaf first : ℕ) (values : List ℤ) → ((k : ℕ) → k < length values → told (answer leaf (get_or values k (pos 0))) ≡ Ok tt)
     → first_lane_fault answer leaf first values ≡ None

@@ -1,5 +1,5 @@
 -- Slots that are cut into pieces.
-use Rattle.std.proofs.Common.{◌≡◌, ◌⊎◌, ⊎_elim, inl, inr, ℕ, ◌+◌, ◌-◌, ◌*◌, ◌/◌, ◌%◌, ◌<◌, ◌≤◌, Bool, true, ◌||◌, div-mul-le_self, refl, sym, ap, ◌∙◌, subst, arith}
+use Rattle.std.proofs.Common.{◌≡◌, ◌⊎◌, ⊎_elim, inl, inr, ℕ, ◌+◌, ◌-◌, ◌*◌, ◌/◌, ◌%◌, ◌<◌, ◌≤◌, true, ◌||◌, div-mul-le_self, refl, sym, ap, ◌∙◌, subst, arith}
 use Rattle.std.specs.Prelude.{◌==◌, min}
 use Rattle.std.proofs.Math.Nat.{mul-mod_left}
 use Rattle.std.proofs.lemmas.Nat.{div-add-mod', mod-mul-add, mod_below, row_fits, le-div}

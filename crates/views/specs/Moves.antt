@@ -1,10 +1,8 @@
 -- What a table is after bytes were moved from another, and what that takes.
-use Rattle.std.specs.Prelude.{ℕ, ℤ, ◌≡◌, ◌+◌, ◌%◌, ◌/◌, ◌<◌, ◌≤◌, List, length, map, sum_by, IfSome}
+use Rattle.std.specs.Prelude.{ℕ, ℤ, ◌≡◌, ◌+◌, ◌%◌, ◌/◌, ◌<◌, ◌≤◌, List, length, sum_by, IfSome}
 use Rattle.extents.specs.declared.order.Order.{Order}
 use Rattle.linearize.specs.Slots.{slot_at, slot_count}
-use Rattle.record_dim.specs.Leaves.{kinds_of}
 use Rattle.record_dim.specs.LeafTypes.{width_of}
-use Rattle.record_dim.specs.Trees.{Fields}
 use Rattle.record_dim.specs.declared.leaf_type.LeafType.{LeafType}
 use Rattle.places.specs.Image.{entry}
 use Rattle.places.specs.Layout.{Owner}

@@ -1,5 +1,5 @@
 -- Slots that are cut into pieces, each of which lies in one block of either side, and bytes that are moved piece after piece.
-use Rattle.std.specs.Prelude.{ℕ, zero, suc, ◌≡◌, ◌+◌, ◌-◌, ◌*◌, ◌%◌, ◌<◌, ◌≤◌, ◌==◌, ◌||◌, Bool, true, min, List, sum_by, Option, Some, None, IfSome, if◌then◌else◌}
+use Rattle.std.specs.Prelude.{ℕ, zero, suc, ◌≡◌, ◌+◌, ◌-◌, ◌*◌, ◌%◌, ◌<◌, ◌≤◌, ◌==◌, ◌||◌, Bool, true, min, List, sum_by, Option, Some, IfSome, if◌then◌else◌}
 use Rattle.std.specs.List.{range_with_len}
 use Rattle.extents.specs.declared.order.Order.{Order}
 use Rattle.linearize.specs.Slots.{slot_count}

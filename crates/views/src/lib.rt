@@ -7,6 +7,7 @@ mod fresh;
 mod laws;
 mod moves;
 mod near;
+mod near_column;
 mod near_store;
 mod pieces;
 mod row;
@@ -16,5 +17,6 @@ mod view;
 
 pub use fault::{LaneFault, MakeView, StoreFault};
 pub use laws::{counts_are_entries, laws_of_table};
+pub use near_column::NearColumn;
 pub use row::RowRef;
 pub use view::{BlobList, View};

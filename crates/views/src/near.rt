@@ -1,10 +1,15 @@
-ghost use Rattle.std.specs.Prelude.{◌≡◌, ◌*◌, ◌/◌, ◌<◌, ◌≤◌, ◌^◌, true, false, is_some, IfSome, length, take};
+ghost use Rattle.std.specs.Prelude.{◌≡◌, ◌+◌, ◌*◌, ◌/◌, ◌<◌, ◌≤◌, ◌^◌, true, false, is_some, IfSome, length, map, take, drop};
+ghost use Rattle.std.specs.Simd.Lanes.{Each1};
+ghost use Rattle.lanes.specs.Blocks.{IsNarrow};
 ghost use Rattle.map_any.specs.Counters.{is_counted};
 ghost use Rattle.map_any.specs.Maps.{term_of_map};
 ghost use Rattle.piece_bits.specs.Tables.{AreLaid, table_in};
 ghost use Rattle.views.specs.Columns.{column};
+ghost use Rattle.views.specs.NearStores.{IsNearIn};
 
+use crate::near_column::NearColumn;
 use blobs::Blob;
+use lanes::Block;
 use map_any::AnyMap;
 use near_leaves::Near;
 use places::{Mapping, laws_of};
@@ -23,4 +28,20 @@ pub fn near_leaf<'a>(map: &AnyMap, blobs: &'a [Blob], rows: u64, leaf: usize) ->
     let short = &map.short(leaf).short;
     let blob = blobs.get(short.blob)?;
     Near::of(blob, short, rows)
+}
+
+/// The values of a near leaf in a block of sixteen rows.
+#[inline(always)]
+pub fn block_of(mapping: &AnyMap, blobs: &[Blob], near: &NearColumn, block: u64) -> Block
+    requires near { IsNearIn (⟦<AnyMap as Mapping>⟧.layout mapping.now) (⟦<AnyMap as Mapping>⟧.slot_count mapping.now)
+        (map (λ cell. cell.kind) (⟦<AnyMap as Mapping>⟧.cell_list mapping.now)) (⟦<AnyMap as Mapping>⟧.hold_list mapping.now) near.now }
+    requires leaf_in { near.now.leaf < length (⟦<AnyMap as Mapping>⟧.cell_list mapping.now) }
+    requires rows_in { 16 * (block + 1) ≤ ⟦<AnyMap as Mapping>⟧.slot_count mapping.now }
+    requires laid { AreLaid (⟦<AnyMap as Mapping>⟧.layout mapping.now) blobs.now }
+    ensures values { result ≡ take 16 (drop (16 * block) (column near.now.leaf
+        (table_in (⟦<AnyMap as Mapping>⟧.layout mapping.now) (⟦<AnyMap as Mapping>⟧.slot_count mapping.now) (⟦<AnyMap as Mapping>⟧.hold_list mapping.now) blobs.now))) }
+    ensures narrow { Each1 IsNarrow result }
+{
+    laws_of(mapping);
+    Near::by(&blobs[near.blob], near.rule, block + 1).some_block(block)
 }

@@ -3,13 +3,15 @@ ghost use Rattle.std.specs.Prelude.{◌≡◌, ◌+◌, ◌-◌, ◌*◌, ◌/�
 ghost use Rattle.std.specs.Simd.Lanes.{Each1};
 ghost use Rattle.lanes.specs.Blocks.{IsBlock, IsNarrow};
 ghost use Rattle.views.specs.Columns.{in_leaf, column, column_reads, column_writes, with_column, first_lane_fault, IsNarrowLeaf};
+ghost use Rattle.views.specs.NearStores.{IsNearColumn};
 ghost use Rattle.views.specs.Tables.{answer_of, kept_of, leaf_count_of, after_log, after_read, after_stores};
 ghost use Rattle.views.specs.Tallies.{Access};
 
 use super::View;
 use crate::fault::LaneFault;
-use crate::near::near_leaf;
-use crate::near_store::{are_sure, store_sixteen};
+use crate::near::{block_of, near_leaf};
+use crate::near_column::{NearColumn, column_of};
+use crate::near_store::put_block;
 use lanes::Block;
 use near_leaves::Near;
 use std::simd::Simd;
@@ -36,39 +38,6 @@ impl View {
         ensures step { steps.new ≡ steps.old + 1 }
     {
         steps.tick();
-        if let Some(block) = self.near_lanes(row, leaf, lanes) {
-            return block.lanes();
-        }
-        self.load_each(row, leaf, lanes)
-    }
-
-    // The same where it is one of the whole blocks of sixteen rows and they stand side by side: then nothing counts accesses.
-    #[inline(always)]
-    fn near_lanes(&self, row: u64, leaf: usize, lanes: usize) -> Option<Block>
-        requires rows_in { row + lanes ≤ length self.now.rows }
-        requires leaf_in { leaf < leaf_count_of self.now }
-        ensures values { IfSome result (λ block. block ≡ take lanes (drop row (column leaf self.now.rows)) ++ replicate (16 - lanes) (pos 0)) }
-        ensures narrow { IfSome result (Each1 IsNarrow) }
-        ensures uncounted { is_some result ≡ true → (log : List Access) → after_log self.now log ≡ self.now }
-    {
-        if lanes != 16 || row % 16 != 0 {
-            return None;
-        }
-        let near = self.near(leaf)?;
-        Some(near.some_block(row / 16))
-    }
-
-    // The same, lane by lane.
-    #[inline(never)]
-    fn load_each(&mut self, row: u64, leaf: usize, lanes: usize) -> Simd<i64, 16>
-        requires few { lanes ≤ 16 }
-        requires rows_in { row + lanes ≤ length self.old.rows }
-        requires leaf { IsNarrowLeaf self.old leaf }
-        ensures lanes { IsBlock result }
-        ensures values { result ≡ take lanes (drop row (column leaf self.old.rows)) ++ replicate (16 - lanes) (pos 0) }
-        ensures narrow { Each1 IsNarrow result }
-        ensures same { self.new ≡ after_log self.old (column_reads leaf row lanes) }
-    {
         let mut values = [0; 16];
         for lane in 0..lanes {
             values[lane] = self.narrow_value(self.row_after(row, lane), leaf);
@@ -98,42 +67,7 @@ impl View {
     {
         steps.tick();
         let values = Block::of(values).to_array();
-        if lanes == 16 {
-            return self.store_block(row, leaf, &values);
-        }
         self.store_values(row, leaf, &values[..lanes])
-    }
-
-    // Stores sixteen values in a leaf of the rows from this one on.
-    fn store_block(&mut self, first: u64, leaf: usize, values: &[i64; 16]) -> Result<(), LaneFault>
-        requires rows_in { first + 16 ≤ length self.old.rows }
-        requires leaf_in { leaf < leaf_count_of self.old }
-        requires sixteen { length values.now ≡ 16 }
-        ensures taken { OnOk result (first_lane_fault (answer_of self.old) leaf 0 values.now ≡ None) }
-        ensures stored { OnOk result (self.new ≡ after_stores self.old (with_column leaf first (map (kept_of self.old leaf) values.now) self.old.rows) (column_writes leaf first 16)) }
-        ensures named { IfErr result (λ fault. first_lane_fault (answer_of self.old) leaf 0 values.now ≡ Some fault) }
-        ensures refused { OnErr result (self.new ≡ self.old) }
-    {
-        if self.store_near(first, leaf, values) {
-            return Ok(());
-        }
-        self.store_values(first, leaf, values)
-    }
-
-    // The same where the rows stand side by side and each value is sure to be taken; it says whether it is so.
-    #[inline(always)]
-    fn store_near(&mut self, first: u64, leaf: usize, values: &[i64; 16]) -> bool
-        requires rows_in { first + 16 ≤ length self.old.rows }
-        requires leaf_in { leaf < leaf_count_of self.old }
-        requires sixteen { length values.now ≡ 16 }
-        ensures taken { result ≡ true → first_lane_fault (answer_of self.old) leaf 0 values.now ≡ None }
-        ensures stored { result ≡ true → self.new ≡ after_stores self.old (with_column leaf first (map (kept_of self.old leaf) values.now) self.old.rows) (column_writes leaf first 16) }
-        ensures none { result ≡ false → self.new ≡ self.old }
-    {
-        if !are_sure(&self.map, leaf, values) {
-            return false;
-        }
-        store_sixteen(&self.map, &mut self.blobs, first, leaf, values)
     }
 
     // Stores values in a leaf of the rows from this one on.
@@ -174,6 +108,44 @@ impl View {
         ensures uncounted { is_some result ≡ true → (log : List Access) → after_log self.now log ≡ self.now }
     {
         near_leaf(&self.map, self.blobs.as_slice(), self.extents.count(), leaf)
+    }
+
+    /// Where the values of a leaf stand so, for reading and storing blocks of sixteen rows.
+    pub fn near_column(&self, leaf: usize) -> Option<NearColumn>
+        requires { leaf < leaf_count_of self.now }
+        ensures near { IfSome result (IsNearColumn self.now) }
+        ensures leaf { IfSome result (λ near. near.leaf ≡ leaf) }
+    {
+        column_of(&self.map, leaf)
+    }
+
+    /// The values of a near leaf in a block of sixteen rows. It takes no step.
+    #[inline(always)]
+    pub fn near_block(&self, near: &NearColumn, block: u64) -> Block
+        requires near { IsNearColumn self.now near.now }
+        requires rows_in { 16 * (block + 1) ≤ length self.now.rows }
+        ensures values { result ≡ take 16 (drop (16 * block) (column near.now.leaf self.now.rows)) }
+        ensures narrow { Each1 IsNarrow result }
+    {
+        block_of(&self.map, self.blobs.as_slice(), near, block)
+    }
+
+    /// Stores values in a near leaf of a block of sixteen rows where each is sure to be taken, and says whether it is so. It takes no step.
+    #[inline(always)]
+    pub fn store_near(&mut self, near: &NearColumn, block: u64, values: Block) -> bool
+        requires near { IsNearColumn self.old near.now }
+        requires rows_in { 16 * (block + 1) ≤ length self.old.rows }
+        ensures taken { result ≡ true → first_lane_fault (answer_of self.old) near.now.leaf 0 values ≡ None }
+        ensures stored { result ≡ true → self.new ≡ after_stores self.old (with_column near.now.leaf (16 * block) (map (kept_of self.old near.now.leaf) values) self.old.rows)
+            (column_writes near.now.leaf (16 * block) 16) }
+        ensures none { result ≡ false → self.new ≡ self.old }
+        ensures still { (other : NearColumn) → IsNearColumn self.old other → IsNearColumn self.new other }
+    {
+        if values.first_outside(near.least, near.greatest, 16) < 16 {
+            return false;
+        }
+        put_block(&self.map, &mut self.blobs, near, block, &values.to_array());
+        true
     }
 
     // The value of a leaf of at most 32 bits in a row.

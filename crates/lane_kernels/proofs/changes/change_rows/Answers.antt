@@ -3,18 +3,15 @@ use Rattle.std.proofs.Math.Nat.{mul-le-mul_left}
 use Rattle.extents.specs.Indices.{indices}
 use Rattle.lane_kernels.specs.Kernels.{row_cost}
 use Rattle.lane_kernels.specs.Changes.{changing}
-use Rattle.lane_kernels.specs.Blocks.{step_of}
-use Rattle.lane_kernels.proofs.Changed.{none_changed, change_more, change_stops}
-use Rattle.lane_kernels.proofs.Stepping.{IsStep, step_next, at_cost, none_cost, more_cost, cost}
+use Rattle.lane_kernels.specs.Blocks.{step_of, cost}
+use Rattle.lane_kernels.proofs.Changed.{change_more, change_stops}
+use Rattle.lane_kernels.proofs.Stepping.{IsStep, step_next, at_cost, more_cost}
 use Rattle.lane_kernels.proofs.changes.change_rows.Given as given
 use Rattle.lane_kernels.proofs.changes.change_rows.Goals as goal
 use Rattle.lane_kernels.proofs.changes.change_rows.Goals.{After-step_at-step}
 
 pub loop-row-init : goal.loop-row-init
-loop-row-init g c = record {
-  changed = none_changed c.args.view.now c.args.change.now c.args.lanes c.requires.some;
-  counted = omega (arith, none_cost (row_cost (changing c.args.change.now)) c.args.lanes c.requires.some);
-}
+loop-row-init g c = record { changed = c.change_blocks-row.ensures.changed; counted = c.change_blocks-row.ensures.steps }
 
 -- as many rows as the loop goes through
 count_is : (g : given.Over) (c : goal.After-step_at-step g) → c.count-count.result ≡ length c.args.view.now.rows

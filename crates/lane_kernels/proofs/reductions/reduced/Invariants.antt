@@ -1,6 +1,6 @@
 use Rattle.std.proofs.Common.{◌≡◌, ◌+◌, ◌-◌}
 use Rattle.lane_kernels.proofs.Numbers.{HasReduced}
-use Rattle.lane_kernels.proofs.Stepping.{cost}
+use Rattle.lane_kernels.specs.Blocks.{cost}
 use Rattle.lane_kernels.proofs.reductions.reduced.Given as goal
 
 abbrev pub invariant-loop-row : goal.invariant-loop-row

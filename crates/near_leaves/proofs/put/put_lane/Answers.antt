@@ -1,6 +1,5 @@
 use Rattle.std.proofs.Common.{◌≡◌, ◌^◌, ◌<◌, ◌∙◌, ℤ, ℕ, ap, sym, subst, rules, SFits, to_z, of_z, w64}
-use Rattle.std.specs.Int.{w128, bit_at}
-use Rattle.std.proofs.lemmas.Int.{to_z-of_z}
+use Rattle.std.specs.Int.{w128}
 use Rattle.record_dim.specs.LeafTypes.{IsIn}
 use Rattle.places.specs.Image.{number, digit}
 use Rattle.places.specs.NumbersLaws.{number_lt, digit_lt}

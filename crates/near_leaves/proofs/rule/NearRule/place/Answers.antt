@@ -1,6 +1,6 @@
-use Rattle.std.proofs.Common.{◌≡◌, ◌+◌, ◌*◌, sym, ap, arith}
+use Rattle.std.proofs.Common.{arith}
 use Rattle.near_leaves.specs.Lanes.{lane_bytes}
-use Rattle.near_leaves.proofs.Puts.{place_from, place_lower, place_upper}
+use Rattle.near_leaves.proofs.Puts.{place_from}
 use Rattle.near_leaves.proofs.rule.NearRule.place.Goals as goal
 
 pub overflow_mul-first : goal.overflow_mul-first

@@ -1,29 +1,41 @@
-use Rattle.std.proofs.Common.{◌≡◌, List, ℤ, refl, sym, subst, ◌∙◌}
+use Rattle.std.proofs.Common.{◌≡◌, ◌-◌, ◌++◌, List, ℤ, pos, ℕ, length, take, drop, replicate, sym, ap, subst, ◌∙◌, arith}
 use Rattle.std.specs.Simd.Lanes.{Each1}
 use Rattle.lanes.specs.Blocks.{IsBlock, IsNarrow}
 use Rattle.lanes.specs.BlockLaws.{same}
-use Rattle.views.specs.Columns.{column_reads}
+use Rattle.views.specs.Columns.{column, column_reads}
+use Rattle.views.specs.Tables.{Table, after_log}
+use Rattle.views.proofs.ColumnLaws.{nothing_loaded, loaded_more, loaded_block}
 use Rattle.views.proofs.view.View.load_lanes.Goals as goal
 
-pub returns-in-Some-clause-lanes : goal.returns-in-Some-clause-lanes
-returns-in-Some-clause-lanes g c = subst IsBlock (sym (same c.lanes.result c.lanes.ensures.lanes.fit)) c.lanes.ensures.lanes
+pub loop-lane-init : goal.loop-lane-init
+loop-lane-init g c = nothing_loaded c.args.leaf c.args.row c.args.self.now
 
-pub returns-in-Some-clause-values : goal.returns-in-Some-clause-values
-returns-in-Some-clause-values g c = same c.lanes.result c.lanes.ensures.lanes.fit ∙ c.lanes.ensures.value ∙ c.in-Some.ensures.values
+pub row_after-requires : goal.row_after-requires
+row_after-requires g c = omega (arith, ap (λ (t : Table). length t.rows) c.loop-lane.invariant.log)
 
-pub returns-in-Some-clause-narrow : goal.returns-in-Some-clause-narrow
-returns-in-Some-clause-narrow g c =
-    subst (λ (values : List ℤ). Each1 IsNarrow values) (sym (same c.lanes.result c.lanes.ensures.lanes.fit ∙ c.lanes.ensures.value)) c.in-Some.ensures.narrow
+pub loop-lane-preserved : goal.loop-lane-preserved
+loop-lane-preserved g c =
+    loaded_more c.args.leaf c.args.row c.loop-lane.lane c.row_after.result c.args.self.now c.loop-lane.self c.narrow_value.new.self c.loop-lane.values c.narrow_value.result
+    c.loop-lane.invariant (omega arith) (omega arith) c.row_after.ensures c.narrow_value.ensures.value c.narrow_value.ensures.narrow c.narrow_value.ensures.same
 
-pub returns-in-Some-clause-same : goal.returns-in-Some-clause-same
-returns-in-Some-clause-same g c = sym (c.in-Some.ensures.uncounted refl (column_reads c.args.leaf c.args.row c.args.lanes))
+pub of_array-requires : goal.of_array-requires
+of_array-requires g c =
+    loaded_block c.args.leaf c.args.row c.loop-lane.lane c.args.self.now c.loop-lane.self c.loop-lane.values c.loop-lane.invariant (omega arith) (omega arith)
 
 pub returns-clause-lanes : goal.returns-clause-lanes
-returns-clause-lanes g c = subst IsBlock (sym (same c.load_each.result c.load_each.ensures.lanes.fit)) c.load_each.ensures.lanes
+returns-clause-lanes g c = subst IsBlock (sym (same c.lanes.result c.lanes.ensures.lanes.fit)) c.lanes.ensures.lanes
 
 pub returns-clause-values : goal.returns-clause-values
-returns-clause-values g c = same c.load_each.result c.load_each.ensures.lanes.fit ∙ c.load_each.ensures.values
+returns-clause-values g c =
+    let end : c.loop-lane.lane ≡ c.args.lanes = omega arith in
+    same c.lanes.result c.lanes.ensures.lanes.fit ∙ c.lanes.ensures.value ∙ c.of_array.ensures ∙ c.loop-lane.invariant.filled
+    ∙ ap (λ (n : ℕ). take n (drop c.args.row (column c.args.leaf c.args.self.now.rows)) ++ replicate (16 - n) (pos 0)) end
 
 pub returns-clause-narrow : goal.returns-clause-narrow
 returns-clause-narrow g c =
-    subst (λ (values : List ℤ). Each1 IsNarrow values) (sym (same c.load_each.result c.load_each.ensures.lanes.fit)) c.load_each.ensures.narrow
+    subst (λ (values : List ℤ). Each1 IsNarrow values) (sym (same c.lanes.result c.lanes.ensures.lanes.fit ∙ c.lanes.ensures.value ∙ c.of_array.ensures)) c.loop-lane.invariant.narrow
+
+pub returns-clause-same : goal.returns-clause-same
+returns-clause-same g c =
+    let end : c.loop-lane.lane ≡ c.args.lanes = omega arith in
+    c.loop-lane.invariant.log ∙ ap (λ (n : ℕ). after_log c.args.self.now (column_reads c.args.leaf c.args.row n)) end

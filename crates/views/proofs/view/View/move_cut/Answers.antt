@@ -1,4 +1,4 @@
-use Rattle.std.proofs.Common.{◌≡◌, ◌∙◌, ◌+◌, ◌*◌, ◌%◌, ◌<◌, ◌≤◌, ◌||◌, ℕ, zero, suc, true, List, [], length, sum_by, refl, sym, ap, subst, arith}
+use Rattle.std.proofs.Common.{◌≡◌, ◌∙◌, ◌+◌, ◌*◌, ◌<◌, ◌≤◌, ◌||◌, ℕ, zero, suc, true, length, sum_by, refl, sym, ap, subst, arith}
 use Rattle.std.specs.Prelude.{◌==◌, IfSome}
 use Rattle.std.specs.List.{range_with_len}
 use Rattle.std.proofs.lemmas.Bool.{or_left, or_right, eq-eqb}
@@ -7,7 +7,7 @@ use Rattle.blobs.specs.Moves.{blocks}
 use Rattle.map_plans.specs.Arrays.{array_of}
 use Rattle.map_any.specs.Strategies.{AreRuns}
 use Rattle.views.specs.CutLaws.{slots_within, block_in, same_slots, same_steps, all_pieces}
-use Rattle.views.specs.Moves.{size_of, IsInBlock, IsRunMoved}
+use Rattle.views.specs.Moves.{size_of, IsRunMoved}
 use Rattle.views.specs.MovesLaws.{rows_after}
 use Rattle.views.specs.Pieces.{is_cut, piece_at}
 use Rattle.views.specs.SpanLaws.{span_pieces}

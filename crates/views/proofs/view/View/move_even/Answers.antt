@@ -1,4 +1,4 @@
-use Rattle.std.proofs.Common.{◌≡◌, ◌∙◌, ◌+◌, ◌*◌, ◌/◌, ◌^◌, ◌<◌, ◌≤◌, ℕ, List, [], map, length, get_or, slice_index, refl, sym, ap, subst, arith}
+use Rattle.std.proofs.Common.{◌≡◌, ◌∙◌, ◌+◌, ◌*◌, ◌/◌, ◌^◌, ◌<◌, ◌≤◌, ℕ, List, [], map, length, get_or, slice_index, sym, ap, subst, arith}
 use Rattle.std.proofs.lemmas.Nat.{mul-le}
 use Rattle.std.proofs.lemmas.Option.{get_or_from_slice_get}
 use Rattle.record_dim.specs.LeafTypes.{width_of}
@@ -13,7 +13,6 @@ use Rattle.map_any.specs.Strategies.{AreRuns}
 use Rattle.map_any.specs.Maps.{extents_of, term_of_map}
 use Rattle.map_checks.specs.Mappings.{layout_by}
 use Rattle.places.specs.declared.piece.Hold.{Hold}
-use Rattle.views.specs.Kept.{tally_of, table_under}
 use Rattle.views.specs.Moves.{size_of, IsInBlock}
 use Rattle.views.specs.Pieces.{IsMovedEach}
 use Rattle.views.specs.Stores.{kind_at}
@@ -21,7 +20,7 @@ use Rattle.views.specs.Tables.{Table, leaf_type_of}
 use Rattle.views.proofs.EachLaws.{run_at, AreEven, each_target_in, each_target_room, each_source_in, each_source_room, each_moved}
 use Rattle.kept_tables.specs.declared.mode.StoreMode.TheVariants.{Strict}
 use Rattle.views.proofs.KeptLaws.{kind_count, row_count}
-use Rattle.views.proofs.MoveLaws.{views_alike, seen_moved}
+use Rattle.views.proofs.MoveLaws.{views_alike}
 use Rattle.views.proofs.Opened.{cell_count, leaf_seen}
 use Rattle.views.proofs.RunMoveLaws.{few_slots, run_table, moved_seen, runs_seen, one_seen, block_seen, few_bits, run_there, slot_there, other_is}
 use Rattle.views.proofs.view.View.move_even.Given as given

@@ -1,4 +1,4 @@
-use Rattle.std.proofs.Common.{◌≡◌, List, ℤ, ℕ, Some, None, map, take, OnOk, IfErr, take_all, subst, sym, ◌∙◌, arith}
+use Rattle.std.proofs.Common.{◌≡◌, List, ℤ, ℕ, Some, None, map, take, OnOk, IfErr, subst, sym, ◌∙◌, arith}
 use Rattle.lanes.specs.Blocks.{IsBlock}
 use Rattle.lanes.specs.BlockLaws.{same}
 use Rattle.views.specs.Columns.{first_lane_fault, with_column, column_writes}
@@ -11,28 +11,6 @@ use Rattle.views.proofs.view.View.store_lanes.Goals.{After-to_array-values}
 -- the lanes are those that were handed in
 lanes_are : (g : given.Over) (c : goal.After-to_array-values g) → c.to_array-values.result ≡ c.args.values
 lanes_are g c = c.to_array-values.ensures.numbers ∙ c.of.ensures ∙ same c.args.values c.requires.values.fit
-
--- and sixteen of them are all
-whole : (g : given.Over) (c : goal.After-to_array-values g) → c.args.lanes ≡ 16 → c.to_array-values.result ≡ take c.args.lanes c.args.values
-whole g c many = lanes_are g c ∙ sym (take_all c.args.lanes c.args.values (omega (arith, many, c.requires.values.count)))
-
-pub returns-then-lanes-eq16-clause-taken : goal.returns-then-lanes-eq16-clause-taken
-returns-then-lanes-eq16-clause-taken g c =
-    subst (λ (values : List ℤ). OnOk c.store_block.result (first_lane_fault (answer_of c.args.self.now) c.args.leaf 0 values ≡ None))
-    (whole g (goal.at.returns-then-lanes-eq16-clause-taken g c).After-to_array-values c.if-lanes-eq16.true) c.store_block.ensures.taken
-
-pub returns-then-lanes-eq16-clause-stored : goal.returns-then-lanes-eq16-clause-stored
-returns-then-lanes-eq16-clause-stored g c =
-    let old = c.args.self.now in
-    let P : List ℤ → ℕ → Type 0 = λ values count.
-    OnOk c.store_block.result (c.store_block.new.self ≡ after_stores old (with_column c.args.leaf c.args.row (map (kept_of old c.args.leaf) values) old.rows) (column_writes c.args.leaf c.args.row count)) in
-    subst (P (take c.args.lanes c.args.values)) (sym c.if-lanes-eq16.true)
-    (subst (λ (values : List ℤ). P values 16) (whole g (goal.at.returns-then-lanes-eq16-clause-stored g c).After-to_array-values c.if-lanes-eq16.true) c.store_block.ensures.stored)
-
-pub returns-then-lanes-eq16-clause-named : goal.returns-then-lanes-eq16-clause-named
-returns-then-lanes-eq16-clause-named g c =
-    subst (λ (values : List ℤ). IfErr c.store_block.result (λ fault. first_lane_fault (answer_of c.args.self.now) c.args.leaf 0 values ≡ Some fault))
-    (whole g (goal.at.returns-then-lanes-eq16-clause-named g c).After-to_array-values c.if-lanes-eq16.true) c.store_block.ensures.named
 
 pub of-requires : goal.of-requires
 of-requires g c = subst IsBlock (sym (same c.args.values c.requires.values.fit)) c.requires.values

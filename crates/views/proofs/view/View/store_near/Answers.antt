@@ -1,101 +1,138 @@
-use Rattle.std.proofs.Common.{◌≡◌, ◌<◌, ◌∙◌, ℕ, ℤ, pos, List, Ok, true, false, length, get_or, sym, ap, subst, arith, rules}
-use Rattle.record_dim.specs.declared.leaf_type.LeafType.{LeafType}
-use Rattle.record_dim.specs.LeafTypes.{IsIn, IsDeclared}
+use Rattle.std.proofs.Common.{◌≡◌, ◌*◌, ◌<◌, ◌≤ℤ◌, ◌∙◌, ℕ, ℤ, pos, List, length, map, get_or, sym, ap, subst, arith, rules, SFits, w64}
+use Rattle.std.proofs.lemmas.Int.{to_z-of_z}
+use Rattle.record_dim.specs.LeafTypes.{IsIn}
 use Rattle.record_dim.specs.Schemas.{schema_fields}
 use Rattle.record_dim.specs.Leaves.{kinds_of}
 use Rattle.places.specs.declared.piece.Hold.{Hold}
 use Rattle.map_expr.specs.Terms.{term_of}
-use Rattle.map_any.specs.Counters.{is_counted}
-use Rattle.map_checks.specs.LeafCells.{kinds_are}
 use Rattle.map_checks.specs.Mappings.{holds_by}
 use Rattle.piece_bits.specs.Tables.{hold_at}
 use Rattle.views.specs.Columns.{column_writes, with_column}
-use Rattle.views.specs.Kept.{raw_under, tally_of}
-use Rattle.views.specs.Stores.{Fits, kind_at, store_answer, told}
-use Rattle.views.specs.Tables.{Table, answer_of}
-use Rattle.views.proofs.CountLaws.{idle_logged}
-use Rattle.views.proofs.NearStoreLaws.{kept_column, table_column, kept_either, none_refused, seen_column}
-use Rattle.views.proofs.Opened.{rows_seen, leaf_seen, cell_count, laid_here, laid_there, raw_same}
+use Rattle.views.specs.Kept.{raw_under, table_under, tally_of}
+use Rattle.views.specs.NearStores.{IsNearColumn}
+use Rattle.views.specs.Stores.{Fits, kind_at, told}
+use Rattle.views.specs.Tables.{Table, answer_of, kept_of, leaf_type_of, table_holds, after_log, after_stores}
+use Rattle.views.proofs.NearColumnLaws.{lanes_inside, near_here, near_leaf_in, near_rows_in, near_still}
+use Rattle.views.proofs.NearStoreLaws.{kept_column, table_column, none_refused, seen_column}
+use Rattle.views.proofs.Opened.{laid_there, leaf_seen, raw_same}
+use Rattle.views.proofs.StoredLaws.{length-with_column}
 use Rattle.views.proofs.StoreLaws.{fitting_stored}
 use Rattle.views.proofs.view.View.store_near.Goals as goal
-use Rattle.views.proofs.view.View.store_near.Goals.{After-are_sure, After-store_sixteen}
+use Rattle.views.proofs.view.View.store_near.Goals.{After-to_array, After-put_block}
 
-pub are_sure-requires : goal.are_sure-requires
-are_sure-requires c =
-    let a = c.self.inside in
-    omega (arith, cell_count c.self.invariant.0, leaf_seen a.schema a.extents a.expr a.blobs.items c.self.invariant.1 c.args.self.now c.self.view_is c.args.leaf c.requires.leaf_in)
+-- each value fits, by what the view shows and by its fields
+fits : (c : After-to_array) → (k : ℕ) → k < 16
+    → Fits (leaf_type_of c.args.self.now c.args.near.now.leaf) (hold_at (table_holds c.args.self.now) c.args.near.now.leaf) (get_or c.to_array.result k (pos 0))
+fits c k small =
+    let near = c.args.near.now in
+    let value = get_or c.args.values k (pos 0) in
+    let one : SFits w64 near.least = search rules in
+    let two : SFits w64 near.greatest = search rules in
+    let inside = lanes_inside _ _ c.args.values c.first_outside.result c.first_outside.ensures c.to_array.ensures.count (omega (arith, c.if-first_outside-lt16.false)) k small in
+    subst (λ (values : List ℤ). Fits (leaf_type_of c.args.self.now near.leaf) (hold_at (table_holds c.args.self.now) near.leaf) (get_or values k (pos 0))) (sym c.to_array.ensures.numbers)
+    (c.requires.near.stands.taken value (subst (λ (v : ℤ). v ≤ℤ value) (to_z-of_z w64 near.least one) inside.0) (subst (λ (v : ℤ). value ≤ℤ v) (to_z-of_z w64 near.greatest two) inside.1))
 
-pub store_sixteen-requires-clause-rows_in : goal.store_sixteen-requires-clause-rows_in
-store_sixteen-requires-clause-rows_in c =
-    let a = c.self.inside in
-    omega (arith, c.requires.rows_in, c.self.invariant.0.slots_are, rows_seen a.schema a.extents a.expr a.blobs.items c.self.invariant.1 c.args.self.now c.self.view_is)
+fits_here : (c : After-to_array) → (k : ℕ) → k < 16
+    → Fits (kind_at (kinds_of (schema_fields c.self.inside.schema)) c.args.near.now.leaf) (hold_at (holds_by (term_of c.self.inside.expr) (schema_fields c.self.inside.schema)) c.args.near.now.leaf)
+    (get_or c.to_array.result k (pos 0))
+fits_here c k small =
+    subst (λ (t : Table). Fits (leaf_type_of t c.args.near.now.leaf) (hold_at (table_holds t) c.args.near.now.leaf) (get_or c.to_array.result k (pos 0))) (sym c.self.view_is) (fits c k small)
 
-pub store_sixteen-requires-clause-leaf_in : goal.store_sixteen-requires-clause-leaf_in
-store_sixteen-requires-clause-leaf_in c =
+pub put_block-requires-clause-near : goal.put_block-requires-clause-near
+put_block-requires-clause-near c =
     let a = c.self.inside in
-    omega (arith, cell_count c.self.invariant.0, leaf_seen a.schema a.extents a.expr a.blobs.items c.self.invariant.1 c.args.self.now c.self.view_is c.args.leaf c.requires.leaf_in)
+    near_here a.schema a.extents a.expr a.blobs.items c.self.invariant.1 c.args.self.now c.self.view_is c.self.invariant.0 c.args.near.now c.requires.near.stands
 
--- each value fits
-fits : (c : After-are_sure) → c.are_sure.result ≡ true → (k : ℕ) → k < 16
-    → Fits (kind_at (kinds_of (schema_fields c.self.inside.schema)) c.args.leaf) (hold_at (holds_by (term_of c.self.inside.expr) (schema_fields c.self.inside.schema)) c.args.leaf)
-    (get_or c.args.values.now k (pos 0))
-fits c sure k small =
+pub put_block-requires-clause-leaf_in : goal.put_block-requires-clause-leaf_in
+put_block-requires-clause-leaf_in c =
     let a = c.self.inside in
-    let leaf = c.args.leaf in
-    let mapping = c.self.invariant.0 in
-    let kinds = kinds_of (schema_fields a.schema) in
-    let value = get_or c.args.values.now k (pos 0) in
-    record {
-      declared = subst (λ (ks : List LeafType). IsDeclared (kind_at ks leaf) value) (kinds_are _ kinds mapping.cells_are) (c.are_sure.ensures.declared sure k small);
-      held = subst (λ (hs : List Hold). IsIn (hold_at hs leaf).signed (hold_at hs leaf).width value) mapping.holds_are (c.are_sure.ensures.held sure k small);
-    }
+    near_leaf_in a.schema a.extents a.expr a.blobs.items c.self.invariant.1 c.args.self.now c.self.view_is c.self.invariant.0 c.args.near.now c.requires.near.inside
 
--- and so it is taken
-taken : (c : After-are_sure) → c.are_sure.result ≡ true → (k : ℕ) → k < 16 → told (answer_of c.args.self.now c.args.leaf (get_or c.args.values.now k (pos 0))) ≡ Ok tt
-taken c sure k small =
+pub put_block-requires-clause-rows_in : goal.put_block-requires-clause-rows_in
+put_block-requires-clause-rows_in c =
     let a = c.self.inside in
-    let value = get_or c.args.values.now k (pos 0) in
-    let fit = fits c sure k small in
-    sym (ap (λ (s : Table). told (answer_of s c.args.leaf value)) c.self.view_is)
-    ∙ ap told (fitting_stored (kind_at (kinds_of (schema_fields a.schema)) c.args.leaf) (hold_at (holds_by (term_of a.expr) (schema_fields a.schema)) c.args.leaf) value fit.declared fit.held)
+    near_rows_in a.schema a.extents a.expr a.blobs.items c.self.invariant.1 c.args.self.now c.self.view_is c.self.invariant.0 c.args.near.now c.args.block c.requires.rows_in
+
+pub put_block-requires-clause-sixteen : goal.put_block-requires-clause-sixteen
+put_block-requires-clause-sixteen c = omega (arith, ap length c.to_array.ensures.numbers, c.to_array.ensures.count)
+
+pub put_block-requires-clause-held : goal.put_block-requires-clause-held
+put_block-requires-clause-held c = λ k small.
+    let leaf = c.args.near.now.leaf in
+    subst (λ (hs : List Hold). IsIn (hold_at hs leaf).signed (hold_at hs leaf).width (get_or c.to_array.result k (pos 0))) (sym c.self.invariant.0.holds_are)
+    (fits_here (goal.at.put_block-requires-clause-held c).After-to_array k small).held
 
 -- what is stored then
-stored : (c : After-store_sixteen) → c.store_sixteen.result ≡ true → raw_under (term_of c.self.inside.expr) c.self.inside.extents (schema_fields c.self.inside.schema) c.store_sixteen.new.blobs.items
-    ≡ with_column c.args.leaf c.args.first c.args.values.now (raw_under (term_of c.self.inside.expr) c.self.inside.extents (schema_fields c.self.inside.schema) c.self.inside.blobs.items)
-stored c wrote =
+stored : (c : After-put_block) → raw_under (term_of c.self.inside.expr) c.self.inside.extents (schema_fields c.self.inside.schema) c.put_block.new.blobs.items
+    ≡ with_column c.args.near.now.leaf (16 * c.args.block) c.to_array.result (raw_under (term_of c.self.inside.expr) c.self.inside.extents (schema_fields c.self.inside.schema) c.self.inside.blobs.items)
+stored c =
     let mapping = c.self.invariant.0 in
-    sym (raw_same mapping c.store_sixteen.new.blobs.items) ∙ c.store_sixteen.ensures.table wrote
-    ∙ ap (with_column c.args.leaf c.args.first c.args.values.now) (raw_same mapping c.self.inside.blobs.items)
+    sym (raw_same mapping c.put_block.new.blobs.items) ∙ c.put_block.ensures.table
+    ∙ ap (with_column c.args.near.now.leaf (16 * c.args.block) c.to_array.result) (raw_same mapping c.self.inside.blobs.items)
+
+many : (c : After-to_array) → length c.to_array.result ≡ 16
+many c = omega (arith, ap length c.to_array.ensures.numbers, c.to_array.ensures.count)
 
 pub invariant_of-self : goal.invariant_of-self
 invariant_of-self c =
     let a = c.self.inside in
     let mapping = c.self.invariant.0 in
-    let new = c.store_sixteen.new.blobs.items in
-    let sure : c.are_sure.result ≡ true = search rules in
-    let leaf_in = leaf_seen a.schema a.extents a.expr a.blobs.items c.self.invariant.1 c.args.self.now c.self.view_is c.args.leaf c.requires.leaf_in in (
+    let new = c.put_block.new.blobs.items in
+    let near = c.args.near.now in
+    let at = (goal.at.invariant_of-self c).After-to_array in
+    let leaf_in = leaf_seen a.schema a.extents a.expr a.blobs.items c.self.invariant.1 c.args.self.now c.self.view_is near.leaf c.requires.near.inside in (
       mapping,
-      kept_either (term_of a.expr) a.extents (schema_fields a.schema) a.blobs.items new c.store_sixteen.result c.self.invariant.1
-          (λ wrote.
-          kept_column (term_of a.expr) a.extents (schema_fields a.schema) a.blobs.items c.self.invariant.1 new c.args.first c.args.leaf c.args.values.now leaf_in
-          (laid_there mapping new (c.store_sixteen.ensures.still_laid wrote)) (stored (goal.at.invariant_of-self c).After-store_sixteen wrote)
-          (λ k l. fits (goal.at.invariant_of-self c).After-are_sure sure k (omega (arith, l, c.requires.sixteen)))) c.store_sixteen.ensures.none,
+      kept_column (term_of a.expr) a.extents (schema_fields a.schema) a.blobs.items c.self.invariant.1 new (16 * c.args.block) near.leaf c.to_array.result leaf_in
+          (laid_there mapping new c.put_block.ensures.still_laid) (stored (goal.at.invariant_of-self c).After-put_block)
+          (λ k l. fits_here at k (omega (arith, l, many at))),
       c.self.invariant.2,
     )
 
+-- what the view shows then
+shown : (c : After-put_block) → record {
+  fields = schema_fields c.self.inside.schema;
+  extents = c.self.inside.extents;
+  mapping = term_of c.self.inside.expr;
+  rows = table_under (term_of c.self.inside.expr) c.self.inside.extents (schema_fields c.self.inside.schema) c.put_block.new.blobs.items;
+  tally = tally_of c.self.inside.counts c.self.inside.heat;
+}
+    ≡ after_stores c.args.self.now (with_column c.args.near.now.leaf (16 * c.args.block) (map (kept_of c.args.self.now c.args.near.now.leaf) c.args.values) c.args.self.now.rows)
+    (column_writes c.args.near.now.leaf (16 * c.args.block) 16)
+shown c =
+    let a = c.self.inside in
+    let near = c.args.near.now in
+    let seen = c.args.self.now in
+    let row = 16 * c.args.block in
+    let log = column_writes near.leaf row 16 in
+    seen_column a.schema a.extents a.expr a.blobs.items c.self.view_is row near.leaf 16 c.to_array.result c.put_block.new.blobs.items (tally_of a.counts a.heat)
+    (table_column (term_of a.expr) a.extents (schema_fields a.schema) a.blobs.items c.self.invariant.1 c.put_block.new.blobs.items row near.leaf c.to_array.result
+    (leaf_seen a.schema a.extents a.expr a.blobs.items c.self.invariant.1 seen c.self.view_is near.leaf c.requires.near.inside)
+    (laid_there c.self.invariant.0 c.put_block.new.blobs.items c.put_block.ensures.still_laid) (stored c)
+    (λ k l. fits_here c.After-to_array k (omega (arith, l, many c.After-to_array))))
+    (ap (λ (t : Table). t.tally) (c.self.view_is ∙ sym (c.requires.near.idle log) ∙ sym (ap (λ (t : Table). after_log t log) c.self.view_is)))
+    ∙ ap (λ (vs : List ℤ). after_stores seen (with_column near.leaf row (map (kept_of seen near.leaf) vs) seen.rows) log) c.to_array.ensures.numbers
+
 pub returns-clause-taken : goal.returns-clause-taken
 returns-clause-taken c = λ wrote.
-    let sure : c.are_sure.result ≡ true = search rules in
-    none_refused (answer_of c.args.self.now) c.args.leaf 0 c.args.values.now
-    (λ k l. taken (goal.at.returns-clause-taken c).After-are_sure sure k (omega (arith, l, c.requires.sixteen)))
+    let at = (goal.at.returns-clause-taken c).After-to_array in
+    let leaf = c.args.near.now.leaf in
+    let seen = c.args.self.now in
+    none_refused (answer_of seen) leaf 0 c.args.values
+    (λ k l.
+    let value = get_or c.args.values k (pos 0) in
+    let fit = fits at k (omega (arith, l, c.to_array.ensures.count)) in
+    let same : get_or c.to_array.result k (pos 0) ≡ value = ap (λ (vs : List ℤ). get_or vs k (pos 0)) c.to_array.ensures.numbers in
+    let here = subst (λ (v : ℤ). Fits (leaf_type_of seen leaf) (hold_at (table_holds seen) leaf) v) same fit in
+    ap told (fitting_stored (leaf_type_of seen leaf) (hold_at (table_holds seen) leaf) value here.declared here.held))
 
 pub returns-clause-stored : goal.returns-clause-stored
-returns-clause-stored c = λ wrote.
-    let a = c.self.inside in
-    let sure : c.are_sure.result ≡ true = search rules in
-    let leaf_in = leaf_seen a.schema a.extents a.expr a.blobs.items c.self.invariant.1 c.args.self.now c.self.view_is c.args.leaf c.requires.leaf_in in
-    let idle : is_counted (term_of a.expr) ≡ false = ap is_counted (sym c.self.invariant.0.term_is) ∙ c.store_sixteen.ensures.uncounted wrote in
-    seen_column a.schema a.extents a.expr a.blobs.items c.self.view_is c.args.first c.args.leaf 16 c.args.values.now c.store_sixteen.new.blobs.items (tally_of a.counts a.heat)
-    (table_column (term_of a.expr) a.extents (schema_fields a.schema) a.blobs.items c.self.invariant.1 c.store_sixteen.new.blobs.items c.args.first c.args.leaf c.args.values.now leaf_in
-    (laid_there c.self.invariant.0 c.store_sixteen.new.blobs.items (c.store_sixteen.ensures.still_laid wrote)) (stored (goal.at.returns-clause-stored c).After-store_sixteen wrote)
-    (λ k l. fits (goal.at.returns-clause-stored c).After-are_sure sure k (omega (arith, l, c.requires.sixteen)))) (sym (idle_logged (column_writes c.args.leaf c.args.first 16) idle c.self.invariant.2))
+returns-clause-stored c = λ wrote. shown (goal.at.returns-clause-stored c).After-put_block
+
+pub returns-clause-still : goal.returns-clause-still
+returns-clause-still c = λ other is.
+    let seen = c.args.self.now in
+    let near = c.args.near.now in
+    let row = 16 * c.args.block in
+    let values = map (kept_of seen near.leaf) c.args.values in
+    subst (λ (t : Table). IsNearColumn t other) (sym (shown (goal.at.returns-clause-still c).After-put_block))
+    (near_still seen (with_column near.leaf row values seen.rows) (column_writes near.leaf row 16) other (length-with_column near.leaf row values seen.rows) is)

@@ -1,4 +1,4 @@
-use Rattle.std.proofs.Common.{◌≡◌, ◌*◌, ◌-◌, ◌^◌, ◌<◌, ◌≤◌, ℕ, min, Option, Some, option_map, ap, sym, ◌∙◌, arith}
+use Rattle.std.proofs.Common.{◌≡◌, ◌*◌, ◌-◌, ◌^◌, ◌<◌, ℕ, min, Option, Some, option_map, ap, sym, ◌∙◌, arith}
 use Rattle.instrument.specs.Counters.{LeafCounts, leaf_counts}
 use Rattle.instrument.specs.declared.counts.Counts.{Counts}
 use Rattle.views.specs.Tallies.{access_to, times_accesses}
