@@ -1,5 +1,5 @@
 -- Records that are lines in which no byte is a quote.
-use Rattle.std.proofs.Common.{◌≡◌, ℕ, suc, ◌<◌, ◌≤◌, Bool, true, false, cond, nat_eq, List, [], ◌∷◌, ◌++◌, Option, Some, None, length, take, drop, refl, sym, ap, subst, ◌∙◌, ⊎_elim, arith, append_assoc, append-nil}
+use Rattle.std.proofs.Common.{◌≡◌, ℕ, suc, ◌<◌, ◌≤◌, Bool, true, false, cond, nat_eq, List, [], ◌∷◌, ◌++◌, Option, Some, None, length, take, drop, get_or, refl, sym, ap, subst, ◌∙◌, ⊎_elim, arith, append_assoc, append-nil}
 use Rattle.std.specs.Prelude.{All, ⊤, if◌then◌else◌}
 use Rattle.std.specs.List.{slice_split, onto_first}
 use Rattle.std.proofs.lemmas.Bool.{cases_lt}
@@ -70,6 +70,12 @@ start_rows (c ∷ xs) = by (is_line_end c) refl (start_rows xs) where
   by : (b : Bool) → is_line_end c ≡ b → rows_from st.StartRecord xs ≡ rows_from st.StartRecord (line_start xs) → rows_from st.StartRecord (c ∷ xs) ≡ rows_from st.StartRecord (if b then line_start xs else c ∷ xs)
   by true is more = skipped c xs is ∙ more
   by false is more = refl
+
+-- one end of a line, and no other
+pub one_end : (xs : List ℕ) → 1 < length xs → is_line_end (get_or xs 0 0) ≡ true → is_line_end (get_or xs 1 0) ≡ false → drop 1 xs ≡ line_start xs
+one_end [] two first second = absurd (omega arith)
+one_end (c ∷ []) two first second = absurd (omega arith)
+one_end (c ∷ d ∷ xs) two first second = rw (first, second) refl
 
 -- a record begins with its first field
 pub begun : (c : ℕ) (xs : List ℕ) → is_line_end c ≡ false → rows_from st.StartRecord (c ∷ xs) ≡ rows_from st.StartField (c ∷ xs)

@@ -1,5 +1,5 @@
 // The records of a text, in place where they have no quote.
-ghost use Rattle.std.specs.Prelude.{◌≡◌, ◌≤◌, ◌<◌, ◌∷◌, true, OnOk, drop, get_or, length};
+ghost use Rattle.std.specs.Prelude.{◌≡◌, ◌≤◌, ◌<◌, ◌∷◌, true, false, OnOk, drop, get_or, length};
 ghost use Rattle.csv.specs.Records.{fields_of};
 ghost use Rattle.csv.specs.declared.parser.State.TheVariants as st;
 ghost use Rattle.csv_rows.specs.Plain.{is_line_end, line_start, IsAt, IsBare};
@@ -71,6 +71,7 @@ impl Records for Lines<'_> {
     ghost stands = { λ lines. IsAt lines.line.text.now lines.line.column lines.line.start lines.line.known
         × IsBare (behind_record lines.is_copied lines.rest.now lines.line.text.now) lines.quoted };
 
+    #[inline(always)]
     fn next(&mut self) -> Result<bool, NoMemory> {
         let text = behind_ends(self.behind());
         if text.is_empty() {
@@ -154,8 +155,28 @@ fn last_end(bytes: &[u8]) -> usize
     memrchr2(b'\r', b'\n', bytes).unwrap_or(0)
 }
 
-// What stands behind the ends of lines at the start.
+// What stands behind the ends of lines at the start. Most often this is one end.
+#[inline(always)]
 fn behind_ends(bytes: &[u8]) -> &[u8]
+    ensures { result.now ≡ line_start bytes.now }
+{
+    if has_one_end(bytes) {
+        return from_place(bytes, 1);
+    }
+    behind_all_ends(bytes)
+}
+
+// Whether one end of a line stands at the start, and another byte behind it.
+#[inline(always)]
+fn has_one_end(bytes: &[u8]) -> bool
+    ensures { result ≡ true → (1 < length bytes.now) × (is_line_end (get_or bytes.now 0 0) ≡ true) × (is_line_end (get_or bytes.now 1 0) ≡ false) }
+{
+    bytes.len() > 1 && is_line_end(bytes[0]) && !is_line_end(bytes[1])
+}
+
+// The same of any number of ends.
+#[inline(never)]
+fn behind_all_ends(bytes: &[u8]) -> &[u8]
     ensures { result.now ≡ line_start bytes.now }
 {
     for start in 0..bytes.len() {
