@@ -8,10 +8,13 @@ mod expr;
 mod fault;
 mod numbers;
 mod row;
+mod short;
 
 pub use binding::bind;
-pub use bound::Bound;
+pub use bound::{Bound, Operand};
 pub use evaluation::eval;
 pub use expr::{BinOp, Expr};
 pub use fault::{BindFault, EvalFault};
+pub use numbers::{decided, result_of};
 pub use row::Row;
+pub use short::Short;

@@ -1,10 +1,10 @@
-ghost use Rattle.std.specs.Prelude.{◌≡◌, ◌-ℤ◌, ◌*ℤ◌, int_div, neg_ℤ};
+ghost use Rattle.std.specs.Prelude.{◌≡◌, ◌-ℤ◌, ◌*ℤ◌, int_div, neg_ℤ, Ok, IfSome};
 ghost use Rattle.expr_lang.specs.Values.{is_true, truth, decided, divided, ranged, result_of};
 
 use crate::{BinOp, EvalFault};
 
 /// Any number but 0 is true.
-#[inline]
+#[inline(always)]
 pub fn is_true(number: i128) -> bool
     ensures { result ≡ is_true number }
 {
@@ -12,7 +12,7 @@ pub fn is_true(number: i128) -> bool
 }
 
 /// 1 for a fact that holds, and 0 for one that does not.
-#[inline]
+#[inline(always)]
 pub fn truth(holds: bool) -> i128
     ensures { result ≡ truth holds }
 {
@@ -20,7 +20,7 @@ pub fn truth(holds: bool) -> i128
 }
 
 /// The result that the left side gives alone: that of `and` where it is 0, and that of `or` where it is not.
-#[inline]
+#[inline(always)]
 pub fn decided(op: BinOp, left: i128) -> Option<i128>
     ensures { result ≡ decided op left }
 {
@@ -31,9 +31,67 @@ pub fn decided(op: BinOp, left: i128) -> Option<i128>
     }
 }
 
-/// The result of an operator on both sides.
-#[inline]
+/// The result of an operator on both sides. Numbers of 64 bits are tried in 64 bits first, where a product and a quotient are one instruction
+/// each, and a sum is tested by one.
+#[inline(always)]
 pub fn result_of(op: BinOp, left: i128, right: i128) -> Result<i128, EvalFault>
+    ensures { result ≡ result_of op left right }
+{
+    if let (Ok(near), Ok(other)) = (i64::try_from(left), i64::try_from(right)) {
+        if let Some(result) = near_result(op, near, other) {
+            return Ok(result);
+        }
+    }
+    far_result(op, left, right)
+}
+
+// The same of numbers of 64 bits, where 64 bits show it.
+#[inline(always)]
+fn near_result(op: BinOp, left: i64, right: i64) -> Option<i128>
+    ensures { IfSome result (λ number. result_of op left right ≡ Ok number) }
+{
+    match op {
+        BinOp::Add => Some(i128::from(left.checked_add(right)?)),
+        BinOp::Sub => Some(i128::from(left.checked_sub(right)?)),
+        BinOp::Mul => Some(i128::from(left.checked_mul(right)?)),
+        BinOp::Div => near_quotient(left, right),
+        BinOp::Rem => near_remainder(left, right),
+        BinOp::Min => Some(i128::from(left.min(right))),
+        BinOp::Max => Some(i128::from(left.max(right))),
+        BinOp::Eq => Some(truth(left == right)),
+        BinOp::Ne => Some(truth(left != right)),
+        BinOp::Lt => Some(truth(left < right)),
+        BinOp::Le => Some(truth(left <= right)),
+        BinOp::Gt => Some(truth(left > right)),
+        BinOp::Ge => Some(truth(left >= right)),
+        BinOp::And => None,
+        BinOp::Or => None,
+    }
+}
+
+#[inline(always)]
+fn near_quotient(left: i64, right: i64) -> Option<i128>
+    ensures { IfSome result (λ number. divided right (int_div left right) ≡ Ok number) }
+{
+    if right == 0 {
+        return None;
+    }
+    Some(i128::from(left.checked_div(right)?))
+}
+
+#[inline(always)]
+fn near_remainder(left: i64, right: i64) -> Option<i128>
+    ensures { IfSome result (λ number. divided right (left -ℤ right *ℤ int_div left right) ≡ Ok number) }
+{
+    if right == 0 {
+        return None;
+    }
+    Some(i128::from(left.wrapping_rem(right)))
+}
+
+// The same of all numbers.
+#[inline(never)]
+fn far_result(op: BinOp, left: i128, right: i128) -> Result<i128, EvalFault>
     ensures { result ≡ result_of op left right }
 {
     match op {
@@ -56,7 +114,7 @@ pub fn result_of(op: BinOp, left: i128, right: i128) -> Result<i128, EvalFault>
 }
 
 /// The number with the other sign.
-#[inline]
+#[inline(always)]
 pub fn negated(number: i128) -> Result<i128, EvalFault>
     ensures { result ≡ ranged (neg_ℤ number) }
 {

@@ -9,12 +9,13 @@ use Rattle.views.specs.Tallies.{Access, Write}
 use Rattle.views.specs.Tables.{Table, answer_of, kept_of, after_log, after_stores, after_write}
 use Rattle.views.specs.TallyLaws.{after_stores-append}
 use Rattle.views.specs.AnswerLaws.{told_ok}
+use Rattle.views.specs.declared.fault.StoreFault.{StoreFault}
 use Rattle.row_updates.specs.declared.fault.UpdateFault.{UpdateFault}
 use Rattle.row_updates.specs.declared.update.Assign.{Assign}
-use Rattle.row_updates.specs.Rows.{Setting, setting_of, each, passes, new_value, tried_row, updated_row}
+use Rattle.row_updates.specs.Rows.{Setting, setting_of, each, passes, in_row, store_kind, value_of, new_value, tried_row, updated_row, ◌>>=◌}
 use Rattle.row_updates.specs.Logs.{value_log, filter_log, sides_log, tried_log, row_log}
 use Rattle.row_updates.proofs.Logs.{log_more, if_ok_none, tried_log_left, tried_log_fault, tried_log_done, row_log_left, row_log_stop, row_log_done}
-use Rattle.row_updates.proofs.Rows.{row_left, row_stop, row_done, tried_left, tried_stop, tried_done, took}
+use Rattle.row_updates.proofs.Rows.{value_tested, row_left, row_stop, row_done, tried_left, tried_stop, tried_done, took}
 
 -- a list of one assignment
 pub lone : (sets : List Assign) (set : Assign) → length sets ≡ 1 → set ≡ get_or sets 0 set → map setting_of sets ≡ setting_of set ∷ []
@@ -96,6 +97,20 @@ pub value_here : (old first : Table) (filter : Option (Term ℕ)) (set : Setting
     → new_value (answer_of old) number (get_or old.rows number []) index set ≡ value
 value_here old first filter set number index value filtered is =
     sym (is ∙ ap (λ (t : Table). new_value (answer_of t) number (get_or t.rows number []) index set) filtered)
+
+-- a right side that has a value, by what its store is told; and one that has none
+pub value_stored : (first second : Table) (set : Setting) (number : ℕ) (index : List ℕ) (value : ℤ) (answer : Result Unit StoreFault)
+    → Ok value ≡ value_of number (get_or first.rows number []) index set.value
+    → second ≡ after_log first (value_log number (get_or first.rows number []) index set.value)
+    → answer ≡ told (answer_of second set.leaf value)
+    → new_value (answer_of first) number (get_or first.rows number []) index set ≡ (in_row number (store_kind set.leaf) answer >>= (λ done. Ok value))
+value_stored first second set number index value answer gives read is =
+    let row = get_or first.rows number [] in
+    value_tested first second number row index set (value_log number row index set.value) value answer (sym gives) read is
+
+pub value_failed : (answer : Answer) (set : Setting) (number : ℕ) (row : List ℤ) (index : List ℕ) (fault : UpdateFault)
+    → Err fault ≡ value_of number row index set.value → Err fault ≡ new_value answer number row index set
+value_failed answer set number row index fault gives = rw (← gives) refl
 
 -- its value is taken where it is stored
 pub leaf_taken : (old first second : Table) (filter : Option (Term ℕ)) (set : Setting) (number : ℕ) (index : List ℕ) (value : ℤ)

@@ -7,6 +7,7 @@ ghost use Rattle.row_updates.specs.Logs.{count_log};
 
 use crate::fault::UpdateFault;
 use crate::index::put_index;
+use crate::side::side_of;
 use crate::value::passes;
 use expr_lang::Bound;
 use std::sync::ledger::Ledger;
@@ -25,13 +26,14 @@ pub fn count_where<L: Ledger>(
     ensures same { OnOk result (view.new ≡ after_log view.old (count_log (bound_term filter.now) view.old.extents view.old.rows (length view.old.rows))) }
     ensures so_far { IfErr result (λ fault. view.new ≡ after_log view.old (count_log (bound_term filter.now) view.old.extents view.old.rows (fault.row + 1))) }
 {
+    let side = side_of(view, filter);
     let extents = view.extents();
     let mut numbers = [0; 4];
     let mut count = 0;
     for row in 0..extents.count() {
         put_index(&extents, row, &mut numbers);
         let index = &numbers[..extents.rank()];
-        count += u64::from(passes(view, row, index, Some(filter), steps)?);
+        count += u64::from(passes(view, row, index, Some(side), steps)?);
     }
     Ok(count)
 }

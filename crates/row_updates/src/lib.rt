@@ -4,6 +4,8 @@
 mod count;
 mod fault;
 mod index;
+mod one_leaf;
+mod side;
 mod update;
 mod value;
 

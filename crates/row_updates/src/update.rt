@@ -1,13 +1,14 @@
 // New values of leaves, row by row.
 ghost use Rattle.std.specs.Prelude.{◌≡◌, ◌<◌, ◌≤◌, ◌+◌, ℕ, ℤ, pos, true, is_ok, Ok, OnOk, OnErr, IfOk, IfErr, IfSome, Some, None, if◌then◌else◌, All, [], ◌∷◌, List, length, map, take, drop, slice_index_or, slice_set};
-ghost use Rattle.expr_lang.specs.Bounds.{bound_term};
-ghost use Rattle.views.specs.Tables.{answer_of, kept_of, after_log, after_stores};
+ghost use Rattle.views.specs.Tables.{leaf_count_of, answer_of, kept_of, after_log, after_stores};
 ghost use Rattle.linearize.specs.Slots.{index_at};
-ghost use Rattle.row_updates.specs.Rows.{IsOver, IsSetOf, Setting, setting_of, filter_term, each, store_kind, new_value, with_values, tried_row, updated_row, updated_of};
+ghost use Rattle.row_updates.specs.Rows.{IsOver, IsSideOver, IsSetOf, Setting, setting_of, side_term, side_setting, filter_term, side_filter, each, store_kind, new_value, with_values, tried_row, updated_row, updated_of};
 ghost use Rattle.row_updates.specs.Logs.{value_log, sides_log, stores_log, tried_log, row_log, update_log};
 
 use crate::fault::{UpdateFault, UpdateKind};
 use crate::index::put_index;
+use crate::one_leaf::update_lone;
+use crate::side::{Side, filter_side, side_of};
 use crate::value::{passes, value_of};
 use expr_lang::Bound;
 use std::sync::ledger::Ledger;
@@ -42,6 +43,34 @@ pub fn update_rows<L: Ledger>(
     ensures so_far { IfErr result (λ fault. view.new ≡ after_stores view.old view.new.rows
         (update_log view.old (filter_term filter.entry) (map setting_of sets.now) (fault.row + 1))) }
 {
+    let test = filter_side(view, filter);
+    if sets.len() == 1 {
+        let set = &sets[0];
+        let side = side_of(view, &set.value);
+        return update_lone(view, test, set.leaf, side, steps);
+    }
+    update_each(view, test, sets, steps)
+}
+
+// The same of any number of right sides.
+fn update_each<L: Ledger>(
+    view: &mut View,
+    filter: Option<Side>,
+    sets: &[Assign],
+    steps: &mut Steps<L>,
+) -> Result<(), UpdateFault>
+    requires filter { IfSome filter (IsSideOver view.old) }
+    requires sets { All (IsSetOf view.old) sets.now }
+    requires few { length sets.now ≤ 64 }
+    ensures stored { OnOk result (updated_of view.old (side_filter filter.entry) (map setting_of sets.now) (length view.old.rows) ≡ Ok view.new.rows) }
+    ensures refused { IfErr result (λ fault. updated_of view.old (side_filter filter.entry) (map setting_of sets.now) (length view.old.rows) ≡ Err fault) }
+    ensures before { IfErr result (λ fault. updated_of view.old (side_filter filter.entry) (map setting_of sets.now) fault.row ≡ Ok (take fault.row view.new.rows)) }
+    ensures behind { IfErr result (λ fault. drop fault.row view.new.rows ≡ drop fault.row view.old.rows) }
+    ensures same { OnOk result (view.new ≡ after_stores view.old view.new.rows
+        (update_log view.old (side_filter filter.entry) (map setting_of sets.now) (length view.old.rows))) }
+    ensures so_far { IfErr result (λ fault. view.new ≡ after_stores view.old view.new.rows
+        (update_log view.old (side_filter filter.entry) (map setting_of sets.now) (fault.row + 1))) }
+{
     let extents = view.extents();
     let mut numbers = [0; 4];
     let mut values = [0; 64];
@@ -53,74 +82,37 @@ pub fn update_rows<L: Ledger>(
     Ok(())
 }
 
-// Updates one row, or leaves it as it was. One right side alone goes by a way of its own.
+// Updates one row, or leaves it as it was.
 #[inline(always)]
 fn update_row<L: Ledger>(
     view: &mut View,
     row: u64,
     index: &[u64],
-    filter: Option<&Bound>,
+    filter: Option<Side>,
     sets: &[Assign],
     values: &mut [i128; 64],
     steps: &mut Steps<L>,
 ) -> Result<(), UpdateFault>
     requires row_in { row < length view.old.rows }
     requires rank { length index.now ≡ length view.old.extents }
-    requires filter { IfSome filter (λ bound. IsOver view.old bound.now) }
+    requires filter { IfSome filter (IsSideOver view.old) }
     requires sets { All (IsSetOf view.old) sets.now }
     requires few { length sets.now ≤ 64 }
     ensures stored { OnOk result ((new : List ℤ)
-        × (updated_row (answer_of view.old) (kept_of view.old) (filter_term filter.entry) (map setting_of sets.now)
+        × (updated_row (answer_of view.old) (kept_of view.old) (side_filter filter.entry) (map setting_of sets.now)
         row (slice_index_or view.old.rows row []) index.now ≡ Ok new)
-        × (view.new ≡ after_stores view.old (slice_set view.old.rows row new) (row_log (answer_of view.old) (filter_term filter.entry)
+        × (view.new ≡ after_stores view.old (slice_set view.old.rows row new) (row_log (answer_of view.old) (side_filter filter.entry)
         (map setting_of sets.now) row (slice_index_or view.old.rows row []) index.now))) }
-    ensures refused { IfErr result (λ fault. updated_row (answer_of view.old) (kept_of view.old) (filter_term filter.entry) (map setting_of sets.now)
+    ensures refused { IfErr result (λ fault. updated_row (answer_of view.old) (kept_of view.old) (side_filter filter.entry) (map setting_of sets.now)
         row (slice_index_or view.old.rows row []) index.now ≡ Err fault) }
     ensures named { IfErr result (λ fault. fault.row ≡ row) }
-    ensures kept { OnErr result (view.new ≡ after_log view.old (row_log (answer_of view.old) (filter_term filter.entry)
+    ensures kept { OnErr result (view.new ≡ after_log view.old (row_log (answer_of view.old) (side_filter filter.entry)
         (map setting_of sets.now) row (slice_index_or view.old.rows row []) index.now)) }
 {
-    if sets.len() == 1 {
-        return update_leaf(view, row, index, filter, &sets[0], steps);
-    }
     if !try_at(view, row, index, filter, sets, values, steps)? {
         return Ok(());
     }
     store_values(view, row, sets, values, steps);
-    Ok(())
-}
-
-// The same of one right side. Its value is kept in no list, so the test of its range serves its store too.
-#[inline(always)]
-fn update_leaf<L: Ledger>(
-    view: &mut View,
-    row: u64,
-    index: &[u64],
-    filter: Option<&Bound>,
-    set: &Assign,
-    steps: &mut Steps<L>,
-) -> Result<(), UpdateFault>
-    requires row_in { row < length view.old.rows }
-    requires rank { length index.now ≡ length view.old.extents }
-    requires filter { IfSome filter (λ bound. IsOver view.old bound.now) }
-    requires set { IsSetOf view.old set.now }
-    ensures stored { OnOk result ((new : List ℤ)
-        × (updated_row (answer_of view.old) (kept_of view.old) (filter_term filter.entry) (setting_of set.now ∷ [])
-        row (slice_index_or view.old.rows row []) index.now ≡ Ok new)
-        × (view.new ≡ after_stores view.old (slice_set view.old.rows row new) (row_log (answer_of view.old) (filter_term filter.entry)
-        (setting_of set.now ∷ []) row (slice_index_or view.old.rows row []) index.now))) }
-    ensures refused { IfErr result (λ fault. updated_row (answer_of view.old) (kept_of view.old) (filter_term filter.entry) (setting_of set.now ∷ [])
-        row (slice_index_or view.old.rows row []) index.now ≡ Err fault) }
-    ensures named { IfErr result (λ fault. fault.row ≡ row) }
-    ensures kept { OnErr result (view.new ≡ after_log view.old (row_log (answer_of view.old) (filter_term filter.entry)
-        (setting_of set.now ∷ []) row (slice_index_or view.old.rows row []) index.now)) }
-{
-    let passed = passes(view, row, index, filter, steps)?;
-    if !passed {
-        return Ok(());
-    }
-    let value = new_value(view, row, index, set, steps)?;
-    let _taken = view.set(row, set.leaf, value, steps);
     Ok(())
 }
 
@@ -146,11 +138,12 @@ pub fn try_row<L: Ledger>(
     ensures same { view.new ≡ after_log view.old (tried_log (answer_of view.old) (filter_term filter.entry)
         (map setting_of sets.now) row (slice_index_or view.old.rows row []) (index_at view.old.extents row)) }
 {
+    let test = filter_side(view, filter);
     let extents = view.extents();
     let mut numbers = [0; 4];
     put_index(&extents, row, &mut numbers);
     let index = &numbers[..extents.rank()];
-    try_at(view, row, index, filter, sets, values, steps)
+    try_at(view, row, index, test, sets, values, steps)
 }
 
 // The same at the index of the row.
@@ -158,22 +151,22 @@ fn try_at<L: Ledger>(
     view: &mut View,
     row: u64,
     index: &[u64],
-    filter: Option<&Bound>,
+    filter: Option<Side>,
     sets: &[Assign],
     values: &mut [i128; 64],
     steps: &mut Steps<L>,
 ) -> Result<bool, UpdateFault>
     requires row_in { row < length view.old.rows }
     requires rank { length index.now ≡ length view.old.extents }
-    requires filter { IfSome filter (λ bound. IsOver view.old bound.now) }
+    requires filter { IfSome filter (IsSideOver view.old) }
     requires sets { All (IsSetOf view.old) sets.now }
     requires few { length sets.now ≤ 64 }
-    ensures tried { IfOk result (λ passed. tried_row (answer_of view.old) (filter_term filter.entry) (map setting_of sets.now)
+    ensures tried { IfOk result (λ passed. tried_row (answer_of view.old) (side_filter filter.entry) (map setting_of sets.now)
         row (slice_index_or view.old.rows row []) index.now ≡ Ok (if passed then Some (take (length sets.now) values.new) else None)) }
-    ensures refused { IfErr result (λ fault. tried_row (answer_of view.old) (filter_term filter.entry) (map setting_of sets.now)
+    ensures refused { IfErr result (λ fault. tried_row (answer_of view.old) (side_filter filter.entry) (map setting_of sets.now)
         row (slice_index_or view.old.rows row []) index.now ≡ Err fault) }
     ensures named { IfErr result (λ fault. fault.row ≡ row) }
-    ensures same { view.new ≡ after_log view.old (tried_log (answer_of view.old) (filter_term filter.entry)
+    ensures same { view.new ≡ after_log view.old (tried_log (answer_of view.old) (side_filter filter.entry)
         (map setting_of sets.now) row (slice_index_or view.old.rows row []) index.now) }
 {
     if !passes(view, row, index, filter, steps)? {
@@ -204,7 +197,8 @@ fn new_values<L: Ledger>(
     ensures same { view.new ≡ after_log view.old (sides_log (answer_of view.old) row (slice_index_or view.old.rows row []) index.now (map setting_of sets.now)) }
 {
     for (place, set) in sets.iter().enumerate() {
-        values[place] = new_value(view, row, index, set, steps)?;
+        let side = Side::Long(&set.value);
+        values[place] = new_value(view, row, index, set.leaf, side, steps)?;
     }
     Ok(())
 }
@@ -215,22 +209,24 @@ fn new_value<L: Ledger>(
     view: &mut View,
     row: u64,
     index: &[u64],
-    set: &Assign,
+    leaf: usize,
+    side: Side,
     steps: &mut Steps<L>,
 ) -> Result<i128, UpdateFault>
     requires row_in { row < length view.old.rows }
     requires rank { length index.now ≡ length view.old.extents }
-    requires set { IsSetOf view.old set.now }
-    ensures value { result ≡ new_value (answer_of view.old) row (slice_index_or view.old.rows row []) index.now (setting_of set.now) }
+    requires inside { leaf < leaf_count_of view.old }
+    requires side { IsSideOver view.old side }
+    ensures value { result ≡ new_value (answer_of view.old) row (slice_index_or view.old.rows row []) index.now (side_setting leaf side.entry) }
     ensures named { IfErr result (λ fault. fault.row ≡ row) }
-    ensures same { view.new ≡ after_log view.old (value_log row (slice_index_or view.old.rows row []) index.now (bound_term set.now.value)) }
+    ensures same { view.new ≡ after_log view.old (value_log row (slice_index_or view.old.rows row []) index.now (side_term side.entry)) }
 {
-    let value = value_of(view, row, index, &set.value, steps)?;
-    match view.fits(set.leaf, value) {
+    let value = value_of(view, row, index, side, steps)?;
+    match view.fits(leaf, value) {
         Ok(()) => Ok(value),
         Err(fault) => Err(UpdateFault {
             row,
-            kind: store_kind(set.leaf, fault),
+            kind: store_kind(leaf, fault),
         }),
     }
 }
@@ -257,7 +253,8 @@ fn store_values<L: Ledger>(
     }
 }
 
-fn store_kind(leaf: usize, fault: StoreFault) -> UpdateKind
+#[inline(always)]
+pub fn store_kind(leaf: usize, fault: StoreFault) -> UpdateKind
     ensures { result ≡ store_kind leaf fault }
 {
     match fault {
