@@ -89,7 +89,9 @@ invariant_of-self c =
     )
 
 -- what the view shows then
-shown : (c : After-put_block) → record {
+shown : (c : After-put_block) → length c.to_array.result ≡ 16 → ((k : ℕ) → k < 16
+    → Fits (kind_at (kinds_of (schema_fields c.self.inside.schema)) c.args.near.now.leaf) (hold_at (holds_by (term_of c.self.inside.expr) (schema_fields c.self.inside.schema)) c.args.near.now.leaf)
+    (get_or c.to_array.result k (pos 0))) → record {
   fields = schema_fields c.self.inside.schema;
   extents = c.self.inside.extents;
   mapping = term_of c.self.inside.expr;
@@ -98,7 +100,7 @@ shown : (c : After-put_block) → record {
 }
     ≡ after_stores c.args.self.now (with_column c.args.near.now.leaf (16 * c.args.block) (map (kept_of c.args.self.now c.args.near.now.leaf) c.args.values) c.args.self.now.rows)
     (column_writes c.args.near.now.leaf (16 * c.args.block) 16)
-shown c =
+shown c sixteen each =
     let a = c.self.inside in
     let near = c.args.near.now in
     let seen = c.args.self.now in
@@ -108,7 +110,7 @@ shown c =
     (table_column (term_of a.expr) a.extents (schema_fields a.schema) a.blobs.items c.self.invariant.1 c.put_block.new.blobs.items row near.leaf c.to_array.result
     (leaf_seen a.schema a.extents a.expr a.blobs.items c.self.invariant.1 seen c.self.view_is near.leaf c.requires.near.inside)
     (laid_there c.self.invariant.0 c.put_block.new.blobs.items c.put_block.ensures.still_laid) (stored c)
-    (λ k l. fits_here c.After-to_array k (omega (arith, l, many c.After-to_array))))
+    (λ k l. each k (omega (arith, l, sixteen))))
     (ap (λ (t : Table). t.tally) (c.self.view_is ∙ sym (c.requires.near.idle log) ∙ sym (ap (λ (t : Table). after_log t log) c.self.view_is)))
     ∙ ap (λ (vs : List ℤ). after_stores seen (with_column near.leaf row (map (kept_of seen near.leaf) vs) seen.rows) log) c.to_array.ensures.numbers
 
@@ -126,7 +128,9 @@ returns-clause-taken c = λ wrote.
     ap told (fitting_stored (leaf_type_of seen leaf) (hold_at (table_holds seen) leaf) value here.declared here.held))
 
 pub returns-clause-stored : goal.returns-clause-stored
-returns-clause-stored c = λ wrote. shown (goal.at.returns-clause-stored c).After-put_block
+returns-clause-stored c = λ wrote.
+    let at = (goal.at.returns-clause-stored c).After-to_array in
+    shown (goal.at.returns-clause-stored c).After-put_block (many at) (fits_here at)
 
 pub returns-clause-still : goal.returns-clause-still
 returns-clause-still c = λ other is.
@@ -134,5 +138,6 @@ returns-clause-still c = λ other is.
     let near = c.args.near.now in
     let row = 16 * c.args.block in
     let values = map (kept_of seen near.leaf) c.args.values in
-    subst (λ (t : Table). IsNearColumn t other) (sym (shown (goal.at.returns-clause-still c).After-put_block))
+    let at = (goal.at.returns-clause-still c).After-to_array in
+    subst (λ (t : Table). IsNearColumn t other) (sym (shown (goal.at.returns-clause-still c).After-put_block (many at) (fits_here at)))
     (near_still seen (with_column near.leaf row values seen.rows) (column_writes near.leaf row 16) other (length-with_column near.leaf row values seen.rows) is)
