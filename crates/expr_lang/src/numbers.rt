@@ -31,15 +31,17 @@ pub fn decided(op: BinOp, left: i128) -> Option<i128>
     }
 }
 
-/// The result of an operator on both sides. Numbers of 64 bits are tried in 64 bits first, where a product and a quotient are one instruction
-/// each, and a sum is tested by one.
+/// The result of an operator on both sides. Products and quotients of numbers of 64 bits are tried in 64 bits first, where each is one
+/// instruction.
 #[inline(always)]
 pub fn result_of(op: BinOp, left: i128, right: i128) -> Result<i128, EvalFault>
     ensures { result ≡ result_of op left right }
 {
-    if let (Ok(near), Ok(other)) = (i64::try_from(left), i64::try_from(right)) {
-        if let Some(result) = near_result(op, near, other) {
-            return Ok(result);
+    if matches!(op, BinOp::Mul | BinOp::Div | BinOp::Rem) {
+        if let (Ok(near), Ok(other)) = (i64::try_from(left), i64::try_from(right)) {
+            if let Some(result) = near_result(op, near, other) {
+                return Ok(result);
+            }
         }
     }
     far_result(op, left, right)
@@ -51,21 +53,10 @@ fn near_result(op: BinOp, left: i64, right: i64) -> Option<i128>
     ensures { IfSome result (λ number. result_of op left right ≡ Ok number) }
 {
     match op {
-        BinOp::Add => Some(i128::from(left.checked_add(right)?)),
-        BinOp::Sub => Some(i128::from(left.checked_sub(right)?)),
         BinOp::Mul => Some(i128::from(left.checked_mul(right)?)),
         BinOp::Div => near_quotient(left, right),
         BinOp::Rem => near_remainder(left, right),
-        BinOp::Min => Some(i128::from(left.min(right))),
-        BinOp::Max => Some(i128::from(left.max(right))),
-        BinOp::Eq => Some(truth(left == right)),
-        BinOp::Ne => Some(truth(left != right)),
-        BinOp::Lt => Some(truth(left < right)),
-        BinOp::Le => Some(truth(left <= right)),
-        BinOp::Gt => Some(truth(left > right)),
-        BinOp::Ge => Some(truth(left >= right)),
-        BinOp::And => None,
-        BinOp::Or => None,
+        _ => None,
     }
 }
 
@@ -90,7 +81,7 @@ fn near_remainder(left: i64, right: i64) -> Option<i128>
 }
 
 // The same of all numbers.
-#[inline(never)]
+#[inline(always)]
 fn far_result(op: BinOp, left: i128, right: i128) -> Result<i128, EvalFault>
     ensures { result ≡ result_of op left right }
 {
