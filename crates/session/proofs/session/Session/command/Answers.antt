@@ -1,4 +1,4 @@
-use Rattle.std.proofs.Common.{refl, subst}
+use Rattle.std.proofs.Common.{Ok, refl, subst}
 use Rattle.line_grammar.specs.Sentences.{New}
 use Rattle.worlds.specs.View.{view}
 use Rattle.command_checks.specs.Gives.{Gives}
@@ -7,7 +7,7 @@ use Rattle.session.proofs.Steps.{line_gives, line_shows}
 use Rattle.session.proofs.session.Session.command.Goals as goal
 
 pub returns-in-Blank-clause-answers : goal.returns-in-Blank-clause-answers
-returns-in-Blank-clause-answers g c = λ files unread. line_gives g.K.Sink.taken g.K.Sink.faults c.args.out.now (world_of c.args.self) c.args.line.now _ files unread _ c.in-Blank.is refl
+returns-in-Blank-clause-answers g c = λ files unread. line_gives g.K.Sink.taken g.K.Sink.faults c.args.out.now (world_of c.args.self) c.args.line.now _ files unread (Ok c.args.self) c.in-Blank.is refl
 
 pub returns-in-Define-clause-answers : goal.returns-in-Define-clause-answers
 returns-in-Define-clause-answers g c = λ files unread. line_gives g.K.Sink.taken g.K.Sink.faults c.args.out.now (world_of c.args.self) c.args.line.now _ files unread c.define.result c.in-Define.is c.define.ensures
