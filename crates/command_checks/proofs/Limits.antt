@@ -1,7 +1,7 @@
 -- New tables and their limits.
 use Rattle.std.proofs.Common.{◌≡◌, ℕ, ◌+◌, ◌-◌, ◌*◌, ◌<◌, ◌≤◌, ◌^◌, Bool, true, false, List, length, nat_lt, take, map, get_or, Ok, refl, sym, ap, ◌∙◌, arith, inl, inr}
 use Rattle.std.specs.Prelude.{◌||◌}
-use Rattle.std.proofs.lemmas.Bool.{false≢true}
+use Rattle.std.proofs.lemmas.Bool.{false≢true, lt-ltb, or_right}
 use Rattle.std.proofs.lemmas.Bool.Decides.{nat_tests}
 use Rattle.std.proofs.lemmas.List.{get_or-map, length-map}
 use Rattle.std.proofs.lemmas.List.Sums.{sum_by_more}
@@ -35,9 +35,6 @@ table_new seen fields extents term f e t z n =
 slots_within : (a b : ℕ) → (a < b → ⊥) → nat_lt a b ≡ false
 slots_within a b within = grind (arith, nat_tests)
 
-passed : (a b : ℕ) → a < b → nat_lt a b ≡ true
-passed a b over = grind (arith, nat_tests)
-
 -- a table behind four limits, each passed or not
 abbrev limited : Bool → Bool → Bool → Bool → Table → Outcome Table
 limited slots bits granules all table = do
@@ -56,13 +53,6 @@ limited_over false true c d table over = refl
 limited_over false false true d table over = refl
 limited_over false false false true table over = refl
 limited_over false false false false table over = absurd (false≢true over)
-
-first : (a b : Bool) → a ≡ true → (a || b) ≡ true
-first a b over = rw over refl
-
-either : (a b : Bool) → b ≡ true → (a || b) ≡ true
-either true b over = refl
-either false b over = over
 
 module _ (views : List (Entry Table)) (fields : Fields) (extents : List ℕ) (term : MapTerm) (good : accepted term fields (leaf_cells (kinds_of fields)) ≡ Ok tt) where
   abbrev slots : Bool
@@ -92,23 +82,14 @@ module _ (views : List (Entry Table)) (fields : Fields) (extents : List ℕ) (te
 
   pub made_full : 8 * 2 ^ 30 < live_bits views + blob_bits (zeros_of fields extents term) → made views fields extents term ≡ Faults fault.TooBig
   made_full full =
-      over_is (either slots _ (either bits _ (either granules all (passed (8 * 2 ^ 30) (live_bits views + blob_bits (zeros_of fields extents term)) full))))
+      over_is (or_right slots _ (or_right bits _ (or_right granules all (lt-ltb (8 * 2 ^ 30) (live_bits views + blob_bits (zeros_of fields extents term)) full))))
 
-  pub made_big : IsOver term extents fields → made views fields extents term ≡ Faults fault.TooBig
-  made_big (inl (inl over)) = over_is (first slots _ (passed (2 ^ 24) (most_slots term extents) over))
-  made_big (inl (inr over)) = over_is (either slots _ (first bits _ (passed (8 * 2 ^ 28) (blob_bits (zeros_of fields extents term)) over)))
-  made_big (inr over) =
-      over_is (either slots _ (either bits _ (first granules all (passed (2 ^ 24) (granules_for term (layout_by term extents fields)) over))))
-
--- bytes against bits: too many live, a view that fits beside those that live, and one that does not
+-- bytes against bits: too many live, and a view that fits beside those that live
 pub bits_over : (live bits more : ℕ) → 8 * live ≡ bits → 2 ^ 30 < live → 8 * 2 ^ 30 < bits + more
 bits_over live bits more a over = omega arith
 
 pub bits_within : (live left bits more : ℕ) → 8 * live ≡ bits → left ≡ 2 ^ 30 - live → live ≤ 2 ^ 30 → more ≤ 8 * left → 8 * 2 ^ 30 < bits + more → ⊥
 bits_within live left bits more a rest some within over = omega arith
-
-pub bits_past : (live left bits more : ℕ) → 8 * live ≡ bits → left ≡ 2 ^ 30 - live → 8 * left < more → 8 * 2 ^ 30 < bits + more
-bits_past live left bits more a rest past = omega arith
 
 sums : (bytes own bits more : ℕ) → 8 * bytes ≡ bits → 8 * own ≡ more → 8 * (bytes + own) ≡ bits + more
 sums bytes own bits more a b = omega arith

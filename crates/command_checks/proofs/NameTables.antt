@@ -1,10 +1,9 @@
 -- Tables of names, and lists that grow at their end.
 use Rattle.std.proofs.Common.{◌≡◌, ◌∙◌, ℕ, suc, ◌+◌, Bool, true, false, cond, List, [], ◌∷◌, ◌++◌, length, Option, Some, None, refl, sym, ap, subst, arith, ⊎_elim}
 use Rattle.std.proofs.lemmas.Bool.{cases_Bool}
-use Rattle.std.specs.BTreeMap.{BTreeMap, IsEmpty, Updates, is_at}
+use Rattle.std.specs.BTreeMap.{BTreeMap, Updates}
 use Rattle.std.specs.Cmp.Lexicographic.{slice_cmp, bytes_decides, texts_ties}
 use Rattle.std.specs.List.{position_from}
-use Rattle.std.specs.Map.{lookup}
 use Rattle.std.specs.Option.{option_or}
 use Rattle.std.specs.Ordering.{nat_cmp}
 use Rattle.worlds.specs.Worlds.{Entry, same_name}
@@ -22,10 +21,6 @@ position_behind test low (y ∷ ys) x = ⊎_elim
     let past : low + 1 + length ys ≡ low + suc (length ys) = omega arith in
     rw other (position_behind test (low + 1) ys x ∙ ap (λ n. option_or (position_from test (low + 1) ys) (cond (test x) (Some n) None)) past))
     (cases_Bool (test y))
-
--- the table of no entry
-pub indexed_none : {E A : Type 0} (entry_of : E → Entry A) (places : BTreeMap (List ℕ) ℕ) → IsEmpty places → IsIndex entry_of [] places
-indexed_none entry_of places empty = λ name. ap (λ entries. lookup (is_at (slice_cmp nat_cmp name)) entries) empty
 
 -- the table of one entry more
 pub indexed_behind : {E A : Type 0} (entry_of : E → Entry A) (entries : List E) (entry : E) (places next : BTreeMap (List ℕ) ℕ) → IsIndex entry_of entries places →

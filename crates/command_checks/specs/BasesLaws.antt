@@ -9,6 +9,7 @@ use Rattle.extents.specs.Indices.{indices, product}
 use Rattle.extents.specs.IndicesLaws.{length-indices}
 use Rattle.extents.specs.Shapes.{is_rows, HasRows, IsShape, bad_extents, extents_for, fixed_product}
 use Rattle.extents.specs.ShapeLaws.{product_divided, product_fixed}
+use Rattle.record_dim.specs.NameBytesLaws.{both}
 use Rattle.record_dim.specs.declared.path.PathStep.{PathStep}
 use Rattle.map_expr.specs.Terms.{Term, Aos, Soa, Aosoa, BitAos, BitSoa, Split, Byteswap, Bytesplit, Change, Count, Heat, Named}
 use Rattle.map_expr.specs.Checks.{IsNameless}
@@ -17,13 +18,6 @@ use Rattle.worlds.specs.Outcomes.{Goes, Faults}
 use Rattle.worlds.specs.Tables.{resolved}
 use Rattle.worlds.specs.declared.fault.CommandFault.TheVariants.{BadExtents}
 use Rattle.command_checks.specs.Bases.{is_nameless, rows_for}
-
-both : (a b : Bool) → (a && b) ≡ true → (a ≡ true) × (b ≡ true)
-both true b e = (refl, e)
-both false b e = absurd (false≢true e)
-
-either : (a b : Bool) → a ≡ true → b ≡ true → (a && b) ≡ true
-either a b p q = rw (p, q) refl
 
 -- a mapping without names has a layout
 pub nameless_built : (term : Term) → is_nameless term ≡ true → IsBuiltTerm term
@@ -61,7 +55,7 @@ nameless_term (Named name) e = absurd (false≢true e)
 
 -- two mappings without names, as the two sides of a split
 pub nameless_split : (path : List PathStep) (first rest : Term) → is_nameless first ≡ true → is_nameless rest ≡ true → is_nameless (Split path first rest) ≡ true
-nameless_split path first rest p q = either _ _ p q
+nameless_split path first rest p q = rw (p, q) refl
 
 -- a number of rows is given where there is a `?`
 pub rows_for_some : (words : List ExtentWord) (rows : Option ℕ) → HasRows words → IsSome (rows_for words rows)

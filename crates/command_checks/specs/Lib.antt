@@ -3,7 +3,6 @@ pub mod Bases
 pub mod BasesLaws
 pub mod Entries
 pub mod Indexed
-pub mod Lists
 pub mod Places
 pub mod PlacesLaws
 pub mod Gives

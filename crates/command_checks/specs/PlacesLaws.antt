@@ -1,5 +1,5 @@
 -- Laws of names and the places of their entries.
-use Rattle.std.proofs.Common.{◌≡◌, ℕ, zero, suc, ◌+◌, ◌<◌, true, false, List, [], ◌∷◌, ◌++◌, length, map, take, drop, Some, None, refl, ap, subst, arith, ⊎_elim}
+use Rattle.std.proofs.Common.{◌≡◌, ℕ, zero, suc, ◌+◌, ◌<◌, true, false, List, [], ◌∷◌, ◌++◌, length, map, take, drop, get_or, Some, None, refl, sym, ap, ◌∙◌, subst, arith, ⊎_elim}
 use Rattle.std.specs.List.{position_from}
 use Rattle.std.proofs.lemmas.Bool.{cases_Bool}
 use Rattle.worlds.specs.Worlds.{Entry, same_name, found}
@@ -15,7 +15,7 @@ here entry_of name first rest same = record {
   is = λ d. rw same refl;
   gone = rw same refl;
   other = λ d e alike. rw (same, ← alike) refl;
-  changed = λ d held. rw same refl;
+  first = same;
 }
 
 behind : {E A : Type 0} (entry_of : E → Entry A) (name : List ℕ) (first : E) (rest : List E) (place : ℕ) → same_name (entry_of first).name name ≡ false → IsAt entry_of name rest place
@@ -25,7 +25,7 @@ behind entry_of name first rest place other at = record {
   is = λ d. rw other (at.is d);
   gone = rw other (ap (λ xs. entry_of first ∷ xs) at.gone);
   other = λ d e alike. rw other (ap (λ xs. entry_of first ∷ xs) (at.other d e alike));
-  changed = λ d held. rw other (ap (λ xs. entry_of first ∷ xs) (at.changed d held));
+  first = (other, at.first);
 }
 
 -- a place that was found
@@ -69,18 +69,27 @@ without_is (entry ∷ entries) (suc place) inside =
     let less : place < length entries = omega (arith, inside) in
     rw more (ap (λ xs. entry ∷ xs) (without_is entries place less))
 
--- a used name that stands for nothing
+-- what a used name stands for, by the place of its entry and by the entry there, and one that stands for nothing
+pub known_place : {E A : Type 0} (entry_of : E → Entry A) (name : List ℕ) (entries : List E) (place : ℕ) (d : E) → IsAt entry_of name entries place
+    → known name (map entry_of entries) ≡ Goes (entry_of (get_or entries place d)).held
+known_place entry_of name entries place d at = ap (some_or (Unknown (Name name))) (at.is d)
+
+pub known_at : {E A : Type 0} (entry_of : E → Entry A) (name : List ℕ) (entries : List E) (place : ℕ) (entry : E) → IsAt entry_of name entries place → entry ≡ get_or entries place entry
+    → known name (map entry_of entries) ≡ Goes (entry_of entry).held
+known_at entry_of name entries place entry at is = known_place entry_of name entries place entry at ∙ ap (λ e. Goes (entry_of e).held) (sym is)
+
 pub unknown_name : {E A : Type 0} (entry_of : E → Entry A) (name : List ℕ) (entries : List E) → position_from (λ e. same_name (entry_of e).name name) 0 entries ≡ None
     → known name (map entry_of entries) ≡ Faults (Unknown (Name name))
 unknown_name entry_of name entries none = ap (some_or (Unknown (Name name))) (nowhere entry_of name entries 0 none)
 
--- a defined name that is free, and one that is taken
-pub free_name : {E A : Type 0} (entry_of : E → Entry A) (name : List ℕ) (entries : List E) → position_from (λ e. same_name (entry_of e).name name) 0 entries ≡ None
-    → free name (map entry_of entries) ≡ Goes tt
-free_name entry_of name entries none = ap (λ o. refused_if (is_some o) (Taken name)) (nowhere entry_of name entries 0 none)
+-- a defined name is taken where an entry has it
+has_place : {E A : Type 0} (entry_of : E → Entry A) (name : List ℕ) (entries : List E) (low : ℕ) → is_some (found name (map entry_of entries)) ≡ is_some (position_from (λ e. same_name (entry_of e).name name) low entries)
+has_place entry_of name [] low = refl
+has_place entry_of name (first ∷ rest) low = ⊎_elim
+    (λ (same : same_name (entry_of first).name name ≡ true). rw same refl)
+    (λ (other : same_name (entry_of first).name name ≡ false). rw other (has_place entry_of name rest (low + 1)))
+    (cases_Bool (same_name (entry_of first).name name))
 
-pub taken_name : {E A : Type 0} (entry_of : E → Entry A) (name : List ℕ) (entries : List E) (place : ℕ) → position_from (λ e. same_name (entry_of e).name name) 0 entries ≡ Some place
-    → free name (map entry_of entries) ≡ Faults (Taken name)
-taken_name entry_of name [] place some = absurd (cc)
-taken_name entry_of name (d ∷ rest) place some =
-    let entries = d ∷ rest in ap (λ o. refused_if (is_some o) (Taken name)) ((placed_at entry_of name entries place some).is d)
+pub free_by_place : {E A : Type 0} (entry_of : E → Entry A) (name : List ℕ) (entries : List E)
+    → free name (map entry_of entries) ≡ refused_if (is_some (position_from (λ e. same_name (entry_of e).name name) 0 entries)) (Taken name)
+free_by_place entry_of name entries = ap (λ some. refused_if some (Taken name)) (has_place entry_of name entries 0)

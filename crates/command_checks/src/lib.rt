@@ -2,22 +2,24 @@
 #![tactic(auto)]
 
 mod entries;
-mod entry_lists;
+mod entry_list;
 mod fault;
 mod index;
 mod kernels;
 mod leaves;
 mod mapping_entry;
 mod mappings;
+mod named_entry;
 mod names;
 mod tables;
 
 pub use entries::{RecordEntry, ViewEntry, ViewList};
-pub use entry_lists::{MappingList, RecordList};
+pub use entry_list::{EntryList, MappingList, RecordList};
 pub use fault::StepFault;
 pub use kernels::fit_kernel;
 pub use leaves::{bound, leaf_of, leaf_text};
 pub use mapping_entry::MappingEntry;
 pub use mappings::nameless;
-pub use names::{free_mapping, free_record, free_view, known_view, schema_of};
+pub use named_entry::NamedEntry;
+pub use names::{free_view, known_view, schema_of};
 pub use tables::{has_room, made, resolved, shaped};

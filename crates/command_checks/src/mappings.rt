@@ -1,28 +1,24 @@
 // Mapping expressions without names.
-ghost use Rattle.std.specs.Prelude.{◌≡◌, IfOk, true};
+ghost use Rattle.std.specs.Prelude.{◌≡◌, IfOk, map, true};
 ghost use Rattle.map_expr.specs.Terms.{term_of};
 ghost use Rattle.worlds.specs.Names.{nameless};
 ghost use Rattle.command_checks.specs.Bases.{is_nameless};
+ghost use Rattle.command_checks.specs.Entries.{mapping_of};
 ghost use Rattle.command_checks.specs.Gives.{Gives};
-ghost use Rattle.command_checks.specs.Lists.{mappings_of};
 
-use crate::entry_lists::MappingList;
+use crate::entry_list::MappingList;
 use crate::fault::StepFault;
-use crate::names::known_mapping;
 use map_expr::MapExpr;
 use std::alloc::Global;
 
 /// A mapping expression with what its names stand for in their places.
 #[tactic(auto, using(crate::specs::BasesLaws::nameless_split))]
 pub fn nameless(alloc: Global, mappings: &MappingList, expr: &MapExpr) -> Result<MapExpr, StepFault>
-    ensures whole { Gives term_of result (nameless (mappings_of mappings.now) (term_of expr.now)) }
+    ensures whole { Gives term_of result (nameless (map mapping_of mappings.now) (term_of expr.now)) }
     ensures nameless { IfOk result (λ whole. is_nameless (term_of whole) ≡ true) }
 {
     match expr {
-        MapExpr::Named(name) => {
-            let place = known_mapping(mappings, *name)?;
-            Ok(mappings.entries[place].expr.copy(alloc)?)
-        }
+        MapExpr::Named(name) => Ok(mappings.known(*name)?.expr.copy(alloc)?),
         MapExpr::Split { path, first, rest } => {
             let first = nameless(alloc, mappings, first)?;
             let rest = nameless(alloc, mappings, rest)?;

@@ -22,7 +22,7 @@ use Rattle.worlds.specs.declared.fault.CommandFault.{CommandFault}
 use Rattle.worlds.specs.declared.fault.CommandFault.TheVariants as refusal
 use Rattle.worlds.specs.declared.fault.CommandFault.TheVariants.{Unknown}
 use Rattle.worlds.specs.declared.fault.UnknownName.TheVariants.{Name}
-use Rattle.command_checks.specs.Places.{IsAt}
+use Rattle.command_checks.specs.Places.{IsFirst}
 use Rattle.worlds.specs.Outcomes.{Outcome, Goes, Faults, CannotRead, ◌>>=◌, quiet, known, some_or}
 use Rattle.worlds.specs.Worlds.{World, Entry, replaced}
 use Rattle.command_checks.specs.AlikeLaws.{alike, not_alike}
@@ -33,7 +33,7 @@ use Rattle.command_checks.specs.declared.entries.ViewEntry.{ViewEntry}
 use Rattle.command_checks.specs.declared.fault.StepFault.{StepFault}
 use Rattle.session.specs.Changes.{copied_at, made_like, zeros_like, TellsCopy}
 use Rattle.session.proofs.Exits.{tells_gives}
-use Rattle.session.proofs.Named.{IsFirst, first_found, first_replaced, first_still}
+use Rattle.session.proofs.Named.{first_found, first_replaced, first_still}
 
 pub first_of : {E : Type 0} (xs : List E) (i : ℕ) → i < length xs → E
 first_of [] i small = absurd (omega (arith, small))
@@ -158,10 +158,6 @@ copy_refused source old new (copy.Narrow row leaf) told is tells =
     let same : new.fields ≡ old.fields = ap (λ (seen : Table). seen.fields) is.2 in
     tells_gives _ _ told (is_narrow source old new row leaf is)
     (subst (λ (fields : Fields). told ≡ narrow_fault fields (record { row = row; leaf = leaf })) same tells)
-
--- a view that is known by its place
-pub known_place : (name : List ℕ) (views : List ViewEntry) (place : ℕ) (d : ViewEntry) → IsAt view_of name views place → known name (map view_of views) ≡ Goes ((get_or views place d).view)
-known_place name views place d at = ap (some_or (Unknown (Name name))) (at.is d)
 
 -- an entry that was read
 abbrev as_read : Entry Table → Entry Table

@@ -1,8 +1,8 @@
 -- The steps of copies, refused or not.
-use Rattle.std.proofs.Common.{◌≡◌, ◌∙◌, ◌≤◌, ◌+◌, ◌⊎◌, ⊎_elim, inl, inr, ℕ, zero, suc, true, false, nat_eq, List, [], ◌∷◌, map, get_or, Ok, Err, refl, sym, ap, subst, arith}
+use Rattle.std.proofs.Common.{◌≡◌, ◌∙◌, ◌≤◌, ◌+◌, ⊎_elim, ℕ, zero, suc, true, false, List, [], ◌∷◌, map, get_or, Ok, Err, refl, sym, ap, subst, arith}
 use Rattle.std.specs.Prelude.{Result, IsErrOf}
 use Rattle.std.specs.List.{remove}
-use Rattle.std.proofs.lemmas.Bool.{false≢true, cases_Bool, eqb-true, eq-eqb}
+use Rattle.std.proofs.lemmas.Bool.{false≢true, cases_Bool, cases_eq}
 use Rattle.std.proofs.lemmas.List.{get_or_default}
 use Rattle.record_dim.specs.NameBytesLaws.{same_text}
 use Rattle.map_expr.specs.Terms.{Term as MapTerm}
@@ -20,11 +20,11 @@ use Rattle.worlds.specs.Worlds.{World, Entry, same_name}
 use Rattle.command_checks.specs.AlikeLaws.{alike}
 use Rattle.command_checks.specs.Entries.{view_of}
 use Rattle.command_checks.specs.GivesLaws.{goes_then}
-use Rattle.command_checks.specs.Places.{IsAt}
+use Rattle.command_checks.specs.Places.{IsAt, IsFirst}
+use Rattle.command_checks.specs.PlacesLaws.{known_place}
 use Rattle.command_checks.specs.declared.entries.ViewEntry.{ViewEntry}
 use Rattle.session.specs.Bounds.{Pair, IsWithin, WithinCopy, WithinCost, WithinRelayout, copied_pair, laid_pair, paired}
-use Rattle.session.proofs.Copies.{AreApart, known_place, still_there}
-use Rattle.session.proofs.Named.{IsFirst, first_at}
+use Rattle.session.proofs.Copies.{AreApart, still_there}
 
 -- no step is within every bound
 pub none_taken : (pair : Outcome Pair) (old new : ℕ) → new ≡ old → WithinCost pair old new
@@ -71,19 +71,13 @@ one_place name (entry ∷ entries) zero (suc other) one two = absurd (false≢tr
 one_place name (entry ∷ entries) (suc place) zero one two = absurd (false≢true (sym one.0 ∙ two))
 one_place name (entry ∷ entries) (suc place) (suc other) one two = ap suc (one_place name entries place other one.1 two.1)
 
-same_or_not : (a b : ℕ) → (a ≡ b) ⊎ (a ≡ b → ⊥)
-same_or_not a b = ⊎_elim
-    (λ (same : nat_eq a b ≡ true). inl (eqb-true a b same))
-    (λ (differ : nat_eq a b ≡ false). inr (λ is. false≢true (sym differ ∙ eq-eqb a b is)))
-    (cases_Bool (nat_eq a b))
-
 -- the two tables of a copy, by their places
 two_places : (world : World) (name target_name : List ℕ) (views : List ViewEntry) (source target : ℕ) (d : ViewEntry) → world.views ≡ map view_of views →
     IsAt view_of name views source → IsAt view_of target_name views target → copied_pair world name target_name ≡ paired (get_or views source d).view (get_or views target d).view
 unfolding copied_pair
 two_places world name target_name views source target d is one two =
-    let from : known name world.views ≡ Goes (get_or views source d).view = ap (known name) is ∙ known_place name views source d one in
-    let to : known target_name world.views ≡ Goes (get_or views target d).view = ap (known target_name) is ∙ known_place target_name views target d two in
+    let from : known name world.views ≡ Goes (get_or views source d).view = ap (known name) is ∙ known_place view_of name views source d one in
+    let to : known target_name world.views ≡ Goes (get_or views target d).view = ap (known target_name) is ∙ known_place view_of target_name views target d two in
     goes_then _ _ _ from ∙ goes_then _ _ _ to
 
 pub copy_within : (world : World) (name target_name : List ℕ) (views : List ViewEntry) (source target : ℕ) (d : ViewEntry) (before after : ℕ) → world.views ≡ map view_of views →
@@ -92,8 +86,8 @@ pub copy_within : (world : World) (name target_name : List ℕ) (views : List Vi
 copy_within world name target_name views source target d before after is one two none bound = ⊎_elim
     (λ (same : same_name name target_name ≡ true).
     let tables = map view_of views in
-    let first : IsFirst name tables target = subst (λ (n : List ℕ). IsFirst n tables target) (sym (same_text name target_name same)) (first_at target_name views target d two) in
-    let places : source ≡ target = one_place name tables source target (first_at name views source d one) first in
+    let first : IsFirst name tables target = subst (λ (n : List ℕ). IsFirst n tables target) (sym (same_text name target_name same)) two.first in
+    let places : source ≡ target = one_place name tables source target one.first first in
     let still = none places in
     rw same (omega (arith, still)))
     (λ (differ : same_name name target_name ≡ false).
@@ -101,7 +95,7 @@ copy_within world name target_name views source target d before after is one two
     let within : WithinCost (copied_pair world name target_name) before after = ⊎_elim
     (λ (places : source ≡ target). none_taken (copied_pair world name target_name) before after (none places))
     (λ (apart : source ≡ target → ⊥). subst (λ (p : Outcome Pair). WithinCost p before after) (sym pair) (bound apart))
-    (same_or_not source target) in
+    (cases_eq source target) in
     rw differ within)
     (cases_Bool (same_name name target_name))
 

@@ -4,10 +4,8 @@ use Rattle.std.specs.Prelude.{slice_set}
 use Rattle.layout_io.specs.WritingLaws.{Wrote-nil, with_bytes-nil}
 use Rattle.worlds.specs.Worlds.{replaced}
 use Rattle.worlds.specs.Answers.{Refused, Fronted, text_of}
-use Rattle.worlds.specs.Outcomes.{Outcome, Goes, Faults, LeftOf, ◌>>=◌, known, some_or}
+use Rattle.worlds.specs.Outcomes.{Outcome, Goes, Faults, LeftOf, ◌>>=◌}
 use Rattle.worlds.specs.declared.fault.CommandFault.{CommandFault}
-use Rattle.worlds.specs.declared.fault.CommandFault.TheVariants.{Unknown}
-use Rattle.worlds.specs.declared.fault.UnknownName.TheVariants.{Name}
 use Rattle.command_checks.specs.Entries.{view_of}
 use Rattle.command_checks.specs.Places.{IsAt}
 use Rattle.command_checks.specs.declared.entries.ViewEntry.{ViewEntry}
@@ -45,10 +43,6 @@ answers_quiet Stands held taken faults old outcome (Err step.NoMemory) stands gi
 -- a refusal that is told is one that is given
 pub tells_gives : {A : Type 0} (outcome : Outcome A) (refusal told : CommandFault) → outcome ≡ Faults refusal → told ≡ refusal → outcome ≡ Faults told
 tells_gives outcome refusal told is tells = is ∙ ap (λ (f : CommandFault). Faults f) (sym tells)
-
--- a view that is known by its place
-pub known_at : (name : List ℕ) (views : List ViewEntry) (place : ℕ) (entry : ViewEntry) → IsAt view_of name views place → entry ≡ get_or views place entry → known name (map view_of views) ≡ Goes entry.view
-known_at name views place entry at is = ap (some_or (Unknown (Name name))) (at.is entry) ∙ ap (λ (e : ViewEntry). Goes (view_of e).held) (sym is)
 
 -- the world with a view changed in its place
 pub table_changed : (session : Session) (name : List ℕ) (place : ℕ) (entry changed : ViewEntry) → IsAt view_of name session.views.items place → entry ≡ get_or session.views.items place entry → changed.name ≡ entry.name →

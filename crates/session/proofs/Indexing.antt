@@ -12,6 +12,7 @@ use Rattle.extents.specs.IndicesLaws.{inside_of_entry, row_of_inside}
 use Rattle.line_grammar.specs.Sentences.{Value}
 use Rattle.linearize.specs.Slots.{place_in}
 use Rattle.piece_bits.specs.Tables.{with_entry}
+use Rattle.record_dim.specs.NameBytesLaws.{same_text}
 use Rattle.record_dim.specs.declared.path.PathStep.{PathStep}
 use Rattle.views.specs.Tables.{Table, owners_of, after_log, after_stores}
 use Rattle.row_updates.specs.Logs.{value_log}
@@ -24,15 +25,6 @@ use Rattle.worlds.specs.Outcomes.{Outcome, Goes, Faults, CannotRead, ◌>>=◌}
 use Rattle.worlds.specs.Values.{value_on, storable}
 use Rattle.worlds.specs.declared.fault.CommandFault.TheVariants.{BadIndex}
 use Rattle.session.specs.Changes.{set_row, left_with}
-
-same_list : (a b : List ℕ) → pointwise nat_eq a b ≡ true → a ≡ b
-same_list [] [] e = refl
-same_list [] (y ∷ ys) e = absurd (false≢true e)
-same_list (x ∷ xs) [] e = absurd (false≢true e)
-same_list (x ∷ xs) (y ∷ ys) e = ⊎_elim
-    (λ (s : nat_eq x y ≡ true). let first : x ≡ y = grind (arith, nat_tests) in let rest : pointwise nat_eq xs ys ≡ true = rw s at e in rw (first, same_list xs ys rest) refl)
-    (λ (s : nat_eq x y ≡ false). absurd (false≢true (rw s at e)))
-    (cases_Bool (nat_eq x y))
 
 any_at : (index : List ℕ) (lists : List (List ℕ)) (k : ℕ) → slice_get lists k ≡ Some index → list_any (λ other. pointwise nat_eq other index) lists ≡ true
 any_at index [] k there = absurd (cc)
@@ -47,7 +39,7 @@ any_at index (first ∷ lists) (suc k) there =
 any_there : (index : List ℕ) (lists : List (List ℕ)) → list_any (λ other. pointwise nat_eq other index) lists ≡ true → (k : ℕ) × (slice_get lists k ≡ Some index)
 any_there index [] any = absurd (false≢true any)
 any_there index (first ∷ lists) any = ⊎_elim
-    (λ (e : pointwise nat_eq first index ≡ true). (0, ap Some (same_list first index e)))
+    (λ (e : pointwise nat_eq first index ≡ true). (0, ap Some (same_text first index e)))
     (λ (e : pointwise nat_eq first index ≡ false). let later = any_there index lists (rw e at any) in (suc later.0, later.1))
     (cases_Bool (pointwise nat_eq first index))
 

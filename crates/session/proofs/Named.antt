@@ -9,18 +9,12 @@ use Rattle.worlds.specs.Worlds.{Entry, same_name, found, replaced}
 use Rattle.worlds.specs.Outcomes.{Faults, known}
 use Rattle.command_checks.specs.Entries.{view_of}
 use Rattle.command_checks.specs.Gives.{GivesUp}
-use Rattle.command_checks.specs.Places.{IsAt}
+use Rattle.command_checks.specs.Places.{IsFirst}
 use Rattle.command_checks.specs.declared.entries.ViewEntry.{ViewEntry}
 use Rattle.command_checks.specs.declared.fault.StepFault.{StepFault}
 use Rattle.command_checks.specs.declared.fault.StepFault.TheVariants as step
 
--- the table at this place has the name, and none before it
-abbrev pub IsFirst : List ℕ → List (Entry Table) → ℕ → Type 0
-IsFirst name [] place = ⊥
-IsFirst name (entry ∷ entries) zero = same_name entry.name name ≡ true
-IsFirst name (entry ∷ entries) (suc place) = (same_name entry.name name ≡ false) × IsFirst name entries place
-
--- it is found
+-- the first table of a name is found
 pub first_found : (name : List ℕ) (entries : List (Entry Table)) (place : ℕ) (d : Entry Table) → IsFirst name entries place → found name entries ≡ Some (get_or entries place d).held
 first_found name [] place d first = absurd first
 first_found name (entry ∷ entries) zero d first = rw first refl
@@ -41,37 +35,6 @@ first_still name (entry ∷ entries) zero zero d held first = first
 first_still name (entry ∷ entries) zero (suc other) d held first = first
 first_still name (entry ∷ entries) (suc place) zero d held first = first
 first_still name (entry ∷ entries) (suc place) (suc other) d held first = (first.0, first_still name entries place other d held first.1)
-
--- a table that is not this one
-abbrev another : Table → Table
-another table = record table { extents = 0 ∷ table.extents }
-
-differs : (table : Table) → table ≡ another table → ⊥
-differs table is =
-    let long : length table.extents ≡ suc (length table.extents) = ap (λ (t : Table). length t.extents) is in
-    omega (arith, long)
-
--- what replaces it at its place, whatever it is, shows that it is the first
-from_replaced : (name : List ℕ) (entries : List (Entry Table)) (place : ℕ) (d : Entry Table) → place < length entries →
-    ((held : Table) → replaced name held entries ≡ slice_set entries place (record { name = (get_or entries place d).name; held = held })) → IsFirst name entries place
-from_replaced name [] place d inside is = absurd (omega (arith, inside))
-from_replaced name (entry ∷ entries) zero d inside is = ⊎_elim
-    (λ (same : same_name entry.name name ≡ true). same)
-    (λ (other : same_name entry.name name ≡ false).
-    absurd (differs entry.held (ap (λ (more : List (Entry Table)). (get_or more 0 entry).held) (rw other at (is (another entry.held))))))
-    (cases_Bool (same_name entry.name name))
-from_replaced name (entry ∷ entries) (suc place) d inside is = ⊎_elim
-    (λ (same : same_name entry.name name ≡ true).
-    absurd (differs entry.held (sym (ap (λ (more : List (Entry Table)). (get_or more 0 entry).held) (rw same at (is (another entry.held)))))))
-    (λ (other : same_name entry.name name ≡ false).
-    (other, from_replaced name entries place d (omega (arith, inside)) (λ held. ap (λ (more : List (Entry Table)). drop 1 more) (rw other at (is held)))))
-    (cases_Bool (same_name entry.name name))
-
-pub first_at : (name : List ℕ) (views : List ViewEntry) (place : ℕ) (d : ViewEntry) → IsAt view_of name views place → IsFirst name (map view_of views) place
-first_at name views place d at =
-    let inside : place < length (map view_of views) = rw length-map at.inside in
-    from_replaced name (map view_of views) place (view_of d) inside
-    (λ held. at.changed d held ∙ ap (λ (e : Entry Table). slice_set (map view_of views) place (record { name = e.name; held = held })) (sym (get_or-map view_of views place d)))
 
 -- a name that is unknown is so too where a table was replaced
 still_unknown : (name other : List ℕ) (entries : List (Entry Table)) (held : Table) → found name entries ≡ None → found name (replaced other held entries) ≡ None

@@ -2,6 +2,7 @@
 use Rattle.std.proofs.Common.{◌≡◌, ℕ, zero, suc, ◌+◌, ◌-◌, ◌<◌, ◌≤◌, List, [], ◌∷◌, ◌++◌, length, take, get_or, ℤ, pos, ◌+ℤ◌, refl, sym, ap, ◌∙◌, arith, fold, map}
 use Rattle.std.specs.Int.{int_min, int_max}
 use Rattle.std.specs.List.{range_with_len}
+use Rattle.std.proofs.lemmas.List.Sums.{fold-append}
 use Rattle.std.proofs.lemmas.List.FromFn.{map-range_with_len_more}
 use Rattle.std.proofs.lemmas.Int.{ints}
 use Rattle.std.proofs.lemmas.List.{get_or-map, length-map, take_more}
@@ -20,23 +21,19 @@ use Rattle.worlds.specs.Outcomes.{Goes}
 use Rattle.worlds.specs.Reduce.{reduced, column, column_log}
 use Rattle.session.specs.Columns.{combined, IsSmall}
 
-fold_push : {X Y : Type 0} (f : Y → X → Y) (a : Y) (xs : List X) (x : X) → fold f a (xs ++ x ∷ []) ≡ f (fold f a xs) x
-fold_push f a [] x = refl
-fold_push f a (y ∷ xs) x = fold_push f (f a y) xs x
-
 -- one value more
 reduced_push : (kind : ReduceKind) (xs : List ℤ) (x value : ℤ) → reduced kind xs ≡ Goes value → reduced kind (xs ++ x ∷ []) ≡ Goes (combined kind value x)
 reduced_push Sum xs x value e =
     let is : fold (λ a b. a +ℤ b) (pos 0) xs ≡ value = cc in
-    ap (λ (v : ℤ). Goes v) (fold_push (λ (a b : ℤ). a +ℤ b) (pos 0) xs x ∙ ap (λ (v : ℤ). v +ℤ x) is)
+    ap (λ (v : ℤ). Goes v) (fold-append (λ (a b : ℤ). a +ℤ b) (pos 0) xs (x ∷ []) ∙ ap (λ (v : ℤ). v +ℤ x) is)
 reduced_push Min [] x value e = absurd (cc)
 reduced_push Min (y ∷ xs) x value e =
     let is : fold int_min y xs ≡ value = cc in
-    ap (λ (v : ℤ). Goes v) (fold_push int_min y xs x ∙ ap (λ (v : ℤ). int_min v x) is)
+    ap (λ (v : ℤ). Goes v) (fold-append int_min y xs (x ∷ []) ∙ ap (λ (v : ℤ). int_min v x) is)
 reduced_push Max [] x value e = absurd (cc)
 reduced_push Max (y ∷ xs) x value e =
     let is : fold int_max y xs ≡ value = cc in
-    ap (λ (v : ℤ). Goes v) (fold_push int_max y xs x ∙ ap (λ (v : ℤ). int_max v x) is)
+    ap (λ (v : ℤ). Goes v) (fold-append int_max y xs (x ∷ []) ∙ ap (λ (v : ℤ). int_max v x) is)
 
 pub reduced_more : (kind : ReduceKind) (table : List (List ℤ)) (leaf row : ℕ) (value next : ℤ) → row < length table → next ≡ entry table row leaf → reduced kind (take row (column leaf table)) ≡ Goes value → reduced kind (take (row + 1) (column leaf table)) ≡ Goes (combined kind value next)
 reduced_more kind table leaf row value next small is so_far =

@@ -1,8 +1,9 @@
 -- What the commands answer is what their lines answer.
-use Rattle.std.proofs.Common.{◌≡◌, ℕ, Bool, true, false, List, Option, Some, Result, Ok, Err, refl, ◌∙◌, arith}
+use Rattle.std.proofs.Common.{◌≡◌, ℕ, Bool, true, false, List, Option, Some, Result, Ok, Err, refl, sym, subst, ◌∙◌, arith}
 use Rattle.layout_io.specs.Files.{File}
 use Rattle.layout_io.specs.WritingLaws.{Wrote-nil, with_bytes-nil}
-use Rattle.line_grammar.specs.Sentences.{Sentence}
+use Rattle.line_grammar.specs.Sentences.{Sentence, sentence_of}
+use Rattle.line_grammar.specs.declared.line.Line.{Line}
 use Rattle.worlds.specs.Worlds.{World}
 use Rattle.worlds.specs.Answers.{text_of, StepsTo, StepCause}
 use Rattle.worlds.specs.Outcomes.{Outcome, Left}
@@ -39,14 +40,15 @@ unread_by file name whole outcome (Err fault.Source) is same unread = rw is (λ 
 unread_by file name whole outcome (Err fault.Sink) is same unread = tt
 unread_by file name whole outcome (Err fault.NoMemory) is same unread = tt
 
--- the same answers, the outcome said otherwise
-pub answers_by : {K : Type 0} (taken : K → Option (List ℕ)) (faults : K → ℕ) (old new : K) (whole outcome : Outcome Left) (result : Result Session StepFault) →
-    whole ≡ outcome → Answers Stands taken faults old new outcome result → Answers Stands taken faults old new whole result
-answers_by taken faults old new whole outcome result is answers = rw is answers
+-- a line that is known, with what its command answers, and one whose command writes nothing
+pub line_shows : {K : Type 0} (taken : K → Option (List ℕ)) (faults : K → ℕ) (old new : K) (world : World) (line known : Line) (files : List File) (unread : Bool) (result : Result Session StepFault) →
+    line ≡ known → Answers Stands taken faults old new (command world (sentence_of known) files unread) result → Answers Stands taken faults old new (command world (sentence_of line) files unread) result
+line_shows taken faults old new world line known files unread result is answers = subst (λ (l : Line). Answers Stands taken faults old new (command world (sentence_of l) files unread) result) (sym is) answers
 
-pub quiet_by : {K : Type 0} (taken : K → Option (List ℕ)) (faults : K → ℕ) (old : K) (whole outcome : Outcome Left) (result : Result Session StepFault) →
-    whole ≡ outcome → Gives left_of result outcome → Answers Stands taken faults old old whole result
-quiet_by taken faults old whole outcome result is gives = rw is (answers_quiet Stands world_of taken faults old outcome result (λ next. refl) gives)
+pub line_gives : {K : Type 0} (taken : K → Option (List ℕ)) (faults : K → ℕ) (old : K) (world : World) (line known : Line) (files : List File) (unread : Bool) (result : Result Session StepFault) →
+    line ≡ known → Gives left_of result (command world (sentence_of known) files unread) → Answers Stands taken faults old old (command world (sentence_of line) files unread) result
+line_gives taken faults old world line known files unread result is gives =
+    line_shows taken faults old old world line known files unread result is (answers_quiet Stands world_of taken faults old (command world (sentence_of known) files unread) result (λ next. refl) gives)
 
 -- a line that reads no file
 pub steps_shown : {K : Type 0} (taken : K → Option (List ℕ)) (faults : K → ℕ) (old new : K) (world : World) (sentence : Sentence) (file : Option (List ℕ)) (files : List File) (read_failed : Type 0) (result : Result Session StepFault) →

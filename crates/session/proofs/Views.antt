@@ -16,6 +16,7 @@ use Rattle.worlds.specs.Worlds.{World, Entry}
 use Rattle.worlds.specs.declared.fault.CommandFault.TheVariants.{NotCounted}
 use Rattle.command_checks.specs.Entries.{view_of}
 use Rattle.command_checks.specs.Places.{IsAt}
+use Rattle.command_checks.specs.PlacesLaws.{known_at}
 use Rattle.command_checks.specs.declared.entries.ViewEntry.{ViewEntry}
 use Rattle.command_checks.specs.declared.fault.StepFault.{StepFault}
 use Rattle.command_checks.specs.declared.fault.StepFault.TheVariants as step
@@ -23,7 +24,7 @@ use Rattle.session.specs.Answers.{Answers}
 use Rattle.session.specs.Changes.{IsLeft, left_with}
 use Rattle.session.specs.Stands.{Stands, world_of}
 use Rattle.session.specs.declared.session.Session.{Session}
-use Rattle.session.proofs.Exits.{known_at, table_changed}
+use Rattle.session.proofs.Exits.{table_changed}
 
 -- the outcome of a command on the view of a name, by what it leaves of the table
 abbrev onward : World → List ℕ → Outcome (LeftOf Table) → Outcome Left
@@ -63,7 +64,7 @@ view_done taken faults old new session next name place entry changed does at is 
     let left : List (Entry Table) → Left = λ views. record { held = record (world_of session) { views = views }; text = did.left.text } in
     record {
       left = left (map view_of (slice_set session.views.items place changed));
-      goes = on_known (world_of session) name entry.view does (known_at name session.views.items place entry at is) ∙ ap (onward (world_of session) name) did.goes
+      goes = on_known (world_of session) name entry.view does (known_at view_of name session.views.items place entry at is) ∙ ap (onward (world_of session) name) did.goes
           ∙ ap (λ (table : Table). Goes (record { held = with_table (world_of session) name table; text = did.left.text })) (sym did.stands)
           ∙ ap (λ (views : List (Entry Table)). Goes (left views)) (sym (table_changed session name place entry changed at is same));
       stands = stands;

@@ -30,13 +30,6 @@ use Rattle.worlds.specs.Tables.{made, zeros_of}
 abbrev pub mapping_fits : MapTerm → Outcome (Unit {0})
 mapping_fits term = ok_or BadMapping (checked term)
 
--- the world with one more record, and with one more mapping
-abbrev pub with_record : World → List ℕ → Fields → World
-with_record world name fields = record world { records = added name fields world.records }
-
-abbrev pub with_mapping : World → List ℕ → MapTerm → World
-with_mapping world name term = record world { mappings = added name term world.mappings }
-
 -- a table with the number that is kept of a value in a leaf of a row, where it fits
 abbrev pub stored : Table → ℕ → ℕ → ℤ → Outcome Table
 stored table row leaf value = do

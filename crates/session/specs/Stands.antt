@@ -2,16 +2,15 @@
 use Rattle.std.specs.Prelude.{◌≡◌, List, [], map}
 use Rattle.worlds.specs.Worlds.{World}
 use Rattle.worlds.specs.Outcomes.{Left}
-use Rattle.command_checks.specs.Entries.{view_of}
-use Rattle.command_checks.specs.Lists.{records_of, mappings_of}
+use Rattle.command_checks.specs.Entries.{record_of, mapping_of, view_of}
+use Rattle.command_checks.specs.declared.entries.RecordEntry.{RecordEntry}
 use Rattle.command_checks.specs.declared.entries.ViewEntry.{ViewEntry}
-use Rattle.command_checks.specs.declared.entry_lists.MappingList.{MappingList}
-use Rattle.command_checks.specs.declared.entry_lists.RecordList.{RecordList}
+use Rattle.command_checks.specs.declared.mapping_entry.MappingEntry.{MappingEntry}
 use Rattle.session.specs.declared.session.Session.{Session}
 
 -- the world of these records, mappings and views
-abbrev pub world_in : RecordList → MappingList → List ViewEntry → World
-world_in records mappings views = record { records = records_of records; mappings = mappings_of mappings; views = map view_of views }
+abbrev pub world_in : List RecordEntry → List MappingEntry → List ViewEntry → World
+world_in records mappings views = record { records = map record_of records; mappings = map mapping_of mappings; views = map view_of views }
 
 -- the session holds what is in the world, in the same order
 abbrev pub world_of : Session → World

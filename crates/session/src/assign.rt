@@ -13,12 +13,14 @@ ghost use Rattle.worlds.specs.Values.{value_on};
 ghost use Rattle.session.specs.Changes.{set_row, stored, left_with};
 ghost use Rattle.command_checks.specs.Gives.{Gives};
 
+use crate::faults::{narrow_fault, range_fault};
 use crate::work::Work;
 use arrayvec::ArrayVec;
-use command_checks::{StepFault, bound, leaf_of, leaf_text};
+use command_checks::{StepFault, bound, leaf_of};
 use expr_lang::{Bound, EvalFault, Expr};
 use extents::Extents;
 use layout_io::Sink;
+use line_grammar::IndexWords;
 use record_dim::Path;
 use row_updates::value_on;
 use std::alloc::Global;
@@ -30,7 +32,7 @@ use worlds::CommandFault;
 /// Stores the value of an expression in one row.
 #[derive(Drop)]
 pub(crate) struct Assign<'a> {
-    pub index: &'a [u32],
+    pub index: &'a IndexWords,
     pub path: &'a Path,
     pub value: &'a Expr,
 }
@@ -45,7 +47,14 @@ impl Work for Assign<'_> {
         _out: &mut K,
         steps: &mut Steps<L>,
     ) -> Result<(), StepFault> {
-        assigned(alloc, view, self.index, self.path, self.value, steps)
+        assigned(
+            alloc,
+            view,
+            self.index.as_slice(),
+            self.path,
+            self.value,
+            steps,
+        )
     }
 }
 
@@ -172,12 +181,9 @@ fn store<L: Ledger>(
 {
     match view.set(row, leaf, value, steps) {
         Ok(()) => Ok(()),
-        Err(fault) => {
-            let leaf = leaf_text(alloc, view, leaf)?;
-            match fault {
-                StoreFault::Range => Err(StepFault::Command(CommandFault::Range { row, leaf })),
-                StoreFault::Narrow => Err(StepFault::Command(CommandFault::Narrow { row, leaf })),
-            }
-        }
+        Err(fault) => match fault {
+            StoreFault::Range => Err(range_fault(alloc, view, row, leaf)?.into()),
+            StoreFault::Narrow => Err(narrow_fault(alloc, view, row, leaf)?.into()),
+        },
     }
 }

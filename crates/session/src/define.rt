@@ -1,5 +1,5 @@
 // `record P { .. }` and `mapping M = ..`.
-ghost use Rattle.std.specs.Prelude.{◌≡◌, IfOk, IfErr, true};
+ghost use Rattle.std.specs.Prelude.{◌≡◌, true};
 ghost use Rattle.map_expr.specs.Terms.{term_of};
 ghost use Rattle.record_dim.specs.Schemas.{schema_fields};
 ghost use Rattle.record_dim.specs.Trees.{tree_of, IsRecord};
@@ -7,17 +7,17 @@ ghost use Rattle.worlds.specs.Define.{define, fit};
 ghost use Rattle.worlds.specs.Mapping.{mapping};
 ghost use Rattle.command_checks.specs.Bases.{is_nameless};
 ghost use Rattle.command_checks.specs.Gives.{Gives};
-ghost use Rattle.session.specs.Changes.{mapping_fits, with_record, with_mapping};
+ghost use Rattle.session.specs.Changes.{mapping_fits};
 
 use crate::session::Session;
-use command_checks::{MappingEntry, RecordEntry, StepFault, free_mapping, free_record, nameless};
+use command_checks::{MappingEntry, RecordEntry, StepFault, nameless};
 use map_expr::MapExpr;
 use record_dim::{Dim, MakeSchema, Name, Schema};
 use std::alloc::Global;
 use worlds::CommandFault;
 
 impl Session {
-    ghost use Rattle.session.specs.Stands.{Stands, left_of, world_of};
+    ghost use Rattle.session.specs.Stands.{left_of, world_of};
 
     /// Names a record.
     #[tactic(auto, unfolding(worlds::specs::Define::define))]
@@ -25,29 +25,10 @@ impl Session {
         requires { IsRecord dim.now }
         ensures { Gives left_of result (define (world_of self) name (tree_of dim.now)) }
     {
-        free_record(&self.records, name)?;
+        self.records.free(name)?;
         let schema = new_schema(self.alloc, dim)?;
-        self.with_record(name, schema)
-    }
-
-    // One record more.
-    fn with_record(self, name: Name, schema: Schema) -> Result<Session, StepFault>
-        ensures added { IfOk result (λ next. Stands next (with_record (world_of self) name (schema_fields schema))) }
-        ensures starved { IfErr result (λ fault. fault ≡ StepFault.NoMemory) }
-    {
-        let Session {
-            alloc,
-            records,
-            mappings,
-            views,
-        } = self;
-        let records = records.with(RecordEntry { name, schema })?;
-        Ok(Session {
-            alloc,
-            records,
-            mappings,
-            views,
-        })
+        let records = self.records.with(RecordEntry { name, schema })?;
+        Ok(Session { records, ..self })
     }
 
     /// Names a mapping expression, the names in it replaced.
@@ -55,31 +36,11 @@ impl Session {
     pub(crate) fn mapping(self, name: Name, expr: &MapExpr) -> Result<Session, StepFault>
         ensures { Gives left_of result (mapping (world_of self) name (term_of expr.now)) }
     {
-        free_mapping(&self.mappings, name)?;
-        let whole = nameless(self.alloc, &self.mappings, expr)?;
-        fits(&whole)?;
-        self.with_mapping(name, whole)
-    }
-
-    // One mapping more.
-    fn with_mapping(self, name: Name, expr: MapExpr) -> Result<Session, StepFault>
-        requires { is_nameless (term_of expr) ≡ true }
-        ensures added { IfOk result (λ next. Stands next (with_mapping (world_of self) name (term_of expr))) }
-        ensures starved { IfErr result (λ fault. fault ≡ StepFault.NoMemory) }
-    {
-        let Session {
-            alloc,
-            records,
-            mappings,
-            views,
-        } = self;
-        let mappings = mappings.with(MappingEntry { name, expr })?;
-        Ok(Session {
-            alloc,
-            records,
-            mappings,
-            views,
-        })
+        self.mappings.free(name)?;
+        let expr = nameless(self.alloc, &self.mappings, expr)?;
+        fits(&expr)?;
+        let mappings = self.mappings.with(MappingEntry { name, expr })?;
+        Ok(Session { mappings, ..self })
     }
 }
 

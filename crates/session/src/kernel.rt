@@ -9,9 +9,10 @@ ghost use Rattle.command_checks.specs.Gives.{Gives};
 ghost use Rattle.session.specs.Bounds.{kernel_steps};
 ghost use Rattle.session.specs.Changes.{Tells, left_with};
 
+use crate::faults::{narrow_fault, range_fault};
 use crate::numbers::write_number;
 use crate::work::Work;
-use command_checks::{StepFault, fit_kernel, leaf_text};
+use command_checks::{StepFault, fit_kernel};
 use lane_kernels::{Kernel, KernelFault, run_lanes};
 use layout_io::{Failed, Sink};
 use line_grammar::KernelText;
@@ -25,13 +26,13 @@ use worlds::CommandFault;
 #[derive(Drop)]
 pub(crate) struct RunKernel<'a> {
     pub kernel: &'a KernelText,
-    pub lanes: u32,
+    pub lanes: &'a u32,
 }
 
 impl Work for RunKernel<'_> {
-    ghost does = { λ this table. kernel_run table this.kernel.now this.lanes };
+    ghost does = { λ this table. kernel_run table this.kernel.now this.lanes.now };
 
-    ghost most = { λ this table. Some (kernel_steps table this.kernel.now this.lanes) };
+    ghost most = { λ this table. Some (kernel_steps table this.kernel.now this.lanes.now) };
 
     fn run<K: Sink, L: Ledger>(
         &self,
@@ -40,7 +41,7 @@ impl Work for RunKernel<'_> {
         out: &mut K,
         steps: &mut Steps<L>,
     ) -> Result<(), StepFault> {
-        let number = kernel_run(alloc, view, self.kernel, self.lanes, steps)?;
+        let number = kernel_run(alloc, view, self.kernel, *self.lanes, steps)?;
         Ok(write_result(number, out)?)
     }
 }
@@ -90,14 +91,8 @@ fn run_fault(alloc: Global, view: &View, fault: KernelFault) -> Result<CommandFa
 {
     match fault {
         KernelFault::Empty => Ok(CommandFault::Empty),
-        KernelFault::Range { row, leaf } => {
-            let leaf = leaf_text(alloc, view, leaf)?;
-            Ok(CommandFault::Range { row, leaf })
-        }
-        KernelFault::Narrow { row, leaf } => {
-            let leaf = leaf_text(alloc, view, leaf)?;
-            Ok(CommandFault::Narrow { row, leaf })
-        }
+        KernelFault::Range { row, leaf } => range_fault(alloc, view, row, leaf),
+        KernelFault::Narrow { row, leaf } => narrow_fault(alloc, view, row, leaf),
     }
 }
 

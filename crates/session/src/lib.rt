@@ -4,6 +4,7 @@
 mod assign;
 mod copy;
 mod define;
+mod faults;
 mod kernel;
 mod load;
 mod numbers;

@@ -15,6 +15,7 @@ ghost use Rattle.command_checks.specs.Gives.{Gives};
 ghost use Rattle.session.specs.Changes.{TellsRow};
 ghost use Rattle.session.specs.Loads.{named_of, new_of, filled_table, Loads, LoadCause, UnreadOnly, ToldFor};
 
+use crate::faults::{narrow_fault, range_fault};
 use crate::session::Session;
 use crate::view::{Found, New, named};
 use command_checks::{MappingList, RecordList, StepFault, ViewEntry, leaf_text, made, resolved};
@@ -173,14 +174,8 @@ fn row_fault(alloc: Global, view: &View, fault: RowFault) -> Result<CommandFault
             let leaf = leaf_text(alloc, view, leaf)?;
             Ok(CommandFault::Number { row, leaf })
         }
-        RowFault::Range { row, leaf } => {
-            let leaf = leaf_text(alloc, view, leaf)?;
-            Ok(CommandFault::Range { row, leaf })
-        }
-        RowFault::Narrow { row, leaf } => {
-            let leaf = leaf_text(alloc, view, leaf)?;
-            Ok(CommandFault::Narrow { row, leaf })
-        }
+        RowFault::Range { row, leaf } => range_fault(alloc, view, row, leaf),
+        RowFault::Narrow { row, leaf } => narrow_fault(alloc, view, row, leaf),
         RowFault::NoMemory => Err(StepFault::NoMemory),
     }
 }

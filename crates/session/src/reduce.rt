@@ -51,12 +51,12 @@ impl Work for Count<'_> {
 /// Writes the sum, the least or the greatest of the values of a leaf.
 #[derive(Drop)]
 pub(crate) struct Reduce<'a> {
-    pub kind: ReduceKind,
+    pub kind: &'a ReduceKind,
     pub path: &'a Path,
 }
 
 impl Work for Reduce<'_> {
-    ghost does = { λ this table. reduction table this.kind this.path.now };
+    ghost does = { λ this table. reduction table this.kind.now this.path.now };
 
     fn run<K: Sink, L: Ledger>(
         &self,
@@ -65,7 +65,7 @@ impl Work for Reduce<'_> {
         out: &mut K,
         steps: &mut Steps<L>,
     ) -> Result<(), StepFault> {
-        let value = reduction(alloc, view, self.kind, self.path, steps)?;
+        let value = reduction(alloc, view, *self.kind, self.path, steps)?;
         Ok(write_number(value, out)?)
     }
 }

@@ -80,14 +80,7 @@ impl Session {
                 expr,
                 file,
             } => {
-                let (name, schema) = (*name, *schema);
-                let words = words.as_slice();
-                let new = New {
-                    name,
-                    schema,
-                    words,
-                    expr,
-                };
+                let new = New::of(*name, *schema, words, expr);
                 self.load(&new, file, shelf, steps)
             }
             _ => self.command(line, out, steps),
@@ -116,16 +109,7 @@ impl Session {
                 schema,
                 words,
                 expr,
-            } => {
-                let (name, schema) = (*name, *schema);
-                let words = words.as_slice();
-                self.view(&New {
-                    name,
-                    schema,
-                    words,
-                    expr,
-                })
-            }
+            } => self.view(&New::of(*name, *schema, words, expr)),
             Line::Copy { source, target } => self.copy(*source, *target, steps),
             Line::Relayout { view, expr } => self.relayout(*view, expr, steps),
             Line::Drop(view) => self.drop_view(*view),
@@ -134,24 +118,16 @@ impl Session {
                 index,
                 path,
                 value,
-            } => {
-                let index = index.as_slice();
-                self.on_view(*view, &Assign { index, path, value }, out, steps)
-            }
+            } => self.on_view(*view, &Assign { index, path, value }, out, steps),
             Line::Update { view, filter, sets } => {
-                let sets = sets.as_slice();
                 self.on_view(*view, &Update { filter, sets }, out, steps)
             }
             Line::Kernel {
                 view,
                 kernel,
                 lanes,
-            } => {
-                let lanes = *lanes;
-                self.on_view(*view, &RunKernel { kernel, lanes }, out, steps)
-            }
+            } => self.on_view(*view, &RunKernel { kernel, lanes }, out, steps),
             Line::Reduce { view, kind, path } => {
-                let kind = *kind;
                 self.on_view(*view, &Reduce { kind, path }, out, steps)
             }
             Line::Count { view, filter } => self.on_view(*view, &Count { filter }, out, steps),
@@ -159,9 +135,7 @@ impl Session {
             Line::Counts(view) => self.on_view(*view, &Counts, out, steps),
             Line::Heat(view) => self.on_view(*view, &Heat, out, steps),
             Line::Layout(view) => self.on_view(*view, &Layout, out, steps),
-            Line::Bytes { view, blob } => {
-                self.on_view(*view, &Bytes { blob: *blob }, out, steps)
-            }
+            Line::Bytes { view, blob } => self.on_view(*view, &Bytes { blob }, out, steps),
             Line::Load { .. } => unreachable!(),
         }
     }

@@ -109,12 +109,12 @@ impl Work for Layout {
 
 /// Writes the bytes of a blob.
 #[derive(Drop)]
-pub(crate) struct Bytes {
-    pub blob: u32,
+pub(crate) struct Bytes<'a> {
+    pub blob: &'a u32,
 }
 
-impl Work for Bytes {
-    ghost does = { λ this table. bytes table this.blob };
+impl Work for Bytes<'_> {
+    ghost does = { λ this table. bytes table this.blob.now };
 
     fn run<K: Sink, L: Ledger>(
         &self,
@@ -123,7 +123,7 @@ impl Work for Bytes {
         out: &mut K,
         _steps: &mut Steps<L>,
     ) -> Result<(), StepFault> {
-        let blob = shown(view, self.blob)?;
+        let blob = shown(view, *self.blob)?;
         Ok(write_bytes(blob, out)?)
     }
 }

@@ -12,11 +12,12 @@ ghost use Rattle.worlds.specs.Update.{updated, update_fault};
 ghost use Rattle.command_checks.specs.Gives.{Gives};
 ghost use Rattle.session.specs.Changes.{Tells, rows_updated, left_with};
 
+use crate::faults::{narrow_fault, range_fault};
 use crate::work::Work;
 use command_checks::{StepFault, bound, leaf_of, leaf_text};
 use expr_lang::{Bound, Expr};
 use layout_io::Sink;
-use line_grammar::SetText;
+use line_grammar::{SetList, SetText};
 use row_updates::{Assign, UpdateFault, UpdateKind, update_rows};
 use std::alloc::Global;
 use std::sync::ledger::Ledger;
@@ -28,7 +29,7 @@ use worlds::CommandFault;
 #[derive(Drop)]
 pub(crate) struct Update<'a> {
     pub filter: &'a Option<Expr>,
-    pub sets: &'a [SetText],
+    pub sets: &'a SetList,
 }
 
 impl Work for Update<'_> {
@@ -41,7 +42,7 @@ impl Work for Update<'_> {
         _out: &mut K,
         steps: &mut Steps<L>,
     ) -> Result<(), StepFault> {
-        updated(alloc, view, self.filter, self.sets, steps)
+        updated(alloc, view, self.filter, self.sets.as_slice(), steps)
     }
 }
 
@@ -160,13 +161,7 @@ pub fn update_fault(
     match fault.kind {
         UpdateKind::Overflow => Ok(CommandFault::Overflow { row }),
         UpdateKind::DivideByZero => Ok(CommandFault::DivideByZero { row }),
-        UpdateKind::Range { leaf } => {
-            let leaf = leaf_text(alloc, view, leaf)?;
-            Ok(CommandFault::Range { row, leaf })
-        }
-        UpdateKind::Narrow { leaf } => {
-            let leaf = leaf_text(alloc, view, leaf)?;
-            Ok(CommandFault::Narrow { row, leaf })
-        }
+        UpdateKind::Range { leaf } => range_fault(alloc, view, row, leaf),
+        UpdateKind::Narrow { leaf } => narrow_fault(alloc, view, row, leaf),
     }
 }

@@ -12,6 +12,7 @@ use command_checks::{
     schema_of, shaped,
 };
 use extents::{ExtentWord, Shape};
+use line_grammar::ExtentWords;
 use map_expr::MapExpr;
 use record_dim::{Name, Schema};
 use std::alloc::Global;
@@ -36,6 +37,21 @@ pub struct Found<'a> {
 
 ghost use Rattle.session.specs.Stands.{world_in};
 ghost use Rattle.session.specs.Loads.{named_of, new_of};
+
+impl<'a> New<'a> {
+    /// What makes a view, of the words of a line.
+    pub fn of(name: Name, schema: Name, words: &'a ExtentWords, expr: &'a MapExpr) -> New<'a>
+        ensures { new_of result ≡ record { name = name; schema = schema; words = words.now; term = term_of expr.now } }
+    {
+        let words = words.as_slice();
+        New {
+            name,
+            schema,
+            words,
+            expr,
+        }
+    }
+}
 
 impl Session {
     ghost use Rattle.session.specs.Stands.{Stands, left_of, world_of};

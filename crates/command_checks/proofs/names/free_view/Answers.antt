@@ -1,10 +1,6 @@
-use Rattle.std.proofs.Common.{sym, ◌∙◌}
 use Rattle.command_checks.specs.Entries.{view_of}
-use Rattle.command_checks.specs.PlacesLaws.{free_name, taken_name}
+use Rattle.command_checks.specs.PlacesLaws.{free_by_place}
 use Rattle.command_checks.proofs.names.free_view.Goals as goal
 
-pub returns-in-Some : goal.returns-in-Some
-returns-in-Some c = rw c.taken.ensures (taken_name view_of c.args.name _ c.in-Some.field-0 (sym c.view_place.ensures ∙ c.in-Some.is))
-
-pub returns-in-None : goal.returns-in-None
-returns-in-None c = free_name view_of c.args.name _ (sym c.view_place.ensures ∙ c.in-None.is)
+pub returns : goal.returns
+returns c = rw (free_by_place view_of c.args.name c.args.views.now, ← c.view_place.ensures) c.untaken.ensures

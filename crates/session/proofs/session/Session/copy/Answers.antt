@@ -5,11 +5,12 @@ use Rattle.command_checks.specs.Entries.{view_of}
 use Rattle.command_checks.specs.Gives.{GivesUp}
 use Rattle.command_checks.specs.GivesLaws.{GivesUp-then, goes_then}
 use Rattle.command_checks.specs.Places.{IsAt}
+use Rattle.command_checks.specs.PlacesLaws.{known_place}
 use Rattle.session.specs.Stands.{world_of}
 use Rattle.session.proofs.Exits.{goes_gives}
-use Rattle.session.proofs.Copies.{first_of, known_place, copy_in}
+use Rattle.session.proofs.Copies.{first_of, copy_in}
 use Rattle.session.proofs.CopySteps.{copy_within, no_copy}
-use Rattle.session.proofs.Named.{first_at, gives_up_still}
+use Rattle.session.proofs.Named.{gives_up_still}
 use Rattle.session.proofs.session.Session.copy.Goals as goal
 
 pub returns-in_err-target-clause-copied : goal.returns-in_err-target-clause-copied
@@ -21,7 +22,7 @@ returns-in_err-target-clause-copied g c =
     let fault = c.in_err-target.field-0.0 in
     let is : c.from_residual-in_err-target.result ≡ Err fault = search rules in
     let unknown = rw c.as_slice-2.ensures.value at c.in_err-target.ensures.unknown in
-    rw is (goes_gives _ _ _ fault (known_place c.args.source items c.in_ok-source.source d from)
+    rw is (goes_gives _ _ _ fault (known_place view_of c.args.source items c.in_ok-source.source d from)
     (GivesUp-then _ _ fault (gives_up_still c.args.target c.args.source (map view_of items) _ fault unknown)))
 
 pub returns-in_err-copy_between-clause-copied : goal.returns-in_err-copy_between-clause-copied
@@ -33,7 +34,7 @@ returns-in_err-copy_between-clause-copied g c =
     let fault = c.in_err-copy_between.field-0.0 in
     let is : c.from_residual-in_err-copy_between.result ≡ Err fault = search rules in
     let whole = copy_in (world_of c.args.self) c.args.source c.args.target c.in_ok-source.source c.in_ok-target.target (view_of d)
-    (first_at c.args.source items c.in_ok-source.source d from) (first_at c.args.target items c.in_ok-target.target d to) in
+    from.first to.first in
     rw is (subst (λ (o : Outcome Left). GivesUp o fault) (sym whole) (GivesUp-then _ _ fault (c.in_err-copy_between.ensures.copied d)))
 
 pub returns-clause-copied : goal.returns-clause-copied
@@ -43,7 +44,7 @@ returns-clause-copied g c =
     let to : IsAt view_of c.args.target items c.in_ok-target.target = rw c.as_slice-2.ensures.value at c.in_ok-target.ensures.at in
     let d = first_of items c.in_ok-source.source from.inside in
     copy_in (world_of c.args.self) c.args.source c.args.target c.in_ok-source.source c.in_ok-target.target (view_of d)
-    (first_at c.args.source items c.in_ok-source.source d from) (first_at c.args.target items c.in_ok-target.target d to)
+    from.first to.first
     ∙ goes_then _ _ _ (c.in_ok-copy_between.ensures.copied d)
 
 pub returns-in_err-source-clause-bound : goal.returns-in_err-source-clause-bound

@@ -1,12 +1,13 @@
 use Rattle.std.proofs.Common.{rules, map, refl}
 use Rattle.command_checks.specs.Entries.{view_of}
 use Rattle.command_checks.specs.Places.{IsAt}
+use Rattle.command_checks.specs.PlacesLaws.{known_at}
 use Rattle.command_checks.specs.declared.entries.ViewEntry.{ViewEntry}
 use Rattle.command_checks.specs.GivesLaws.{GivesUp-then}
 use Rattle.worlds.specs.OnView.{on_view}
 use Rattle.worlds.specs.Outcomes.{known}
 use Rattle.session.specs.Stands.{Stands, world_of}
-use Rattle.session.proofs.Exits.{gave_up, known_at}
+use Rattle.session.proofs.Exits.{gave_up}
 use Rattle.session.proofs.Views.{view_stops, view_done}
 use Rattle.session.proofs.session.Session.on_view.Goals as goal
 
@@ -24,7 +25,7 @@ returns-in_err-run-clause-answers g c =
     let at : IsAt view_of c.args.name items c.in_ok-place.place = rw c.as_slice.ensures.value at c.in_ok-place.ensures.at in
     let entry = c.index_mut.result.now in
     view_stops g.K.Sink.taken g.K.Sink.faults c.args.out.now c.run.new.out (world_of c.args.self) c.args.name c.run.new.view entry.view (g.W.Work.does c.args.work.now) c.in_err-run.field-0.0 _ (search rules)
-    (known_at c.args.name items c.in_ok-place.place entry at c.index_mut.ensures.value) c.in_err-run.ensures.answers
+    (known_at view_of c.args.name items c.in_ok-place.place entry at c.index_mut.ensures.value) c.in_err-run.ensures.answers
 
 pub returns-clause-answers : goal.returns-clause-answers
 returns-clause-answers g c =

@@ -8,10 +8,11 @@ use Rattle.command_checks.specs.Entries.{view_of}
 use Rattle.command_checks.specs.Gives.{GivesUp}
 use Rattle.command_checks.specs.GivesLaws.{GivesUp-then, goes_then}
 use Rattle.command_checks.specs.Places.{IsAt}
+use Rattle.command_checks.specs.PlacesLaws.{known_at, known_place}
 use Rattle.command_checks.specs.declared.entries.ViewEntry.{ViewEntry}
 use Rattle.session.specs.Stands.{world_of}
-use Rattle.session.proofs.Exits.{goes_gives, known_at, table_changed}
-use Rattle.session.proofs.Copies.{first_of, known_place, laid_at, made_at}
+use Rattle.session.proofs.Exits.{goes_gives, table_changed}
+use Rattle.session.proofs.Copies.{first_of, laid_at, made_at}
 use Rattle.session.proofs.CopySteps.{laid_within, none_taken}
 use Rattle.session.specs.Bounds.{laid_pair}
 use Rattle.session.proofs.session.Session.relayout.Goals as goal
@@ -25,7 +26,7 @@ returns-in_err-expr-clause-laid g c =
     let fault = c.in_err-expr.field-0.0 in
     let is : c.from_residual-in_err-expr.result ≡ Err fault = search rules in
     let whole = c.in_err-expr.ensures.whole in
-    rw is (goes_gives _ _ _ fault (known_place c.args.name items c.in_ok-place.place d at) (GivesUp-then _ _ fault whole))
+    rw is (goes_gives _ _ _ fault (known_place view_of c.args.name items c.in_ok-place.place d at) (GivesUp-then _ _ fault whole))
 
 pub returns-in_err-fresh-clause-laid : goal.returns-in_err-fresh-clause-laid
 unfolding relayout laid_anew
@@ -37,7 +38,7 @@ returns-in_err-fresh-clause-laid g c =
     let is : c.from_residual-in_err-fresh.result ≡ Err fault = search rules in
     let whole = c.in_ok-expr.ensures.whole in
     let made = rw c.as_slice-2.ensures.value at (c.in_err-fresh.ensures.made d) in
-    rw is (goes_gives _ _ _ fault (known_place c.args.name items c.in_ok-place.place d at) (goes_gives _ _ _ fault whole (GivesUp-then _ _ fault (GivesUp-then _ _ fault made))))
+    rw is (goes_gives _ _ _ fault (known_place view_of c.args.name items c.in_ok-place.place d at) (goes_gives _ _ _ fault whole (GivesUp-then _ _ fault (GivesUp-then _ _ fault made))))
 
 pub returns-in_err-laid_over-clause-laid : goal.returns-in_err-laid_over-clause-laid
 unfolding relayout
@@ -51,7 +52,7 @@ returns-in_err-laid_over-clause-laid g c =
     let made = rw c.as_slice-2.ensures.value at (c.in_ok-fresh.ensures.made entry) in
     let zeros = rw c.as_slice-2.ensures.value at (c.in_ok-fresh.ensures.zeros entry) in
     let laid = laid_at items c.in_ok-place.place entry (term_of c.in_ok-expr.expr) c.in_ok-fresh.fresh c.index_mut.ensures.value made zeros in
-    rw is (goes_gives _ _ _ fault (known_at c.args.name items c.in_ok-place.place entry at c.index_mut.ensures.value)
+    rw is (goes_gives _ _ _ fault (known_at view_of c.args.name items c.in_ok-place.place entry at c.index_mut.ensures.value)
     (goes_gives _ _ _ fault whole (GivesUp-then _ _ fault (subst (λ (o : Outcome Table). GivesUp o fault) (sym laid) c.in_err-laid_over.ensures.copied))))
 
 pub returns-clause-laid : goal.returns-clause-laid
@@ -66,7 +67,7 @@ returns-clause-laid g c =
     let zeros = rw c.as_slice-2.ensures.value at (c.in_ok-fresh.ensures.zeros entry) in
     let laid = laid_at items c.in_ok-place.place entry (term_of c.in_ok-expr.expr) c.in_ok-fresh.fresh c.index_mut.ensures.value made zeros in
     let same = table_changed c.args.self c.args.name c.in_ok-place.place entry changed at c.index_mut.ensures.value refl in
-    goes_then _ _ _ (known_at c.args.name items c.in_ok-place.place entry at c.index_mut.ensures.value) ∙ goes_then _ _ _ whole ∙ goes_then _ _ _ (laid ∙ c.in_ok-laid_over.ensures.copied)
+    goes_then _ _ _ (known_at view_of c.args.name items c.in_ok-place.place entry at c.index_mut.ensures.value) ∙ goes_then _ _ _ whole ∙ goes_then _ _ _ (laid ∙ c.in_ok-laid_over.ensures.copied)
     ∙ ap (λ (views : List (Entry Table)). Goes (record { held = record (world_of c.args.self) { views = views }; text = [] })) (sym same)
 
 pub returns-in_err-place-clause-bound : goal.returns-in_err-place-clause-bound
@@ -88,7 +89,7 @@ returns-in_err-laid_over-clause-bound g c =
     let zeros = rw c.as_slice-2.ensures.value at (c.in_ok-fresh.ensures.zeros entry) in
     let same = made_at items c.in_ok-place.place entry (term_of c.in_ok-expr.expr) c.in_ok-fresh.fresh c.index_mut.ensures.value made zeros in
     laid_within (world_of c.args.self) c.args.name (term_of c.args.expr.now) (term_of c.in_ok-expr.expr) entry.view c.in_ok-fresh.fresh c.args.steps.now c.laid_over.new.steps
-    (known_at c.args.name items c.in_ok-place.place entry at c.index_mut.ensures.value) whole same.0 same.1 c.in_err-laid_over.ensures.bound
+    (known_at view_of c.args.name items c.in_ok-place.place entry at c.index_mut.ensures.value) whole same.0 same.1 c.in_err-laid_over.ensures.bound
 
 pub returns-clause-bound : goal.returns-clause-bound
 returns-clause-bound g c =
@@ -100,4 +101,4 @@ returns-clause-bound g c =
     let zeros = rw c.as_slice-2.ensures.value at (c.in_ok-fresh.ensures.zeros entry) in
     let same = made_at items c.in_ok-place.place entry (term_of c.in_ok-expr.expr) c.in_ok-fresh.fresh c.index_mut.ensures.value made zeros in
     laid_within (world_of c.args.self) c.args.name (term_of c.args.expr.now) (term_of c.in_ok-expr.expr) entry.view c.in_ok-fresh.fresh c.args.steps.now c.laid_over.new.steps
-    (known_at c.args.name items c.in_ok-place.place entry at c.index_mut.ensures.value) whole same.0 same.1 c.in_ok-laid_over.ensures.bound
+    (known_at view_of c.args.name items c.in_ok-place.place entry at c.index_mut.ensures.value) whole same.0 same.1 c.in_ok-laid_over.ensures.bound

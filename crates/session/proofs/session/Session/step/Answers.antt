@@ -2,15 +2,13 @@ use Rattle.std.proofs.Common.{◌≡◌, ◌∙◌, ℕ, List, Option, Bool, tru
 use Rattle.layout_io.specs.Faults.{Rose}
 use Rattle.command_checks.specs.declared.fault.StepFault.{StepFault}
 use Rattle.line_grammar.specs.Sentences.{New, sentence_of, file_of}
-use Rattle.extents.specs.declared.words.ExtentWord.{ExtentWord}
 use Rattle.line_grammar.specs.declared.line.Line.{Line}
-use Rattle.map_expr.specs.Terms.{term_of}
 use Rattle.worlds.specs.Answers.{StepsTo}
 use Rattle.worlds.specs.AnswersLaws.{steps_same}
 use Rattle.worlds.specs.Load.{load}
 use Rattle.worlds.specs.Outcomes.{Outcome, Left}
 use Rattle.worlds.specs.Step.{step, command}
-use Rattle.session.specs.Loads.{ToldFor}
+use Rattle.session.specs.Loads.{ToldFor, new_of}
 use Rattle.session.specs.Answers.{ending_of}
 use Rattle.session.specs.Stands.{Stands, world_of}
 use Rattle.session.proofs.Steps.{step_is, steps_load, steps_shown, cause_shown, unread_by, unread_shown, untaken_quiet, untaken_shown}
@@ -18,10 +16,9 @@ use Rattle.session.proofs.session.Session.step.Goals as goal
 
 pub returns-in-Load-clause-step : goal.returns-in-Load-clause-step
 returns-in-Load-clause-step g c = λ files told.
-    let new_with : List ExtentWord → New = λ words. record { name = c.in-Load.name; schema = c.in-Load.schema; words = words; term = term_of c.in-Load.expr } in
-    let load_of = λ (unread : Bool). load (world_of c.args.self) (new_with c.as_slice-words.result.now) c.in-Load.file files unread in
+    let load_of = λ (unread : Bool). load (world_of c.args.self) (new_of c.of-new.result) c.in-Load.file files unread in
     let same : (unread : Bool) → step (world_of c.args.self) (sentence_of c.args.line.now) files unread ≡ load_of unread =
-    λ unread. step_is (world_of c.args.self) (sentence_of c.args.line.now) files unread ∙ ap (λ (line : Line). command (world_of c.args.self) (sentence_of line) files unread) c.in-Load.is ∙ ap (λ words. load (world_of c.args.self) (new_with words) c.in-Load.file files unread) (sym c.as_slice-words.ensures) in
+    λ unread. step_is (world_of c.args.self) (sentence_of c.args.line.now) files unread ∙ ap (λ (line : Line). command (world_of c.args.self) (sentence_of line) files unread) c.in-Load.is ∙ ap (λ (new : New). load (world_of c.args.self) new c.in-Load.file files unread) (sym c.of-new.ensures) in
     let rose = Rose (g.H.Shelf.faults c.args.shelf.now) (g.H.Shelf.faults c.load.new.shelf) in
     let given = subst (λ (outcome : Outcome Left). ToldFor (g.H.Shelf.files c.args.shelf.now) outcome files) (same true) told in
     steps_same (ending_of (file_of (sentence_of c.args.line.now))) Stands g.K.Sink.taken g.K.Sink.faults c.args.out.now c.args.out.now (step (world_of c.args.self) (sentence_of c.args.line.now) files) load_of rose c.load.result same
@@ -30,10 +27,9 @@ returns-in-Load-clause-step g c = λ files told.
 
 pub returns-in-Load-clause-unread : goal.returns-in-Load-clause-unread
 returns-in-Load-clause-unread g c =
-    let new_with : List ExtentWord → New = λ words. record { name = c.in-Load.name; schema = c.in-Load.schema; words = words; term = term_of c.in-Load.expr } in
-    unread_by _ c.in-Load.file (step (world_of c.args.self) (sentence_of c.args.line.now)) (load (world_of c.args.self) (new_with c.as_slice-words.result.now) c.in-Load.file) c.load.result
+    unread_by _ c.in-Load.file (step (world_of c.args.self) (sentence_of c.args.line.now)) (load (world_of c.args.self) (new_of c.of-new.result) c.in-Load.file) c.load.result
     (ap (λ (line : Line). file_of (sentence_of line)) c.in-Load.is)
-    (λ files unread. step_is (world_of c.args.self) (sentence_of c.args.line.now) files unread ∙ ap (λ (line : Line). command (world_of c.args.self) (sentence_of line) files unread) c.in-Load.is ∙ ap (λ words. load (world_of c.args.self) (new_with words) c.in-Load.file files unread) (sym c.as_slice-words.ensures))
+    (λ files unread. step_is (world_of c.args.self) (sentence_of c.args.line.now) files unread ∙ ap (λ (line : Line). command (world_of c.args.self) (sentence_of line) files unread) c.in-Load.is ∙ ap (λ (new : New). load (world_of c.args.self) new c.in-Load.file files unread) (sym c.of-new.ensures))
     c.load.ensures.unread
 
 pub returns-in-Load-clause-untaken : goal.returns-in-Load-clause-untaken
