@@ -83,7 +83,8 @@ pub unknown_name : {E A : Type 0} (entry_of : E → Entry A) (name : List ℕ) (
 unknown_name entry_of name entries none = ap (some_or (Unknown (Name name))) (nowhere entry_of name entries 0 none)
 
 -- a defined name is taken where an entry has it
-has_place : {E A : Type 0} (entry_of : E → Entry A) (name : List ℕ) (entries : List E) (low : ℕ) → is_some (found name (map entry_of entries)) ≡ is_some (position_from (λ e. same_name (entry_of e).name name) low entries)
+has_place : {E A : Type 0} (entry_of : E → Entry A) (name : List ℕ) (entries : List E) (low : ℕ)
+    → is_some (found name (map entry_of entries)) ≡ is_some (position_from (λ e. same_name (entry_of e).name name) low entries)
 has_place entry_of name [] low = refl
 has_place entry_of name (first ∷ rest) low = ⊎_elim
     (λ (same : same_name (entry_of first).name name ≡ true). rw same refl)

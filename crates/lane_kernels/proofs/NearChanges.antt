@@ -13,15 +13,15 @@ use Rattle.lane_kernels.proofs.Changed.{change_more}
 use Rattle.lane_kernels.proofs.Stepping.{whole_next, whole_cost, more_cost}
 
 -- the values of a block are stored, where nothing is counted
-pub near_done : (view new : Table) (change : Change) (row leaf : ℕ) (values : List ℤ) → leaf ≡ changed_leaf change → after_log view (block_reads change row 16) ≡ view
-    → values ≡ map (changed_value change) (take 16 (drop row view.rows)) → first_lane_fault (answer_of view) leaf 0 values ≡ None
-    → new ≡ after_stores view (with_column leaf row (map (kept_of view leaf) values) view.rows) (column_writes leaf row 16) → IsDone view new change row 16
-near_done view new change row leaf values at idle is clean wrote =
-    let rows : List (List ℤ) = take 16 (drop row view.rows) in
-    let all : take 16 values ≡ values = take_all 16 values (omega (arith, ap length is, length-map rows (changed_value change), length-take 16 (drop row view.rows))) in
-    block_done view view new change row 16 leaf values (record { at = at; values = all ∙ is; read_is = sym idle })
+pub near_done : (view new : Table) (change : Change) (first leaf : ℕ) (values : List ℤ) → leaf ≡ changed_leaf change → after_log view (block_reads change first 16) ≡ view
+    → values ≡ map (changed_value change) (take 16 (drop first view.rows)) → first_lane_fault (answer_of view) leaf 0 values ≡ None
+    → new ≡ after_stores view (with_column leaf first (map (kept_of view leaf) values) view.rows) (column_writes leaf first 16) → IsDone view new change first 16
+near_done view new change first leaf values at idle is clean wrote =
+    let rows : List (List ℤ) = take 16 (drop first view.rows) in
+    let all : take 16 values ≡ values = take_all 16 values (omega (arith, ap length is, length-map rows (changed_value change), length-take 16 (drop first view.rows))) in
+    block_done view view new change first 16 leaf values (record { at = at; values = all ∙ is; read_is = sym idle })
     (ap (first_lane_fault (answer_of view) leaf 0) all ∙ clean)
-    (wrote ∙ ap (λ (vs : List ℤ). after_stores view (with_column leaf row (map (kept_of view leaf) vs) view.rows) (column_writes leaf row 16)) (sym all))
+    (wrote ∙ ap (λ (vs : List ℤ). after_stores view (with_column leaf first (map (kept_of view leaf) vs) view.rows) (column_writes leaf first 16)) (sym all))
 
 -- a block more
 pub begun_more : (old view new : Table) (change : Change) (block : ℕ) → 16 * (block + 1) ≤ length old.rows → AreChanged old change 16 view (16 * block) → IsDone view new change (16 * block) 16

@@ -253,6 +253,7 @@ fn store_values<L: Ledger>(
     }
 }
 
+/// The fault of a store in a leaf.
 #[inline(always)]
 pub fn store_kind(leaf: usize, fault: StoreFault) -> UpdateKind
     ensures { result ≡ store_kind leaf fault }

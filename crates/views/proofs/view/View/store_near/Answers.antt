@@ -104,15 +104,15 @@ shown c sixteen each =
     let a = c.self.inside in
     let near = c.args.near.now in
     let seen = c.args.self.now in
-    let row = 16 * c.args.block in
-    let log = column_writes near.leaf row 16 in
-    seen_column a.schema a.extents a.expr a.blobs.items c.self.view_is row near.leaf 16 c.to_array.result c.put_block.new.blobs.items (tally_of a.counts a.heat)
-    (table_column (term_of a.expr) a.extents (schema_fields a.schema) a.blobs.items c.self.invariant.1 c.put_block.new.blobs.items row near.leaf c.to_array.result
+    let first = 16 * c.args.block in
+    let log = column_writes near.leaf first 16 in
+    seen_column a.schema a.extents a.expr a.blobs.items c.self.view_is first near.leaf 16 c.to_array.result c.put_block.new.blobs.items (tally_of a.counts a.heat)
+    (table_column (term_of a.expr) a.extents (schema_fields a.schema) a.blobs.items c.self.invariant.1 c.put_block.new.blobs.items first near.leaf c.to_array.result
     (leaf_seen a.schema a.extents a.expr a.blobs.items c.self.invariant.1 seen c.self.view_is near.leaf c.requires.near.inside)
     (laid_there c.self.invariant.0 c.put_block.new.blobs.items c.put_block.ensures.still_laid) (stored c)
     (λ k l. each k (omega (arith, l, sixteen))))
     (ap (λ (t : Table). t.tally) (c.self.view_is ∙ sym (c.requires.near.idle log) ∙ sym (ap (λ (t : Table). after_log t log) c.self.view_is)))
-    ∙ ap (λ (vs : List ℤ). after_stores seen (with_column near.leaf row (map (kept_of seen near.leaf) vs) seen.rows) log) c.to_array.ensures.numbers
+    ∙ ap (λ (vs : List ℤ). after_stores seen (with_column near.leaf first (map (kept_of seen near.leaf) vs) seen.rows) log) c.to_array.ensures.numbers
 
 pub returns-clause-taken : goal.returns-clause-taken
 returns-clause-taken c = λ wrote.
@@ -136,8 +136,8 @@ pub returns-clause-still : goal.returns-clause-still
 returns-clause-still c = λ other is.
     let seen = c.args.self.now in
     let near = c.args.near.now in
-    let row = 16 * c.args.block in
+    let first = 16 * c.args.block in
     let values = map (kept_of seen near.leaf) c.args.values in
     let at = (goal.at.returns-clause-still c).After-to_array in
     subst (λ (t : Table). IsNearColumn t other) (sym (shown (goal.at.returns-clause-still c).After-put_block (many at) (fits_here at)))
-    (near_still seen (with_column near.leaf row values seen.rows) (column_writes near.leaf row 16) other (length-with_column near.leaf row values seen.rows) is)
+    (near_still seen (with_column near.leaf first values seen.rows) (column_writes near.leaf first 16) other (length-with_column near.leaf first values seen.rows) is)
