@@ -12,7 +12,7 @@ use steps::Steps;
 use views::{NearColumn, View};
 
 /// Changes whole blocks of sixteen rows, where they are asked for and stand side by side, up to the first with a value that is not sure to be
-/// taken. The rows before the one that is given are changed. Which change it is is asked before the loop, so each loop goes by one.
+/// taken. The rows before the one that is given are changed. The change is chosen before the loop, so each loop goes by one.
 pub fn change_blocks<L: Ledger>(
     view: &mut View,
     change: &Change,

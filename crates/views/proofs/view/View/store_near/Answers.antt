@@ -92,12 +92,12 @@ invariant_of-self c =
 shown : (c : After-put_block) → length c.to_array.result ≡ 16 → ((k : ℕ) → k < 16
     → Fits (kind_at (kinds_of (schema_fields c.self.inside.schema)) c.args.near.now.leaf) (hold_at (holds_by (term_of c.self.inside.expr) (schema_fields c.self.inside.schema)) c.args.near.now.leaf)
     (get_or c.to_array.result k (pos 0))) → record {
-  fields = schema_fields c.self.inside.schema;
-  extents = c.self.inside.extents;
-  mapping = term_of c.self.inside.expr;
-  rows = table_under (term_of c.self.inside.expr) c.self.inside.extents (schema_fields c.self.inside.schema) c.put_block.new.blobs.items;
-  tally = tally_of c.self.inside.counts c.self.inside.heat;
-}
+      fields = schema_fields c.self.inside.schema;
+      extents = c.self.inside.extents;
+      mapping = term_of c.self.inside.expr;
+      rows = table_under (term_of c.self.inside.expr) c.self.inside.extents (schema_fields c.self.inside.schema) c.put_block.new.blobs.items;
+      tally = tally_of c.self.inside.counts c.self.inside.heat;
+    }
     ≡ after_stores c.args.self.now (with_column c.args.near.now.leaf (16 * c.args.block) (map (kept_of c.args.self.now c.args.near.now.leaf) c.args.values) c.args.self.now.rows)
     (column_writes c.args.near.now.leaf (16 * c.args.block) 16)
 shown c sixteen each =
