@@ -351,8 +351,11 @@ def read_new_view(reader, read_word):
     reader.sign('[')
     words = listed(reader, read_word)
     reader.sign(']')
+    wrap = reader.stands('word', ['wrap'])
+    if wrap:
+        reader.take()
     reader.word('as')
-    return {'name': name, 'record': record, 'words': words, 'map': read_map(reader)}
+    return {'name': name, 'record': record, 'words': words, 'wrap': wrap, 'map': read_map(reader)}
 
 
 def read_view(reader):

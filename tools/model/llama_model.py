@@ -48,10 +48,10 @@ class World:
 
 
 class View:
-    """A table: its record, extents and mapping, the rows that are not all 0, and its accesses where they can be shown."""
+    """A table: its record, extents, mapping and mode, the rows that are not all 0, and its accesses where they can be shown."""
 
-    def __init__(self, record, extents, mapping):
-        self.record, self.extents, self.mapping = record, extents, mapping
+    def __init__(self, record, extents, mapping, wrap):
+        self.record, self.extents, self.mapping, self.wrap = record, extents, mapping, wrap
         self.leaves = leaves_of(record)
         self.declared = [declared_range(leaf) for leaf in self.leaves]
         self.held = [range_of(hold) for hold in holds_of(mapping, self.leaves)]
@@ -97,10 +97,33 @@ class View:
             self.touch_leaf(leaf, reads, writes)
 
     def refusal(self, leaf, value):
-        """What refuses a value: it is outside of the leaf's type, or of what the mapping holds of it. None where it fits."""
+        """What refuses a value in a strict view: it is outside of the leaf's type, or of what the mapping holds of it. None where it fits."""
+        if self.wrap:
+            return None
         if not is_within(value, self.declared[leaf]):
             return 'Range'
         return None if is_within(value, self.held[leaf]) else 'Narrow'
+
+
+    def left(self, leaf, value):
+        """What a store of a value leaves: the value in a strict view, and else the number of the leaf's type that is congruent to it, where the
+        mapping has room for all bits of the type; where it has not, that of its type which is congruent to what the mapping can hold."""
+        if not self.wrap:
+            return value
+        own, held = self.declared[leaf], self.held[leaf]
+        number = congruent(value, own)
+        if self.leaves[leaf].kind == 'bool' or count_of(held) >= count_of(own):
+            return number
+        return congruent(congruent(number, held), own)
+
+
+def count_of(limits):
+    return limits[1] - limits[0] + 1
+
+
+def congruent(value, limits):
+    """The number within the limits that differs from a value by a multiple of how many numbers lie there."""
+    return limits[0] + (value - limits[0]) % count_of(limits)
 
 
 def is_within(value, limits):
@@ -266,12 +289,12 @@ def resolved(words, rows):
     return words
 
 
-def made(world, dim, extents, whole):
+def made(world, dim, extents, whole, wrap):
     """A view of zeros beside the live ones."""
     fault = bad_mapping(whole, leaves_of(dim))
     if fault:
         raise Fault('BadMapping', fault)
-    view = View(dim, extents, whole)
+    view = View(dim, extents, whole, wrap)
     live = sum(sum(other.lengths()) for other in world.views.values())
     size = sum(view.lengths())
     if most_slots(whole, extents) > MOST_SLOTS or size > MOST_VIEW_BYTES:
@@ -284,7 +307,7 @@ def made(world, dim, extents, whole):
 def new_view(world, line):
     dim, whole = names_of_a_view(world, line)
     refuse_words(line['words'])
-    world.views[line['name']] = made(world, dim, resolved(line['words'], None), whole)
+    world.views[line['name']] = made(world, dim, resolved(line['words'], None), whole, line['wrap'])
 
 
 def read_file(world, name):
@@ -308,13 +331,13 @@ def load(world, line):
         raise Fault('TooBig')
     records = records_of(data)
     extents = resolved(line['words'], len(records[1:]))
-    view = made(world, dim, extents, whole)
+    view = made(world, dim, extents, whole, line['wrap'])
     try:
         table = table_of(records, [leaf.path for leaf in view.leaves], view.refusal)
     except DatasetFault as fault:
         name, row, path = fault.args
         raise Fault(name, path if row is None else f'record {row} leaf {path}') from None
-    view.kept = dict(enumerate(table))
+    view.kept = {row: [view.left(leaf, value) for leaf, value in enumerate(values)] for row, values in enumerate(table)}
     view.touch_all(0, 1)
     world.views[line['name']] = view
 
@@ -342,7 +365,7 @@ def assign(world, line):
 def store(view, row, leaf, value):
     storable(view, row, leaf, value)
     view.touch(row, leaf, 0, 1)
-    view.kept[row] = replaced(view.row(row), leaf, value)
+    view.kept[row] = replaced(view.row(row), leaf, view.left(leaf, value))
 
 
 def replaced(values, leaf, value):
@@ -369,7 +392,7 @@ def update_row(view, row, where, sets):
     for leaf, expr in sets:
         value = value_on(view, row, old, expr)
         storable(view, row, leaf, value)
-        new = replaced(new, leaf, value)
+        new = replaced(new, leaf, view.left(leaf, value))
     for leaf, _ in sets:
         view.touch(row, leaf, 0, 1)
     view.kept[row] = new
@@ -433,12 +456,12 @@ def copy_rows(source, target):
     for row in sorted(source.kept):
         for leaf, value in enumerate(source.row(row)):
             storable(target, row, leaf, value)
-    target.kept = dict(source.kept)
+    target.kept = {row: [target.left(leaf, value) for leaf, value in enumerate(values)] for row, values in source.kept.items()}
 
 
 def relayout(world, line):
     old = known(line['name'], world.views)
-    new = made(world, old.record, old.extents, nameless(world, line['map']))
+    new = made(world, old.record, old.extents, nameless(world, line['map']), old.wrap)
     copy_rows(old, new)
     world.views[line['name']] = new
 

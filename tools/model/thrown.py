@@ -13,7 +13,8 @@ from mappings import bad_mapping, holds_of, lengths_of, range_of
 from thrown_texts import Exprs, damaged, deep_expr, one_in, respaced, thrown_dataset, thrown_number, with_comment
 
 Thrown = namedtuple('Thrown', 'words files')
-Table = namedtuple('Table', 'record leaves extents limits mapping')
+Table = namedtuple('Table', 'record leaves extents limits mapping wrap')
+ANY = (-2 ** 66, 2 ** 66)
 TYPES = ['bool', 'u8', 'u16', 'u32', 'u64', 'i8', 'i16', 'i32', 'i64']
 ORDERS = ['row', 'row', 'col', 'morton']
 FIELDS = ['a', 'b', 'c', 'x', 'y', 'pos', 'h', 'row', 'where', 'aos', 'set', 'i4', '_', 'n' * 32]
@@ -155,12 +156,16 @@ class Script:
         most = {1: 17, 2: 6, 3: 4, 4: 3}[rank]
         return [self.dice.randrange(most) if one_in(self.dice, 12) else self.dice.randint(1, most) for _ in range(rank)]
 
-    def table(self, name, record, extents, whole):
+    def mode(self):
+        """The word of a view that keeps low bits, in one of three."""
+        return ' wrap' * (2 if one_in(self.dice, 200) else 1) if one_in(self.dice, 3) else ''
+
+    def table(self, name, record, extents, whole, wrap):
         """Keeps what is known of a table, where its layout is accepted and it is small."""
         leaves = leaves_of(self.records[record])
-        limits = [(max(least, low), min(greatest, high)) for (least, greatest), (low, high) in
+        limits = [ANY if wrap else (max(least, low), min(greatest, high)) for (least, greatest), (low, high) in
                   ((declared_range(leaf), range_of(hold)) for leaf, hold in zip(leaves, holds_of(whole, leaves)))]
-        self.tables[name] = Table(record, leaves, extents, limits, whole)
+        self.tables[name] = Table(record, leaves, extents, limits, whole, wrap)
 
     def view(self):
         name, record = self.new_name(self.tables, 'V'), self.known(self.records)
@@ -169,9 +174,10 @@ class Script:
         if one_in(self.dice, 80):
             extents = self.dice.choice([[1, 1, 1, 1, 1], [2 ** 32 - 1], [2 ** 24 + 1], [4097, 4096], [65536] * 4, [2 ** 32]])
             whole = None
-        self.add(f'view {name} : {record} [{", ".join(map(str, extents))}] as {text}')
+        mode = self.mode()
+        self.add(f'view {name} : {record} [{", ".join(map(str, extents))}]{mode} as {text}')
         if whole and record in self.records:
-            self.table(name, record, extents, whole)
+            self.table(name, record, extents, whole, bool(mode))
 
     def load(self):
         name, record = self.new_name(self.tables, 'V'), self.known(self.records)
@@ -185,12 +191,13 @@ class Script:
         if one_in(self.dice, 40):
             words[self.dice.randrange(len(words))] = self.dice.choice(['?', '0', '7'])
         file = f'd{len(self.files)}.csv' if self.dice.randrange(30) else self.dice.choice(['none.csv', '.', 'f' * 200, 'f' * 201, 'a b', 'd0.csv'])
-        self.add(f'load {name} : {record} [{", ".join(words)}] as {text} from "{file}"')
+        mode = self.mode()
+        self.add(f'load {name} : {record} [{", ".join(words)}]{mode} as {text} from "{file}"')
         if not leaves or not file.startswith(('d', 'f', 'a')) or len(file) > 200:
             return
         rows = rows if self.dice.randrange(40) else self.dice.randrange(MOST_ROWS)
         if whole:
-            self.table(name, record, extents, whole)
+            self.table(name, record, extents, whole, bool(mode))
             limits = self.tables[name].limits
         else:
             limits = [declared_range(leaf) for leaf in leaves]
@@ -248,7 +255,8 @@ class Script:
         limits = dict(zip((leaf.path for leaf in table.leaves), table.limits))
         low = self.constant(max(limits[x][0], -9) if limits[x][0] < 0 else 0)
         high = self.constant(min(limits[x][1], 100))
-        kern = dice.choice([f'axpy({self.constant(dice.choice([0, 0, 1, -1]))}, {x}, {y})', f'clamp({x}, {low}, {high})', f'sum({x})', f'least({x})', f'greatest({x})',
+        factor = dice.choice([3, -7, 1000, 2 ** 31 - 1] if table.wrap else [0, 0, 1, -1])
+        kern = dice.choice([f'axpy({self.constant(factor)}, {x}, {y})', f'clamp({x}, {low}, {high})', f'sum({x})', f'least({x})', f'greatest({x})',
                             f'count_where({x} {dice.choice(["==", "!=", "<", "<=", ">", ">="])} {self.constant(dice.randint(-5, 300))})'])
         self.add(f'kernel {name} {kern} lanes {dice.choice([1, 2, 4, 8, 16] if dice.randrange(60) else [0, 3, 32])}')
 
@@ -266,7 +274,7 @@ class Script:
         text, whole = self.layout_for(table.leaves)
         self.add(f'relayout {name} as {text}')
         if whole:
-            self.table(name, table.record, table.extents, whole)
+            self.table(name, table.record, table.extents, whole, table.wrap)
 
     def show(self, name, table):
         counters = [form for form in ('count', 'heat') if form in (table.mapping[0], table.mapping[-1][0])]

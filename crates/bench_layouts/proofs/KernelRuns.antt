@@ -6,9 +6,10 @@ use Rattle.std.specs.Prelude.{unwrap_or}
 use Rattle.std.proofs.lemmas.Int.{ints}
 use Rattle.std.proofs.lemmas.List.{same_lists, get_or-map, length-map, get_or_default}
 use Rattle.std.proofs.lemmas.List.FromFn.{get_or-range_with_len, length-range_with_len}
-use Rattle.views.specs.Tables.{Table, answer_of, after_stores}
+use Rattle.kept_tables.specs.declared.mode.StoreMode.TheVariants.{Strict}
+use Rattle.views.specs.Tables.{Table, answer_of, kept_of, after_stores}
 use Rattle.views.specs.Stores.{Answer, Keeping}
-use Rattle.views.specs.AnswerLaws.{kept_plain}
+use Rattle.views.specs.AnswerLaws.{strict_kept}
 use Rattle.lane_kernels.specs.Logs.{rows_log}
 use Rattle.lane_kernels.specs.Kernels.{kernel_fault, number_of, run_rows, IsRun}
 use Rattle.lane_kernels.specs.declared.fault.KernelFault.{KernelFault}
@@ -44,13 +45,18 @@ written_is rows table is =
     (λ row d inside. let small : row < rows = omega (arith, inside, count) in
     get_or_default table row d [] inside ∙ row_is rows table is row small ∙ sym (at_place row_of rows row d small))
 
+-- a strict view keeps each value as it is
+kept_plain : (view : Table) → view.mode ≡ Strict → kept_of view ≡ (λ leaf value. value)
+kept_plain view strict = λ i leaf value. strict_kept view strict leaf value i
+
 -- one run more
 pub run_more : (old view new : Table) (kernel : Kernel) (lanes round : ℕ) (number : Option ℤ)
-    → view ≡ record old { rows = table_after kernel round old.rows; tally = view.tally } → IsRun view new kernel lanes (Ok number)
+    → view ≡ record old { rows = table_after kernel round old.rows; tally = view.tally } → old.mode ≡ Strict → IsRun view new kernel lanes (Ok number)
     → new ≡ record old { rows = table_after kernel (round + 1) old.rows; tally = new.tally }
-run_more old view new kernel lanes round number same run =
+run_more old view new kernel lanes round number same strict run =
     let one : round + 1 ≡ suc round = omega arith in
-    rw one (still_stored view new _ _ (run.2 ∙ ap (λ (keep : Keeping). after_stores view (run_rows keep kernel (length view.rows) view.rows) (rows_log kernel (length view.rows))) (kept_plain view))
+    rw one (still_stored view new _ _ (run.2 ∙ ap (λ (keep : Keeping). after_stores view (run_rows keep kernel (length view.rows) view.rows) (rows_log kernel (length view.rows)))
+    (kept_plain view (ap (λ (v : Table). v.mode) same ∙ strict)))
     ∙ ap (λ (v : Table). record v { rows = run_rows (λ leaf value. value) kernel (length v.rows) v.rows; tally = new.tally }) same)
 
 pub given_more : (old view new : Table) (kernel : Kernel) (lanes round : ℕ) (number : Option ℤ) (total more : ℤ)

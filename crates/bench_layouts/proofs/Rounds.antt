@@ -28,6 +28,7 @@ module _ (old mid new : Table) (row leaf : ℕ) (number : ℤ) (still : IsRewrit
         same = ap (λ (view : Table). record view { rows = with_entry mid.rows row leaf number; tally = (after_stores mid (with_entry mid.rows row leaf number) (Write row leaf ∷ [])).tally }) still.same;
         rows = after.row_count ∙ still.rows;
         measured = record {
+          strict = still.measured.strict;
           leaf_count = still.measured.leaf_count;
           shape = record { row_count = refl; leaf_count = λ r l. after.leaf_count r (omega (arith, after.row_count)) };
         };

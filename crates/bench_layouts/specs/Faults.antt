@@ -3,6 +3,7 @@ use Rattle.std.specs.Prelude.{◌≡◌, ◌⊎◌, ⊤, ℕ, ℤ, [], ◌∷◌
 use Rattle.extents.specs.Indices.{product}
 use Rattle.record_dim.specs.Leaves.{kinds_of}
 use Rattle.piece_bits.specs.Tables.{hold_at}
+use Rattle.kept_tables.specs.declared.mode.StoreMode.TheVariants.{Strict}
 use Rattle.map_checks.specs.Mappings.{holds_by}
 use Rattle.views.specs.declared.fault.StoreFault.{StoreFault}
 use Rattle.views.specs.Stores.{kind_at, store_answer}
@@ -20,10 +21,10 @@ use Rattle.bench_layouts.specs.Modes.{checksum_of}
 use Rattle.bench_layouts.specs.Rounds.{IsRefused}
 use Rattle.bench_layouts.specs.Tables.{measured_fields}
 
--- the answer to a store in a leaf of the table
+-- the answer to a store in a leaf of the table, which is strict
 abbrev pub answer_in : Form → ℕ → ℤ → Result ℤ StoreFault
 answer_in form leaf number =
-    store_answer (kind_at (kinds_of measured_fields) leaf) (hold_at (holds_by (form_term form) measured_fields) leaf) number
+    store_answer Strict (kind_at (kinds_of measured_fields) leaf) (hold_at (holds_by (form_term form) measured_fields) leaf) number
 
 -- a sum's fault is the first of its terms or that it is too great; want of memory is free
 abbrev pub IsFaultOf : Mode → BenchFault → Type 0

@@ -2,13 +2,15 @@
 use Rattle.std.specs.Prelude.{◌≡◌, ℕ, ◌<◌, ℤ, pos, ◌-ℤ◌, ◌≤ℤ◌, length, Err}
 use Rattle.places.specs.Image.{entry}
 use Rattle.piece_bits.specs.Tables.{HasShape}
+use Rattle.kept_tables.specs.declared.mode.StoreMode.TheVariants.{Strict}
 use Rattle.views.specs.declared.fault.StoreFault.{StoreFault}
 use Rattle.views.specs.Stores.{Answer}
 use Rattle.views.specs.Tables.{Table, leaf_count_of}
 use Rattle.bench_layouts.specs.Tables.{value}
 
--- a table of four leaves
+-- a strict table of four leaves
 pub record IsMeasured (view : Table) : Type 0 where
+  pub strict : view.mode ≡ Strict
   pub leaf_count : leaf_count_of view ≡ 4
   pub shape : HasShape (length view.rows) 4 view.rows
 

@@ -3,6 +3,7 @@ ghost use Rattle.std.specs.Prelude.{◌≡◌, [], ◌∷◌, ◌<◌, IfSome, I
 ghost use Rattle.record_dim.specs.Schemas.{schema_fields};
 ghost use Rattle.map_expr.specs.Terms.{term_of};
 ghost use Rattle.piece_bits.specs.Tables.{zeros};
+ghost use Rattle.kept_tables.specs.declared.mode.StoreMode.TheVariants.{Strict};
 ghost use Rattle.views.specs.Tables.{answer_of};
 ghost use Rattle.layout_copy.specs.Copies.{AreAlike};
 ghost use Rattle.bench_layouts.specs.declared.mode.Mode.TheVariants.{Copy};
@@ -65,6 +66,7 @@ fn copied_from(alloc: Global, source: &mut View, work: Copying) -> Result<i128, 
     requires schema { source.old.fields ≡ measured_fields }
     requires extents { source.old.extents ≡ work.rows ∷ [] }
     requires expr { source.old.mapping ≡ form_term work.from }
+    requires strict { source.old.mode ≡ Strict }
     requires table { source.old.rows ≡ zeros work.rows 4 }
     ensures sum { IfOk result (λ sum. Ok sum ≡ checksum_of (Copy work)) }
     ensures fault { IfErr result (IsFaultOf (Copy work)) }
@@ -86,6 +88,7 @@ fn copied_and_read<L: Ledger>(
     requires schemas { (source.old.fields ≡ measured_fields) × (target.old.fields ≡ measured_fields) }
     requires extents { (source.old.extents ≡ work.rows ∷ []) × (target.old.extents ≡ work.rows ∷ []) }
     requires exprs { (source.old.mapping ≡ form_term work.from) × (target.old.mapping ≡ form_term work.to) }
+    requires modes { (source.old.mode ≡ Strict) × (target.old.mode ≡ Strict) }
     requires table { source.old.rows ≡ zeros work.rows 4 }
     ensures sum { IfOk result (λ sum. Ok sum ≡ checksum_of (Copy work)) }
     ensures fault { IfErr result (IsFaultOf (Copy work)) }
@@ -104,7 +107,8 @@ fn copy_rounds<L: Ledger>(
     again: u32,
     steps: &mut Steps<L>,
 ) -> Result<(), CopyFault>
-    requires { AreAlike source.old target.old }
+    requires alike { AreAlike source.old target.old }
+    requires strict { target.old.mode ≡ Strict }
     ensures copied { OnOk result (target.new ≡ record target.old { rows = source.old.rows; tally = target.new.tally }) }
     ensures refused { IfErr result (IsNoCopyOf (answer_of target.old) source.old.rows) }
 {

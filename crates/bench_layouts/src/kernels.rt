@@ -3,6 +3,7 @@ ghost use Rattle.std.specs.Prelude.{◌≡◌, [], ◌∷◌, ◌<◌, ◌≤◌
 ghost use Rattle.record_dim.specs.Schemas.{schema_fields};
 ghost use Rattle.map_expr.specs.Terms.{term_of};
 ghost use Rattle.piece_bits.specs.Tables.{zeros};
+ghost use Rattle.kept_tables.specs.declared.mode.StoreMode.TheVariants.{Strict};
 ghost use Rattle.views.specs.Tables.{answer_of};
 ghost use Rattle.lane_kernels.specs.Kernels.{IsKernelOf};
 ghost use Rattle.bench_layouts.specs.declared.mode.Mode.TheVariants.{Kernel as Runs};
@@ -155,6 +156,7 @@ fn written_and_run<L: Ledger>(
     requires some { 0 < blank.parts }
     requires schema { view.old.fields ≡ measured_fields }
     requires expr { view.old.mapping ≡ form_term work.form }
+    requires strict { view.old.mode ≡ Strict }
     requires table { view.old.rows ≡ zeros work.rows 4 }
     ensures sum { IfOk result (λ sum. Ok sum ≡ checksum_of (Runs work)) }
     ensures fault { IfErr result (IsFaultOf (Runs work)) }
@@ -177,6 +179,7 @@ fn run_rounds<L: Ledger>(
     steps: &mut Steps<L>,
 ) -> Result<i128, KernelFault>
     requires kernel { IsKernelOf view.old kernel.now }
+    requires strict { view.old.mode ≡ Strict }
     requires some { 1 ≤ lanes }
     requires few { lanes ≤ 16 }
     ensures given { IfOk result (λ given. given ≡ all_given kernel.now rounds view.old.rows) }

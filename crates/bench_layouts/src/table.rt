@@ -4,6 +4,7 @@ ghost use Rattle.record_dim.specs.Schemas.{schema_fields};
 ghost use Rattle.map_expr.specs.Terms.{term_of};
 ghost use Rattle.places.specs.Image.{entry};
 ghost use Rattle.piece_bits.specs.Tables.{zeros};
+ghost use Rattle.kept_tables.specs.declared.mode.StoreMode.TheVariants.{Strict};
 ghost use Rattle.views.specs.Tables.{answer_of, leaf_count_of};
 ghost use Rattle.bench_layouts.specs.declared.mode.Mode.TheVariants.{Table};
 ghost use Rattle.bench_layouts.specs.Faults.{IsFaultOf};
@@ -43,6 +44,7 @@ fn written_and_read<L: Ledger>(
     requires some { 0 < blank.parts }
     requires schema { view.old.fields ≡ measured_fields }
     requires expr { view.old.mapping ≡ form_term work.form }
+    requires strict { view.old.mode ≡ Strict }
     requires rows { rows ≡ product (table_extents work.grid work.rows) }
     requires table { view.old.rows ≡ zeros rows 4 }
     ensures sum { IfOk result (λ sum. Ok sum ≡ checksum_of (Table work)) }

@@ -5,6 +5,7 @@ ghost use Rattle.extents.specs.Shapes.{extents_for, is_rows, IsRanked};
 ghost use Rattle.record_dim.specs.Schemas.{schema_fields};
 ghost use Rattle.map_expr.specs.Terms.{term_of};
 ghost use Rattle.piece_bits.specs.Tables.{zeros};
+ghost use Rattle.kept_tables.specs.declared.mode.StoreMode.TheVariants.{Strict};
 ghost use Rattle.views.specs.Refusals.{IsNoView};
 ghost use Rattle.bench_layouts.specs.Forms.{form_term, table_extents};
 ghost use Rattle.bench_layouts.specs.Tables.{measured_fields};
@@ -29,6 +30,7 @@ pub fn flat_view(alloc: Global, form: Form, rows: u32) -> Result<View, MakeView>
     ensures schema { IfOk result (λ view. view.fields ≡ measured_fields) }
     ensures extents { IfOk result (λ view. view.extents ≡ rows ∷ []) }
     ensures expr { IfOk result (λ view. view.mapping ≡ form_term form) }
+    ensures strict { IfOk result (λ view. view.mode ≡ Strict) }
     ensures table { IfOk result (λ view. view.rows ≡ zeros rows 4) }
     ensures refused { IfErr result (IsNoView (form_term form) (rows ∷ []) measured_fields) }
 {
@@ -42,6 +44,7 @@ pub fn table_view(alloc: Global, form: Form, grid: Grid, rows: u32) -> Result<Vi
     ensures schema { IfOk result (λ view. view.fields ≡ measured_fields) }
     ensures extents { IfOk result (λ view. view.extents ≡ table_extents grid rows) }
     ensures expr { IfOk result (λ view. view.mapping ≡ form_term form) }
+    ensures strict { IfOk result (λ view. view.mode ≡ Strict) }
     ensures table { IfOk result (λ view. view.rows ≡ zeros (product (table_extents grid rows)) 4) }
     ensures refused { IfErr result (IsNoView (form_term form) (table_extents grid rows) measured_fields) }
 {
@@ -54,6 +57,7 @@ fn view_over(alloc: Global, form: Form, extents: Extents) -> Result<View, MakeVi
     ensures schema { IfOk result (λ view. view.fields ≡ measured_fields) }
     ensures extents { IfOk result (λ view. view.extents ≡ extents) }
     ensures expr { IfOk result (λ view. view.mapping ≡ form_term form) }
+    ensures strict { IfOk result (λ view. view.mode ≡ Strict) }
     ensures table { IfOk result (λ view. view.rows ≡ zeros (product extents) 4) }
     ensures refused { IfErr result (IsNoView (form_term form) extents measured_fields) }
 {

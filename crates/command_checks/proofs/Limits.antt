@@ -11,6 +11,7 @@ use Rattle.record_dim.specs.Leaves.{leaves, kinds_of}
 use Rattle.map_expr.specs.Terms.{Term as MapTerm}
 use Rattle.map_checks.specs.Mappings.{leaf_cells, layout_by, accepted, most_slots}
 use Rattle.piece_bits.specs.Tables.{zeros}
+use Rattle.kept_tables.specs.declared.mode.StoreMode.{StoreMode}
 use Rattle.views.specs.Tables.{Table, owners_of, leaf_count_of}
 use Rattle.views.specs.Tallies.{no_tally, granules_for}
 use Rattle.views.specs.Refusals.{IsOver}
@@ -22,15 +23,15 @@ use Rattle.command_checks.specs.Entries.{view_of}
 use Rattle.command_checks.specs.declared.entries.ViewEntry.{ViewEntry}
 
 -- the table that a new view is
-pub table_new : (seen : Table) (fields : Fields) (extents : List ℕ) (term : MapTerm) → seen.fields ≡ fields → seen.extents ≡ extents → seen.mapping ≡ term
+pub table_new : (seen : Table) (mode : StoreMode) (fields : Fields) (extents : List ℕ) (term : MapTerm) → seen.mode ≡ mode → seen.fields ≡ fields → seen.extents ≡ extents → seen.mapping ≡ term
     → seen.rows ≡ zeros (length (indices extents)) (length (leaves fields)) → seen.tally ≡ no_tally (seen.mapping) (owners_of seen) (leaf_count_of seen)
-    → seen ≡ zeros_of fields extents term
-table_new seen fields extents term f e t z n =
+    → seen ≡ zeros_of mode fields extents term
+table_new seen mode fields extents term m f e t z n =
     let tally : seen.tally ≡ no_tally term (layout_by term extents fields) (length (leaves fields)) =
     n ∙ ap (λ (w : MapTerm). no_tally w (layout_by w seen.extents seen.fields) (leaf_count_of seen)) t
     ∙ ap (λ (w : List ℕ). no_tally term (layout_by term w seen.fields) (leaf_count_of seen)) e
     ∙ ap (λ (w : Fields). no_tally term (layout_by term extents w) (length (leaves w))) f in
-    λ i. record { fields = f i; extents = e i; mapping = t i; rows = z i; tally = tally i }
+    λ i. record { fields = f i; extents = e i; mapping = t i; mode = m i; rows = z i; tally = tally i }
 
 slots_within : (a b : ℕ) → (a < b → ⊥) → nat_lt a b ≡ false
 slots_within a b within = grind (arith, nat_tests)
@@ -54,35 +55,35 @@ limited_over false false true d table over = refl
 limited_over false false false true table over = refl
 limited_over false false false false table over = absurd (false≢true over)
 
-module _ (views : List (Entry Table)) (fields : Fields) (extents : List ℕ) (term : MapTerm) (good : accepted term fields (leaf_cells (kinds_of fields)) ≡ Ok tt) where
+module _ (views : List (Entry Table)) (mode : StoreMode) (fields : Fields) (extents : List ℕ) (term : MapTerm) (good : accepted term fields (leaf_cells (kinds_of fields)) ≡ Ok tt) where
   abbrev slots : Bool
   slots = nat_lt (2 ^ 24) (most_slots term extents)
 
   abbrev bits : Bool
-  bits = nat_lt (8 * 2 ^ 28) (blob_bits (zeros_of fields extents term))
+  bits = nat_lt (8 * 2 ^ 28) (blob_bits (zeros_of mode fields extents term))
 
   abbrev granules : Bool
   granules = nat_lt (2 ^ 24) (granules_for term (layout_by term extents fields))
 
   abbrev all : Bool
-  all = nat_lt (8 * 2 ^ 30) (live_bits views + blob_bits (zeros_of fields extents term))
+  all = nat_lt (8 * 2 ^ 30) (live_bits views + blob_bits (zeros_of mode fields extents term))
 
-  made_is : made views fields extents term ≡ limited slots bits granules all (zeros_of fields extents term)
+  made_is : made views mode fields extents term ≡ limited slots bits granules all (zeros_of mode fields extents term)
   made_is = rw good refl
 
-  over_is : (slots || (bits || (granules || all))) ≡ true → made views fields extents term ≡ Faults fault.TooBig
-  over_is over = made_is ∙ limited_over slots bits granules all (zeros_of fields extents term) over
+  over_is : (slots || (bits || (granules || all))) ≡ true → made views mode fields extents term ≡ Faults fault.TooBig
+  over_is over = made_is ∙ limited_over slots bits granules all (zeros_of mode fields extents term) over
 
-  pub made_goes : (IsOver term extents fields → ⊥) → (8 * 2 ^ 30 < live_bits views + blob_bits (zeros_of fields extents term) → ⊥) → made views fields extents term ≡ Goes (zeros_of fields extents term)
-  made_goes small room = made_is ∙ limited_goes slots bits granules all (zeros_of fields extents term)
+  pub made_goes : (IsOver term extents fields → ⊥) → (8 * 2 ^ 30 < live_bits views + blob_bits (zeros_of mode fields extents term) → ⊥) → made views mode fields extents term ≡ Goes (zeros_of mode fields extents term)
+  made_goes small room = made_is ∙ limited_goes slots bits granules all (zeros_of mode fields extents term)
       (slots_within (2 ^ 24) (most_slots term extents) (λ over. small (inl (inl over))))
-      (slots_within (8 * 2 ^ 28) (blob_bits (zeros_of fields extents term)) (λ over. small (inl (inr over))))
+      (slots_within (8 * 2 ^ 28) (blob_bits (zeros_of mode fields extents term)) (λ over. small (inl (inr over))))
       (slots_within (2 ^ 24) (granules_for term (layout_by term extents fields)) (λ over. small (inr over)))
-      (slots_within (8 * 2 ^ 30) (live_bits views + blob_bits (zeros_of fields extents term)) room)
+      (slots_within (8 * 2 ^ 30) (live_bits views + blob_bits (zeros_of mode fields extents term)) room)
 
-  pub made_full : 8 * 2 ^ 30 < live_bits views + blob_bits (zeros_of fields extents term) → made views fields extents term ≡ Faults fault.TooBig
+  pub made_full : 8 * 2 ^ 30 < live_bits views + blob_bits (zeros_of mode fields extents term) → made views mode fields extents term ≡ Faults fault.TooBig
   made_full full =
-      over_is (or_right slots _ (or_right bits _ (or_right granules all (lt-ltb (8 * 2 ^ 30) (live_bits views + blob_bits (zeros_of fields extents term)) full))))
+      over_is (or_right slots _ (or_right bits _ (or_right granules all (lt-ltb (8 * 2 ^ 30) (live_bits views + blob_bits (zeros_of mode fields extents term)) full))))
 
 -- bytes against bits: too many live, and a view that fits beside those that live
 pub bits_over : (live bits more : ℕ) → 8 * live ≡ bits → 2 ^ 30 < live → 8 * 2 ^ 30 < bits + more

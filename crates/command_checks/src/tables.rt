@@ -15,7 +15,7 @@ use extents::{ExtentWord, Extents, Shape};
 use map_expr::MapExpr;
 use record_dim::Schema;
 use std::alloc::Global;
-use views::{MakeView, View};
+use views::{MakeView, StoreMode, View};
 use worlds::CommandFault;
 
 /// The most live views.
@@ -86,22 +86,23 @@ fn is_rows(word: &ExtentWord) -> bool
     matches!(word, ExtentWord::Rows)
 }
 
-/// A view of zeros beside the views that live. One that is refused has taken no memory for its blobs.
+/// A view of zeros in this mode beside the views that live. One that is refused has taken no memory for its blobs.
 #[tactic(auto, using(crate::specs::BasesLaws::nameless_built))]
 pub fn made(
     alloc: Global,
     views: &[ViewEntry],
+    mode: StoreMode,
     schema: &Schema,
     extents: Extents,
     expr: &MapExpr,
 ) -> Result<View, StepFault>
     requires nameless { is_nameless (term_of expr.now) ≡ true }
-    ensures zeros { IfOk result (λ view. view ≡ zeros_of (schema_fields schema.now) extents (term_of expr.now)) }
-    ensures made { Gives (λ view. view) result (made (map view_of views.now) (schema_fields schema.now) extents (term_of expr.now)) }
+    ensures zeros { IfOk result (λ view. view ≡ zeros_of mode (schema_fields schema.now) extents (term_of expr.now)) }
+    ensures made { Gives (λ view. view) result (made (map view_of views.now) mode (schema_fields schema.now) extents (term_of expr.now)) }
     ensures extents { IfOk result (λ view. view.extents ≡ extents) }
 {
     let live = live_bytes(views);
-    match View::new_within(alloc, schema, extents, expr, left_beside(live)) {
+    match View::new_within(alloc, schema, extents, expr, mode, left_beside(live)) {
         Ok(view) => {
             // Nothing is left beside too many bytes, and a view of none is refused there too.
             if live > MAX_LIVE_BYTES {

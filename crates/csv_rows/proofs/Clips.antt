@@ -1,5 +1,5 @@
--- A number that is further from 0 than any leaf reaches.
-use Rattle.std.proofs.Common.{◌≡◌, ◌⊎◌, inl, inr, ℕ, suc, ◌^◌, ◌-◌, ◌<◌, List, ◌≤◌, Bool, true, false, ◌&&◌, ℤ, pos, negsuc, neg_ℤ, ◌<ℤ◌, Result, Err, Option, Some, None, refl, sym, ap, ◌∙◌, arith, ⊎_elim}
+-- A number that is further from 0 than any leaf reaches, and the one that is answered in its place.
+use Rattle.std.proofs.Common.{◌≡◌, ◌⊎◌, inl, inr, ℕ, suc, ◌^◌, ◌-◌, ◌<◌, List, ◌≤◌, Bool, true, false, ◌&&◌, ℤ, pos, negsuc, neg_ℤ, ◌<ℤ◌, Result, Ok, Err, Option, Some, None, refl, sym, ap, ◌∙◌, arith, ⊎_elim}
 use Rattle.std.specs.Prelude.{int_le, option_map}
 use Rattle.std.specs.List.{slice_get}
 use Rattle.std.proofs.lemmas.Int.{ints}
@@ -8,10 +8,12 @@ use Rattle.record_dim.specs.declared.leaf_type.LeafType.{LeafType}
 use Rattle.record_dim.specs.declared.leaf_type.LeafType.TheVariants.{Bool as Truth, U8, U16, U32, U64, I8, I16, I32, I64}
 use Rattle.record_dim.specs.LeafTypes.{least_of, greatest_of}
 use Rattle.places.specs.declared.piece.Hold.{Hold}
+use Rattle.kept_tables.specs.declared.mode.StoreMode.{StoreMode}
+use Rattle.kept_tables.specs.declared.mode.StoreMode.TheVariants.{Strict, Wrap}
 use Rattle.views.specs.Stores.{store_answer}
 use Rattle.views.specs.declared.fault.StoreFault.TheVariants.{Range}
 use Rattle.kept_numbers.specs.Far.{folded, shortened}
-use Rattle.kept_numbers.specs.FarLaws.{folded_near, folded_far}
+use Rattle.kept_numbers.specs.FarLaws.{folded_near, folded_far, shortened_kept}
 use Rattle.csv_rows.specs.Datasets.{◌>>=◌, Place, unspaced, number_of, the_field, the_number, taken, value_at}
 use Rattle.csv_rows.specs.declared.fault.RowFault.{RowFault}
 use Rattle.csv_rows.specs.declared.fault.RowFault.TheVariants.{ShortRow, Number}
@@ -51,44 +53,50 @@ below_all I16 n far = grind (arith, ints)
 below_all I32 n far = grind (arith, ints)
 below_all I64 n far = grind (arith, ints)
 
-far_above : (kind : LeafType) (hold : Hold) (n : ℕ) → 2 ^ 65 ≤ n → store_answer kind hold (pos n) ≡ Err Range
+far_above : (kind : LeafType) (hold : Hold) (n : ℕ) → 2 ^ 65 ≤ n → store_answer Strict kind hold (pos n) ≡ Err Range
 far_above kind hold n far = rw (and_false (int_le (least_of kind) (pos n)) (int_le (pos n) (greatest_of kind)) (int_le-false (pos n) (greatest_of kind) (above_all kind n far))) refl
 
-far_below : (kind : LeafType) (hold : Hold) (n : ℕ) → 2 ^ 65 ≤ suc n → store_answer kind hold (negsuc n) ≡ Err Range
+far_below : (kind : LeafType) (hold : Hold) (n : ℕ) → 2 ^ 65 ≤ suc n → store_answer Strict kind hold (negsuc n) ≡ Err Range
 far_below kind hold n far = rw (and_first (int_le (least_of kind) (negsuc n)) (int_le (negsuc n) (greatest_of kind)) (int_le-false (least_of kind) (negsuc n) (below_all kind n far))) refl
 
--- a number is kept as it is, or is refused as what is kept of it
-pub kept : (kind : LeafType) (hold : Hold) (z : ℤ) → (shortened z ≡ z) ⊎ ((store_answer kind hold z ≡ Err Range) × (store_answer kind hold (shortened z) ≡ Err Range))
-kept kind hold (pos n) =
+-- a strict view refuses both numbers, where they are not one
+strict_same : (kind : LeafType) (hold : Hold) (z : ℤ) → (shortened z ≡ z) ⊎ ((store_answer Strict kind hold z ≡ Err Range) × (store_answer Strict kind hold (shortened z) ≡ Err Range))
+strict_same kind hold (pos n) =
     ⊎_elim (λ (near : n < 2 ^ 65). inl (ap pos (folded_near n near)))
     (λ (far : 2 ^ 65 ≤ n). inr (far_above kind hold n far, far_above kind hold (folded n) (folded_far n far)))
     (cases_lt n (2 ^ 65))
-kept kind hold (negsuc n) =
+strict_same kind hold (negsuc n) =
     ⊎_elim (λ (near : suc n < 2 ^ 65). inl (ap (λ m. neg_ℤ (pos m)) (folded_near (suc n) near)))
     (λ (far : 2 ^ 65 ≤ suc n).
     let most : 2 ^ 65 ≤ folded (suc n) = folded_far (suc n) far in
     let next : folded (suc n) ≡ suc (folded (suc n) - 1) = omega (arith, most) in
-    inr (far_below kind hold n far, ap (λ m. store_answer kind hold (neg_ℤ (pos m))) next ∙ far_below kind hold (folded (suc n) - 1) (omega (arith, most))))
+    inr (far_below kind hold n far, ap (λ m. store_answer Strict kind hold (neg_ℤ (pos m))) next ∙ far_below kind hold (folded (suc n) - 1) (omega (arith, most))))
     (cases_lt (suc n) (2 ^ 65))
+
+-- so a view of either mode answers both alike: any other keeps the same low bits of both
+answer_same : (mode : StoreMode) (kind : LeafType) (hold : Hold) (z : ℤ) → hold.width ≤ 64 → store_answer mode kind hold z ≡ store_answer mode kind hold (shortened z)
+answer_same Strict kind hold z few = ⊎_elim
+    (λ (same : shortened z ≡ z). ap (store_answer Strict kind hold) (sym same))
+    (λ (far : (store_answer Strict kind hold z ≡ Err Range) × (store_answer Strict kind hold (shortened z) ≡ Err Range)). far.0 ∙ sym far.1)
+    (strict_same kind hold z)
+answer_same Wrap kind hold z few = ap (λ (v : ℤ). Ok v) (sym (shortened_kept kind hold z few))
 
 none_from : (number : Option ℤ) → option_map shortened number ≡ None → number ≡ None
 none_from None e = refl
 none_from (Some z) e = absurd (cc e)
 
 abbrev value_of : Place → Option ℤ → Result ℤ RowFault
-value_of place number = the_number place number >>= (λ value. taken place (store_answer place.kind place.hold value))
+value_of place number = the_number place number >>= (λ value. taken place (store_answer place.mode place.kind place.hold value))
 
 -- the number of a field, as it was asked for
 abbrev pub number_in : List ℕ → Option ℤ
 number_in field = option_map shortened (number_of (unspaced field))
 
-clip_of : (place : Place) (number : Option ℤ) (value : ℤ) → option_map shortened number ≡ Some value → value_of place number ≡ taken place (store_answer place.kind place.hold value)
-clip_of place None value is = absurd (cc is)
-clip_of place (Some z) value is = ⊎_elim
-    (λ (same : shortened z ≡ z). ap (λ v. taken place (store_answer place.kind place.hold v)) (sym same ∙ some_is is))
-    (λ (far : (store_answer place.kind place.hold z ≡ Err Range) × (store_answer place.kind place.hold (shortened z) ≡ Err Range)).
-    ap (taken place) far.0 ∙ sym (ap (λ v. taken place (store_answer place.kind place.hold v)) (sym (some_is is)) ∙ ap (taken place) far.1))
-    (kept place.kind place.hold z)
+clip_of : (place : Place) (number : Option ℤ) (value : ℤ) → place.hold.width ≤ 64 → option_map shortened number ≡ Some value
+    → value_of place number ≡ taken place (store_answer place.mode place.kind place.hold value)
+clip_of place None value few is = absurd (cc is)
+clip_of place (Some z) value few is =
+    ap (taken place) (answer_same place.mode place.kind place.hold z few ∙ ap (store_answer place.mode place.kind place.hold) (some_is is))
 
 -- no field, a field that is no number, and one that is
 no_field : (place : Place) (fields : List (List ℕ)) → slice_get fields place.column ≡ None → value_at place fields ≡ Err (ShortRow place.row place.leaf)
@@ -109,8 +117,10 @@ value_none place fields = by (slice_get fields place.column) refl where
   by None is none = cc none
   by (Some field) is none = field_in place fields field is ∙ ap (value_of place) (none_from (number_of (unspaced field)) (sym (some_is none)))
 
-pub value_some : (place : Place) (fields : List (List ℕ)) (value : ℤ) → Some (Some value) ≡ option_map number_in (slice_get fields place.column) → value_at place fields ≡ taken place (store_answer place.kind place.hold value)
-value_some place fields value = by (slice_get fields place.column) refl where
-  by : (found : Option (List ℕ)) → slice_get fields place.column ≡ found → Some (Some value) ≡ option_map number_in found → value_at place fields ≡ taken place (store_answer place.kind place.hold value)
+pub value_some : (place : Place) (fields : List (List ℕ)) (value : ℤ) → place.hold.width ≤ 64 → Some (Some value) ≡ option_map number_in (slice_get fields place.column)
+    → value_at place fields ≡ taken place (store_answer place.mode place.kind place.hold value)
+value_some place fields value few = by (slice_get fields place.column) refl where
+  by : (found : Option (List ℕ)) → slice_get fields place.column ≡ found → Some (Some value) ≡ option_map number_in found
+      → value_at place fields ≡ taken place (store_answer place.mode place.kind place.hold value)
   by None is some = cc some
-  by (Some field) is some = field_in place fields field is ∙ clip_of place (number_of (unspaced field)) value (sym (some_is some))
+  by (Some field) is some = field_in place fields field is ∙ clip_of place (number_of (unspaced field)) value few (sym (some_is some))

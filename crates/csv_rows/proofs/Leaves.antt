@@ -6,28 +6,31 @@ use Rattle.record_dim.specs.declared.leaf_type.LeafType.{LeafType}
 use Rattle.record_dim.specs.declared.leaf_type.LeafType.TheVariants.{Bool as Truth}
 use Rattle.places.specs.declared.piece.Hold.{Hold}
 use Rattle.piece_bits.specs.Tables.{hold_at}
-use Rattle.views.specs.Stores.{kind_at}
-use Rattle.views.specs.Tables.{Table, leaf_count_of, leaf_types_of, table_holds}
+use Rattle.kept_tables.specs.declared.mode.StoreMode.{StoreMode}
+use Rattle.kept_tables.specs.declared.mode.StoreMode.TheVariants.{Strict}
+use Rattle.views.specs.Stores.{kind_at, kept_row}
+use Rattle.views.specs.Tables.{Table, leaf_count_of, leaf_types_of, table_holds, kept_of}
 use Rattle.csv_rows.specs.Datasets.{◌>>=◌, Leaf, with_columns, value_at, row_values}
 use Rattle.csv_rows.specs.Loads.{place_of, leaves_in}
 use Rattle.csv_rows.specs.declared.fault.RowFault.{RowFault}
+use Rattle.csv_rows.proofs.KeptRows.{kept_set, length-kept_row}
 use Rattle.csv_rows.proofs.Sequences.{behind, behind-behind, one_behind}
 
 abbrev no_leaf : Leaf
-no_leaf = record { column = 0; kind = Truth; hold = record { signed = false; width = 0 } }
+no_leaf = record { column = 0; mode = Strict; kind = Truth; hold = record { signed = false; width = 0 } }
 
-joined_length : (columns : List ℕ) (kinds : List LeafType) (holds : List Hold) → length columns ≡ length kinds → length holds ≡ length kinds → length (with_columns columns kinds holds) ≡ length columns
-joined_length [] kinds holds a b = refl
-joined_length (column ∷ columns) [] holds a b = absurd (omega arith)
-joined_length (column ∷ columns) (kind ∷ kinds) [] a b = absurd (omega arith)
-joined_length (column ∷ columns) (kind ∷ kinds) (hold ∷ holds) a b = ap suc (joined_length columns kinds holds (omega arith) (omega arith))
+joined_length : (mode : StoreMode) (columns : List ℕ) (kinds : List LeafType) (holds : List Hold) → length columns ≡ length kinds → length holds ≡ length kinds → length (with_columns mode columns kinds holds) ≡ length columns
+joined_length mode [] kinds holds a b = refl
+joined_length mode (column ∷ columns) [] holds a b = absurd (omega arith)
+joined_length mode (column ∷ columns) (kind ∷ kinds) [] a b = absurd (omega arith)
+joined_length mode (column ∷ columns) (kind ∷ kinds) (hold ∷ holds) a b = ap suc (joined_length mode columns kinds holds (omega arith) (omega arith))
 
-joined_at : (columns : List ℕ) (kinds : List LeafType) (holds : List Hold) (i : ℕ) → length columns ≡ length kinds → length holds ≡ length kinds → i < length columns → get_or (with_columns columns kinds holds) i no_leaf ≡ record { column = get_or columns i 0; kind = kind_at kinds i; hold = hold_at holds i }
-joined_at [] kinds holds i a b small = absurd (omega arith)
-joined_at (column ∷ columns) [] holds i a b small = absurd (omega arith)
-joined_at (column ∷ columns) (kind ∷ kinds) [] i a b small = absurd (omega arith)
-joined_at (column ∷ columns) (kind ∷ kinds) (hold ∷ holds) zero a b small = refl
-joined_at (column ∷ columns) (kind ∷ kinds) (hold ∷ holds) (suc i) a b small = joined_at columns kinds holds i (omega arith) (omega arith) (omega arith)
+joined_at : (mode : StoreMode) (columns : List ℕ) (kinds : List LeafType) (holds : List Hold) (i : ℕ) → length columns ≡ length kinds → length holds ≡ length kinds → i < length columns → get_or (with_columns mode columns kinds holds) i no_leaf ≡ record { column = get_or columns i 0; mode = mode; kind = kind_at kinds i; hold = hold_at holds i }
+joined_at mode [] kinds holds i a b small = absurd (omega arith)
+joined_at mode (column ∷ columns) [] holds i a b small = absurd (omega arith)
+joined_at mode (column ∷ columns) (kind ∷ kinds) [] i a b small = absurd (omega arith)
+joined_at mode (column ∷ columns) (kind ∷ kinds) (hold ∷ holds) zero a b small = refl
+joined_at mode (column ∷ columns) (kind ∷ kinds) (hold ∷ holds) (suc i) a b small = joined_at mode columns kinds holds i (omega arith) (omega arith) (omega arith)
 
 kinds_count : (seen : Table) → length (leaf_types_of seen) ≡ leaf_count_of seen
 kinds_count seen = length-map (leaves seen.fields) (λ leaf. leaf.kind)
@@ -37,7 +40,7 @@ abbrev pub IsPaired : Table → Type 0
 IsPaired seen = length (table_holds seen) ≡ length (leaf_types_of seen)
 
 pub leaves_count : (seen : Table) (columns : List ℕ) → IsPaired seen → length columns ≡ leaf_count_of seen → length (leaves_in seen columns) ≡ length columns
-leaves_count seen columns paired count = joined_length columns (leaf_types_of seen) (table_holds seen) (count ∙ sym (kinds_count seen)) paired
+leaves_count seen columns paired count = joined_length seen.mode columns (leaf_types_of seen) (table_holds seen) (count ∙ sym (kinds_count seen)) paired
 
 -- the values from a leaf on, of which this is the first
 leaf_at : (seen : Table) (columns : List ℕ) (paired : IsPaired seen) (row : ℕ) (fields : List (List ℕ)) (leaf : ℕ) (column : ℕ) (found : Result ℤ RowFault) → length columns ≡ leaf_count_of seen → leaf < length columns → get_or columns leaf 0 ≡ column → value_at (place_of seen row leaf column) fields ≡ found
@@ -45,28 +48,36 @@ leaf_at : (seen : Table) (columns : List ℕ) (paired : IsPaired seen) (row : �
 leaf_at seen columns paired row fields leaf column found count small here is =
     let within : leaf < length (leaves_in seen columns) = omega (arith, leaves_count seen columns paired count) in
     at_drop_more (row_values row fields leaf) (leaves_in seen columns) leaf no_leaf within
-    ∙ ap (λ (l : Leaf). row_values row fields leaf (l ∷ drop (leaf + 1) (leaves_in seen columns))) (joined_at columns (leaf_types_of seen) (table_holds seen) leaf (count ∙ sym (kinds_count seen)) paired small)
+    ∙ ap (λ (l : Leaf). row_values row fields leaf (l ∷ drop (leaf + 1) (leaves_in seen columns))) (joined_at seen.mode columns (leaf_types_of seen) (table_holds seen) leaf (count ∙ sym (kinds_count seen)) paired small)
     ∙ ap (λ (c : ℕ). value_at (place_of seen row leaf c) fields >>= (λ value. row_values row fields (leaf + 1) (drop (leaf + 1) (leaves_in seen columns)) >>= (λ values. Ok (value ∷ values)))) here
     ∙ ap (λ (f : Result ℤ RowFault). f >>= (λ value. row_values row fields (leaf + 1) (drop (leaf + 1) (leaves_in seen columns)) >>= (λ values. Ok (value ∷ values)))) is
 
 -- one value more, one that is refused, and all
-pub leaf_read : (seen : Table) (columns : List ℕ) (paired : IsPaired seen) (row : ℕ) (fields : List (List ℕ)) (leaf column : ℕ) (values : List ℤ) (value : ℤ) → length columns ≡ leaf_count_of seen → leaf < length columns → leaf < length values → get_or columns leaf 0 ≡ column → value_at (place_of seen row leaf column) fields ≡ Ok value
-    → row_values row fields 0 (leaves_in seen columns) ≡ behind (take leaf values) (row_values row fields leaf (drop leaf (leaves_in seen columns)))
-    → row_values row fields 0 (leaves_in seen columns) ≡ behind (take (leaf + 1) (set values leaf value)) (row_values row fields (leaf + 1) (drop (leaf + 1) (leaves_in seen columns)))
+pub leaf_read : (seen : Table) (columns : List ℕ) (paired : IsPaired seen) (row : ℕ) (fields : List (List ℕ)) (leaf column : ℕ) (values : List ℤ) (value : ℤ) → length columns ≡ leaf_count_of seen → leaf < length columns → leaf < length values → get_or columns leaf 0 ≡ column
+    → value_at (place_of seen row leaf column) fields ≡ Ok (kept_of seen leaf value)
+    → row_values row fields 0 (leaves_in seen columns) ≡ behind (take leaf (kept_row (kept_of seen) values)) (row_values row fields leaf (drop leaf (leaves_in seen columns)))
+    → row_values row fields 0 (leaves_in seen columns) ≡ behind (take (leaf + 1) (kept_row (kept_of seen) (set values leaf value))) (row_values row fields (leaf + 1) (drop (leaf + 1) (leaves_in seen columns)))
 leaf_read seen columns paired row fields leaf column values value count small room here is before =
     let rest = row_values row fields (leaf + 1) (drop (leaf + 1) (leaves_in seen columns)) in
-    before ∙ ap (behind (take leaf values)) (leaf_at seen columns paired row fields leaf column (Ok value) count small here is ∙ one_behind value rest) ∙ behind-behind (take leaf values) (value ∷ []) rest
-    ∙ ap (λ (done : List ℤ). behind done rest) (sym (take_more_set values leaf value room))
+    let kept = kept_row (kept_of seen) values in
+    let number = kept_of seen leaf value in
+    let long : length kept ≡ length values = length-kept_row (kept_of seen) values in
+    let within : leaf < length kept = omega (arith, long) in
+    before ∙ ap (behind (take leaf kept)) (leaf_at seen columns paired row fields leaf column (Ok number) count small here is ∙ one_behind number rest) ∙ behind-behind (take leaf kept) (number ∷ []) rest
+    ∙ ap (λ (done : List ℤ). behind done rest) (sym (take_more_set kept leaf number within) ∙ ap (take (leaf + 1)) (sym (kept_set (kept_of seen) values leaf value)))
 
-pub leaf_refused : (seen : Table) (columns : List ℕ) (paired : IsPaired seen) (row : ℕ) (fields : List (List ℕ)) (leaf column : ℕ) (values : List ℤ) (fault : RowFault) → length columns ≡ leaf_count_of seen → leaf < length columns → get_or columns leaf 0 ≡ column → value_at (place_of seen row leaf column) fields ≡ Err fault
-    → row_values row fields 0 (leaves_in seen columns) ≡ behind (take leaf values) (row_values row fields leaf (drop leaf (leaves_in seen columns)))
+pub leaf_refused : (seen : Table) (columns : List ℕ) (paired : IsPaired seen) (row : ℕ) (fields : List (List ℕ)) (leaf column : ℕ) (done : List ℤ) (fault : RowFault) → length columns ≡ leaf_count_of seen → leaf < length columns → get_or columns leaf 0 ≡ column → value_at (place_of seen row leaf column) fields ≡ Err fault
+    → row_values row fields 0 (leaves_in seen columns) ≡ behind done (row_values row fields leaf (drop leaf (leaves_in seen columns)))
     → row_values row fields 0 (leaves_in seen columns) ≡ Err fault
-leaf_refused seen columns paired row fields leaf column values fault count small here is before = before ∙ ap (behind (take leaf values)) (leaf_at seen columns paired row fields leaf column (Err fault) count small here is)
+leaf_refused seen columns paired row fields leaf column done fault count small here is before = before ∙ ap (behind done) (leaf_at seen columns paired row fields leaf column (Err fault) count small here is)
 
 pub leaves_read : (seen : Table) (columns : List ℕ) (paired : IsPaired seen) (row : ℕ) (fields : List (List ℕ)) (leaf : ℕ) (values : List ℤ) → length columns ≡ leaf_count_of seen → length values ≡ leaf_count_of seen → length columns ≤ leaf
-    → row_values row fields 0 (leaves_in seen columns) ≡ behind (take leaf values) (row_values row fields leaf (drop leaf (leaves_in seen columns)))
-    → row_values row fields 0 (leaves_in seen columns) ≡ Ok values
+    → row_values row fields 0 (leaves_in seen columns) ≡ behind (take leaf (kept_row (kept_of seen) values)) (row_values row fields leaf (drop leaf (leaves_in seen columns)))
+    → row_values row fields 0 (leaves_in seen columns) ≡ Ok (kept_row (kept_of seen) values)
 leaves_read seen columns paired row fields leaf values count whole over before =
+    let kept = kept_row (kept_of seen) values in
     let gone : length (leaves_in seen columns) ≤ leaf = omega (arith, leaves_count seen columns paired count) in
-    before ∙ ap (λ (rest : List Leaf). behind (take leaf values) (row_values row fields leaf rest)) (drop_all leaf (leaves_in seen columns) gone)
-    ∙ ap Ok (append-nil (take leaf values) ∙ take_all leaf values (omega arith))
+    let long : length kept ≡ length values = length-kept_row (kept_of seen) values in
+    let all : length kept ≤ leaf = omega (arith, long) in
+    before ∙ ap (λ (rest : List Leaf). behind (take leaf kept) (row_values row fields leaf rest)) (drop_all leaf (leaves_in seen columns) gone)
+    ∙ ap Ok (append-nil (take leaf kept) ∙ take_all leaf kept all)

@@ -8,8 +8,11 @@ pub mod CopiedRecords
 pub mod CsvReads
 pub mod Cutting
 pub mod Fields
+pub mod FirstFaults
 pub mod FirstLines
 pub mod Headers
+pub mod HoldWidths
+pub mod KeptRows
 pub mod Leaves
 pub mod Numbers
 pub mod PathTexts

@@ -7,6 +7,7 @@ use Rattle.std.specs.Cmp.Lexicographic.{pointwise}
 use Rattle.csv.specs.Reading.{records, default_config, strip_bom}
 use Rattle.record_dim.specs.declared.leaf_type.LeafType.{LeafType}
 use Rattle.places.specs.declared.piece.Hold.{Hold}
+use Rattle.kept_tables.specs.declared.mode.StoreMode.{StoreMode}
 use Rattle.views.specs.Stores.{store_answer}
 use Rattle.views.specs.declared.fault.StoreFault.{StoreFault}
 use Rattle.views.specs.declared.fault.StoreFault.TheVariants as store
@@ -80,11 +81,12 @@ number_of (byte ∷ bytes) =
     if byte == 43 then option_map pos (digits_number bytes)
     else (if byte == 45 then option_map (λ n. neg_ℤ (pos n)) (digits_number bytes) else option_map pos (digits_number (byte ∷ bytes)))
 
--- where a value is looked for: the row and the leaf by their numbers, the leaf's column, type and hold
+-- where a value is looked for: the row and the leaf by their numbers, the leaf's column, the mode of the view, the leaf's type and hold
 pub record Place : Type 0 where
   pub row : ℕ
   pub leaf : ℕ
   pub column : ℕ
+  pub mode : StoreMode
   pub kind : LeafType
   pub hold : Hold
 
@@ -111,18 +113,19 @@ abbrev pub value_at : Place → List (List ℕ) → Result ℤ RowFault
 value_at place fields = do
   field ← the_field place (slice_get fields place.column)
   value ← the_number place (number_of (unspaced field))
-  taken place (store_answer place.kind place.hold value)
+  taken place (store_answer place.mode place.kind place.hold value)
 
--- the leaves from the one of this number on: the column, the type and the hold of each
+-- the leaves from the one of this number on: the column of each, the mode of the view, the type and the hold
 pub record Leaf : Type 0 where
   pub column : ℕ
+  pub mode : StoreMode
   pub kind : LeafType
   pub hold : Hold
 
 abbrev pub row_values : ℕ → List (List ℕ) → ℕ → List Leaf → Result (List ℤ) RowFault
 row_values row fields leaf [] = Ok []
 row_values row fields leaf (here ∷ leaves) = do
-  value ← value_at (record { row = row; leaf = leaf; column = here.column; kind = here.kind; hold = here.hold }) fields
+  value ← value_at (record { row = row; leaf = leaf; column = here.column; mode = here.mode; kind = here.kind; hold = here.hold }) fields
   values ← row_values row fields (leaf + 1) leaves
   Ok (value ∷ values)
 
@@ -134,13 +137,14 @@ table_from row (fields ∷ rows) leaves = do
   rest ← table_from (row + 1) rows leaves
   Ok (values ∷ rest)
 
--- each leaf with its column
-abbrev pub with_columns : List ℕ → List LeafType → List Hold → List Leaf
-with_columns (column ∷ columns) (kind ∷ kinds) (hold ∷ holds) = record { column = column; kind = kind; hold = hold } ∷ with_columns columns kinds holds
-with_columns _ _ _ = []
+-- each leaf of a view of this mode with its column
+abbrev pub with_columns : StoreMode → List ℕ → List LeafType → List Hold → List Leaf
+with_columns mode (column ∷ columns) (kind ∷ kinds) (hold ∷ holds) =
+    record { column = column; mode = mode; kind = kind; hold = hold } ∷ with_columns mode columns kinds holds
+with_columns _ _ _ _ = []
 
--- the table of a dataset for leaves of these names, types and holds
-unfoldable pub dataset_table : List (List ℕ) → List LeafType → List Hold → List (List (List ℕ)) → Result (List (List ℤ)) RowFault
-dataset_table names kinds holds records = do
+-- the table of a dataset for a view of this mode and leaves of these names, types and holds
+unfoldable pub dataset_table : StoreMode → List (List ℕ) → List LeafType → List Hold → List (List (List ℕ)) → Result (List (List ℤ)) RowFault
+dataset_table mode names kinds holds records = do
   columns ← columns_of (header_of records) 0 names
-  table_from 0 (rows_of records) (with_columns columns kinds holds)
+  table_from 0 (rows_of records) (with_columns mode columns kinds holds)

@@ -19,10 +19,10 @@ pub enum RowFault {
     /// The field is no number.
     #[error("Number record {row} leaf {leaf}")]
     Number { row: u64, leaf: usize },
-    /// The number lies outside of the leaf's declared range.
+    /// The view is strict, and the number lies outside of the leaf's declared range.
     #[error("Range record {row} leaf {leaf}")]
     Range { row: u64, leaf: usize },
-    /// The number lies in the declared range and not in that of how the leaf is stored.
+    /// The view is strict, and the number lies in the declared range and not in that of how the leaf is stored.
     #[error("Narrow record {row} leaf {leaf}")]
     Narrow { row: u64, leaf: usize },
     /// There is no memory for a record, or for the list of columns.

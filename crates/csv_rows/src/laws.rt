@@ -3,18 +3,18 @@ ghost use Rattle.std.specs.Prelude.{◌≡◌, Ok, length};
 ghost use Rattle.record_dim.specs.Schemas.{schema_fields};
 ghost use Rattle.record_dim.specs.Leaves.{texts_of};
 ghost use Rattle.views.specs.Tables.{leaf_types_of, table_holds};
-ghost use Rattle.views.specs.Stores.{AllFit};
+ghost use Rattle.views.specs.Stores.{AllStay};
 ghost use Rattle.csv_rows.specs.Datasets.{records_of};
 ghost use Rattle.csv_rows.specs.Loads.{dataset_of};
 ghost use Rattle.csv_rows.specs.Texts.{print_text};
 
 use views::{View, laws_of_table};
 
-/// What `print_rows` writes of a view is a dataset, and its table is that of the view, for each view of the same schema whose holds have
-/// all its values. It changes nothing.
+/// What `print_rows` writes of a view is a dataset, and its table is that of the view, for each view of the same schema that can hold all its
+/// values: a strict one in which they fit, or one that keeps of each the value itself. It changes nothing.
 pub fn printed_loads(_printed: &View, _loaded: &View)
     requires schema { _loaded.now.fields ≡ _printed.now.fields }
-    requires fit { AllFit (length _printed.now.rows) (leaf_types_of _loaded.now) (table_holds _loaded.now) _printed.now.rows }
+    requires stay { AllStay _loaded.now.mode (length _printed.now.rows) (leaf_types_of _loaded.now) (table_holds _loaded.now) _printed.now.rows }
     ensures { dataset_of _loaded.now (records_of (print_text (texts_of _printed.now.fields) _printed.now.rows)) ≡ Ok _printed.now.rows }
 {
     laws_of_table(_loaded);

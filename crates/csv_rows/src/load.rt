@@ -1,9 +1,10 @@
 // The table of a dataset, loaded into a view.
 ghost use Rattle.std.specs.Prelude.{◌≡◌, ◌⊎◌, IfErr, OnOk, Ok, Err, length};
+ghost use Rattle.kept_tables.specs.declared.mode.StoreMode.TheVariants.{Wrap};
 ghost use Rattle.views.specs.Tallies.{Write, all_accesses};
 ghost use Rattle.views.specs.Tables.{leaf_count_of, after_stores};
 ghost use Rattle.csv_rows.specs.Datasets.{records_of, rows_of, table_from};
-ghost use Rattle.csv_rows.specs.Loads.{leaves_in, dataset_of, Keeps, KeepsRows};
+ghost use Rattle.csv_rows.specs.Loads.{leaves_in, dataset_of, IsNoRefusal, Keeps, KeepsRows};
 ghost use Rattle.csv_rows.specs.declared.fault.RowFault.TheVariants.{NoMemory};
 
 use crate::columns::leaf_columns;
@@ -16,8 +17,9 @@ use std::sync::ledger::Ledger;
 use steps::Steps;
 use views::View;
 
-/// Loads the table of a dataset into a view that has as many rows. On a fault the rows before the one that it names are changed, and no
-/// other; want of memory comes at some row. Each leaf of a row that is changed is written once.
+/// Loads the table of a dataset into a view that has as many rows. A number that does not fit is a fault in a strict view; any other keeps
+/// the low bits of it, of any length. On a fault the rows before the one that it names are changed, and no other; want of memory comes at
+/// some row. Each leaf of a row that is changed is written once.
 pub fn load_rows<L: Ledger>(
     alloc: Global,
     bytes: &[u8],
@@ -27,6 +29,7 @@ pub fn load_rows<L: Ledger>(
     requires { length view.old.rows ≡ length (rows_of (records_of bytes.now)) }
     ensures loaded { OnOk result (dataset_of view.old (records_of bytes.now) ≡ Ok view.new.rows) }
     ensures refused { IfErr result (λ f. (f ≡ NoMemory) ⊎ (dataset_of view.old (records_of bytes.now) ≡ Err f)) }
+    ensures taken { IfErr result (λ f. view.old.mode ≡ Wrap → IsNoRefusal f) }
     ensures kept { IfErr result (λ f. Keeps view.old (records_of bytes.now) view.new f) }
     ensures same { OnOk result (view.new ≡ after_stores view.old view.new.rows (all_accesses Write (leaf_count_of view.old) (length view.old.rows))) }
 {

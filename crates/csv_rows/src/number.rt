@@ -9,7 +9,8 @@ use crate::lines::is_line_end;
 use kept_numbers::folded;
 
 /// The number of a field: without blanks at its ends an optional sign, and one or more digits. Of a number that is 2^65
-/// from 0 or further, one is answered that is as well, and has the same 64 low bits: no leaf can store either.
+/// from 0 or further, one is answered that is as well, and has the same 64 low bits: no leaf of a strict view can store either, and any
+/// other keeps the same of both.
 pub fn field_number(field: &[u8]) -> Option<i128>
     ensures { result ≡ option_map shortened (number_of (unspaced field.now)) }
 {

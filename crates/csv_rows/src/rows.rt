@@ -1,7 +1,8 @@
 // A record of a dataset, read into a row of a view.
 ghost use Rattle.std.specs.Prelude.{◌≡◌, ◌<◌, ℕ, pos, true, is_ok, IfOk, IfErr, OnOk, Ok, Err, length, slice_index_or, slice_set};
+ghost use Rattle.views.specs.Stores.{kept_row};
 ghost use Rattle.views.specs.Tallies.{Write, row_accesses};
-ghost use Rattle.views.specs.Tables.{leaf_count_of, answer_of, after_stores};
+ghost use Rattle.views.specs.Tables.{leaf_count_of, answer_of, kept_of, after_stores};
 ghost use Rattle.csv_rows.specs.Datasets.{refusal, value_at, row_values};
 ghost use Rattle.csv_rows.specs.Loads.{place_of, leaves_in};
 ghost use Rattle.csv_rows.specs.Readers.{IsAsked};
@@ -12,7 +13,8 @@ use std::sync::ledger::Ledger;
 use steps::Steps;
 use views::{StoreFault, View, laws_of_table};
 
-/// Reads the record that was read last into a row, all of it or, where a leaf is refused, nothing. The values are kept in `values`.
+/// Reads the record that was read last into a row, all of it or, where a leaf is refused, nothing. What the view keeps of `values` are the
+/// values of the row.
 pub fn load_row<R: Records, L: Ledger>(
     records: &mut R,
     row: u64,
@@ -26,8 +28,9 @@ pub fn load_row<R: Records, L: Ledger>(
     requires columns { length columns.now ≡ leaf_count_of view.old }
     requires values { length values.old ≡ leaf_count_of view.old }
     ensures count { length values.new ≡ length values.old }
-    ensures read { OnOk result (row_values row (R.fields records.old) 0 (leaves_in view.old columns.now) ≡ Ok values.new) }
-    ensures stored { OnOk result (view.new ≡ after_stores view.old (slice_set view.old.rows row values.new) (row_accesses Write (leaf_count_of view.old) row)) }
+    ensures read { OnOk result (row_values row (R.fields records.old) 0 (leaves_in view.old columns.now) ≡ Ok (kept_row (kept_of view.old) values.new)) }
+    ensures stored { OnOk result (view.new ≡ after_stores view.old (slice_set view.old.rows row (kept_row (kept_of view.old) values.new))
+        (row_accesses Write (leaf_count_of view.old) row)) }
     ensures refused { IfErr result (λ f. row_values row (R.fields records.old) 0 (leaves_in view.old columns.now) ≡ Err f) }
     ensures same { IfErr result (λ f. view.new ≡ view.old) }
     ensures asked { OnOk result (IsAsked R.stands R.fields R.left records.old records.new) }
@@ -37,7 +40,7 @@ pub fn load_row<R: Records, L: Ledger>(
     Ok(())
 }
 
-// Reads the value of each leaf.
+// Reads a value for each leaf, of which the view keeps that of the row.
 fn read_row<R: Records>(
     records: &mut R,
     row: u64,
@@ -49,7 +52,7 @@ fn read_row<R: Records>(
     requires columns { length columns.now ≡ leaf_count_of view.now }
     requires values { length values.old ≡ leaf_count_of view.now }
     ensures count { length values.new ≡ length values.old }
-    ensures read { OnOk result (row_values row (R.fields records.old) 0 (leaves_in view.now columns.now) ≡ Ok values.new) }
+    ensures read { OnOk result (row_values row (R.fields records.old) 0 (leaves_in view.now columns.now) ≡ Ok (kept_row (kept_of view.now) values.new)) }
     ensures taken { OnOk result ((leaf : ℕ) → leaf < leaf_count_of view.now → is_ok (answer_of view.now leaf (slice_index_or values.new leaf (pos 0))) ≡ true) }
     ensures refused { IfErr result (λ f. row_values row (R.fields records.old) 0 (leaves_in view.now columns.now) ≡ Err f) }
     ensures asked { OnOk result (IsAsked R.stands R.fields R.left records.old records.new) }
@@ -61,7 +64,7 @@ fn read_row<R: Records>(
     Ok(())
 }
 
-// The value of a leaf.
+// A value of which a leaf keeps that of the field.
 #[inline(always)]
 fn value_at<R: Records>(
     records: &mut R,
@@ -72,8 +75,9 @@ fn value_at<R: Records>(
 ) -> Result<i128, RowFault>
     requires reading { R.stands records.old }
     requires leaf_in { leaf < leaf_count_of view.now }
-    ensures value { result ≡ value_at (place_of view.now row leaf column) (R.fields records.old) }
+    ensures kept { IfOk result (λ value. value_at (place_of view.now row leaf column) (R.fields records.old) ≡ Ok (kept_of view.now leaf value)) }
     ensures taken { IfOk result (λ value. is_ok (answer_of view.now leaf value) ≡ true) }
+    ensures refused { IfErr result (λ f. value_at (place_of view.now row leaf column) (R.fields records.old) ≡ Err f) }
     ensures asked { IsAsked R.stands R.fields R.left records.old records.new }
 {
     let Some(number) = records.number(column) else {

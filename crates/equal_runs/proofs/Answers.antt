@@ -1,10 +1,13 @@
--- Answers to stores by two holds: they are equal, or one of them says that the value is not held.
+-- Answers to stores by two holds: both keep a number, the same where both have room for all bits, or one of them says that the value is not held.
 use Rattle.std.proofs.Common.{◌≡◌, Bool, true, false, ℤ, Option, Some, None, Result, Ok, Err, refl}
 use Rattle.std.specs.Prelude.{if◌then◌else◌}
 use Rattle.record_dim.specs.declared.leaf_type.LeafType.{LeafType}
 use Rattle.record_dim.specs.LeafTypes.{least_of, greatest_of, least_in, greatest_in}
 use Rattle.places.specs.declared.piece.Hold.{Hold}
-use Rattle.views.specs.Stores.{store_answer, is_between}
+use Rattle.kept_numbers.specs.Kept.{kept}
+use Rattle.kept_tables.specs.declared.mode.StoreMode.{StoreMode}
+use Rattle.kept_tables.specs.declared.mode.StoreMode.TheVariants.{Strict, Wrap}
+use Rattle.views.specs.Stores.{store_answer, kept_or, is_between}
 use Rattle.views.specs.declared.fault.StoreFault.{StoreFault}
 use Rattle.views.specs.declared.fault.StoreFault.TheVariants.{Range, Narrow}
 use Rattle.worlds.specs.Outcomes.{refused_by, ok_or}
@@ -12,11 +15,17 @@ use Rattle.worlds.specs.declared.fault.CommandFault.{CommandFault}
 use Rattle.equal_runs.specs.Endings.{is_of_layout}
 use Rattle.equal_runs.proofs.Agreeing.{Agree, go, fault, first as first_told, second as second_told, Both}
 
--- the answers are equal, or one is an error of which the test holds
-pub data Answers {A E : Type 0} (told : E → Bool) : Result A E → Result A E → Type 0 where
-  equal : (x : Result A E) → Answers told x x
-  first : (e : E) (y : Result A E) → told e ≡ true → Answers told (Err e) y
-  second : (x : Result A E) (e : E) → told e ≡ true → Answers told x (Err e)
+-- both answers are things, one thing where `Alike` holds, or both are one error, or one is an error of which the test holds
+pub data Answers {A E : Type 0} (told : E → Bool) (Alike : Type 0) : Result A E → Result A E → Type 0 where
+  both : (x y : A) → (Alike → y ≡ x) → Answers told Alike (Ok x) (Ok y)
+  fails : (e : E) → Answers told Alike (Err e) (Err e)
+  first : (e : E) (y : Result A E) → told e ≡ true → Answers told Alike (Err e) y
+  second : (x : Result A E) (e : E) → told e ≡ true → Answers told Alike x (Err e)
+
+-- one answer beside itself
+pub equal : {A E : Type 0} {told : E → Bool} {Alike : Type 0} (x : Result A E) → Answers told Alike x x
+equal (Ok x) = both x x (λ alike. refl)
+equal (Err e) = fails e
 
 -- the same of causes
 pub data Causes {E : Type 0} (told : E → Bool) : Option E → Option E → Type 0 where
@@ -36,28 +45,31 @@ abbrev by_tests : ℤ → Bool → Bool → Result ℤ StoreFault
 by_tests value declared held = if declared then by_hold value held else Err Range
 
 -- what a store answers, by the hold: `Range` depends on the type alone
-pub store_answers : (kind : LeafType) (hold held : Hold) (value : ℤ) → Answers is_narrow (store_answer kind hold value) (store_answer kind held value)
-store_answers kind hold held value =
+pub store_answers : {Alike : Type 0} (mode : StoreMode) (kind : LeafType) (hold held : Hold) (value : ℤ)
+    → (Alike → kept_or value (store_answer mode kind held value) ≡ kept_or value (store_answer mode kind hold value))
+    → Answers is_narrow Alike (store_answer mode kind hold value) (store_answer mode kind held value)
+store_answers Wrap kind hold held value alike = both (kept kind hold value) (kept kind held value) alike
+store_answers {Alike} Strict kind hold held value alike =
     of_tests (is_between (least_of kind) (greatest_of kind) value) (is_between (least_in hold.signed hold.width) (greatest_in hold.signed hold.width) value)
     (is_between (least_in held.signed held.width) (greatest_in held.signed held.width) value)
   where
-    of_tests : (d h k : Bool) → Answers is_narrow (by_tests value d h) (by_tests value d k)
-    of_tests false h k = equal (Err Range)
-    of_tests true true true = equal (Ok value)
+    of_tests : (d h k : Bool) → Answers is_narrow Alike (by_tests value d h) (by_tests value d k)
+    of_tests false h k = fails Range
+    of_tests true true true = both value value (λ alike. refl)
     of_tests true true false = second (Ok value) Narrow refl
     of_tests true false k = first Narrow (by_hold value k) refl
 
--- two answers that are things, the same in both
-pub record Given {A E : Type 0} (x y : Result A E) (a b : A) : Type 0 where
-  pub same : b ≡ a
+-- two answers that are things, one thing where `Alike` holds
+pub record Given {A E : Type 0} (Alike : Type 0) (x y : Result A E) (a b : A) : Type 0 where
+  pub same : Alike → b ≡ a
   pub first : x ≡ Ok a
   pub second : y ≡ Ok b
 
 -- from answers to outcomes
-pub ok_agree : {A E : Type 0} (m o : Bool) (told : E → Bool) (f : E → CommandFault) (x y : Result A E) → ((n : Bool) (e : E) → told e ≡ true → is_of_layout n (f e) ≡ true) → Answers told x y
-    → Agree m o (Given x y) (ok_or f x) (ok_or f y)
-ok_agree m o told f x y is (equal (Ok a)) = go a a (record { same = refl; first = refl; second = refl })
-ok_agree m o told f x y is (equal (Err e)) = fault (f e)
+pub ok_agree : {A E : Type 0} {Alike : Type 0} (m o : Bool) (told : E → Bool) (f : E → CommandFault) (x y : Result A E) → ((n : Bool) (e : E) → told e ≡ true → is_of_layout n (f e) ≡ true)
+    → Answers told Alike x y → Agree m o (Given Alike x y) (ok_or f x) (ok_or f y)
+ok_agree m o told f x y is (both a b alike) = go a b (record { same = alike; first = refl; second = refl })
+ok_agree m o told f x y is (fails e) = fault (f e)
 ok_agree m o told f x y is (first e z t) = first_told (f e) (ok_or f z) (is m e t)
 ok_agree m o told f x y is (second z e t) = second_told (ok_or f z) (f e) (is o e t)
 

@@ -5,7 +5,6 @@ use Rattle.std.specs.List.{slice_index_or}
 use Rattle.extents.specs.Indices.{indices}
 use Rattle.linearize.specs.Slots.{place_in}
 use Rattle.record_dim.specs.declared.path.PathStep.{PathStep}
-use Rattle.record_dim.specs.Trees.{Fields}
 use Rattle.record_dim.specs.Leaves.{kinds_of, texts_of}
 use Rattle.map_expr.specs.Terms.{Term as MapTerm}
 use Rattle.map_checks.specs.Mappings.{holds_by}
@@ -23,9 +22,9 @@ use Rattle.line_grammar.specs.declared.line.KernelText.{KernelText}
 use Rattle.line_grammar.specs.declared.line.ReduceKind.{ReduceKind}
 use Rattle.line_grammar.specs.declared.line.ShowKind.{ShowKind}
 use Rattle.line_grammar.specs.declared.line.ShowKind.TheVariants as show
-use Rattle.views.specs.Tables.{Table, leaf_count_of, answer_of, kept_of, after_stores}
+use Rattle.views.specs.Tables.{Table, IsWide, leaf_count_of, answer_of, kept_of, after_stores}
 use Rattle.row_updates.specs.Rows.{Setting, updated_rows, counted}
-use Rattle.row_updates.specs.Logs.{value_log, count_log, rows_log}
+use Rattle.row_updates.specs.Logs.{value_log, rows_log}
 use Rattle.row_updates.specs.declared.fault.UpdateFault.{UpdateFault}
 use Rattle.row_updates.specs.declared.fault.UpdateKind.{UpdateKind}
 use Rattle.row_updates.specs.declared.fault.UpdateKind.TheVariants as update_kind
@@ -48,22 +47,19 @@ use Rattle.worlds.specs.Show.{print, counts, showing, drop_view}
 use Rattle.worlds.specs.declared.fault.CommandFault.TheVariants.{Mismatch, NotCounted}
 use Rattle.equal_runs.specs.Endings.{is_of_layout}
 use Rattle.equal_runs.specs.Lines.{shows_layout}
+use Rattle.equal_runs.specs.Widths.{AreWide}
 use Rattle.equal_runs.proofs.Agreeing.{Agree, go, first, second, bind, before, both_told, Both}
 use Rattle.equal_runs.proofs.Answers.{Answers, is_narrow, store_answers, Given, ok_agree, by_agree}
+use Rattle.equal_runs.proofs.Each.{of_found, with_replaced}
 use Rattle.equal_runs.proofs.Entries.{At, known_agree, entries_replaced, entries_removed}
 use Rattle.equal_runs.proofs.Kernels.{is_narrow_kernel, kernel_causes}
-use Rattle.equal_runs.proofs.Tables.{AlikeTables, AlikeWorlds, AlikeLefts, of_mapping, alike_both, rewritten_alike, with_written, rows_told}
+use Rattle.equal_runs.proofs.Tables.{AlikeTables, AlikeWorlds, AlikeLefts, of_mapping, alike_both, rewritten_alike, with_written, written_under, rows_told}
 use Rattle.equal_runs.proofs.TallyCounts.{SameCounts}
 use Rattle.equal_runs.proofs.Updates.{is_narrow_update, rows_answers, fit_rows, rows_are}
 
 -- the table under another mapping, with another tally
 abbrev under : Table → MapTerm → Tally → Table
 under table mapping tally = record table { mapping = mapping; tally = tally }
-
--- the answers to a store in a table and in that table under another mapping
-answers_under : (table : Table) (mapping : MapTerm) (tally : Tally) (leaf : ℕ) (value : ℤ) → Answers is_narrow (answer_of table leaf value) (answer_of (under table mapping tally) leaf value)
-answers_under table mapping tally leaf value =
-    store_answers (kind_at (kinds_of table.fields) leaf) (hold_at (holds_by table.mapping table.fields) leaf) (hold_at (holds_by mapping table.fields) leaf) value
 
 narrow_store : (row : ℕ) (leaf : List ℕ) (n : Bool) (e : StoreFault) → is_narrow e ≡ true → is_of_layout n (store_fault row leaf e) ≡ true
 narrow_store row leaf n store.Range is = absurd (cc)
@@ -89,8 +85,14 @@ SameDone a b = b ≡ a
 abbrev pub Same : Bool → Bool → Outcome Done → Outcome Done → Type 0
 Same m o x y = Agree m o SameDone x y
 
--- a table, and that table under another mapping
-module _ (m o : Bool) (table : Table) (mapping : MapTerm) (tally : Tally) where
+-- a table, and that table under another mapping, where both have room for all bits
+module _ (m o : Bool) (table : Table) (mapping : MapTerm) (tally : Tally) (wide : IsWide table) (also : IsWide (under table mapping tally)) where
+  -- the answers to a store in them
+  answers_under : (leaf : ℕ) (value : ℤ) → Answers is_narrow (Unit {0}) (answer_of table leaf value) (answer_of (under table mapping tally) leaf value)
+  answers_under leaf value =
+      store_answers table.mode (kind_at (kinds_of table.fields) leaf) (hold_at (holds_by table.mapping table.fields) leaf) (hold_at (holds_by mapping table.fields) leaf) value
+      (λ always. ap (λ (keep : Keeping). keep leaf value) (kept_alike (under table mapping tally) table refl refl also wide))
+
   pub assigned_agree : (index : List ℕ) (path : List PathStep) (value : Value) → Same m o (assigned table index path value) (assigned (under table mapping tally) index path value)
   unfolding assigned
   assigned_agree index path value =
@@ -105,9 +107,9 @@ module _ (m o : Bool) (table : Table) (mapping : MapTerm) (tally : Tally) where
           → Same m o (storable table row leaf number >>= (λ kept. Goes (stores (with_entry table.rows row leaf kept) log)))
           (storable (under table mapping tally) row leaf number >>= (λ kept. Goes (stores (with_entry table.rows row leaf kept) log)))
       stored leaf row number log =
-          bind m o (Given _ _) SameDone (storable table row leaf number) (storable (under table mapping tally) row leaf number) _ _
-          (ok_agree m o is_narrow (store_fault row (text_of_leaf table.fields leaf)) _ _ (narrow_store row (text_of_leaf table.fields leaf)) (answers_under table mapping tally leaf number))
-          (λ kept also given. go _ _ (ap (λ (number : ℤ). stores (with_entry table.rows row leaf number) log) given.same))
+          bind m o (Given (Unit {0}) _ _) SameDone (storable table row leaf number) (storable (under table mapping tally) row leaf number) _ _
+          (ok_agree m o is_narrow (store_fault row (text_of_leaf table.fields leaf)) _ _ (narrow_store row (text_of_leaf table.fields leaf)) (answers_under leaf number))
+          (λ kept others given. go _ _ (ap (λ (number : ℤ). stores (with_entry table.rows row leaf number) log) (given.same tt)))
 
   module _ (test : Option (Term ℕ)) (settings : List Setting) where
     abbrev update_log : Table → List Access
@@ -123,13 +125,13 @@ module _ (m o : Bool) (table : Table) (mapping : MapTerm) (tally : Tally) where
     updated_agree_of : Same m o (ok_or (update_fault table.fields) (new_rows table) >>= (λ rows. Goes (stores rows (update_log table))))
         (ok_or (update_fault table.fields) (new_rows (under table mapping tally)) >>= (λ rows. Goes (stores rows (update_log (under table mapping tally)))))
     updated_agree_of =
-        bind m o (Given _ _) SameDone (ok_or (update_fault table.fields) (new_rows table)) (ok_or (update_fault table.fields) (new_rows (under table mapping tally))) _ _
+        bind m o (Given (Unit {0}) _ _) SameDone (ok_or (update_fault table.fields) (new_rows table)) (ok_or (update_fault table.fields) (new_rows (under table mapping tally))) _ _
         (ok_agree m o is_narrow_update (update_fault table.fields) _ _ (narrow_update table)
-        (subst (λ (keep : Keeping). Answers is_narrow_update (new_rows table) (updated_rows (answer_of (under table mapping tally)) keep test settings table.extents table.rows (length table.rows)))
-        (kept_alike table (under table mapping tally))
-        (rows_answers (kept_of table) (answer_of table) (answer_of (under table mapping tally)) (answers_under table mapping tally) test settings table.extents table.rows (length table.rows))))
+        (subst (λ (keep : Keeping). Answers is_narrow_update (Unit {0}) (new_rows table) (updated_rows (answer_of (under table mapping tally)) keep test settings table.extents table.rows (length table.rows)))
+        (kept_alike table (under table mapping tally) refl refl wide also)
+        (rows_answers (kept_of table) (answer_of table) (answer_of (under table mapping tally)) answers_under test settings table.extents table.rows (length table.rows))))
         (λ rows others given. go _ _
-        (ap (λ (r : List (List ℤ)). stores r (update_log (under table mapping tally))) given.same
+        (ap (λ (r : List (List ℤ)). stores r (update_log (under table mapping tally))) (given.same tt)
         ∙ ap (λ (log : List Access). stores rows log) (log_is (under table mapping tally) others given.second ∙ sym (log_is table rows given.first))))
 
   pub updated_agree : (filter : Option Value) (sets : List Assignment) → Same m o (updated table filter sets) (updated (under table mapping tally) filter sets)
@@ -155,8 +157,8 @@ module _ (m o : Bool) (table : Table) (mapping : MapTerm) (tally : Tally) where
         bind m o Both SameDone (refused_by (run_fault table.fields) (kernels.kernel_fault (answer_of table) fit table.rows))
         (refused_by (run_fault table.fields) (kernels.kernel_fault (answer_of (under table mapping tally)) fit table.rows)) _ _
         (by_agree m o is_narrow_kernel (run_fault table.fields) _ _ (narrow_run table)
-        (kernel_causes (answer_of table) (answer_of (under table mapping tally)) (answers_under table mapping tally) fit table.rows))
-        (λ done also p. go _ _ (ap (λ (keep : Keeping). ran_by keep fit) (kept_alike (under table mapping tally) table)))
+        (kernel_causes (answer_of table) (answer_of (under table mapping tally)) answers_under fit table.rows))
+        (λ done other p. go _ _ (ap (λ (keep : Keeping). ran_by keep fit) (kept_alike (under table mapping tally) table refl refl also wide)))
 
   pub reduction_agree : (kind : ReduceKind) (path : List PathStep) → Same m o (reduction table kind path) (reduction (under table mapping tally) kind path)
   unfolding reduction
@@ -207,62 +209,71 @@ module _ (m o : Bool) (table : Table) (mapping : MapTerm) (tally : Tally) (same 
       (λ a b is. go _ _ (subst (λ (d : Done). AlikeDone (record { held = after_stores table a.rows a.log; text = a.text }) (record { held = after_stores (under table mapping tally) d.rows d.log; text = d.text }))
       (sym is) (record { tables = rewritten_alike table mapping tally same a.rows a.log; text = refl })))
 
-  -- rows that are copied into both
-  copied_agree : (source : Table) (from : MapTerm) (counted_from : Tally) → Agree m o AlikeTables (copied source table) (copied (under source from counted_from) (under table mapping tally))
+  -- rows that are copied into both, where both have room for all bits
+  copied_agree : IsWide table → IsWide (under table mapping tally) → (source : Table) (from : MapTerm) (counted_from : Tally)
+      → Agree m o AlikeTables (copied source table) (copied (under source from counted_from) (under table mapping tally))
   unfolding copied
-  copied_agree source from counted_from =
+  copied_agree wide also source from counted_from =
       before m o AlikeTables (refused_if (not (are_alike source table)) Mismatch) _ _ (λ alike.
       both_told m o (λ (t : Table). t ≡ with_written table source.rows) (λ (t : Table). t ≡ with_written (under table mapping tally) source.rows) AlikeTables _ _
       (rows_told m table source.rows) (rows_told o (under table mapping tally) source.rows)
-      (alike_both (with_written table source.rows) (with_written (under table mapping tally) source.rows) (rewritten_alike table mapping tally same source.rows _)))
+      (alike_both (with_written table source.rows) (with_written (under table mapping tally) source.rows) (written_under table mapping tally same wide also source.rows)))
 
   -- each value is read once
   read_alike : AlikeTables (all_read table) (all_read (under table mapping tally))
   read_alike = rewritten_alike table mapping tally same table.rows (all_accesses Read (leaf_count_of table) (length table.rows))
 
-module _ (m o : Bool) (world other : World) (alike : AlikeWorlds world other) where
-  -- worlds with alike tables under a name
-  with_agree : (name : List ℕ) (a b : Table) → AlikeTables a b → AlikeWorlds (with_table world name a) (with_table other name b)
-  with_agree name a b same = record {
-    records = alike.records;
-    mappings = alike.mappings;
-    views = entries_replaced AlikeTables name a b world.views other.views same alike.views;
-  }
+-- worlds with alike tables under a name
+with_agree : (world other : World) → AlikeWorlds world other → (name : List ℕ) (a b : Table) → AlikeTables a b → AlikeWorlds (with_table world name a) (with_table other name b)
+with_agree world other alike name a b same = record {
+  records = alike.records;
+  mappings = alike.mappings;
+  views = entries_replaced AlikeTables name a b world.views other.views same alike.views;
+}
 
+-- worlds whose tables have room for all bits
+module _ (m o : Bool) (world other : World) (alike : AlikeWorlds world other) (wide : AreWide world.views) (also : AreWide other.views) where
   -- what is done to a table that a name stands for
   on_table : (name : List ℕ) (f g : Table → Outcome Left)
-      → ((table : Table) (mapping : MapTerm) (tally : Tally) → SameCounts table.tally.counts tally.counts → Agree m o AlikeLefts (f table) (g (under table mapping tally)))
+      → ((table : Table) (mapping : MapTerm) (tally : Tally) → IsWide table → IsWide (under table mapping tally) → SameCounts table.tally.counts tally.counts
+      → Agree m o AlikeLefts (f table) (g (under table mapping tally)))
       → Agree m o AlikeLefts (known name world.views >>= f) (known name other.views >>= g)
   on_table name f g each =
       bind m o (At AlikeTables (found name world.views) (found name other.views)) AlikeLefts _ _ f g (known_agree m o AlikeTables name world.views other.views alike.views)
-      (λ a b at. of_mapping (λ (t : Table). Agree m o AlikeLefts (f a) (g t)) a b at.alike (each a))
+      (λ a b at. of_mapping (λ (t : Table). IsWide t → Agree m o AlikeLefts (f a) (g t)) a b at.alike
+      (λ mapping tally same room. each a mapping tally (of_found IsWide name world.views a wide at.first) room same) (of_found IsWide name other.views b also at.second))
 
   -- a command on a view agrees where it does the same to a table and to that table under another mapping
   pub view_agree : (name : List ℕ) (command : Table → Outcome Done)
-      → ((table : Table) (mapping : MapTerm) (tally : Tally) → SameCounts table.tally.counts tally.counts → Same m o (command table) (command (under table mapping tally)))
+      → ((table : Table) (mapping : MapTerm) (tally : Tally) → IsWide table → IsWide (under table mapping tally) → SameCounts table.tally.counts tally.counts
+      → Same m o (command table) (command (under table mapping tally)))
       → Agree m o AlikeLefts (on_view world name command) (on_view other name command)
   unfolding on_view
   view_agree name command each =
-      on_table name _ _ (λ table mapping tally same.
+      on_table name _ _ (λ table mapping tally room more same.
       bind m o AlikeDone AlikeLefts (done_to table (command table)) (done_to (under table mapping tally) (command (under table mapping tally))) _ _
-      (done_agree m o table mapping tally same command (each table mapping tally same))
-      (λ a b done. go _ _ (record { worlds = with_agree name a.held b.held done.tables; text = done.text })))
+      (done_agree m o table mapping tally same command (each table mapping tally room more same))
+      (λ a b done. go _ _ (record { worlds = λ left_wide other_wide. with_agree world other alike name a.held b.held done.tables; text = done.text })))
 
   pub drop_agree : (name : List ℕ) → Agree m o AlikeLefts (drop_view world name) (drop_view other name)
   unfolding drop_view
-  drop_agree name = on_table name _ _ (λ table mapping tally same. go _ _ (record {
-    worlds = record { records = alike.records; mappings = alike.mappings; views = entries_removed AlikeTables name world.views other.views alike.views };
+  drop_agree name = on_table name _ _ (λ table mapping tally room more same. go _ _ (record {
+    worlds = λ left_wide other_wide. record { records = alike.records; mappings = alike.mappings; views = entries_removed AlikeTables name world.views other.views alike.views };
     text = refl;
   }))
 
 -- the target is looked up after the source was read
-pub copy_agree : (m o : Bool) (world other : World) → AlikeWorlds world other → (name target : List ℕ) → Agree m o AlikeLefts (copy world name target) (copy other name target)
+pub copy_agree : (m o : Bool) (world other : World) → AlikeWorlds world other → AreWide world.views → AreWide other.views → (name target : List ℕ)
+    → Agree m o AlikeLefts (copy world name target) (copy other name target)
 unfolding copy
-copy_agree m o world other alike name target =
-    on_table m o world other alike name _ _ (λ source from counted_from same.
+copy_agree m o world other alike wide also name target =
+    on_table m o world other alike wide also name _ _ (λ source from counted_from room more same.
+    let changed : Table = under source from counted_from in
     let read = with_table world name (all_read source) in
-    let read_other = with_table other name (all_read (under source from counted_from)) in
-    let alike_read : AlikeWorlds read read_other = with_agree m o world other alike name _ _ (read_alike m o source from counted_from same) in
-    on_table m o read read_other alike_read target _ _ (λ table to tally same_to.
-    bind m o AlikeTables AlikeLefts (copied source table) (copied (under source from counted_from) (under table to tally)) _ _ (copied_agree m o table to tally same_to source from counted_from)
-    (λ a b alike_new. go _ _ (record { worlds = with_agree m o read read_other alike_read target a b alike_new; text = refl }))))
+    let read_other = with_table other name (all_read changed) in
+    let alike_read : AlikeWorlds read read_other = with_agree world other alike name _ _ (read_alike m o source from counted_from same) in
+    let wide_read : AreWide read.views = with_replaced IsWide name (all_read source) world.views room wide in
+    let also_read : AreWide read_other.views = with_replaced IsWide name (all_read changed) other.views more also in
+    on_table m o read read_other alike_read wide_read also_read target _ _ (λ table to tally wide_to also_to same_to.
+    bind m o AlikeTables AlikeLefts (copied source table) (copied changed (under table to tally)) _ _ (copied_agree m o table to tally same_to wide_to also_to source from counted_from)
+    (λ a b alike_new. go _ _ (record { worlds = λ left_wide other_wide. with_agree read read_other alike_read target a b alike_new; text = refl }))))

@@ -8,7 +8,7 @@ use Rattle.lane_kernels.specs.Kernels.{Store, stored, answer_fault, store_fault,
 use Rattle.lane_kernels.specs.declared.fault.KernelFault.{KernelFault}
 use Rattle.lane_kernels.specs.declared.fault.KernelFault.TheVariants.{Narrow}
 use Rattle.lane_kernels.specs.declared.kernel.Kernel.{Kernel}
-use Rattle.equal_runs.proofs.Answers.{Answers, equal, first, second, Causes, same, one, other as another, is_narrow}
+use Rattle.equal_runs.proofs.Answers.{Answers, both, fails, first, second, Causes, same, one, other as another, is_narrow}
 
 abbrev pub is_narrow_kernel : KernelFault → Bool
 is_narrow_kernel (Narrow row leaf) = true
@@ -28,13 +28,14 @@ narrow_other : (row leaf : ℕ) (x : Option KernelFault) (e : StoreFault) → is
 narrow_other row leaf x stored_fault.Range is = absurd (cc)
 narrow_other row leaf x stored_fault.Narrow is = another x (Narrow row leaf) refl
 
-answer_causes : (row leaf : ℕ) (x y : Result ℤ StoreFault) → Answers is_narrow x y → Causes is_narrow_kernel (answer_fault row leaf x) (answer_fault row leaf y)
-answer_causes row leaf x y (equal z) = same (answer_fault row leaf z)
+answer_causes : {Alike : Type 0} (row leaf : ℕ) (x y : Result ℤ StoreFault) → Answers is_narrow Alike x y → Causes is_narrow_kernel (answer_fault row leaf x) (answer_fault row leaf y)
+answer_causes row leaf x y (both a b alike) = same None
+answer_causes row leaf x y (fails e) = same (answer_fault row leaf (Err e))
 answer_causes row leaf x y (first e z is) = narrow_answer row leaf e (answer_fault row leaf z) is
 answer_causes row leaf x y (second z e is) = narrow_other row leaf (answer_fault row leaf z) e is
 
--- two answers to stores that are equal, or say that the value is not held
-module _ (answer other : Answer) (alike : (leaf : ℕ) (value : ℤ) → Answers is_narrow (answer leaf value) (other leaf value)) where
+-- two answers to stores that both keep a number, or of which one says that the value is not held
+module _ {Alike : Type 0} (answer other : Answer) (alike : (leaf : ℕ) (value : ℤ) → Answers is_narrow Alike (answer leaf value) (other leaf value)) where
   store_causes : (row : ℕ) (store : Option Store) → Causes is_narrow_kernel (store_fault answer row store) (store_fault other row store)
   store_causes row None = same None
   store_causes row (Some store) = answer_causes row store.leaf (answer store.leaf store.value) (other store.leaf store.value) (alike store.leaf store.value)

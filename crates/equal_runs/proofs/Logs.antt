@@ -1,23 +1,22 @@
 -- What is counted of a view are the accesses to it, line after line.
-use Rattle.std.proofs.Common.{◌≡◌, ℕ, ◌+◌, Bool, true, false, List, [], ◌∷◌, ◌++◌, length, Option, Some, None, refl, sym, ap, subst, ◌∙◌, arith, append_assoc}
+use Rattle.std.proofs.Common.{◌≡◌, ℕ, Bool, true, false, List, [], ◌∷◌, ◌++◌, length, Option, Some, None, refl, sym, ap, subst, ◌∙◌, arith}
 use Rattle.std.specs.Prelude.{◌^◌, if◌then◌else◌, is_some, nat_eq, nat_lt, not, ℤ}
-use Rattle.std.specs.Cmp.Lexicographic.{pointwise}
 use Rattle.std.proofs.lemmas.Bool.Decides.{nat_tests}
+use Rattle.std.proofs.lemmas.List.{length-map}
 use Rattle.layout_io.specs.Files.{File}
 use Rattle.extents.specs.Indices.{indices}
-use Rattle.record_dim.specs.Leaves.{leaves, texts_of}
+use Rattle.record_dim.specs.Leaves.{leaves}
 use Rattle.record_dim.specs.Trees.{Tree, Fields}
 use Rattle.map_expr.specs.Terms.{Term as MapTerm}
-use Rattle.places.specs.Layout.{Owner}
 use Rattle.piece_bits.specs.Tables.{zeros}
 use Rattle.piece_bits.specs.TableLaws.{zeros_shape}
+use Rattle.kept_tables.specs.declared.mode.StoreMode.{StoreMode}
 use Rattle.line_grammar.specs.Sentences.{Sentence, New}
 use Rattle.line_grammar.specs.Sentences as line
-use Rattle.instrument.specs.Counters.{LeafCounts, HeatCounts}
-use Rattle.instrument.specs.CounterTexts.{counts_text, heat_text}
 use Rattle.views.specs.Tallies.{Access, Tally, tallied, no_tally, all_accesses, Read, Write}
 use Rattle.views.specs.TallyLaws.{tallied-none, tallied-append}
-use Rattle.views.specs.Tables.{Table, owners_of, leaf_count_of, after_stores}
+use Rattle.views.specs.Stores.{kept_row, kept_rows}
+use Rattle.views.specs.Tables.{Table, owners_of, leaf_count_of, kept_of, after_stores}
 use Rattle.worlds.specs.Worlds.{World, Entry, same_name, found, added, replaced, removed}
 use Rattle.csv_rows.specs.Datasets.{records_of, rows_of}
 use Rattle.csv_rows.specs.Loads.{dataset_of}
@@ -26,7 +25,7 @@ use Rattle.worlds.specs.Copy.{copy, copied, relayout, all_read, laid_anew, are_a
 use Rattle.worlds.specs.Define.{define, fit}
 use Rattle.worlds.specs.Load.{load, loaded_table, loaded, filled, read, row_fault}
 use Rattle.worlds.specs.Mapping.{mapping}
-use Rattle.worlds.specs.OnView.{Done, Work, done_to, on_view, with_table, worked}
+use Rattle.worlds.specs.OnView.{Done, Work, done_to, on_view, worked}
 use Rattle.worlds.specs.Outcomes.{Outcome, Goes, Faults, CannotRead, ◌>>=◌, LeftOf, Left, known, free, some_or, refused_if, ok_or}
 use Rattle.worlds.specs.Show.{drop_view}
 use Rattle.worlds.specs.Step.{step, work_of}
@@ -121,46 +120,54 @@ logged_more name views logs table rows more all is =
     entries_replaced IsCounted name (after_stores table rows more) (log_in (found name logs) ++ more) views logs (counted_more table (log_in (found name logs)) rows more (counted_at name views logs table all is)) all
 
 -- zeros that are written to
-counted_zeros : (fields : Fields) (extents : List ℕ) (term : MapTerm) (rows : List (List ℤ)) (log : List Access) → IsCounted (after_stores (zeros_of fields extents term) rows log) log
-counted_zeros fields extents term rows log = refl
+counted_zeros : (mode : StoreMode) (fields : Fields) (extents : List ℕ) (term : MapTerm) (rows : List (List ℤ)) (log : List Access)
+    → IsCounted (after_stores (zeros_of mode fields extents term) rows log) log
+counted_zeros mode fields extents term rows log = refl
 
-length-zeros : (fields : Fields) (extents : List ℕ) (term : MapTerm) → length (zeros_of fields extents term).rows ≡ length (indices extents)
-length-zeros fields extents term = (zeros_shape (length (indices extents)) (length (leaves fields))).row_count
+length-zeros : (mode : StoreMode) (fields : Fields) (extents : List ℕ) (term : MapTerm) → length (zeros_of mode fields extents term).rows ≡ length (indices extents)
+length-zeros mode fields extents term = (zeros_shape (length (indices extents)) (length (leaves fields))).row_count
+
+-- one write of each value that a table keeps of rows
+writes_written : (table : Table) (rows : List (List ℤ)) → writes_of (Some (with_written table rows)) ≡ all_accesses Write (leaf_count_of table) (length rows)
+writes_written table rows = ap (all_accesses Write (leaf_count_of table)) (length-map rows (kept_row (kept_of table)))
 
 -- a table of zeros, and one with other rows, each value written once
 record IsZeros (table : Table) : Type 0 where
+  mode : StoreMode
   fields : Fields
   extents : List ℕ
   term : MapTerm
-  is : table ≡ zeros_of fields extents term
+  is : table ≡ zeros_of mode fields extents term
 
 record IsFilled (table : Table) : Type 0 where
+  mode : StoreMode
   fields : Fields
   extents : List ℕ
   term : MapTerm
   rows : List (List ℤ)
-  is : table ≡ after_stores (zeros_of fields extents term) rows (all_accesses Write (length (leaves fields)) (length (indices extents)))
+  is : table ≡ after_stores (zeros_of mode fields extents term) rows (all_accesses Write (length (leaves fields)) (length (indices extents)))
 
-made_zeros : (views : List (Entry Table)) (fields : Fields) (extents : List ℕ) (term : MapTerm) → IfGoes IsZeros (made views fields extents term)
-made_zeros views fields extents term = of_made (made views fields extents term) (made_told false views fields extents term) where
-  of_made : (x : Outcome Table) → Told false (λ (t : Table). t ≡ zeros_of fields extents term) x → IfGoes IsZeros x
-  of_made x (goes t is) = to t (record { fields = fields; extents = extents; term = term; is = is })
+made_zeros : (views : List (Entry Table)) (mode : StoreMode) (fields : Fields) (extents : List ℕ) (term : MapTerm) → IfGoes IsZeros (made views mode fields extents term)
+made_zeros views mode fields extents term = of_made (made views mode fields extents term) (made_told false views mode fields extents term) where
+  of_made : (x : Outcome Table) → Told false (λ (t : Table). t ≡ zeros_of mode fields extents term) x → IfGoes IsZeros x
+  of_made x (goes t is) = to t (record { mode = mode; fields = fields; extents = extents; term = term; is = is })
   of_made x (told fault of) = refused fault
 
 zeros_filled : (zeros : Table) (records : List (List (List ℕ))) → IsZeros zeros → IfGoes IsFilled (filled zeros records)
 zeros_filled zeros records is =
     bind IsFilled (ok_or (row_fault zeros.fields) (dataset_of zeros records)) _ (λ rows r. to _ (record {
+      mode = is.mode;
       fields = is.fields;
       extents = is.extents;
       term = is.term;
       rows = rows;
       is = ap (λ (t : Table). after_stores t rows (all_accesses Write (leaf_count_of t) (length t.rows))) is.is
-          ∙ ap (λ (n : ℕ). after_stores (zeros_of is.fields is.extents is.term) rows (all_accesses Write (length (leaves is.fields)) n)) (length-zeros is.fields is.extents is.term);
+          ∙ ap (λ (n : ℕ). after_stores (zeros_of is.mode is.fields is.extents is.term) rows (all_accesses Write (length (leaves is.fields)) n)) (length-zeros is.mode is.fields is.extents is.term);
     }))
 
 counted_filled : (table : Table) → IsFilled table → IsCounted table (fills_of (Some table))
 counted_filled table is =
-    subst (λ (t : Table). IsCounted t (fills_of (Some t))) (sym is.is) (counted_zeros is.fields is.extents is.term is.rows (all_accesses Write (length (leaves is.fields)) (length (indices is.extents))))
+    subst (λ (t : Table). IsCounted t (fills_of (Some t))) (sym is.is) (counted_zeros is.mode is.fields is.extents is.term is.rows (all_accesses Write (length (leaves is.fields)) (length (indices is.extents))))
 
 counted_none : (table : Table) → IsZeros table → IsCounted table []
 counted_none table is = subst (λ (t : Table). IsCounted t []) (sym is.is) (sym (tallied-none _ _))
@@ -185,7 +192,7 @@ module _ (world : World) (logs : List (Entry (List Access))) (all : AreCounted w
   unfolding new_table
   new_zeros new =
       bind IsZeros (named world new) _ (λ whole a.
-      bind IsZeros (resolved new.words None) _ (λ extents b. made_zeros world.views whole.fields extents whole.mapping))
+      bind IsZeros (resolved new.words None) _ (λ extents b. made_zeros world.views whole.mode whole.fields extents whole.mapping))
 
   view_keeps : (new : New) → IfGoes (Keeps (λ w. added new.name [] logs)) (view world new)
   unfolding view
@@ -215,7 +222,7 @@ module _ (world : World) (logs : List (Entry (List Access))) (all : AreCounted w
       bind P (read files fails file) _ (λ bytes b.
       bind P (refused_if (nat_lt (2 ^ 28) (length bytes)) TooBig) _ (λ short c.
       bind P (resolved new.words (Some (length (rows_of (records_of bytes))))) _ (λ extents d.
-      behind P IsZeros (made world.views whole.fields extents whole.mapping) _ (made_zeros world.views whole.fields extents whole.mapping) (λ zeros is.
+      behind P IsZeros (made world.views whole.mode whole.fields extents whole.mapping) _ (made_zeros world.views whole.mode whole.fields extents whole.mapping) (λ zeros is.
       with_free new none (filled zeros (records_of bytes)) (zeros_filled zeros (records_of bytes) is))))))
     where
       with_free : (new : New) → found new.name world.views ≡ None → (x : Outcome Table) → IfGoes IsFilled x → IfGoes (IsLoaded new) x
@@ -239,8 +246,11 @@ module _ (world : World) (logs : List (Entry (List Access))) (all : AreCounted w
       bind P (nameless world.mappings term) _ (λ whole b.
       behind P (λ (new : Table). new ≡ anew_of table whole) (laid_anew world.views table whole) _ (of_told _ _ (anew_told false world.views table whole)) (λ new anew.
       let there : found name (replaced name new world.views) ≡ Some new = found_replaced name new table world.views (known_found _ (found name world.views) table t) in
+      let zeros : Table = zeros_of table.mode table.fields table.extents whole in
       let one : IsCounted new (writes_of (Some new)) =
-      subst (λ (n : Table). IsCounted n (writes_of (Some n))) (sym anew) (counted_zeros table.fields table.extents whole table.rows (all_accesses Write (leaf_count_of table) (length table.rows))) in
+      subst (λ (n : Table). IsCounted n (writes_of (Some n))) (sym anew)
+      (subst (IsCounted (with_written zeros table.rows)) (sym (writes_written zeros table.rows))
+      (counted_zeros table.mode table.fields table.extents whole (kept_rows (kept_of zeros) table.rows) (all_accesses Write (leaf_count_of zeros) (length table.rows)))) in
       to _ (subst (λ (x : Option Table). AreCounted (replaced name new world.views) (replaced name (writes_of x) logs)) (sym there)
       (entries_replaced IsCounted name new (writes_of (Some new)) world.views logs one all)))))
 
@@ -265,7 +275,8 @@ module _ (world : World) (logs : List (Entry (List Access))) (all : AreCounted w
       let there : found target (replaced target new read_views) ≡ Some new = found_replaced target new old read_views old_is in
       let one : AreCounted (replaced target new read_views) (logged target (writes_of (Some new)) read_logs) =
       subst (λ (n : Table). AreCounted (replaced target n read_views) (logged target (writes_of (Some n)) read_logs)) (sym written)
-      (logged_more target read_views read_logs old s.rows (all_accesses Write (leaf_count_of old) (length s.rows)) read old_is) in
+      (subst (λ (more : List Access). AreCounted (replaced target (with_written old s.rows) read_views) (logged target more read_logs)) (sym (writes_written old s.rows))
+      (logged_more target read_views read_logs old (kept_rows (kept_of old) s.rows) (all_accesses Write (leaf_count_of old) (length s.rows)) read old_is)) in
       to _ (subst (λ (x : Option Table). AreCounted (replaced target new read_views) (logged target (writes_of x) read_logs)) (sym there) one))))
 
   drop_keeps : (name : List ℕ) → IfGoes (Keeps (λ w. removed name logs)) (drop_view world name)

@@ -1,5 +1,5 @@
 -- What a run shows of its accesses.
-use Rattle.std.proofs.Common.{◌≡◌, ℕ, ◌+◌, Bool, List, [], ◌∷◌, ◌++◌, length, Option, Some, None, refl, sym, ap, subst, ◌∙◌, arith, append_assoc, add-one}
+use Rattle.std.proofs.Common.{◌≡◌, ℕ, ◌+◌, Bool, List, [], ◌∷◌, ◌++◌, length, Option, Some, None, refl, sym, ap, subst, ◌∙◌, arith, append_assoc}
 use Rattle.std.specs.Prelude.{IfSome}
 use Rattle.layout_io.specs.Files.{File}
 use Rattle.map_expr.specs.Terms.{Term}
@@ -10,11 +10,11 @@ use Rattle.line_grammar.specs.declared.version.Version.{Version}
 use Rattle.instrument.specs.Counters.{LeafCounts, HeatCounts}
 use Rattle.instrument.specs.CounterTexts.{counts_text, heat_text}
 use Rattle.views.specs.Entries.{AreEntries, AreCounts, AreHeat}
-use Rattle.views.specs.Tallies.{Access, Tally, tallied, no_tally}
+use Rattle.views.specs.Tallies.{Access, tallied, no_tally}
 use Rattle.views.specs.Tables.{Table, owners_of, leaf_count_of}
-use Rattle.worlds.specs.Worlds.{World, empty, found}
+use Rattle.worlds.specs.Worlds.{World, found}
 use Rattle.worlds.specs.OnView.{Done, done_to, on_view}
-use Rattle.worlds.specs.Outcomes.{Outcome, Goes, LeftOf, Left, known, some_or}
+use Rattle.worlds.specs.Outcomes.{Outcome, LeftOf, Left, known, some_or}
 use Rattle.worlds.specs.Show.{counts, heat}
 use Rattle.worlds.specs.Step.{step}
 use Rattle.worlds.specs.declared.fault.CommandFault.TheVariants.{NotCounted}

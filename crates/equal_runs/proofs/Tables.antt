@@ -8,14 +8,17 @@ use Rattle.map_checks.specs.Mappings.{leaf_cells, layout_by, most_slots, accepte
 use Rattle.views.specs.Tallies.{Access, Tally, all_accesses, granules_for, no_tally, Write}
 use Rattle.layout_copy.specs.Copies.{refused_at}
 use Rattle.piece_bits.specs.Tables.{zeros}
+use Rattle.kept_tables.specs.declared.mode.StoreMode.{StoreMode}
 use Rattle.std.specs.Prelude.{ℤ, ◌+◌, ◌*◌, ◌^◌, nat_lt}
-use Rattle.views.specs.AnswerLaws.{kept_rows-same}
-use Rattle.views.specs.Tables.{Table, owners_of, leaf_count_of, answer_of, after_stores}
+use Rattle.views.specs.AnswerLaws.{kept_alike}
+use Rattle.views.specs.Stores.{Keeping, kept_rows}
+use Rattle.views.specs.Tables.{Table, IsWide, owners_of, leaf_count_of, answer_of, kept_of, after_stores}
 use Rattle.worlds.specs.Worlds.{World, Entry}
 use Rattle.worlds.specs.Outcomes.{Left, refused_by, refused_if, ok_or}
 use Rattle.worlds.specs.Tables.{made, zeros_of, blob_bits, live_bits}
 use Rattle.worlds.specs.Copy.{with_rows, laid_anew, narrow_fault}
 use Rattle.worlds.specs.declared.fault.CommandFault.TheVariants.{BadMapping, TooBig}
+use Rattle.equal_runs.specs.Widths.{AreWide}
 use Rattle.equal_runs.proofs.Agreeing.{Told, goes, Any, Both, told_bind, told_if, told_ok, told_by}
 use Rattle.equal_runs.proofs.Entries.{Entries}
 use Rattle.equal_runs.proofs.TallyCounts.{SameCounts, tallied_alike, no_tally_alike}
@@ -24,6 +27,7 @@ use Rattle.equal_runs.proofs.TallyCounts.{SameCounts, tallied_alike, no_tally_al
 pub record AlikeTables (table other : Table) : Type 0 where
   pub fields : other.fields ≡ table.fields
   pub extents : other.extents ≡ table.extents
+  pub mode : other.mode ≡ table.mode
   pub rows : other.rows ≡ table.rows
   pub counts : SameCounts table.tally.counts other.tally.counts
 
@@ -32,9 +36,9 @@ pub record AlikeWorlds (world other : World) : Type 0 where
   pub mappings : Entries {A = MapTerm} Both world.mappings other.mappings
   pub views : Entries AlikeTables world.views other.views
 
--- what a command leaves: such worlds, and the same text
+-- what a command leaves: such worlds, where their tables have room for all bits, and the same text
 pub record AlikeLefts (left other : Left) : Type 0 where
-  pub worlds : AlikeWorlds left.held other.held
+  pub worlds : AreWide left.held.views → AreWide other.held.views → AlikeWorlds left.held other.held
   pub text : other.text ≡ left.text
 
 -- what holds of a table under every mapping, with every tally that counts the same, holds of a table that is alike
@@ -42,8 +46,12 @@ pub of_mapping : (P : Table → Type 0) (table other : Table) → AlikeTables ta
     → ((mapping : MapTerm) (tally : Tally) → SameCounts table.tally.counts tally.counts → P (record table { mapping = mapping; tally = tally })) → P other
 of_mapping P table other alike each =
     let is : record table { mapping = other.mapping; tally = other.tally } ≡ other =
-    λ i. record { fields = sym alike.fields i; extents = sym alike.extents i; mapping = other.mapping; rows = sym alike.rows i; tally = other.tally } in
+    λ i. record { fields = sym alike.fields i; extents = sym alike.extents i; mapping = other.mapping; mode = sym alike.mode i; rows = sym alike.rows i; tally = other.tally } in
     subst P is (each other.mapping other.tally alike.counts)
+
+-- tables that are alike where both have room for all bits
+abbrev pub AlikeIfWide : Table → Table → Type 0
+AlikeIfWide table other = IsWide table → IsWide other → AlikeTables table other
 
 -- tables that are alike, by other words for them
 pub alike_both : (first second : Table) → AlikeTables first second → (table other : Table) → table ≡ first → other ≡ second → AlikeTables table other
@@ -53,42 +61,55 @@ alike_both first second alike table other is also = subst (AlikeTables table) (s
 pub rewritten_alike : (table : Table) (mapping : MapTerm) (tally : Tally) → SameCounts table.tally.counts tally.counts
     → (rows : List (List ℤ)) (log : List Access) → AlikeTables (after_stores table rows log) (after_stores (record table { mapping = mapping; tally = tally }) rows log)
 rewritten_alike table mapping tally same rows log =
-    record { fields = refl; extents = refl; rows = refl; counts = tallied_alike (owners_of table) (owners_of (record table { mapping = mapping })) table.tally tally log same }
+    record { fields = refl; extents = refl; mode = refl; rows = refl; counts = tallied_alike (owners_of table) (owners_of (record table { mapping = mapping })) table.tally tally log same }
 
-pub zeros_alike : (fields others : Fields) (extents : List ℕ) (term changed : MapTerm) → others ≡ fields → AlikeTables (zeros_of fields extents term) (zeros_of others extents changed)
-zeros_alike fields others extents term changed is = record {
+pub zeros_alike : (mode another : StoreMode) (fields others : Fields) (extents : List ℕ) (term changed : MapTerm) → another ≡ mode → others ≡ fields
+    → AlikeTables (zeros_of mode fields extents term) (zeros_of another others extents changed)
+zeros_alike mode another fields others extents term changed same is = record {
   fields = is;
   extents = refl;
+  mode = same;
   rows = ap (λ (f : Fields). zeros (length (indices extents)) (length (leaves f))) is;
-  counts = subst (λ (f : Fields). SameCounts (zeros_of fields extents term).tally.counts (no_tally changed (layout_by changed extents others) (length (leaves f))).counts) (sym is)
+  counts = subst (λ (f : Fields). SameCounts (zeros_of mode fields extents term).tally.counts (no_tally changed (layout_by changed extents others) (length (leaves f))).counts) (sym is)
       (no_tally_alike term changed (layout_by term extents fields) (layout_by changed extents others) (length (leaves fields)));
 }
 
--- with other rows, each value written once
+-- with what a table keeps of other rows, each value written once
 abbrev pub with_written : Table → List (List ℤ) → Table
-with_written table rows = after_stores table rows (all_accesses Write (leaf_count_of table) (length rows))
+with_written table rows = after_stores table (kept_rows (kept_of table) rows) (all_accesses Write (leaf_count_of table) (length rows))
 
-pub written_alike : (table other : Table) → AlikeTables table other → (rows : List (List ℤ)) → AlikeTables (with_written table rows) (with_written other rows)
-written_alike table other alike rows =
-    of_mapping (λ (t : Table). AlikeTables (with_written table rows) (with_written t rows)) table other alike
-    (λ mapping tally same. rewritten_alike table mapping tally same rows (all_accesses Write (leaf_count_of table) (length rows)))
+-- where both have room for all bits, both keep the same
+pub written_under : (table : Table) (mapping : MapTerm) (tally : Tally) → SameCounts table.tally.counts tally.counts
+    → IsWide table → IsWide (record table { mapping = mapping; tally = tally }) → (rows : List (List ℤ))
+    → AlikeTables (with_written table rows) (with_written (record table { mapping = mapping; tally = tally }) rows)
+written_under table mapping tally same wide also rows =
+    let under : Table = record table { mapping = mapping; tally = tally } in
+    let log = all_accesses Write (leaf_count_of table) (length rows) in
+    subst (λ (keep : Keeping). AlikeTables (with_written table rows) (after_stores under (kept_rows keep rows) log)) (kept_alike table under refl refl wide also)
+    (rewritten_alike table mapping tally same (kept_rows (kept_of table) rows) log)
 
--- the same rows under a new mapping
+written_alike : (table other : Table) → AlikeTables table other → IsWide table → IsWide other → (rows : List (List ℤ)) → AlikeTables (with_written table rows) (with_written other rows)
+written_alike table other alike wide also rows =
+    of_mapping (λ (t : Table). IsWide t → AlikeTables (with_written table rows) (with_written t rows)) table other alike
+    (λ mapping tally same room. written_under table mapping tally same wide room rows) also
+
+-- what a new mapping keeps of the rows
 abbrev pub anew_of : Table → MapTerm → Table
-anew_of table mapping = with_written (zeros_of table.fields table.extents mapping) table.rows
+anew_of table mapping = with_written (zeros_of table.mode table.fields table.extents mapping) table.rows
 
-pub anew_alike : (table other : Table) (term changed : MapTerm) → AlikeTables table other → AlikeTables (anew_of table term) (anew_of other changed)
-anew_alike table other term changed alike =
-    of_mapping (λ (t : Table). AlikeTables (anew_of table term) (anew_of t changed)) table other alike
-    (λ mapping tally same. written_alike (zeros_of table.fields table.extents term) (zeros_of table.fields table.extents changed)
-    (zeros_alike table.fields table.fields table.extents term changed refl) table.rows)
+pub anew_alike : (table other : Table) (term changed : MapTerm) → AlikeTables table other → IsWide (anew_of table term) → IsWide (anew_of other changed)
+    → AlikeTables (anew_of table term) (anew_of other changed)
+anew_alike table other term changed alike wide also =
+    of_mapping (λ (t : Table). IsWide (anew_of t changed) → AlikeTables (anew_of table term) (anew_of t changed)) table other alike
+    (λ mapping tally same room. written_alike (zeros_of table.mode table.fields table.extents term) (zeros_of table.mode table.fields table.extents changed)
+    (zeros_alike table.mode table.mode table.fields table.fields table.extents term changed refl refl) wide room table.rows) also
 
 module _ (m : Bool) where
   -- a new table is refused for its mapping or its size alone
-  pub made_told : (views : List (Entry Table)) (fields : Fields) (extents : List ℕ) (mapping : MapTerm)
-      → Told m (λ (t : Table). t ≡ zeros_of fields extents mapping) (made views fields extents mapping)
-  made_told views fields extents mapping =
-      let table = zeros_of fields extents mapping in
+  pub made_told : (views : List (Entry Table)) (mode : StoreMode) (fields : Fields) (extents : List ℕ) (mapping : MapTerm)
+      → Told m (λ (t : Table). t ≡ zeros_of mode fields extents mapping) (made views mode fields extents mapping)
+  made_told views mode fields extents mapping =
+      let table = zeros_of mode fields extents mapping in
       let many = nat_lt (2 ^ 24) (granules_for mapping (owners_of table)) in
       told_bind m Any _ (ok_or BadMapping (accepted mapping fields (leaf_cells (kinds_of fields)))) _ (told_ok m BadMapping _ (λ e. refl)) (λ fit p.
       told_bind m Any _ (refused_if (nat_lt (2 ^ 24) (most_slots mapping extents)) TooBig) _ (told_if m _ TooBig refl) (λ slots q.
@@ -100,13 +121,12 @@ module _ (m : Bool) where
   pub rows_told : (table : Table) (rows : List (List ℤ)) → Told m (λ (t : Table). t ≡ with_written table rows) (with_rows table rows)
   unfolding with_rows
   rows_told table rows =
-      told_bind m Any _ (refused_by (narrow_fault table.fields) (refused_at (answer_of table) 0 rows)) _ (told_by m (narrow_fault table.fields) _ (λ e. refl)) (λ held p. goes _
-      (ap (λ (kept : List (List ℤ)). after_stores table kept (all_accesses Write (leaf_count_of table) (length rows))) (kept_rows-same table rows)))
+      told_bind m Any _ (refused_by (narrow_fault table.fields) (refused_at (answer_of table) 0 rows)) _ (told_by m (narrow_fault table.fields) _ (λ e. refl)) (λ held p. goes _ refl)
 
   pub anew_told : (views : List (Entry Table)) (table : Table) (mapping : MapTerm) → Told m (λ (t : Table). t ≡ anew_of table mapping) (laid_anew views table mapping)
   unfolding laid_anew
   anew_told views table mapping =
-      told_bind m (λ (t : Table). t ≡ zeros_of table.fields table.extents mapping) (λ (t : Table). t ≡ anew_of table mapping) (made views table.fields table.extents mapping) _
-      (made_told views table.fields table.extents mapping)
+      told_bind m (λ (t : Table). t ≡ zeros_of table.mode table.fields table.extents mapping) (λ (t : Table). t ≡ anew_of table mapping)
+      (made views table.mode table.fields table.extents mapping) _ (made_told views table.mode table.fields table.extents mapping)
       (λ zeros is. subst (λ (z : Table). Told m (λ (t : Table). t ≡ anew_of table mapping) (with_rows z table.rows)) (sym is)
-      (rows_told (zeros_of table.fields table.extents mapping) table.rows))
+      (rows_told (zeros_of table.mode table.fields table.extents mapping) table.rows))

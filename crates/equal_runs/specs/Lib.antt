@@ -1,5 +1,6 @@
 pub mod Lines
 pub mod Endings
+pub mod Widths
 pub mod EqualRuns
 pub mod Logs
 pub mod Entries

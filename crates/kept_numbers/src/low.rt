@@ -13,7 +13,13 @@ fn low_part(value: i128, width: u32) -> u64
     ensures value { result ≡ number (digit value) width }
     ensures small { result < 2 ^ width }
 {
-    value.rem_euclid(1 << width) as u64
+    let count = 1_u128 << width;
+    if value < 0 {
+        let above = -(value + 1) as u128 % count;
+        (count - 1 - above) as u64
+    } else {
+        (value as u128 % count) as u64
+    }
 }
 
 /// What the bits of a hold say once a value is stored in them: the low bits of the value that the hold has room for, read in the hold's

@@ -1,10 +1,14 @@
 -- Blocks of sixteen rows that are changed at once.
-use Rattle.std.proofs.Common.{◌≡◌, ℕ, ◌+◌, ◌*◌, ◌≤◌, List, length, map, take, drop, ℤ, None, sym, ap, ◌∙◌, subst, arith, length-take, take_all}
+use Rattle.std.proofs.Common.{◌≡◌, ℕ, ◌+◌, ◌*◌, ◌<◌, ◌≤◌, List, length, map, take, drop, ℤ, None, sym, ap, ◌∙◌, subst, arith, length-take, take_all}
 use Rattle.std.proofs.lemmas.List.{length-map}
+use Rattle.record_dim.specs.LeafTypes.{width_of}
+use Rattle.record_dim.specs.Leaves.{leaves, kinds_of}
+use Rattle.record_dim.specs.Trees.{Fields}
 use Rattle.views.specs.Columns.{column_writes, with_column, first_lane_fault}
+use Rattle.views.specs.Stores.{kind_at}
 use Rattle.views.specs.Tables.{Table, answer_of, kept_of, after_log, after_stores}
 use Rattle.lane_kernels.specs.Blocks.{cost}
-use Rattle.lane_kernels.specs.Kernels.{row_cost}
+use Rattle.lane_kernels.specs.Kernels.{row_cost, IsKernelOf, IsNarrowLeaf}
 use Rattle.lane_kernels.specs.Changes.{changing, changed_leaf, changed_value, block_reads, AreChanged, IsDone}
 use Rattle.lane_kernels.specs.declared.changes.Change.{Change}
 use Rattle.lane_kernels.specs.declared.changes.Change.TheVariants.{Axpy, Clamp}
@@ -36,6 +40,17 @@ begun_more old view new change block room changed done =
       few = omega arith;
       room = inside;
     }) done)
+
+-- a kernel can run on a table of the same leaves
+same_leaf : (old view : Table) (leaf : ℕ) → view.fields ≡ old.fields → IsNarrowLeaf old leaf → IsNarrowLeaf view leaf
+same_leaf old view leaf same narrow = record {
+  inside = subst (λ (f : Fields). leaf < length (leaves f)) (sym same) narrow.inside;
+  narrow = subst (λ (f : Fields). width_of (kind_at (kinds_of f) leaf) ≤ 32) (sym same) narrow.narrow;
+}
+
+pub still_kernel : (old view : Table) (change : Change) → view.fields ≡ old.fields → IsKernelOf old (changing change) → IsKernelOf view (changing change)
+still_kernel old view (Axpy a x y) same is = (is.0, same_leaf old view x same is.1, same_leaf old view y same is.2)
+still_kernel old view (Clamp x lo hi) same is = (same_leaf old view x same is.0, is.1, is.2, is.3)
 
 some_cost : (change : Change) → 1 ≤ row_cost (changing change)
 some_cost (Axpy a x y) = omega arith

@@ -13,13 +13,13 @@ use Rattle.std.proofs.lemmas.List.Concat.{flat_map-cons}
 use Rattle.std.specs.Simd.Lanes.{Each1}
 use Rattle.std.proofs.lemmas.Simd.{Each1-chunk}
 use Rattle.places.specs.Image.{entry}
-use Rattle.places.specs.declared.piece.Hold.{Hold}
 use Rattle.record_dim.specs.declared.leaf_type.LeafType.{LeafType}
 use Rattle.record_dim.specs.declared.leaf_type.LeafType.TheVariants.{Bool as Truth, U8, U16, U32, U64, I8, I16, I32, I64}
 use Rattle.record_dim.specs.LeafTypes.{width_of, IsDeclared}
 use Rattle.record_dim.specs.Leaves.{leaves}
 use Rattle.piece_bits.specs.Tables.{hold_at}
-use Rattle.views.specs.Stores.{Answer, Fits}
+use Rattle.kept_tables.specs.EntryLaws.{stays_declared}
+use Rattle.views.specs.Stores.{Answer}
 use Rattle.views.specs.Tables.{Table, IsTable, leaf_types_of, leaf_type_of, table_holds, answer_of, kept_of, after_log, after_stores}
 use Rattle.views.specs.TallyLaws.{after_log-none, after_log-append}
 use Rattle.views.specs.Tallies.{Access, Read}
@@ -49,9 +49,6 @@ declared_constant I8 value narrow d = (omega (arith, ints, d.0), omega (arith, i
 declared_constant I16 value narrow d = (omega (arith, ints, d.0), omega (arith, ints, d.1))
 declared_constant I32 value narrow d = (omega (arith, ints, d.0), omega (arith, ints, d.1))
 declared_constant I64 value narrow d = absurd (omega (arith, narrow))
-
-pub fits_constant : (kind : LeafType) (hold : Hold) (value : ℤ) → width_of kind ≤ 32 → Fits kind hold value → IsNarrow value
-fits_constant kind hold value narrow fits = declared_constant kind value narrow fits.declared
 
 -- the values of a block more
 pub values_more : (reduction : Reduction) (row step : ℕ) (values : List ℤ) (number new : ℤ) → number ≡ reduced reduction (take row values)
@@ -264,8 +261,10 @@ pub has_first : (seen : Table) (leaf : ℕ) → IsTable seen → IsNarrowLeaf se
 has_first seen leaf table narrow some =
     let count = length-map (leaves seen.fields) (λ leaf. leaf.kind) in
     let inside : leaf < length (leaf_types_of seen) = omega (arith, narrow.inside, count) in
-    let value = fits_constant (leaf_type_of seen leaf) (hold_at (table_holds seen) leaf) (entry seen.rows 0 leaf) narrow.narrow (table.fits 0 leaf some inside) in
-    record { some = some; narrow = value }
+    let kind = leaf_type_of seen leaf in
+    let value = entry seen.rows 0 leaf in
+    let declared = stays_declared seen.mode kind (hold_at (table_holds seen) leaf) value (table.stays 0 leaf some inside) in
+    record { some = some; narrow = declared_constant kind value narrow.narrow declared }
 
 -- a reduction stores nothing
 stores_nothing : (reduction : Reduction) (leaf : ℕ) (values : List ℤ) → stored (reducing leaf reduction) values ≡ None

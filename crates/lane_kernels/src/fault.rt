@@ -10,10 +10,10 @@ pub enum KernelFault {
     /// No row has a least or a greatest value.
     #[error("Empty")]
     Empty,
-    /// The value lies outside of the declared range of its leaf.
+    /// The value lies outside of the declared range of its leaf, and the view is strict.
     #[error("Range record {row} leaf {leaf}")]
     Range { row: u64, leaf: usize },
-    /// The value lies in the declared range and not in that of how the leaf is stored.
+    /// The value lies in the declared range and not in that of how the leaf is stored, and the view is strict.
     #[error("Narrow record {row} leaf {leaf}")]
     Narrow { row: u64, leaf: usize },
 }

@@ -9,9 +9,9 @@ use std::sync::ledger::Ledger;
 use steps::Steps;
 use views::View;
 
-/// Runs a kernel in blocks of 1 to 16 rows, and the rest row by row. `Range` and `Narrow` come exactly where a value to store does not
-/// fit, and name the first row; exactly the rows before it are changed. `Empty` comes exactly where a least or greatest value is asked of
-/// no row. It takes no memory.
+/// Runs a kernel in blocks of 1 to 16 rows, and the rest row by row. Each value is stored as the view keeps it. `Range` and `Narrow` come
+/// exactly where the view is strict and a value to store does not fit, and name the first row; exactly the rows before it are changed.
+/// `Empty` comes exactly where a least or greatest value is asked of no row. It takes no memory.
 pub fn run_lanes<L: Ledger>(
     view: &mut View,
     kernel: &Kernel,

@@ -10,6 +10,7 @@ use Rattle.record_dim.specs.Trees.{Tree, Fields}
 use Rattle.map_expr.specs.Terms.{Term as MapTerm, Aos, Soa, Aosoa, BitAos, BitSoa, Split, Byteswap, Bytesplit, Change, Count, Heat, Named as NamedTerm}
 use Rattle.line_grammar.specs.Sentences as line
 use Rattle.line_grammar.specs.Sentences.{New, file_of as file_in}
+use Rattle.kept_tables.specs.declared.mode.StoreMode.{StoreMode}
 use Rattle.views.specs.Tables.{Table, owners_of}
 use Rattle.worlds.specs.Worlds.{World, Entry, found}
 use Rattle.worlds.specs.declared.fault.CommandFault.{CommandFault}
@@ -107,9 +108,9 @@ mapping_reads : (world : World) (name : List ℕ) (term : MapTerm) → IsReadabl
 unfolding mapping
 mapping_reads world name term = next (free_reads name world.mappings) (λ new. next (nameless_reads world.mappings term) (λ whole. next (answered _ _) (λ fit. goes _)))
 
-made_reads : (views : List (Entry Table)) (fields : Fields) (extents : List ℕ) (mapping : MapTerm) → IsReadable (made views fields extents mapping)
-made_reads views fields extents mapping =
-    let table = zeros_of fields extents mapping in
+made_reads : (views : List (Entry Table)) (mode : StoreMode) (fields : Fields) (extents : List ℕ) (mapping : MapTerm) → IsReadable (made views mode fields extents mapping)
+made_reads views mode fields extents mapping =
+    let table = zeros_of mode fields extents mapping in
     next (answered BadMapping (accepted mapping fields (leaf_cells (kinds_of fields)))) (λ fit.
     next (tested (nat_lt (2 ^ 24) (most_slots mapping extents)) TooBig) (λ slots.
     next (tested (nat_lt (8 * 2 ^ 28) (blob_bits table)) TooBig) (λ bytes.
@@ -137,7 +138,7 @@ view_reads : (world : World) (new : New) → IsReadable (view world new)
 unfolding view new_table
 view_reads world new =
     next (next (named_reads world new) (λ whole.
-    next (resolved_reads new.words None) (λ extents. made_reads world.views whole.fields extents whole.mapping))) (λ table. goes _)
+    next (resolved_reads new.words None) (λ extents. made_reads world.views whole.mode whole.fields extents whole.mapping))) (λ table. goes _)
 
 filled_reads : (table : Table) (records : List (List (List ℕ))) → IsReadable (filled table records)
 filled_reads table records = next (answered _ _) (λ rows. goes _)
@@ -147,7 +148,7 @@ unfolding loaded
 loaded_reads views whole words dataset =
     next (tested _ _) (λ short.
     next (resolved_reads words (Some (length (rows_of (records_of dataset))))) (λ extents.
-    next (made_reads views whole.fields extents whole.mapping) (λ zeros. filled_reads zeros (records_of dataset))))
+    next (made_reads views whole.mode whole.fields extents whole.mapping) (λ zeros. filled_reads zeros (records_of dataset))))
 
 -- a file that is there can be read
 read_reads : (files : List File) (name dataset : List ℕ) → file_of files name ≡ Some dataset → IsReadable (read files false name)
@@ -223,7 +224,7 @@ unfolding relayout laid_anew
 relayout_reads world name term =
     next (known_reads name world.views) (λ table.
     next (nameless_reads world.mappings term) (λ whole.
-    next (next (made_reads world.views table.fields table.extents whole) (λ zeros. rows_reads zeros table.rows)) (λ new. goes _)))
+    next (next (made_reads world.views table.mode table.fields table.extents whole) (λ zeros. rows_reads zeros table.rows)) (λ new. goes _)))
 
 fits_reads : (lanes : ℕ) (wide constants : Bool) → IsReadable (fits lanes wide constants)
 fits_reads lanes wide constants =

@@ -1,11 +1,11 @@
 -- Rounds of slots one after another.
-use Rattle.std.proofs.Common.{◌≡◌, ⊎_elim, ℕ, ◌+◌, ◌*◌, ◌/◌, ◌%◌, ◌<◌, ◌≤◌, Bool, true, false, ◌||◌, List, [], ◌∷◌, map, take, length, get_or, sum_by, refl, sym, ap, ◌∙◌, subst, arith}
+use Rattle.std.proofs.Common.{◌≡◌, ⊎_elim, ℕ, ◌+◌, ◌*◌, ◌/◌, ◌%◌, ◌<◌, ◌≤◌, Bool, true, false, ◌||◌, List, [], ◌∷◌, map, take, length, get_or, sum_by, refl, sym, ap, ◌∙◌, arith}
 use Rattle.std.specs.Prelude.{◌==◌, min, if◌then◌else◌}
 use Rattle.std.specs.List.{range_with_len}
 use Rattle.std.proofs.Math.Nat.{mul-mod_left}
 use Rattle.std.proofs.lemmas.Nat.{div-add-mod', mul-le}
 use Rattle.std.proofs.lemmas.Bool.{cases_lt, eqb-true, or_right}
-use Rattle.std.proofs.lemmas.List.{take_all, length-map, get_or-map}
+use Rattle.std.proofs.lemmas.List.{length-map, get_or-map}
 use Rattle.std.proofs.lemmas.List.Sums.{sum_by-cons, sum_by_more, sum_by-le-sum_by}
 use Rattle.record_dim.specs.declared.leaf_type.LeafType.{LeafType}
 use Rattle.record_dim.specs.declared.leaf_type.LeafType.TheVariants.{Bool as Truth}
@@ -95,7 +95,3 @@ leaf_sum g kinds leaf inside =
     let size : get_or (map size_of kinds) leaf 0 ≡ size_of (kind_at kinds leaf) = get_or-map size_of kinds leaf Truth 0 inside in
     ap (λ (n : ℕ). sum_by g (take leaf (map size_of kinds)) + g n) (sym size)
     ∙ sym (sum_by_more g (map size_of kinds) leaf 0 (let l : leaf < length (map size_of kinds) = omega (arith, inside, length-map kinds size_of) in l))
-
-pub all_leaves : (g : ℕ → ℕ) (kinds : List LeafType) (leaf : ℕ) → length kinds ≤ leaf → sum_by g (take leaf (map size_of kinds)) ≡ sum_by g (map size_of kinds)
-all_leaves g kinds leaf over =
-    ap (sum_by g) (take_all leaf (map size_of kinds) (let l : length (map size_of kinds) ≤ leaf = omega (arith, over, length-map kinds size_of) in l))

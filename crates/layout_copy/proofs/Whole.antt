@@ -1,58 +1,40 @@
--- Tables that are copied whole: what they hold, what is counted, and by which strategy it goes.
-use Rattle.std.proofs.Common.{◌≡◌, ◌+◌, ◌*◌, ◌≤◌, ℕ, ℤ, List, [], ◌++◌, append-nil, length, Option, Some, None, Ok, Err, refl, sym, ap, ◌∙◌, subst, arith}
-use Rattle.std.specs.Prelude.{Result, IsErrOf, IfSome, IsSomeAnd}
-use Rattle.extents.specs.declared.order.Order.{Order}
+-- Tables that are copied whole: what they hold, what is counted, and the steps.
+use Rattle.std.proofs.Common.{◌≡◌, ◌+◌, ◌*◌, ◌≤◌, ℕ, ℤ, List, [], ◌++◌, append-nil, length, Option, Some, None, Ok, Err, sym, ap, ◌∙◌, subst, arith}
+use Rattle.std.specs.Prelude.{Result, IsErrOf, IsSomeAnd}
 use Rattle.extents.specs.Indices.{indices}
 use Rattle.record_dim.specs.Leaves.{leaves, kinds_of}
 use Rattle.record_dim.specs.Trees.{Fields}
-use Rattle.places.specs.Holds.{full_holds}
+use Rattle.places.specs.Image.{entry}
 use Rattle.places.specs.declared.piece.Hold.{Hold}
+use Rattle.piece_bits.specs.Tables.{HasShape, hold_at}
 use Rattle.map_expr.specs.Terms.{Term, uncounted}
 use Rattle.map_checks.specs.Mappings.{leaf_cells, holds_by}
 use Rattle.map_plans.specs.Arrays.{array_of}
-use Rattle.map_any.specs.ArrayRunLaws.{array_holds}
-use Rattle.map_any.specs.Strategies.{AreRuns, IsStrategy}
+use Rattle.map_any.specs.Strategies.{AreRuns}
 use Rattle.map_any.specs.declared.strategy.Strategy.{Strategy}
 use Rattle.map_any.specs.declared.strategy.Strategy.TheVariants as way
-use Rattle.views.specs.AnswerLaws.{kept_rows-same}
-use Rattle.views.specs.MovesLaws.{with_rows}
-use Rattle.views.specs.Tables.{Table, IsTable, table_holds, leaf_count_of, after_log, after_stores}
-use Rattle.views.specs.Tallies.{Access, Read, Write, all_accesses, all_touches}
+use Rattle.views.specs.MovesLaws.{with_rows, stays_moves, may_move, runs_full}
+use Rattle.views.specs.Stores.{AllStay}
+use Rattle.views.specs.Tables.{Table, IsTable, table_holds, leaf_count_of, leaf_type_of, leaf_types_of, after_log, after_stores}
+use Rattle.views.specs.Tallies.{Read, Write, all_accesses, all_touches}
 use Rattle.views.specs.UncountedLaws.{holds_uncounted}
 use Rattle.layout_copy.specs.Copies.{AreAlike, IsCopied}
-use Rattle.layout_copy.specs.Costs.{cost}
-use Rattle.layout_copy.specs.OwnLaws.{own_values}
+use Rattle.layout_copy.specs.Costs.{cost, IsWay, MayMoveTo}
+use Rattle.layout_copy.specs.OwnLaws.{staying_held, staying_kept}
 use Rattle.layout_copy.specs.declared.fault.CopyFault.{CopyFault}
 use Rattle.layout_copy.specs.declared.fault.CopyFault.TheVariants.{Mismatch, Narrow}
-
--- there is one strategy of two expressions
-pub one_strategy : (one two : Term) (a b : Strategy) → IsStrategy one two a → IsStrategy one two b → a ≡ b
-one_strategy one two way.Blobs way.Blobs h k = refl
-one_strategy one two way.Blobs way.Runs h k = absurd (k.0 h)
-one_strategy one two way.Blobs way.Fields h k = absurd (k.0 h)
-one_strategy one two way.Runs way.Blobs h k = absurd (h.0 k)
-one_strategy one two way.Runs way.Runs h k = refl
-one_strategy one two way.Runs way.Fields h k = absurd (k.1 h.1)
-one_strategy one two way.Fields way.Blobs h k = absurd (h.0 k)
-one_strategy one two way.Fields way.Runs h k = absurd (h.1 k.1)
-one_strategy one two way.Fields way.Fields h k = refl
-
--- that of two views is that of their expressions
-pub strategy_is : (one two : Term) (strategy : Strategy) {a b : Term} {found : Strategy} → a ≡ one → b ≡ two → found ≡ strategy → IsStrategy a b found
-    → IsStrategy one two strategy
-strategy_is one two strategy {a} {b} {found} first second is h =
-    subst (λ (t : Term). IsStrategy t two strategy) first (subst (λ (t : Term). IsStrategy a t strategy) second (subst (λ (s : Strategy). IsStrategy a b s) is h))
+use Rattle.layout_copy.proofs.WayLaws.{one_way}
 
 -- the steps of a copy field by field
-pub fields_steps : (source target : Table) (before after : ℕ) → IsTable source → AreAlike source target → IsStrategy source.mapping target.mapping way.Fields
+pub fields_steps : (source target : Table) (before after : ℕ) → IsTable source → AreAlike source target → IsWay source target way.Fields
     → after ≤ before + 2 * (length source.rows * leaf_count_of source)
-    → (strategy : Strategy) → IsStrategy source.mapping target.mapping strategy → after ≤ before + cost strategy source.mapping target.mapping target.fields target.extents
+    → (strategy : Strategy) → IsWay source target strategy → after ≤ before + cost strategy source.mapping target.mapping target.fields target.extents
 fields_steps source target before after is alike fields bound strategy other =
     let rows : length source.rows ≡ length (indices target.extents) = is.rows ∙ ap (λ (e : List ℕ). length (indices e)) alike.1 in
     let count : length source.rows * leaf_count_of source ≡ length (indices target.extents) * length (leaves target.fields) =
     ap (λ (n : ℕ). n * leaf_count_of source) rows ∙ ap (λ (f : Fields). length (indices target.extents) * length (leaves f)) alike.0 in
     subst (λ (s : Strategy). after ≤ before + cost s source.mapping target.mapping target.fields target.extents)
-    (one_strategy source.mapping target.mapping way.Fields strategy fields other)
+    (one_way source target way.Fields strategy fields other)
     (let all : after ≤ before + 2 * (length (indices target.extents) * length (leaves target.fields)) = omega (arith, bound, count) in all)
 
 -- views of one expression, counters left out, store leaves the same
@@ -64,13 +46,8 @@ blob_holds one two fields same =
 -- and so do those that lay out arrays: as the types are
 run_holds : (one two : Term) (fields : Fields) → AreRuns one two → holds_by one fields ≡ holds_by two fields
 run_holds one two fields are =
-    let full : List Hold = full_holds (leaf_cells (kinds_of fields)) in
-    of (array_of one) (array_of two) (holds_by one fields) (holds_by two fields) full are (array_holds one fields (leaf_cells (kinds_of fields))) (array_holds two fields (leaf_cells (kinds_of fields))) where
-      of : (o p : Option (Order × Option ℕ)) (first second full : List Hold) → IsSomeAnd o (λ x. IsSomeAnd p (λ y. x.0 ≡ y.0)) → IfSome o (λ _. first ≡ full)
-          → IfSome p (λ _. second ≡ full) → first ≡ second
-      of None p first second full both is are = absurd both
-      of (Some x) None first second full both is are = absurd both
-      of (Some x) (Some y) first second full both is are = is ∙ sym are
+    let full = runs_full one two fields are in
+    full.0 ∙ sym full.1
 
 -- accesses of one kind
 only_reads : (leaves rows : ℕ) → all_touches 1 0 leaves rows ≡ all_accesses Read leaves rows
@@ -84,16 +61,26 @@ pub whole_read : (old new : Table) → new ≡ after_log old (all_touches 1 0 (l
 whole_read old new is = is ∙ ap (after_log old) (only_reads (leaf_count_of old) (length old.rows))
 
 -- a table that has become another one, each of its entries counted
-module _ (source old now new : Table) (is : IsTable source) (alike : AreAlike source old) (moved : now ≡ with_rows old source.rows)
-    (counted : new ≡ after_log now (all_touches 0 1 (leaf_count_of now) (length now.rows))) where
+module _ (source old now new : Table) (is : IsTable source) (to : IsTable old) (alike : AreAlike source old) (may : MayMoveTo source old)
+    (moved : now ≡ with_rows old source.rows) (counted : new ≡ after_log now (all_touches 0 1 (leaf_count_of now) (length now.rows))) where
+  -- what the source holds stays in the target
+  all_stay : table_holds source ≡ table_holds old → AllStay old.mode (length source.rows) (leaf_types_of old) (table_holds old) source.rows
+  all_stay holds row leaf row_in leaf_in =
+      let here : AllStay source.mode (length source.rows) (leaf_types_of old) (table_holds old) source.rows =
+      subst (λ (f : Fields). AllStay source.mode (length source.rows) (kinds_of f) (table_holds old) source.rows) alike.0
+      (subst (λ (hs : List Hold). AllStay source.mode (length source.rows) (leaf_types_of source) hs source.rows) holds is.stays) in
+      stays_moves source.mode old.mode (leaf_type_of old leaf) (hold_at (table_holds old) leaf) (entry source.rows row leaf) (to.some leaf leaf_in)
+      (may_move source.mode old.mode (leaf_types_of old) (table_holds old) may leaf leaf_in) (here row leaf row_in leaf_in)
+
   whole_copied : table_holds source ≡ table_holds old → IsCopied source old new (Ok tt)
   whole_copied holds =
-      let log : List Access = all_touches 0 1 (leaf_count_of old) (length source.rows) in (
+      let shape : HasShape (length source.rows) (leaf_count_of old) source.rows = subst (λ (f : Fields). HasShape (length source.rows) (length (leaves f)) source.rows) alike.0 is.shape in
+      let stay = all_stay holds in (
         alike,
-        own_values source old is alike.0 holds,
+        staying_held old source.rows shape stay,
         counted ∙ ap (λ (t : Table). after_log t (all_touches 0 1 (leaf_count_of t) (length t.rows))) moved
             ∙ ap (after_stores old source.rows) (only_writes (leaf_count_of old) (length source.rows))
-            ∙ ap (λ (rows : List (List ℤ)). after_stores old rows (all_accesses Write (leaf_count_of old) (length source.rows))) (sym (kept_rows-same old source.rows)),
+            ∙ ap (λ (rows : List (List ℤ)). after_stores old rows (all_accesses Write (leaf_count_of old) (length source.rows))) (sym (staying_kept old source.rows shape stay)),
       )
 
   pub blobs_copied : uncounted source.mapping ≡ uncounted old.mapping → IsCopied source old new (Ok tt)

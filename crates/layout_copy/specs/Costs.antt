@@ -1,5 +1,5 @@
--- What copies cost: a step for each block of at most 64 bytes, or for each read and each write.
-use Rattle.std.specs.Prelude.{ℕ, ◌-◌, ◌*◌, ◌%◌, ◌==◌, ◌||◌, Bool, min, List, length, map, sum_by, Option, Some, if◌then◌else◌}
+-- By which way a copy goes, and what it costs: a step for each block of at most 64 bytes, or for each read and each write.
+use Rattle.std.specs.Prelude.{ℕ, ◌≡◌, ◌⊎◌, ◌*◌, List, length, map, sum_by, Option, Some, if◌then◌else◌}
 use Rattle.std.specs.List.{range_with_len}
 use Rattle.extents.specs.Indices.{indices}
 use Rattle.extents.specs.declared.order.Order.{Order}
@@ -10,10 +10,22 @@ use Rattle.blobs.specs.Moves.{blocks}
 use Rattle.map_expr.specs.Terms.{Term}
 use Rattle.map_checks.specs.Mappings.{layout_by}
 use Rattle.map_plans.specs.Arrays.{array_of, lanes_in}
+use Rattle.map_any.specs.Strategies.{IsStrategy}
 use Rattle.map_any.specs.declared.strategy.Strategy.{Strategy}
 use Rattle.map_any.specs.declared.strategy.Strategy.TheVariants as way
-use Rattle.views.specs.Moves.{blob_steps, size_of}
+use Rattle.views.specs.Moves.{blob_steps, size_of, MayMove}
 use Rattle.views.specs.Pieces.{is_cut, piece_count, move_steps}
+use Rattle.views.specs.Tables.{Table, leaf_types_of, table_holds}
+
+-- what the blobs of one table hold those of another with the same leaves may hold
+abbrev pub MayMoveTo : Table → Table → Type 0
+MayMoveTo source target = MayMove source.mode target.mode (leaf_types_of target) (table_holds target)
+
+-- by which way a table is copied into another one: by the way of their expressions, but field by field where the source keeps low bits, the
+-- target is strict, and some leaf is not stored in the sign and the width of its type
+abbrev pub IsWay : Table → Table → Strategy → Type 0
+IsWay source target strategy =
+    (MayMoveTo source target × IsStrategy source.mapping target.mapping strategy) ⊎ ((MayMoveTo source target → ⊥) × (strategy ≡ way.Fields))
 
 -- the bytes of each leaf
 abbrev pub leaf_sizes : Fields → List ℕ

@@ -1,28 +1,13 @@
--- The values of a table are taken by each table whose leaves have its types and are stored as its own.
-use Rattle.std.proofs.Common.{◌≡◌, ◌+◌, ◌<◌, ◌≤ℤ◌, true, ℕ, suc, ℤ, pos, List, [], ◌∷◌, length, get_or, None, Ok, refl, sym, ap, subst, ◌∙◌, arith}
-use Rattle.std.proofs.lemmas.Int.{ints}
+-- Values that a table may hold are taken by it as they are.
+use Rattle.std.proofs.Common.{◌≡◌, ◌+◌, ◌<◌, ℕ, suc, ℤ, pos, List, [], ◌∷◌, length, get_or, None, Ok, refl, ap, subst, arith}
 use Rattle.std.proofs.lemmas.List.{length-map}
-use Rattle.record_dim.specs.LeafTypes.{least_of, greatest_of, least_in, greatest_in, IsIn, IsDeclared}
-use Rattle.record_dim.specs.declared.leaf_type.LeafType.{LeafType}
-use Rattle.record_dim.specs.Leaves.{leaves, kinds_of}
-use Rattle.record_dim.specs.Trees.{Fields}
+use Rattle.record_dim.specs.Leaves.{leaves}
 use Rattle.places.specs.Image.{entry}
-use Rattle.places.specs.declared.piece.Hold.{Hold}
-use Rattle.piece_bits.specs.Tables.{hold_at}
-use Rattle.views.specs.Stores.{Answer, is_between, kind_at, store_answer}
-use Rattle.views.specs.Tables.{Table, IsTable, table_holds, leaf_types_of, answer_of}
+use Rattle.piece_bits.specs.Tables.{HasShape, hold_at}
+use Rattle.views.specs.AnswerLaws.{stays_answer, rows_kept}
+use Rattle.views.specs.Stores.{Answer, AllStay, kept_or, kept_rows}
+use Rattle.views.specs.Tables.{Table, IsTable, table_holds, leaf_count_of, leaf_types_of, leaf_type_of, answer_of, kept_of}
 use Rattle.layout_copy.specs.Copies.{refusing, refused_at}
-
--- a value within the ranges of its leaf is taken
-is_within : (least greatest value : ℤ) → least ≤ℤ value → value ≤ℤ greatest → is_between least greatest value ≡ true
-is_within least greatest value low high = grind (arith, ints)
-
-taken : (kind : LeafType) (hold : Hold) (value : ℤ) → IsDeclared kind value → IsIn hold.signed hold.width value → store_answer kind hold value ≡ Ok value
-taken kind hold value declared held =
-    rw (
-      is_within (least_of kind) (greatest_of kind) value declared.0 declared.1,
-      is_within (least_in hold.signed hold.width) (greatest_in hold.signed hold.width) value held.0 held.1,
-    ) refl
 
 -- rows of values that are taken are not refused
 row_held : (answer : Answer) (leaf : ℕ) (values : List ℤ)
@@ -45,20 +30,21 @@ rows_held answer row (values ∷ rows) all =
     let rest : refused_at answer (row + 1) rows ≡ None = rows_held answer (row + 1) rows (λ r k inside small. all (suc r) k (omega (arith, inside)) small) in
     rw (first, rest) refl
 
-own_held : (table : Table) → IsTable table → refused_at (answer_of table) 0 table.rows ≡ None
-own_held table is = rows_held (answer_of table) 0 table.rows (λ r k inside small.
-    let kinds : length (leaf_types_of table) ≡ length (leaves table.fields) = length-map (leaves table.fields) (λ leaf. leaf.kind) in
-    let leaf : k < length (leaf_types_of table) = omega (arith, small, is.shape.leaf_count r inside, kinds) in
-    let fits = is.fits r k inside leaf in
-    taken (kind_at (leaf_types_of table) k) (hold_at (table_holds table) k) (entry table.rows r k) fits.declared fits.held)
+-- rows of values that a table may hold: it takes each, none is refused, and it keeps them
+module _ (table : Table) (rows : List (List ℤ)) (shape : HasShape (length rows) (leaf_count_of table) rows)
+    (stay : AllStay table.mode (length rows) (leaf_types_of table) (table_holds table) rows) where
+  all_taken : (r k : ℕ) → r < length rows → k < length (get_or rows r []) → answer_of table k (entry rows r k) ≡ Ok (entry rows r k)
+  all_taken r k inside small =
+      let kinds : length (leaf_types_of table) ≡ length (leaves table.fields) = length-map (leaves table.fields) (λ leaf. leaf.kind) in
+      let leaf : k < length (leaf_types_of table) = omega (arith, small, shape.leaf_count r inside, kinds) in
+      stays_answer table.mode (leaf_type_of table k) (hold_at (table_holds table) k) (entry rows r k) (stay r k inside leaf)
 
--- what stores answer follows from the types of the leaves and from how they are stored
-answers_same : (table other : Table) → table.fields ≡ other.fields → table_holds table ≡ table_holds other → answer_of table ≡ answer_of other
-answers_same table other fields holds =
-    let answer : Fields → List Hold → Answer = λ f hs leaf value. store_answer (kind_at (kinds_of f) leaf) (hold_at hs leaf) value in
-    ap (λ (f : Fields). answer f (table_holds table)) fields ∙ ap (λ (hs : List Hold). answer other.fields hs) holds
+  pub staying_held : refused_at (answer_of table) 0 rows ≡ None
+  staying_held = rows_held (answer_of table) 0 rows all_taken
 
-pub own_values : (table other : Table) → IsTable table → table.fields ≡ other.fields → table_holds table ≡ table_holds other
-    → refused_at (answer_of other) 0 table.rows ≡ None
-own_values table other is fields holds =
-    ap (λ (answer : Answer). refused_at answer 0 table.rows) (sym (answers_same table other fields holds)) ∙ own_held table is
+  pub staying_kept : kept_rows (kept_of table) rows ≡ rows
+  staying_kept = rows_kept (kept_of table) rows (λ r k inside small. ap (kept_or (entry rows r k)) (all_taken r k inside small))
+
+-- a table's own rows are such
+pub own_held : (table : Table) → IsTable table → refused_at (answer_of table) 0 table.rows ≡ None
+own_held table is = staying_held table table.rows is.shape is.stays

@@ -10,8 +10,8 @@ use std::sync::ledger::Ledger;
 use steps::Steps;
 use views::{View, laws_of_table};
 
-// A copy of a table to a view that is alike, row by row. `Narrow` comes exactly where a value does not fit the target, and names the first by
-// rows, then leaves; exactly the rows before it are copied.
+// A copy of a table to a view that is alike, row by row. `Narrow` comes exactly where the target refuses a value, and names the first by rows,
+// then leaves; exactly the rows before it are copied.
 pub(crate) fn copy_fields<L: Ledger>(
     source: &mut View,
     target: &mut View,
@@ -40,7 +40,7 @@ pub fn copy_self(view: &mut View)
     view.touch_all(1, 1);
 }
 
-// Copies a row, or leaves it and names the first leaf whose value the target does not hold. The values are kept in `values`.
+// Copies a row, or leaves it and names the first leaf whose value the target refuses. The values are kept in `values`.
 fn copy_row<L: Ledger>(
     source: &mut View,
     target: &mut View,
@@ -68,7 +68,7 @@ fn copy_row<L: Ledger>(
     None
 }
 
-// Reads the values of a row up to the first leaf whose value the target does not hold, and names that leaf.
+// Reads the values of a row up to the first leaf whose value the target refuses, and names that leaf.
 fn read_row<L: Ledger>(
     source: &mut View,
     target: &View,

@@ -5,6 +5,7 @@ mod copies;
 mod fault;
 mod fieldwise;
 mod runs;
+mod ways;
 
 pub use copies::copy;
 pub use fault::CopyFault;

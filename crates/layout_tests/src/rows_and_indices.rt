@@ -40,6 +40,7 @@ fn words_of(alloc: Global, text: &str) -> Result<ExtentWords, Fail> {
             name: _,
             schema: _,
             words,
+            wrap: _,
             expr: _,
             file: _,
         } => Ok(words),

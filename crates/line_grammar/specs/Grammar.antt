@@ -1,6 +1,6 @@
 -- The grammar of a line. A word or a sign in `Behind` stands for itself, and `Joined` puts one phrase behind another.
 -- `n` bounds how deep brackets nest in the recursive phrases: a line has any such depth. `version` is the version of the language.
-use Rattle.std.specs.Prelude.{ℕ, zero, suc, List, [], ◌∷◌, ◌++◌, Option, Some, None, codes, ℤ, neg_ℤ}
+use Rattle.std.specs.Prelude.{ℕ, zero, suc, Bool, true, false, List, [], ◌∷◌, ◌++◌, Option, Some, None, codes, ℤ, neg_ℤ}
 use Rattle.phrases.specs.Phrases.{IsItem, Behind, Joined, IsEither, IsNothing, Repeats}
 use Rattle.phrases.specs.Column.{IsAny}
 use Rattle.line_tokens.specs.declared.sign.Sign.TheVariants.{OpenBrace, CloseBrace, OpenBracket, CloseBracket, OpenParen, CloseParen, Colon, Comma, Dot, Equals, Minus, Arrow, Question}
@@ -243,10 +243,14 @@ IsKernelInside kernel_word.CountWhere = Joined IsPath (λ x. Joined (IsItem comp
 abbrev pub IsKernel : Phrase KernelText
 IsKernel = Joined (IsItem kernel_word_of) (λ word. Behind (Sign OpenParen) (Joined (IsKernelInside word) (λ kernel. Behind (Sign CloseParen) (IsNothing kernel))))
 
--- NAME ":" NAME "[" phrase ("," phrase)* "]" "as" map
+-- "wrap"?
+abbrev pub IsMode : Phrase Bool
+IsMode = IsEither (Behind (Word (codes "wrap")) (IsNothing true)) (IsNothing false)
+
+-- NAME ":" NAME "[" phrase ("," phrase)* "]" "wrap"? "as" map
 abbrev pub IsNew : Version → Phrase ExtentWord → ℕ → Phrase New
-IsNew version IsWord n = Joined IsName (λ name. Behind (Sign Colon) (Joined IsName (λ schema. Joined (IsBracketList IsWord) (λ words.
-    Behind (Word (codes "as")) (Joined (IsMap version n) (λ map. IsNothing (record { name = name; schema = schema; words = words; term = map })))))))
+IsNew version IsWord n = Joined IsName (λ name. Behind (Sign Colon) (Joined IsName (λ schema. Joined (IsBracketList IsWord) (λ words. Joined IsMode (λ wrap.
+    Behind (Word (codes "as")) (Joined (IsMap version n) (λ map. IsNothing (record { name = name; schema = schema; words = words; wrap = wrap; term = map }))))))))
 
 -- what stands behind the word of a command
 abbrev pub IsBody : Version → ℕ → Command → Phrase Sentence
@@ -254,9 +258,9 @@ abbrev pub IsBody : Version → ℕ → Command → Phrase Sentence
 IsBody version n command.Record = Joined IsName (λ name. Joined (IsFields n) (λ fields. IsNothing (Define name (Record fields))))
 -- "mapping" NAME "=" map
 IsBody version n command.Mapping = Joined IsName (λ name. Behind (Sign Equals) (Joined (IsMap version n) (λ map. IsNothing (Mapping name map))))
--- "view" NAME ":" NAME "[" COUNT ("," COUNT)* "]" "as" map
+-- "view" NAME ":" NAME "[" COUNT ("," COUNT)* "]" "wrap"? "as" map
 IsBody version n command.View = Joined (IsNew version IsFixed n) (λ new. IsNothing (View new))
--- "load" NAME ":" NAME "[" ext ("," ext)* "]" "as" map "from" STRING
+-- "load" NAME ":" NAME "[" ext ("," ext)* "]" "wrap"? "as" map "from" STRING
 IsBody version n command.Load = Joined (IsNew version IsExtent n) (λ new. Behind (Word (codes "from")) (Joined IsString (λ file. IsNothing (Load new file))))
 -- "set" NAME "[" COUNT ("," COUNT)* "]" "." path "=" expr
 IsBody version n command.Set = Joined IsName (λ view. Joined (IsBracketList IsCount)

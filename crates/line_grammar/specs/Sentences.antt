@@ -1,5 +1,5 @@
 -- The lines of a script without pointers, and the lines of the code's values.
-use Rattle.std.specs.Prelude.{ℕ, max, List, [], ◌∷◌, map, Option, Some, None, option_map}
+use Rattle.std.specs.Prelude.{ℕ, max, Bool, List, [], ◌∷◌, map, Option, Some, None, option_map}
 use Rattle.record_dim.specs.declared.path.PathStep.{PathStep}
 use Rattle.record_dim.specs.Trees.{Tree, tree_of}
 use Rattle.extents.specs.declared.words.ExtentWord.{ExtentWord}
@@ -22,11 +22,12 @@ pub record Assignment : Type 0 where
   pub path : List PathStep
   pub value : Value
 
--- what makes a view: its name, the name of its record, its extents and its mapping
+-- what makes a view: its name, the name of its record, its extents, whether a store keeps low bits, and its mapping
 pub record New : Type 0 where
   pub name : List ℕ
   pub schema : List ℕ
   pub words : List ExtentWord
+  pub wrap : Bool
   pub term : MapTerm
 
 -- a line; a name is its bytes, and a path the list of its steps
@@ -55,8 +56,8 @@ abbrev pub sentence_of : Line → Sentence
 sentence_of line.Blank = Blank
 sentence_of (line.Define name dim) = Define name (tree_of dim)
 sentence_of (line.Mapping name expr) = Mapping name (map_of expr)
-sentence_of (line.View name schema words expr) = View (record { name = name; schema = schema; words = words; term = map_of expr })
-sentence_of (line.Load name schema words expr file) = Load (record { name = name; schema = schema; words = words; term = map_of expr }) file
+sentence_of (line.View name schema words wrap expr) = View (record { name = name; schema = schema; words = words; wrap = wrap; term = map_of expr })
+sentence_of (line.Load name schema words wrap expr file) = Load (record { name = name; schema = schema; words = words; wrap = wrap; term = map_of expr }) file
 sentence_of (line.Assign view index path value) = Assign view index path (term_of value)
 sentence_of (line.Update view filter sets) = Update view (option_map term_of filter) (map assignment_of sets)
 sentence_of (line.Kernel view kernel lanes) = Kernel view kernel lanes

@@ -32,18 +32,21 @@ pub enum Line {
         name: Name,
         expr: MapExpr,
     },
-    /// A view of zeros over the record `schema`.
+    /// A view of zeros over the record `schema`. With `wrap` a store keeps the low bits of a value that does not fit, and
+    /// without it such a value is refused.
     View {
         name: Name,
         schema: Name,
         words: ExtentWords,
+        wrap: bool,
         expr: MapExpr,
     },
-    /// A view over the record `schema` with the values of the dataset `file`.
+    /// The same, with the values of the dataset `file`.
     Load {
         name: Name,
         schema: Name,
         words: ExtentWords,
+        wrap: bool,
         expr: MapExpr,
         file: FileName,
     },

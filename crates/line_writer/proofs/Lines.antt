@@ -1,5 +1,5 @@
 -- A line has its canonical tokens alone, or one with expressions or a kernel, and then its canonical tokens are kept.
-use Rattle.std.proofs.Common.{◌≡◌, ℕ, ◌⊎◌, List, [], ◌∷◌, ◌++◌, map, Some, None, codes, inl, inr, refl, sym, ap, ◌∙◌, append-nil}
+use Rattle.std.proofs.Common.{◌≡◌, ℕ, ◌⊎◌, true, false, List, [], ◌∷◌, ◌++◌, map, Some, None, codes, inl, inr, refl, sym, ap, ◌∙◌, append-nil}
 use Rattle.phrases.specs.Phrases.{Behind, Joined, IsNothing}
 use Rattle.line_tokens.specs.declared.sign.Sign.TheVariants.{OpenParen, CloseParen, Colon, Comma, Dot, Equals}
 use Rattle.record_dim.specs.Trees.{Record}
@@ -11,9 +11,9 @@ use Rattle.line_grammar.specs.declared.line.Command.{Command}
 use Rattle.line_grammar.specs.declared.line.Command.TheVariants as command
 use Rattle.line_grammar.specs.declared.line.KernelWord.{KernelWord}
 use Rattle.line_grammar.specs.Sentences.{Assignment, Sentence, Blank, Define, Mapping, View, Load, Assign, Update, Kernel, Reduce, Count, Copy, Relayout, Show, Drop, Bytes}
-use Rattle.line_grammar.specs.Grammar.{Phrase, IsName, IsMore, IsListed, IsAssignment, IsFilter, IsKernel, IsNew, IsBody, IsLine}
+use Rattle.line_grammar.specs.Grammar.{Phrase, IsName, IsMore, IsListed, IsAssignment, IsFilter, IsKernel, IsMode, IsNew, IsBody, IsLine}
 use Rattle.line_grammar.specs.Words.{reduction_word, show_word, command_word}
-use Rattle.line_writer.specs.Canonical.{count_token, bracket_list, extent_tokens, path_tokens, new_tokens, line_tokens}
+use Rattle.line_writer.specs.Canonical.{count_token, bracket_list, extent_tokens, path_tokens, mode_tokens, new_tokens, line_tokens}
 use Rattle.line_writer.proofs.Gives.{Each, each_append, Gives, nothing_gives, behind_gives, joined_gives, either_gives, repeats_gives, gives_also}
 use Rattle.line_writer.proofs.Words.{name_gives, count_gives, string_gives, reduction_gives, command_gives, kernel_word_gives}
 use Rattle.line_writer.proofs.Phrases.{IsWritten, sound, path_gives, fields_give, map_gives, bracket_list_gives, fixed_gives, extent_gives}
@@ -67,17 +67,25 @@ bytes_body version n = joined_gives {Q = IsBehind version (codes "bytes")} name_
     (inl (ap (λ k. Word (codes "bytes") ∷ Word view ∷ (k ++ [])) same' ∙ ap (λ k. Word (codes "bytes") ∷ (k ++ (back ++ []))) same))))
 
 -- what makes a view
+mode_gives : Gives IsMode (IsWritten mode_tokens)
+mode_gives = either_gives
+    (behind_gives {Q = IsWritten mode_tokens} (Word (codes "wrap")) sound (nothing_gives {Q = λ xs v. mode_tokens v ≡ Word (codes "wrap") ∷ xs} true refl))
+    (nothing_gives {Q = IsWritten mode_tokens} false refl)
+
 new_gives : (version : Version) {IsWord : Phrase ExtentWord} (n : ℕ) → Gives IsWord (IsWritten extent_tokens) → Gives (IsNew version IsWord n) (IsWritten new_tokens)
 new_gives version n one = joined_gives {Q = IsWritten new_tokens} name_gives (λ f name i1 a s1. behind_gives {Q = λ xs v. new_tokens v ≡ f ++ xs} (Sign Colon) sound
     (joined_gives {Q = λ xs v. new_tokens v ≡ f ++ (Sign Colon ∷ xs)} name_gives (λ g schema i2 b s2.
     joined_gives {Q = λ xs v. new_tokens v ≡ f ++ (Sign Colon ∷ (g ++ xs))} (bracket_list_gives extent_tokens one) (λ w words i3 c s3.
-    behind_gives {Q = λ xs v. new_tokens v ≡ f ++ (Sign Colon ∷ (g ++ (w ++ xs)))} (Word (codes "as")) sound
-    (joined_gives {Q = λ xs v. new_tokens v ≡ f ++ (Sign Colon ∷ (g ++ (w ++ (Word (codes "as") ∷ xs))))} (map_gives version n) (λ m term i4 d s4.
-    nothing_gives {Q = λ xs v. new_tokens v ≡ f ++ (Sign Colon ∷ (g ++ (w ++ (Word (codes "as") ∷ (m ++ xs)))))} (record { name = name; schema = schema; words = words; term = term })
-    (ap (λ k. Word name ∷ Sign Colon ∷ Word schema ∷ (bracket_list (map extent_tokens words) ++ Word (codes "as") ∷ k)) (d ∙ sym (append-nil m))
-    ∙ ap (λ k. Word name ∷ Sign Colon ∷ Word schema ∷ (k ++ Word (codes "as") ∷ (m ++ []))) c
-    ∙ ap (λ k. Word name ∷ Sign Colon ∷ (k ++ (w ++ Word (codes "as") ∷ (m ++ [])))) b
-    ∙ ap (λ k. k ++ (Sign Colon ∷ (g ++ (w ++ Word (codes "as") ∷ (m ++ []))))) a)))))))
+    joined_gives {Q = λ xs v. new_tokens v ≡ f ++ (Sign Colon ∷ (g ++ (w ++ xs)))} mode_gives (λ o wrap i4 d s4.
+    behind_gives {Q = λ xs v. new_tokens v ≡ f ++ (Sign Colon ∷ (g ++ (w ++ (o ++ xs))))} (Word (codes "as")) sound
+    (joined_gives {Q = λ xs v. new_tokens v ≡ f ++ (Sign Colon ∷ (g ++ (w ++ (o ++ (Word (codes "as") ∷ xs)))))} (map_gives version n) (λ m term i5 e s5.
+    nothing_gives {Q = λ xs v. new_tokens v ≡ f ++ (Sign Colon ∷ (g ++ (w ++ (o ++ (Word (codes "as") ∷ (m ++ xs))))))}
+    (record { name = name; schema = schema; words = words; wrap = wrap; term = term })
+    (ap (λ k. Word name ∷ Sign Colon ∷ Word schema ∷ (bracket_list (map extent_tokens words) ++ (mode_tokens wrap ++ Word (codes "as") ∷ k))) (e ∙ sym (append-nil m))
+    ∙ ap (λ k. Word name ∷ Sign Colon ∷ Word schema ∷ (bracket_list (map extent_tokens words) ++ (k ++ Word (codes "as") ∷ (m ++ [])))) d
+    ∙ ap (λ k. Word name ∷ Sign Colon ∷ Word schema ∷ (k ++ (o ++ Word (codes "as") ∷ (m ++ [])))) c
+    ∙ ap (λ k. Word name ∷ Sign Colon ∷ (k ++ (w ++ (o ++ Word (codes "as") ∷ (m ++ []))))) b
+    ∙ ap (λ k. k ++ (Sign Colon ∷ (g ++ (w ++ (o ++ Word (codes "as") ∷ (m ++ [])))))) a))))))))
 
 view_body : (version : Version) (n : ℕ) → Gives (IsBody version n command.View) (IsBehind version (codes "view"))
 view_body version n = joined_gives {Q = IsBehind version (codes "view")} (new_gives version n fixed_gives) (λ f new i same s.

@@ -137,10 +137,15 @@ abbrev pub extent_tokens : ExtentWord → List Token
 extent_tokens (extent.Fixed count) = count_token count ∷ []
 extent_tokens extent.Rows = Sign Question ∷ []
 
+-- the word of a view whose stores keep low bits
+abbrev pub mode_tokens : Bool → List Token
+mode_tokens true = Word (codes "wrap") ∷ []
+mode_tokens false = []
+
 -- what makes a view
 abbrev pub new_tokens : New → List Token
 new_tokens new =
-    Word new.name ∷ Sign Colon ∷ Word new.schema ∷ (bracket_list (map extent_tokens new.words) ++ Word (codes "as") ∷ map_tokens new.term)
+    Word new.name ∷ Sign Colon ∷ Word new.schema ∷ (bracket_list (map extent_tokens new.words) ++ (mode_tokens new.wrap ++ Word (codes "as") ∷ map_tokens new.term))
 
 -- the parts of an update
 abbrev pub assignment_tokens : Assignment → List Token

@@ -7,7 +7,7 @@ ghost use Rattle.line_tokens.specs.declared.sign.Sign.TheVariants.{Dot, Equals};
 ghost use Rattle.line_grammar.specs.declared.token.Token.TheVariants.{Word, Sign, Text as Quoted};
 ghost use Rattle.line_grammar.specs.Sentences.{assignment_of};
 ghost use Rattle.line_grammar.specs.Words.{command_word, kernel_word, operator, reduction_word};
-ghost use Rattle.line_writer.specs.Canonical.{count_token, number_tokens, path_tokens, held_tokens, map_tokens, bracket_list, with_commas, assignment_tokens, filter_tokens, value_tokens, new_tokens, form_tokens, kernel_tokens};
+ghost use Rattle.line_writer.specs.Canonical.{count_token, number_tokens, path_tokens, held_tokens, map_tokens, bracket_list, with_commas, assignment_tokens, filter_tokens, value_tokens, mode_tokens, new_tokens, form_tokens, kernel_tokens};
 ghost use Rattle.line_writer.specs.Texts.{behind};
 
 use crate::mapping::{open, write_map};
@@ -54,16 +54,25 @@ pub(crate) fn write_view(
     name: &Name,
     schema: &Name,
     words: &ExtentWords,
+    wrap: bool,
     expr: &MapExpr,
 ) -> Result<(), NoMemory>
-    ensures { OnOk result (text.new ≡ behind (text.old ++ command_word command) (new_tokens (record { name = name.now; schema = schema.now; words = words.now; term = map_of expr.now }))) }
+    ensures { OnOk result (text.new ≡ behind (text.old ++ command_word command)
+        (new_tokens (record { name = name.now; schema = schema.now; words = words.now; wrap = wrap; term = map_of expr.now }))) }
 {
     write_named(text, command, name)?;
     push(text, ":")?;
     push(text, schema.as_str())?;
     write_extents(text, words.as_slice())?;
+    write_mode(text, wrap)?;
     push(text, "as")?;
     write_map(text, expr)
+}
+
+fn write_mode(text: &mut Text, wrap: bool) -> Result<(), NoMemory>
+    ensures { OnOk result (text.new ≡ behind text.old (mode_tokens wrap)) }
+{
+    if wrap { push(text, "wrap") } else { Ok(()) }
 }
 
 #[tactic(auto, using(crate::proofs::Behind::behind_append))]
@@ -72,12 +81,14 @@ pub(crate) fn write_load(
     name: &Name,
     schema: &Name,
     words: &ExtentWords,
+    wrap: bool,
     expr: &MapExpr,
     file: &FileName,
 ) -> Result<(), NoMemory>
-    ensures { OnOk result (text.new ≡ behind (text.old ++ command_word Command.Load) (new_tokens (record { name = name.now; schema = schema.now; words = words.now; term = map_of expr.now }) ++ Word (codes "from") ∷ Quoted file.now ∷ [])) }
+    ensures { OnOk result (text.new ≡ behind (text.old ++ command_word Command.Load)
+        (new_tokens (record { name = name.now; schema = schema.now; words = words.now; wrap = wrap; term = map_of expr.now }) ++ Word (codes "from") ∷ Quoted file.now ∷ [])) }
 {
-    write_view(text, Command::Load, name, schema, words, expr)?;
+    write_view(text, Command::Load, name, schema, words, wrap, expr)?;
     write_file(text, file)
 }
 

@@ -17,10 +17,10 @@ pub enum UpdateKind {
     /// A divisor is 0.
     #[error("DivideByZero")]
     DivideByZero,
-    /// The value lies outside of the declared range of its leaf.
+    /// The value lies outside of the declared range of its leaf, and the view is strict.
     #[error("Range leaf {leaf}")]
     Range { leaf: usize },
-    /// The value lies in the declared range and not in that of how the leaf is stored.
+    /// The value lies in the declared range and not in that of how the leaf is stored, and the view is strict.
     #[error("Narrow leaf {leaf}")]
     Narrow { leaf: usize },
 }

@@ -22,9 +22,9 @@ pub struct Assign {
     pub value: Bound,
 }
 
-/// Stores the values of the right sides in each row where the filter is not 0, row by row. All right sides of a row are evaluated and tested
-/// before one is stored. On a fault exactly the rows before the named one are changed, and what was read of that one counts. A row that the
-/// filter leaves out is read by the filter alone. It takes no memory.
+/// Stores the values of the right sides in each row where the filter is not 0, row by row, as the view keeps them. All right sides of a row
+/// are evaluated, each tested right after it where the view is strict, before one is stored. On a fault exactly the rows before the named one
+/// are changed, and what was read of that one counts. A row that the filter leaves out is read by the filter alone. It takes no memory.
 pub fn update_rows<L: Ledger>(
     view: &mut View,
     filter: Option<&Bound>,

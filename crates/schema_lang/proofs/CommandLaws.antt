@@ -1,7 +1,7 @@
 -- How each command is read, and a whole line.
-use Rattle.std.proofs.Common.{ℕ, ◌≤◌, true, false, inl, inr, List, [], ◌++◌, codes, None, Result, is_some, refl, ap, neg_ℤ, arith}
+use Rattle.std.proofs.Common.{◌≡◌, ℕ, ◌≤◌, true, false, inl, inr, List, [], ◌++◌, codes, None, Result, is_some, refl, ap, neg_ℤ, arith}
 use Rattle.phrases.specs.Phrases.{Behind, IsItem, IsNothing}
-use Rattle.phrases.specs.Reading.{item_at, give_at}
+use Rattle.phrases.specs.Reading.{starts, item_at, give_at}
 use Rattle.phrases.specs.ParsesLaws.{Always, Parses, behind_parses, either_parses, give_parses, item_parses, said_otherwise, then_parses}
 use Rattle.phrases.specs.MoreLaws.{behind_starts, item_starts, joined_starts}
 use Rattle.phrases.specs.WholeLaws.{AtEnd}
@@ -24,7 +24,7 @@ use Rattle.line_grammar.specs.declared.token.Token.TheVariants.{Word, Text, Sign
 use Rattle.line_grammar.specs.declared.version.Version.{Version}
 use Rattle.line_grammar.specs.Sentences.{Blank, Define, Mapping, View, Load, Assign, Update, Kernel, Reduce, Count, Copy, Relayout, Show, Drop, Bytes}
 use Rattle.line_grammar.specs.Tokens.{is_sign, is_word, number_of, string_of, comparison_of, kernel_word_of, reduction_of, command_of}
-use Rattle.line_grammar.specs.Grammar.{IsAssignment, IsBody, IsCommand, IsConst, IsFilter, IsKernel, IsKernelInside, IsLine, IsNew}
+use Rattle.line_grammar.specs.Grammar.{IsAssignment, IsBody, IsCommand, IsConst, IsFilter, IsKernel, IsKernelInside, IsLine, IsMode, IsNew}
 use Rattle.line_phrases.specs.Constants.{const_at}
 use Rattle.line_phrases.specs.BasicsLaws.{AfterLevel, Not, anything, apart, behind_after, behind_not, count_parses, exact_sign, exact_word, name_parses, number_parses, starts_level}
 use Rattle.line_phrases.specs.FieldLaws.{fields_parses}
@@ -36,7 +36,7 @@ use Rattle.line_phrases.specs.NestingLaws.{behind_kept, expr_alike, expr_wider, 
 use Rattle.line_phrases.specs.PathsLaws.{path_parses}
 use Rattle.schema_lang.specs.Kernels.{axpy_at, clamp_at, count_where_at, inside_at, kernel_at}
 use Rattle.schema_lang.specs.Updates.{assignment_at, filter_at}
-use Rattle.schema_lang.specs.Bodies.{any_token, assign_at, body_at, bytes_at, command_at, copy_at, define_at, kernel_line_at, line_at, load_at, mapping_at, new_at, reduce_at, relayout_at, update_at, view_at}
+use Rattle.schema_lang.specs.Bodies.{any_token, assign_at, body_at, bytes_at, command_at, copy_at, define_at, kernel_line_at, line_at, load_at, mapping_at, mode_at, new_at, reduce_at, relayout_at, update_at, view_at}
 use Rattle.schema_lang.proofs.Assignments.{AfterFilter, assignment_parses, filter_parses}
 
 -- kernels
@@ -85,12 +85,25 @@ ended_after P f last a ys v rest h after = rw (h.0, after) last
 string_parses : Parses (IsItem string_of) (item_at string_of) Always
 string_parses = item_parses string_of (Text (codes "a")) (codes "a") refl
 
+-- no `wrap` stands next
+abbrev AfterMode : List Token → Type 0
+AfterMode rest = starts (is_word (codes "wrap")) rest ≡ false
+
+mode_parses : Parses IsMode mode_at AfterMode
+unfolding mode_at
+mode_parses = either_parses (is_word (codes "wrap"))
+    (behind_parses (exact_word (codes "wrap")) (give_parses AfterMode true))
+    (give_parses AfterMode false)
+    (λ xs v rest h after. behind_starts (is_word (codes "wrap")) (Word (codes "wrap")) true refl _ xs v rest h)
+    (λ xs v rest h after. rw h.0 after)
+
 new_parses : (version : Version) {IsWord : List Token → ExtentWord → Type 0} {read : List Token → Result (ExtentWord × List Token) ℕ} → Parses IsWord read Always → (n : ℕ)
     → Parses (IsNew version IsWord n) (new_at version read n) (Not OpenParen)
 unfolding new_at
 new_parses version p n = then_parses Always name_parses (λ name. behind_parses (exact_sign Colon) (then_parses Always name_parses (λ schema. then_parses Always (bracket_list_parses p) (λ words.
-    behind_parses (exact_word (codes "as")) (then_parses (Not OpenParen) (map_parses version n) (λ map. give_parses (Not OpenParen) (record { name = name; schema = schema; words = words; term = map }))
-    (λ a ys v rest h after. rw h.0 after))) (anything _ _)) (anything _ _))) (anything _ _)
+    then_parses AfterMode mode_parses (λ wrap. behind_parses (exact_word (codes "as")) (then_parses (Not OpenParen) (map_parses version n)
+    (λ map. give_parses (Not OpenParen) (record { name = name; schema = schema; words = words; wrap = wrap; term = map })) (λ a ys v rest h after. rw h.0 after)))
+    (λ a ys v rest h after. behind_starts (is_word (codes "wrap")) (Word (codes "as")) false refl _ ys v rest h)) (anything _ _)) (anything _ _))) (anything _ _)
 
 body_parses : (version : Version) (n : ℕ) (c : Command) → Parses (IsBody version n c) (body_at version n c) AtEnd
 unfolding body_at define_at mapping_at view_at load_at assign_at update_at kernel_line_at reduce_at copy_at relayout_at bytes_at
@@ -146,7 +159,8 @@ filter_wider : (n m : ℕ) → n ≤ m → Wider (IsFilter n) (IsFilter m)
 filter_wider n m le = either_wider (behind_wider _ (joined_wider (expr_wider n m le) (λ filter. same_wider _))) (same_wider _)
 
 new_wider : (version : Version) {IsWord : List Token → ExtentWord → Type 0} (n m : ℕ) → n ≤ m → Wider (IsNew version IsWord n) (IsNew version IsWord m)
-new_wider version n m le = joined_wider (same_wider _) (λ name. behind_wider _ (joined_wider (same_wider _) (λ schema. joined_wider (same_wider _) (λ words. behind_wider _ (joined_wider (map_wider version n m le) (λ map. same_wider _))))))
+new_wider version n m le = joined_wider (same_wider _) (λ name. behind_wider _ (joined_wider (same_wider _) (λ schema. joined_wider (same_wider _) (λ words. joined_wider (same_wider _)
+    (λ wrap. behind_wider _ (joined_wider (map_wider version n m le) (λ map. same_wider _)))))))
 
 body_wider : (version : Version) (n m : ℕ) → n ≤ m → (c : Command) → Wider (IsBody version n c) (IsBody version m c)
 body_wider version n m le command.Record = joined_wider (same_wider _) (λ name. joined_wider (fields_wider n m le) (λ fields. same_wider _))
@@ -178,7 +192,8 @@ new_alike : (version : Version) {IsWord : List Token → ExtentWord → Type 0} 
     → Alike n (new_at version read n) (new_at version read m)
 unfolding new_at
 new_alike version p n m le = then_alike n (no_longer name_parses) (same_alike n _) (λ name. behind_kept n _ (then_alike n (no_longer name_parses) (same_alike n _) (λ schema. then_alike n (no_longer (bracket_list_parses p)) (same_alike n _)
-    (λ words. behind_kept n _ (then_alike n (no_longer (map_parses version n)) (map_alike version n m le) (λ map. same_alike n _))))))
+    (λ words. then_alike n (no_longer mode_parses) (same_alike n _)
+    (λ wrap. behind_kept n _ (then_alike n (no_longer (map_parses version n)) (map_alike version n m le) (λ map. same_alike n _)))))))
 
 body_alike : (version : Version) (n m : ℕ) → n ≤ m → (c : Command) → Alike n (body_at version n c) (body_at version m c)
 unfolding body_at define_at mapping_at view_at load_at assign_at update_at reduce_at relayout_at

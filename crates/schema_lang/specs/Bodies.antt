@@ -1,5 +1,5 @@
 -- How a line is read, by the word that it begins with, in a version of the language.
-use Rattle.std.specs.Prelude.{ℕ, Bool, true, if◌then◌else◌, List, codes, Result}
+use Rattle.std.specs.Prelude.{ℕ, Bool, true, false, if◌then◌else◌, List, codes, Result}
 use Rattle.phrases.specs.Reading.{item_at, behind_at, then_at, give_at, either_at}
 use Rattle.phrases.specs.Ended.{ended_at}
 use Rattle.line_tokens.specs.declared.sign.Sign.TheVariants.{Colon, Dot, Equals}
@@ -29,16 +29,20 @@ mapping_at version n = then_at (item_at name_of) (λ name. behind_at (is_sign Eq
 
 -- what makes a view
 abbrev pub new_of : bodies.New → New
-new_of new = record { name = new.name; schema = new.schema; words = new.words; term = map_of new.expr }
+new_of new = record { name = new.name; schema = new.schema; words = new.words; wrap = new.wrap; term = map_of new.expr }
 
 -- an extent, which may be `?` in a load
 abbrev pub word_at : Bool → List Token → Result (ExtentWord × List Token) ℕ
 word_at is_loaded = if is_loaded then extent_at else fixed_at
 
+-- whether the word `wrap` stands next
+unfoldable pub mode_at : List Token → Result (Bool × List Token) ℕ
+mode_at = either_at (is_word (codes "wrap")) (behind_at (is_word (codes "wrap")) (give_at true)) (give_at false)
+
 -- what makes a view, in which `read` reads an extent
 unfoldable pub new_at : Version → (List Token → Result (ExtentWord × List Token) ℕ) → ℕ → List Token → Result (New × List Token) ℕ
-new_at version read n = then_at (item_at name_of) (λ name. behind_at (is_sign Colon) (then_at (item_at name_of) (λ schema. then_at (bracket_list_at read) (λ words.
-    behind_at (is_word (codes "as")) (then_at (map_at version n) (λ map. give_at (record { name = name; schema = schema; words = words; term = map })))))))
+new_at version read n = then_at (item_at name_of) (λ name. behind_at (is_sign Colon) (then_at (item_at name_of) (λ schema. then_at (bracket_list_at read) (λ words. then_at mode_at (λ wrap.
+    behind_at (is_word (codes "as")) (then_at (map_at version n) (λ map. give_at (record { name = name; schema = schema; words = words; wrap = wrap; term = map }))))))))
 
 unfoldable pub view_at : Version → ℕ → List Token → Result (Sentence × List Token) ℕ
 view_at version n = then_at (new_at version fixed_at n) (λ new. give_at (View new))

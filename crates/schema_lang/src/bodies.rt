@@ -2,7 +2,7 @@ ghost use Rattle.std.specs.Prelude.{◌≡◌, IfErr};
 ghost use Rattle.line_grammar.specs.Sentences.{sentence_of};
 ghost use Rattle.line_phrases.specs.Gives.{Gives, IsSyntax};
 ghost use Rattle.line_phrases.specs.Lists.{bracket_list_at};
-ghost use Rattle.schema_lang.specs.Bodies.{assign_at, body_at, bytes_at, command_at, copy_at, define_at, kernel_line_at, load_at, mapping_at, new_at, new_of, reduce_at, relayout_at, update_at, view_at, word_at};
+ghost use Rattle.schema_lang.specs.Bodies.{assign_at, body_at, bytes_at, command_at, copy_at, define_at, kernel_line_at, load_at, mapping_at, mode_at, new_at, new_of, reduce_at, relayout_at, update_at, view_at, word_at};
 
 use crate::kernels::read_kernel;
 use crate::updates::{read_filter, read_sets};
@@ -91,6 +91,7 @@ pub(crate) struct New {
     pub(crate) name: Name,
     pub(crate) schema: Name,
     pub(crate) words: ExtentWords,
+    pub(crate) wrap: bool,
     pub(crate) expr: MapExpr,
 }
 
@@ -109,12 +110,14 @@ fn read_new(
     tokens.sign(Sign::Colon)?;
     let schema = tokens.item::<Name>()?;
     let words = read_words(alloc, is_loaded, tokens)?;
+    let wrap = read_mode(tokens)?;
     tokens.word("as")?;
     let expr = read_map(alloc, version, room, tokens)?;
     Ok(New {
         name,
         schema,
         words,
+        wrap,
         expr,
     })
 }
@@ -127,6 +130,19 @@ fn read_words(alloc: Global, is_loaded: bool, tokens: &mut Tokens) -> Result<Ext
     } else {
         read_fixed_extents(alloc, tokens)
     }
+}
+
+// Whether `wrap` stands next, which is taken then.
+#[tactic(auto, unfolding(crate::specs::Bodies::mode_at))]
+fn read_mode(tokens: &mut Tokens) -> Result<bool, ReadError>
+    ensures gives { Gives (λ x. (x, tokens.new)) result (mode_at tokens.old) }
+    ensures fault { IfErr result IsSyntax }
+{
+    if !tokens.begins_word("wrap") {
+        return Ok(false);
+    }
+    tokens.word("wrap")?;
+    Ok(true)
 }
 
 #[tactic(auto, unfolding(crate::specs::Bodies::view_at))]
@@ -142,12 +158,14 @@ fn read_view(
         name,
         schema,
         words,
+        wrap,
         expr,
     } = read_new(alloc, version, room, false, tokens)?;
     Ok(Line::View {
         name,
         schema,
         words,
+        wrap,
         expr,
     })
 }
@@ -165,6 +183,7 @@ fn read_load(
         name,
         schema,
         words,
+        wrap,
         expr,
     } = read_new(alloc, version, room, true, tokens)?;
     tokens.word("from")?;
@@ -173,6 +192,7 @@ fn read_load(
         name,
         schema,
         words,
+        wrap,
         expr,
         file,
     })

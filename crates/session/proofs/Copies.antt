@@ -7,14 +7,14 @@ use Rattle.std.proofs.Math.ListN.{get_or-map}
 use Rattle.std.proofs.lemmas.List.Edits.{get_or-remove_below, get_or-remove_above, length-remove}
 use Rattle.record_dim.specs.Trees.{Fields}
 use Rattle.layout_copy.specs.Copies.{AreAlike, IsCopied, refused_at}
-use Rattle.layout_copy.specs.OwnLaws.{own_values}
+use Rattle.layout_copy.specs.OwnLaws.{own_held}
 use Rattle.layout_copy.specs.declared.fault.CopyFault.{CopyFault}
 use Rattle.layout_copy.specs.declared.fault.CopyFault.TheVariants as copy
 use Rattle.views.specs.Tables.{Table, IsTable, leaf_count_of, answer_of, kept_of, after_log}
 use Rattle.views.specs.Tallies.{Access, all_accesses, all_touches, Read, Write}
 use Rattle.views.specs.TallyLaws.{after_log-append}
 use Rattle.views.specs.Stores.{kept_rows}
-use Rattle.views.specs.AnswerLaws.{kept_rows-same}
+use Rattle.views.specs.AnswerLaws.{own_rows}
 use Rattle.worlds.specs.Copy.{copy, copied, with_rows, all_read, laid_anew, narrow_fault}
 use Rattle.worlds.specs.Tables.{made, zeros_of}
 use Rattle.map_expr.specs.Terms.{Term as MapTerm}
@@ -102,15 +102,15 @@ copied_self seen now is touched =
     let reads = all_accesses Read (leaf_count_of seen) (length seen.rows) in
     let writes = all_accesses Write (leaf_count_of seen) (length seen.rows) in
     let read : Table = after_log seen reads in
-    let held : refused_at (answer_of read) 0 seen.rows ≡ None = own_values seen read is refl refl in
-    let kept : kept_rows (kept_of read) seen.rows ≡ seen.rows = kept_rows-same read seen.rows in
+    let held : refused_at (answer_of read) 0 seen.rows ≡ None = own_held seen is in
+    let kept : kept_rows (kept_of read) seen.rows ≡ seen.rows = own_rows seen is in
     let both : after_log read writes ≡ now =
     after_log-append seen reads writes ∙ ap (after_log seen) (touched_once (leaf_count_of seen) (length seen.rows)) ∙ sym touched in
     copied_alike seen read (refl, refl) ∙ rw (held, kept) (ap (λ (s : Table). Goes s) both)
 
 -- a table that is laid out anew is copied into the new one
-pub laid_copied : (views : List (Entry Table)) (term : MapTerm) (old fresh : Table) → made views old.fields old.extents term ≡ Goes fresh →
-    fresh ≡ zeros_of old.fields old.extents term → laid_anew views old term ≡ copied old fresh
+pub laid_copied : (views : List (Entry Table)) (term : MapTerm) (old fresh : Table) → made views old.mode old.fields old.extents term ≡ Goes fresh →
+    fresh ≡ zeros_of old.mode old.fields old.extents term → laid_anew views old term ≡ copied old fresh
 unfolding laid_anew
 laid_copied views term old fresh made_is zeros =
     let fields : fresh.fields ≡ old.fields = ap (λ (t : Table). t.fields) zeros in

@@ -6,11 +6,10 @@ use Rattle.std.proofs.lemmas.Bool.{false≢true, cases_Bool, cases_eq}
 use Rattle.std.proofs.lemmas.List.{get_or_default}
 use Rattle.record_dim.specs.NameBytesLaws.{same_text}
 use Rattle.map_expr.specs.Terms.{Term as MapTerm}
-use Rattle.map_any.specs.Strategies.{IsStrategy}
 use Rattle.map_any.specs.declared.strategy.Strategy.{Strategy}
 use Rattle.views.specs.Tables.{Table}
 use Rattle.layout_copy.specs.Copies.{AreAlike, IsCopied}
-use Rattle.layout_copy.specs.Costs.{cost}
+use Rattle.layout_copy.specs.Costs.{cost, IsWay}
 use Rattle.layout_copy.specs.declared.fault.CopyFault.{CopyFault}
 use Rattle.layout_copy.specs.declared.fault.CopyFault.TheVariants as copy
 use Rattle.worlds.specs.Names.{nameless}
@@ -46,7 +45,7 @@ pair_alike : (source target : Table) → AreAlike source target → paired sourc
 pair_alike source target are = rw (alike source target are) refl
 
 pub copy_steps : (source old new : Table) (result : Result Unit CopyFault) (before after : ℕ) → IsCopied source old new result →
-    ((strategy : Strategy) → IsStrategy source.mapping old.mapping strategy → after ≤ before + cost strategy source.mapping old.mapping old.fields old.extents) →
+    ((strategy : Strategy) → IsWay source old strategy → after ≤ before + cost strategy source.mapping old.mapping old.fields old.extents) →
     (IsErrOf result copy.Mismatch → after ≡ before) → IsWithin source old before after
 copy_steps source old new (Ok done) before after is bound none = subst (λ (pair : Outcome Pair). WithinCost pair before after) (sym (pair_alike source old is.0)) bound
 copy_steps source old new (Err copy.Mismatch) before after is bound none = none_taken (paired source old) before after (none refl)
@@ -101,7 +100,7 @@ copy_within world name target_name views source target d before after is one two
 
 -- the steps of a table that is laid out anew
 pub laid_within : (world : World) (name : List ℕ) (term whole : MapTerm) (table fresh : Table) (before after : ℕ) → known name world.views ≡ Goes table →
-    nameless world.mappings term ≡ Goes whole → made world.views table.fields table.extents whole ≡ Goes fresh → fresh ≡ zeros_of table.fields table.extents whole →
+    nameless world.mappings term ≡ Goes whole → made world.views table.mode table.fields table.extents whole ≡ Goes fresh → fresh ≡ zeros_of table.mode table.fields table.extents whole →
     IsWithin table fresh before after → WithinRelayout world name term before after
 unfolding laid_pair
 laid_within world name term whole table fresh before after known_is whole_is made_is zeros within =

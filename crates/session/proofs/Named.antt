@@ -1,16 +1,12 @@
 -- The first table of a name, by its place among the others.
-use Rattle.std.proofs.Common.{◌≡◌, ◌∙◌, ◌<◌, true, false, ℕ, zero, suc, List, [], ◌∷◌, length, map, get_or, drop, Option, Some, None, refl, sym, ap, ⊎_elim, arith}
+use Rattle.std.proofs.Common.{◌≡◌, true, false, ℕ, zero, suc, List, [], ◌∷◌, get_or, Option, Some, None, refl, ap, ⊎_elim}
 use Rattle.std.specs.Prelude.{slice_set}
 use Rattle.std.proofs.lemmas.Bool.{cases_Bool}
-use Rattle.std.proofs.lemmas.List.{length-map}
-use Rattle.std.proofs.Math.ListN.{get_or-map}
 use Rattle.views.specs.Tables.{Table}
 use Rattle.worlds.specs.Worlds.{Entry, same_name, found, replaced}
 use Rattle.worlds.specs.Outcomes.{Faults, known}
-use Rattle.command_checks.specs.Entries.{view_of}
 use Rattle.command_checks.specs.Gives.{GivesUp}
 use Rattle.command_checks.specs.Places.{IsFirst}
-use Rattle.command_checks.specs.declared.entries.ViewEntry.{ViewEntry}
 use Rattle.command_checks.specs.declared.fault.StepFault.{StepFault}
 use Rattle.command_checks.specs.declared.fault.StepFault.TheVariants as step
 

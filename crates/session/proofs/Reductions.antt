@@ -7,12 +7,10 @@ use Rattle.std.proofs.lemmas.List.FromFn.{map-range_with_len_more}
 use Rattle.std.proofs.lemmas.Int.{ints}
 use Rattle.std.proofs.lemmas.List.{get_or-map, length-map, take_more}
 use Rattle.places.specs.Image.{entry}
-use Rattle.places.specs.declared.piece.Hold.{Hold}
 use Rattle.record_dim.specs.declared.leaf_type.LeafType.{LeafType}
 use Rattle.record_dim.specs.declared.leaf_type.LeafType.TheVariants.{Bool as Truth, U8, U16, U32, U64, I8, I16, I32, I64}
 use Rattle.record_dim.specs.LeafTypes.{IsDeclared}
 use Rattle.views.specs.Tables.{Table, after_log, after_read}
-use Rattle.views.specs.Stores.{Fits}
 use Rattle.views.specs.Tallies.{Read}
 use Rattle.views.specs.TallyLaws.{after_log-append, after_log-none}
 use Rattle.line_grammar.specs.declared.line.ReduceKind.{ReduceKind}
@@ -43,7 +41,7 @@ reduced_more kind table leaf row value next small is so_far =
     ap (reduced kind) front ∙ reduced_push kind (take row (column leaf table)) next value so_far
 
 -- a value that was read is small
-declared_small : (kind : LeafType) (value : ℤ) → IsDeclared kind value → IsSmall 1 value
+pub declared_small : (kind : LeafType) (value : ℤ) → IsDeclared kind value → IsSmall 1 value
 declared_small Truth value d = record { least = omega (arith, ints, d.0); greatest = omega (arith, ints, d.1) }
 declared_small U8 value d = record { least = omega (arith, ints, d.0); greatest = omega (arith, ints, d.1) }
 declared_small U16 value d = record { least = omega (arith, ints, d.0); greatest = omega (arith, ints, d.1) }
@@ -53,9 +51,6 @@ declared_small I8 value d = record { least = omega (arith, ints, d.0); greatest 
 declared_small I16 value d = record { least = omega (arith, ints, d.0); greatest = omega (arith, ints, d.1) }
 declared_small I32 value d = record { least = omega (arith, ints, d.0); greatest = omega (arith, ints, d.1) }
 declared_small I64 value d = record { least = omega (arith, ints, d.0); greatest = omega (arith, ints, d.1) }
-
-pub fits_small : (kind : LeafType) (hold : Hold) (value : ℤ) → Fits kind hold value → IsSmall 1 value
-fits_small kind hold value fits = declared_small kind value fits.declared
 
 -- the first value alone
 reduced_one : (kind : ReduceKind) (x : ℤ) → reduced kind (x ∷ []) ≡ Goes x

@@ -2,10 +2,9 @@
 use Rattle.std.specs.Prelude.{ℕ, ◌+◌, ◌≤◌, not, List, length, Option, Some, None, MatchBool}
 use Rattle.lane_kernels.specs.Kernels.{kernel_cost}
 use Rattle.lane_kernels.specs.declared.kernel.Kernel.{Kernel}
-use Rattle.layout_copy.specs.Costs.{cost}
+use Rattle.layout_copy.specs.Costs.{cost, IsWay}
 use Rattle.line_grammar.specs.Sentences as line
 use Rattle.line_grammar.specs.declared.line.KernelText.{KernelText}
-use Rattle.map_any.specs.Strategies.{IsStrategy}
 use Rattle.map_any.specs.declared.strategy.Strategy.{Strategy}
 use Rattle.map_expr.specs.Terms.{Term as MapTerm}
 use Rattle.views.specs.Tables.{Table}
@@ -58,12 +57,12 @@ unfoldable pub laid_pair : World → List ℕ → MapTerm → Outcome Pair
 laid_pair world name term = do
   table ← known name world.views
   whole ← nameless world.mappings term
-  zeros ← made world.views table.fields table.extents whole
+  zeros ← made world.views table.mode table.fields table.extents whole
   Goes (record { source = table; target = zeros })
 
--- the steps of a copy: those of the way that the two mappings are copied by, and none where there is nothing to copy
+-- the steps of a copy: those of the way that the one table is copied into the other by, and none where there is nothing to copy
 abbrev pub WithinCost : Outcome Pair → ℕ → ℕ → Type 0
-WithinCost (Goes pair) old new = (strategy : Strategy) → IsStrategy pair.source.mapping pair.target.mapping strategy
+WithinCost (Goes pair) old new = (strategy : Strategy) → IsWay pair.source pair.target strategy
     → new ≤ old + cost strategy pair.source.mapping pair.target.mapping pair.target.fields pair.target.extents
 WithinCost _ old new = Within (Some 0) old new
 

@@ -6,7 +6,7 @@ use Rattle.record_dim.specs.Trees.{Fields}
 use Rattle.map_expr.specs.Terms.{Term as MapTerm}
 use Rattle.map_expr.specs.Checks.{checked}
 use Rattle.views.specs.Tables.{Table, answer_of, kept_of, after_log, after_stores}
-use Rattle.worlds.specs.Worlds.{World, Entry, added}
+use Rattle.worlds.specs.Worlds.{Entry}
 use Rattle.worlds.specs.Outcomes.{Outcome, Goes, ◌>>=◌, LeftOf, ok_or}
 use Rattle.worlds.specs.OnView.{Done, stores}
 use Rattle.csv_rows.specs.declared.fault.RowFault.{RowFault}
@@ -67,12 +67,12 @@ copied_at views place target d =
       new ← copied source.held old.held
       Goes (slice_set read target (record { name = old.name; held = new }))
 
--- a table of zeros of the record and the extents of another one, and its making beside these
+-- a table of zeros of the mode, the record and the extents of another one, and its making beside these
 abbrev pub zeros_like : Table → MapTerm → Table
-zeros_like table term = zeros_of table.fields table.extents term
+zeros_like table term = zeros_of table.mode table.fields table.extents term
 
 abbrev pub made_like : List (Entry Table) → Table → MapTerm → Outcome Table
-made_like views table term = made views table.fields table.extents term
+made_like views table term = made views table.mode table.fields table.extents term
 
 -- the fault of a copy
 abbrev pub TellsCopy : Fields → CopyFault → Result CommandFault StepFault → Type 0

@@ -20,17 +20,17 @@ use Rattle.session.specs.declared.view.New.{New}
 
 -- what makes a view
 abbrev pub new_of : New → line.New
-new_of new = record { name = new.name; schema = new.schema; words = new.words.now; term = term_of new.expr.now }
+new_of new = record { name = new.name; schema = new.schema; words = new.words.now; wrap = new.wrap; term = term_of new.expr.now }
 
--- what the names of a new view stand for
+-- what the words of a new view stand for
 abbrev pub named_of : Found → Named
-named_of found = record { fields = schema_fields found.schema.now; mapping = term_of found.expr }
+named_of found = record { fields = schema_fields found.schema.now; mode = found.mode; mapping = term_of found.expr }
 
 -- the table of a dataset of bytes that are not too many, beside these views
 abbrev pub filled_table : List (Entry Table) → Named → List ExtentWord → List ℕ → Outcome Table
 filled_table views whole words bytes = do
   extents ← resolved words (Some (length (rows_of (records_of bytes))))
-  zeros ← made views whole.fields extents whole.mapping
+  zeros ← made views whole.mode whole.fields extents whole.mapping
   filled zeros (records_of bytes)
 
 -- where reading fails the outcome is that this file can't be read; a read failed, or it is the outcome in any case

@@ -9,8 +9,8 @@ use Rattle.worlds.specs.Outcomes.{Outcome, Goes, Faults, CannotRead}
 use Rattle.session.specs.Loads.{ToldFor}
 
 -- a line that is no load reads no file
-pub no_file : (l : Line) → ((name schema : _) (words : _) (expr : _) (file : _) → l ≡ line.Load name schema words expr file → ⊥) → file_of (sentence_of l) ≡ None
-no_file (line.Load name schema words expr file) none = absurd (none name schema words expr file refl)
+pub no_file : (l : Line) → ((name schema : _) (words : _) (wrap : _) (expr : _) (file : _) → l ≡ line.Load name schema words wrap expr file → ⊥) → file_of (sentence_of l) ≡ None
+no_file (line.Load name schema words wrap expr file) none = absurd (none name schema words wrap expr file refl)
 no_file _ none = refl
 
 -- what a shelf tells it tells to any line

@@ -1,4 +1,4 @@
-// `load V : P [..] as .. from "F"`.
+// `load V : P [..] wrap as .. from "F"`.
 ghost use Rattle.std.specs.Prelude.{◌≡◌, ◌<◌, IfOk, true, List, Some, length, map};
 ghost use Rattle.extents.specs.Indices.{indices};
 ghost use Rattle.extents.specs.Shapes.{IsShape};
@@ -35,7 +35,7 @@ const MAX_DATASET_BYTES: usize = 1 << 28;
 impl Session {
     ghost use Rattle.session.specs.Stands.{left_of, world_of};
 
-    /// Makes a view with the values of a dataset.
+    /// Makes a view with what it keeps of the values of a dataset.
     pub(crate) fn load<H: Shelf, L: Ledger>(
         self,
         new: &New<'_>,
@@ -112,7 +112,7 @@ fn filled_view<L: Ledger>(
     ensures { Gives (λ view. view) result (filled_table (map view_of views.now) (named_of found.now) words.now bytes.now) }
 {
     let extents = dataset_extents(alloc, &found.shape, words, bytes)?;
-    let mut view = made(alloc, views, found.schema, extents, &found.expr)?;
+    let mut view = made(alloc, views, found.mode, found.schema, extents, &found.expr)?;
     let _rows = view.schema();
     match fill(alloc, &mut view, bytes, steps) {
         Ok(()) => Ok(view),

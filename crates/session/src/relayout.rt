@@ -60,7 +60,7 @@ fn laid_over<L: Ledger>(
     }
 }
 
-// Zeros in the shape of the table at a place, in a new view beside all of these.
+// Zeros in the shape of the table at a place, in a new view of its mode beside all of these.
 fn zeros_beside(
     alloc: Global,
     views: &[ViewEntry],
@@ -74,5 +74,5 @@ fn zeros_beside(
     ensures zeros { (d : ViewEntry) → IfOk result (λ view. view ≡ zeros_like (slice_index_or views.now place d).view (term_of expr.now)) }
 {
     let old = &views[place].view;
-    made(alloc, views, old.schema(), old.extents(), expr)
+    made(alloc, views, old.mode(), old.schema(), old.extents(), expr)
 }

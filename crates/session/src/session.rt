@@ -77,10 +77,11 @@ impl Session {
                 name,
                 schema,
                 words,
+                wrap,
                 expr,
                 file,
             } => {
-                let new = New::of(*name, *schema, words, expr);
+                let new = New::of(*name, *schema, words, *wrap, expr);
                 self.load(&new, file, shelf, steps)
             }
             _ => self.command(line, out, steps),
@@ -108,8 +109,9 @@ impl Session {
                 name,
                 schema,
                 words,
+                wrap,
                 expr,
-            } => self.view(&New::of(*name, *schema, words, expr)),
+            } => self.view(&New::of(*name, *schema, words, *wrap, expr)),
             Line::Copy { source, target } => self.copy(*source, *target, steps),
             Line::Relayout { view, expr } => self.relayout(*view, expr, steps),
             Line::Drop(view) => self.drop_view(*view),

@@ -1,7 +1,8 @@
-// `view V : P [..] as ..`.
+// `view V : P [..] wrap as ..`.
 ghost use Rattle.std.specs.Prelude.{◌≡◌, ◌<◌, IfOk, IfErr, OnOk, true, length};
 ghost use Rattle.extents.specs.Shapes.{IsShape};
 ghost use Rattle.map_expr.specs.Terms.{term_of};
+ghost use Rattle.worlds.specs.Tables.{mode_by};
 ghost use Rattle.worlds.specs.View.{named, new_table, view, with_view};
 ghost use Rattle.command_checks.specs.Bases.{is_nameless};
 ghost use Rattle.command_checks.specs.Gives.{Gives};
@@ -16,21 +17,24 @@ use line_grammar::ExtentWords;
 use map_expr::MapExpr;
 use record_dim::{Name, Schema};
 use std::alloc::Global;
-use views::View;
+use views::{StoreMode, View};
 
-/// What makes a view: its name, the name of its record, its extents and its mapping.
+/// What makes a view: its name, the name of its record, its extents, whether it keeps the low bits of a value that does not fit, and its
+/// mapping.
 #[derive(Drop)]
 pub struct New<'a> {
     pub name: Name,
     pub schema: Name,
     pub words: &'a [ExtentWord],
+    pub wrap: bool,
     pub expr: &'a MapExpr,
 }
 
-/// What the names of a new view stand for, and its shape.
+/// What the words of a new view stand for, and its shape.
 #[derive(Drop)]
 pub struct Found<'a> {
     pub schema: &'a Schema,
+    pub mode: StoreMode,
     pub expr: MapExpr,
     pub shape: Shape,
 }
@@ -40,14 +44,21 @@ ghost use Rattle.session.specs.Loads.{named_of, new_of};
 
 impl<'a> New<'a> {
     /// What makes a view, of the words of a line.
-    pub fn of(name: Name, schema: Name, words: &'a ExtentWords, expr: &'a MapExpr) -> New<'a>
-        ensures { new_of result ≡ record { name = name; schema = schema; words = words.now; term = term_of expr.now } }
+    pub fn of(
+        name: Name,
+        schema: Name,
+        words: &'a ExtentWords,
+        wrap: bool,
+        expr: &'a MapExpr,
+    ) -> New<'a>
+        ensures { new_of result ≡ record { name = name; schema = schema; words = words.now; wrap = wrap; term = term_of expr.now } }
     {
         let words = words.as_slice();
         New {
             name,
             schema,
             words,
+            wrap,
             expr,
         }
     }
@@ -81,7 +92,7 @@ impl Session {
     }
 }
 
-/// What the names of a new view stand for, and its shape: the tests that need no file.
+/// What the words of a new view stand for, and its shape: the tests that need no file.
 pub fn named<'a>(
     alloc: Global,
     records: &'a RecordList,
@@ -102,9 +113,20 @@ pub fn named<'a>(
     let shape = shaped(new.words)?;
     Ok(Found {
         schema,
+        mode: mode_by(new.wrap),
         expr,
         shape,
     })
+}
+
+fn mode_by(wrap: bool) -> StoreMode
+    ensures { result ≡ mode_by wrap }
+{
+    if wrap {
+        StoreMode::Wrap
+    } else {
+        StoreMode::Strict
+    }
 }
 
 // The view that stands at first.
@@ -120,5 +142,5 @@ fn new_view(
 {
     let found = named(alloc, records, mappings, views, new)?;
     let extents = resolved(&found.shape, new.words, None)?;
-    made(alloc, views, found.schema, extents, &found.expr)
+    made(alloc, views, found.mode, found.schema, extents, &found.expr)
 }

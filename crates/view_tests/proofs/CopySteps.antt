@@ -1,5 +1,5 @@
 -- What copies of 1,000 rows of one leaf of four bytes cost.
-use Rattle.std.proofs.Common.{◌≡◌, ◌≤◌, ◌+◌, ◌*◌, ◌∙◌, ℕ, List, [], ◌∷◌, length, sum_by, Option, Some, refl, sym, ap, arith}
+use Rattle.std.proofs.Common.{◌≡◌, ◌≤◌, ◌+◌, ◌*◌, ◌∙◌, ℕ, List, [], ◌∷◌, length, sum_by, Option, Some, inl, refl, sym, ap, arith}
 use Rattle.std.specs.Prelude.{slice_get, unwrap_or}
 use Rattle.std.specs.List.{flat_map, range_with_len}
 use Rattle.std.proofs.lemmas.List.{length-map}
@@ -15,28 +15,40 @@ use Rattle.record_dim.specs.Leaves.{kinds_of, leaves}
 use Rattle.record_dim.specs.Trees.{Fields}
 use Rattle.record_dim.specs.declared.leaf_type.LeafType.{LeafType}
 use Rattle.record_dim.specs.declared.leaf_type.LeafType.TheVariants.{U32}
-use Rattle.map_expr.specs.Terms.{Term, Aos, Soa, Aosoa}
+use Rattle.kept_tables.specs.declared.mode.StoreMode.TheVariants.{Strict}
+use Rattle.map_expr.specs.Terms.{Aos, Soa, Aosoa}
 use Rattle.map_checks.specs.Mappings.{layout_by, leaf_cells}
 use Rattle.map_checks.specs.RowsLaws.{length-in_rows, sum-blobs}
 use Rattle.map_any.specs.Strategies.{IsStrategy}
 use Rattle.map_any.specs.declared.strategy.Strategy.{Strategy}
 use Rattle.map_any.specs.declared.strategy.Strategy.TheVariants as way
 use Rattle.views.specs.Moves.{blob_steps}
-use Rattle.layout_copy.specs.Costs.{cost, steps_before}
+use Rattle.views.specs.Tables.{Table}
+use Rattle.layout_copy.specs.Costs.{cost, steps_before, IsWay, MayMoveTo}
 
--- from one count of steps to another no more than a copy between two mappings takes
-abbrev IsWithin : Term → Term → Fields → List ℕ → ℕ → ℕ → Type 0
-IsWithin one two record_fields extents old new = (strategy : Strategy) → IsStrategy one two strategy → new ≤ old + cost strategy one two record_fields extents
+-- from one count of steps to another no more than a copy of a table into another takes
+abbrev IsWithin : Table → Table → ℕ → ℕ → Type 0
+IsWithin source target old new =
+    (strategy : Strategy) → IsWay source target strategy → new ≤ old + cost strategy source.mapping target.mapping target.fields target.extents
+
+-- between strict views a copy goes by the way of their expressions
+abbrev AreStrict : Table → Table → Type 0
+AreStrict source target = (source.mode ≡ Strict) × (target.mode ≡ Strict)
+
+strict_way : (source target : Table) (strategy : Strategy) → AreStrict source target → IsStrategy source.mapping target.mapping strategy → IsWay source target strategy
+strict_way source target strategy strict is =
+    let may : MayMoveTo source target = rw strict.0 tt in
+    inl (may, is)
 
 pieces : steps_before 1000 1000 8 (4 ∷ []) 1000 ≡ 125
 unfolding steps_before
 pieces = refl
 
-pub by_runs : (one two : Term) (held : Fields) (extents : List ℕ) (old new : ℕ) → one ≡ Soa Multi Row → two ≡ Aosoa 8 Row → length (indices extents) ≡ 1000 →
-    kinds_of held ≡ U32 ∷ [] → IsWithin one two held extents old new → new ≤ old + 125
-by_runs one two held extents old new from to rows kinds within =
-    let is : IsStrategy one two way.Runs = rw (from, to) ((λ e. cc), refl) in
-    let few = rw (from, to) at (within way.Runs is) in
+pub by_runs : (source target : Table) (old new : ℕ) → AreStrict source target → source.mapping ≡ Soa Multi Row → target.mapping ≡ Aosoa 8 Row → length (indices target.extents) ≡ 1000 →
+    kinds_of target.fields ≡ U32 ∷ [] → IsWithin source target old new → new ≤ old + 125
+by_runs source target old new strict from to rows kinds within =
+    let is : IsStrategy source.mapping target.mapping way.Runs = rw (from, to) ((λ e. cc), refl) in
+    let few = rw (from, to) at (within way.Runs (strict_way source target way.Runs strict is)) in
     let sum = rw (rows, kinds) at few in
     omega (arith, sum, pieces)
 
@@ -63,20 +75,20 @@ packed_steps held extents rows kinds =
     ap (λ (ks : List LeafType). sum_by length (packed_aos slots (widths_of (leaf_cells ks)))) kinds ∙ packed_bits slots ∙ ap (λ (n : ℕ). n * 32) rows in
     one_blob (layout_by (Aos Packed Row) extents held) (length-in_rows (row_at Row extents) layout) (sum-blobs (row_at Row extents) layout ∙ bits)
 
-pub by_blobs : (one two : Term) (held : Fields) (extents : List ℕ) (old new : ℕ) → one ≡ Aos Packed Row → two ≡ Aos Packed Row → length (indices extents) ≡ 1000 →
-    kinds_of held ≡ U32 ∷ [] → IsWithin one two held extents old new → new ≤ old + 63
-by_blobs one two held extents old new from to rows kinds within =
-    let is : IsStrategy one two way.Blobs = rw (from, to) refl in
-    let few : new ≤ old + blob_steps (layout_by two extents held) = within way.Blobs is in
+pub by_blobs : (source target : Table) (old new : ℕ) → AreStrict source target → source.mapping ≡ Aos Packed Row → target.mapping ≡ Aos Packed Row → length (indices target.extents) ≡ 1000 →
+    kinds_of target.fields ≡ U32 ∷ [] → IsWithin source target old new → new ≤ old + 63
+by_blobs source target old new strict from to rows kinds within =
+    let is : IsStrategy source.mapping target.mapping way.Blobs = rw (from, to) refl in
+    let few : new ≤ old + blob_steps (layout_by target.mapping target.extents target.fields) = within way.Blobs (strict_way source target way.Blobs strict is) in
     let sum = rw to at few in
-    omega (arith, sum, packed_steps held extents rows kinds)
+    omega (arith, sum, packed_steps target.fields target.extents rows kinds)
 
-pub by_fields : (one two : Term) (held : Fields) (extents : List ℕ) (old new : ℕ) → one ≡ Aos Packed Row → two ≡ Soa Multi Row → length (indices extents) ≡ 1000 →
-    kinds_of held ≡ U32 ∷ [] → IsWithin one two held extents old new → new ≤ old + 2000
-by_fields one two held extents old new from to rows kinds within =
-    let leaf : length (leaves held) ≡ 1 = sym (length-map (leaves held) (λ leaf. leaf.kind)) ∙ ap (λ (ks : List LeafType). length ks) kinds in
-    let is : IsStrategy one two way.Fields = rw (from, to) ((λ e. cc), (λ e. e)) in
-    let few = within way.Fields is in
+pub by_fields : (source target : Table) (old new : ℕ) → AreStrict source target → source.mapping ≡ Aos Packed Row → target.mapping ≡ Soa Multi Row → length (indices target.extents) ≡ 1000 →
+    kinds_of target.fields ≡ U32 ∷ [] → IsWithin source target old new → new ≤ old + 2000
+by_fields source target old new strict from to rows kinds within =
+    let leaf : length (leaves target.fields) ≡ 1 = sym (length-map (leaves target.fields) (λ leaf. leaf.kind)) ∙ ap (λ (ks : List LeafType). length ks) kinds in
+    let is : IsStrategy source.mapping target.mapping way.Fields = rw (from, to) ((λ e. cc), (λ e. e)) in
+    let few = within way.Fields (strict_way source target way.Fields strict is) in
     let sum = rw (rows, leaf) at few in
     omega (arith, sum)
 

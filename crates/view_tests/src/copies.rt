@@ -10,6 +10,7 @@ ghost use Rattle.record_dim.specs.Leaves.{kinds_of};
 ghost use Rattle.record_dim.specs.Schemas.{schema_fields};
 ghost use Rattle.map_expr.specs.Terms.{Aos, Soa, Aosoa, term_of};
 ghost use Rattle.map_checks.specs.Mappings.{IsBuiltTerm};
+ghost use Rattle.kept_tables.specs.declared.mode.StoreMode.TheVariants.{Strict};
 
 use crate::tables::{aos, aosoa, get, set, soa, view_of};
 use layout_copy::{CopyFault, copy};
@@ -30,6 +31,7 @@ type Answer = Result<(), CopyFault>;
 fn copy_by_runs<L: Ledger>(source: &mut View, target: &mut View, steps: &mut Steps<L>) -> Answer
     requires from { source.old.mapping ≡ Soa Multi Row }
     requires to { target.old.mapping ≡ Aosoa 8 Row }
+    requires strict { (source.old.mode ≡ Strict) × (target.old.mode ≡ Strict) }
     requires rows { length (indices target.old.extents) ≡ 1000 }
     requires leaf { kinds_of target.old.fields ≡ U32 ∷ [] }
     ensures { steps.new ≤ steps.old + 125 }
@@ -41,6 +43,7 @@ fn copy_by_runs<L: Ledger>(source: &mut View, target: &mut View, steps: &mut Ste
 fn copy_by_blobs<L: Ledger>(source: &mut View, target: &mut View, steps: &mut Steps<L>) -> Answer
     requires from { source.old.mapping ≡ Aos Packed Row }
     requires to { target.old.mapping ≡ Aos Packed Row }
+    requires strict { (source.old.mode ≡ Strict) × (target.old.mode ≡ Strict) }
     requires rows { length (indices target.old.extents) ≡ 1000 }
     requires leaf { kinds_of target.old.fields ≡ U32 ∷ [] }
     ensures { steps.new ≤ steps.old + 63 }
@@ -52,6 +55,7 @@ fn copy_by_blobs<L: Ledger>(source: &mut View, target: &mut View, steps: &mut St
 fn copy_by_fields<L: Ledger>(source: &mut View, target: &mut View, steps: &mut Steps<L>) -> Answer
     requires from { source.old.mapping ≡ Aos Packed Row }
     requires to { target.old.mapping ≡ Soa Multi Row }
+    requires strict { (source.old.mode ≡ Strict) × (target.old.mode ≡ Strict) }
     requires rows { length (indices target.old.extents) ≡ 1000 }
     requires leaf { kinds_of target.old.fields ≡ U32 ∷ [] }
     ensures { steps.new ≤ steps.old + 2000 }
@@ -80,6 +84,7 @@ fn is_small(view: &View) -> bool
 fn zeros(alloc: Global, expr: &MapExpr) -> Result<View, Fail>
     requires { IsBuiltTerm (term_of expr.now) }
     ensures mapping { IfOk result (λ view. view.mapping ≡ term_of expr.now) }
+    ensures strict { IfOk result (λ view. view.mode ≡ Strict) }
     ensures rows { IfOk result (λ view. length (indices view.extents) ≡ 1000) }
     ensures leaf { IfOk result (λ view. kinds_of view.fields ≡ U32 ∷ []) }
 {
@@ -92,7 +97,8 @@ fn zeros(alloc: Global, expr: &MapExpr) -> Result<View, Fail>
 
 // Stores in each row its number, counted from 1.
 fn number(view: &mut View) -> Result<(), Fail>
-    ensures { view.new.mapping ≡ view.old.mapping }
+    ensures mapping { view.new.mapping ≡ view.old.mapping }
+    ensures mode { view.new.mode ≡ view.old.mode }
 {
     for row in 0..1000u64 {
         set(view, row, 0, i128::from(row + 1))?;
@@ -103,7 +109,8 @@ fn number(view: &mut View) -> Result<(), Fail>
 // The same rows with their numbers.
 fn numbered(alloc: Global, expr: &MapExpr) -> Result<View, Fail>
     requires { IsBuiltTerm (term_of expr.now) }
-    ensures { IfOk result (λ view. view.mapping ≡ term_of expr.now) }
+    ensures mapping { IfOk result (λ view. view.mapping ≡ term_of expr.now) }
+    ensures strict { IfOk result (λ view. view.mode ≡ Strict) }
 {
     let mut view = view_of(alloc, &[LeafType::U32], 1000, expr)?;
     number(&mut view)?;
@@ -134,6 +141,7 @@ fn runs_from<L: Ledger>(
     requires built { IsBuiltTerm (term_of expr.now) }
     requires from { source.old.mapping ≡ Soa Multi Row }
     requires to { term_of expr.now ≡ Aosoa 8 Row }
+    requires strict { source.old.mode ≡ Strict }
     ensures { steps.new ≤ steps.old + 125 }
 {
     let mut target = zeros(alloc, expr)?;
@@ -175,6 +183,7 @@ fn blobs_from<L: Ledger>(
     requires built { IsBuiltTerm (term_of expr.now) }
     requires from { source.old.mapping ≡ Aos Packed Row }
     requires to { term_of expr.now ≡ Aos Packed Row }
+    requires strict { source.old.mode ≡ Strict }
     ensures { steps.new ≤ steps.old + 63 }
 {
     let mut target = zeros(alloc, expr)?;
@@ -215,6 +224,7 @@ fn fields_from<L: Ledger>(
     requires built { IsBuiltTerm (term_of expr.now) }
     requires from { source.old.mapping ≡ Aos Packed Row }
     requires to { term_of expr.now ≡ Soa Multi Row }
+    requires strict { source.old.mode ≡ Strict }
     ensures { steps.new ≤ steps.old + 2000 }
 {
     let mut target = zeros(alloc, expr)?;

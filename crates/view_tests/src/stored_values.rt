@@ -3,7 +3,7 @@ ghost use Rattle.std.specs.Prelude.{◌≡◌, ◌<◌, IfOk, OnOk, length};
 ghost use Rattle.map_expr.specs.Terms.{term_of};
 ghost use Rattle.map_checks.specs.Mappings.{IsBuiltTerm};
 ghost use Rattle.piece_bits.specs.Tables.{with_entry};
-ghost use Rattle.views.specs.Tables.{leaf_count_of};
+ghost use Rattle.views.specs.Tables.{leaf_count_of, kept_of};
 
 use crate::tables::{aos, get, has_counted, set, soa, view_of};
 use instrument::write_heat;
@@ -112,7 +112,7 @@ fn row_from<L: Ledger>(
     requires some { 0 < blank.parts }
     requires row_in { row < length view.old.rows }
     requires leaf_in { leaf < leaf_count_of view.old }
-    ensures { OnOk result.0 (view.new ≡ record view.old { rows = with_entry view.old.rows row leaf value; tally = view.new.tally }) }
+    ensures { OnOk result.0 (view.new ≡ record view.old { rows = with_entry view.old.rows row leaf (kept_of view.old leaf value); tally = view.new.tally }) }
 {
     let mut steps = Steps::<L>::new(blank);
     let mut borrowed = view.row_mut(row);

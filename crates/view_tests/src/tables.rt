@@ -3,6 +3,7 @@ ghost use Rattle.std.specs.Prelude.{◌≡◌, ◌<◌, IfOk, length};
 ghost use Rattle.extents.specs.declared.order.Order.TheVariants.{Row};
 ghost use Rattle.map_expr.specs.Terms.{Aos, Soa, Aosoa, term_of};
 ghost use Rattle.map_checks.specs.Mappings.{IsBuiltTerm};
+ghost use Rattle.kept_tables.specs.declared.mode.StoreMode.TheVariants.{Strict};
 ghost use Rattle.views.specs.Tables.{leaf_count_of};
 
 use extents::{ExtentWord, Extents, Order, Shape};
@@ -43,7 +44,8 @@ pub(crate) fn view_of(
     expr: &MapExpr,
 ) -> Result<View, Fail>
     requires { IsBuiltTerm (term_of expr.now) }
-    ensures { IfOk result (λ view. view.mapping ≡ term_of expr.now) }
+    ensures mapping { IfOk result (λ view. view.mapping ≡ term_of expr.now) }
+    ensures strict { IfOk result (λ view. view.mode ≡ Strict) }
 {
     let schema = schema_of(alloc, kinds)?;
     let view = View::new(alloc, &schema, extents_of(&[ExtentWord::Rows], rows)?, expr);
@@ -92,7 +94,8 @@ fn set_from<L: Ledger>(
     requires some { 0 < blank.parts }
     requires row_in { row < length view.old.rows }
     requires leaf_in { leaf < leaf_count_of view.old }
-    ensures { view.new.mapping ≡ view.old.mapping }
+    ensures mapping { view.new.mapping ≡ view.old.mapping }
+    ensures mode { view.new.mode ≡ view.old.mode }
 {
     let mut steps = Steps::<L>::new(blank);
     view.set(row, leaf, value, &mut steps)
@@ -116,7 +119,8 @@ pub(crate) fn set(
     leaf: usize,
     value: i128,
 ) -> Result<Option<StoreFault>, Fail>
-    ensures { view.new.mapping ≡ view.old.mapping }
+    ensures mapping { view.new.mapping ≡ view.old.mapping }
+    ensures mode { view.new.mode ≡ view.old.mode }
 {
     if row < view.extents().count() && leaf < view.schema().leaf_count() {
         return Ok(set_from::<Brand>(view, row, leaf, value, Blank::new(1)).err());

@@ -15,7 +15,7 @@ use Rattle.map_expr.specs.Terms.{Term}
 use Rattle.map_plans.specs.Arrays.{array_of, lanes_in}
 use Rattle.map_any.specs.ArrayRuns.{IsArrayRun}
 use Rattle.map_any.specs.Strategies.{AreRuns}
-use Rattle.kept_tables.specs.declared.mode.StoreMode.TheVariants.{Strict}
+use Rattle.kept_tables.specs.declared.mode.StoreMode.{StoreMode}
 use Rattle.views.specs.Kept.{IsKept, raw_under}
 use Rattle.views.specs.Moves.{size_of, IsRunMoved}
 use Rattle.views.specs.Pieces.{IsMovedEach}
@@ -50,9 +50,9 @@ pub record AreEven (a b : Term) (extents others_extents : List ℕ) (fields tree
   pub one : (k : ℕ) → k < pieces → IfSome (array_of a) (IsRunOf a extents fields leaf (slot + k * count) count target (at + k * to_step))
   pub two : (k : ℕ) → k < pieces → IfSome (array_of b) (IsRunOf b others_extents trees leaf (slot + k * count) count source (from + k * from_step))
 
-module _ (a b : Term) (extents others_extents : List ℕ) (fields trees : Fields) (old others : List (List ℕ)) (leaf slot count pieces target at to_step source from from_step len : ℕ)
+module _ {mode lender : StoreMode} (a b : Term) (extents others_extents : List ℕ) (fields trees : Fields) (old others : List (List ℕ)) (leaf slot count pieces target at to_step source from from_step len : ℕ)
     (e : AreEven a b extents others_extents fields trees leaf slot count pieces target at to_step source from from_step len)
-    (kept : IsKept Strict a extents fields old) (others_kept : IsKept Strict b others_extents trees others) where
+    (kept : IsKept mode a extents fields old) (others_kept : IsKept lender b others_extents trees others) where
   pub each_target_in : target < length old
   each_target_in =
       target_in a b extents others_extents fields trees old others old leaf (slot + 0 * count) count target (at + 0 * to_step) source (from + 0 * from_step) len
@@ -75,7 +75,7 @@ module _ (a b : Term) (extents others_extents : List ℕ) (fields trees : Fields
 
   -- what is kept of blobs, and what their raw numbers are, once so many slots were moved
   abbrev After : ℕ → List (List ℕ) → Type 0
-  After done new = IsKept Strict a extents fields new
+  After done new = IsKept mode a extents fields new
       × IfSome (array_of a) (λ array. IsRunMoved array.0 extents (length (indices extents)) (length (kinds_of fields)) leaf slot done
       (raw_under b others_extents trees others) (raw_under a extents fields old) (raw_under a extents fields new))
 

@@ -6,10 +6,10 @@ use Rattle.std.proofs.lemmas.List.Sums.{sum_by-cons}
 use Rattle.std.proofs.lemmas.Option.{slice_get-get_or}
 use Rattle.std.proofs.lemmas.Nat.{pow_pos}
 use Rattle.std.proofs.lemmas.Int.{ints}
-use Rattle.std.proofs.lemmas.Bool.{cases_lt, cases_eq, cases_Bool}
+use Rattle.std.proofs.lemmas.Bool.{cases_lt, cases_Bool}
 use Rattle.record_dim.specs.declared.leaf_type.LeafType.{LeafType}
 use Rattle.record_dim.specs.declared.leaf_type.LeafType.TheVariants.{Bool as Truth, U8, U16, U32, U64, I8, I16, I32, I64}
-use Rattle.record_dim.specs.LeafTypes.{IsIn, IsDeclared}
+use Rattle.record_dim.specs.LeafTypes.{is_signed, IsIn, IsDeclared}
 use Rattle.record_dim.specs.Trees.{Fields}
 use Rattle.record_dim.specs.Leaves.{Leaf, leaves, kinds_of}
 use Rattle.places.specs.declared.piece.Hold.{Hold}
@@ -25,12 +25,13 @@ use Rattle.piece_bits.specs.TableLaws.{table_shape, tables_same, zeros_shape, ze
 use Rattle.piece_bits.specs.EntriesLaws.{blob_is, zeros_read}
 use Rattle.piece_bits.specs.CellsLaws.{bit_in_lt, hold_widths}
 use Rattle.kept_numbers.specs.Kept.{declared}
+use Rattle.kept_numbers.specs.KeptLaws.{declared_same}
 use Rattle.kept_tables.specs.declared.mode.StoreMode.{StoreMode}
 use Rattle.kept_tables.specs.declared.mode.StoreMode.TheVariants.{Strict}
 use Rattle.kept_tables.specs.Modes.{declared_table, Stays, IsSettled}
 use Rattle.kept_tables.specs.TableLaws.{declared_shape, declared_entry, declared_with_entry}
-use Rattle.kept_tables.specs.EntryLaws.{fitting_settled, strict_entry, image_of_table, settled_after}
-use Rattle.views.specs.Stores.{kind_at, Fits, AllFit}
+use Rattle.kept_tables.specs.EntryLaws.{fitting_settled, same_sign, strict_entry, image_of_table, settled_after}
+use Rattle.views.specs.Stores.{kind_at, Fits, AllStay}
 use Rattle.views.specs.Kept.{IsKept, raw_under, table_under}
 
 -- as many types as leaves
@@ -50,7 +51,7 @@ sum_lengths (owners ∷ layout) (blob ∷ blobs) count each =
     omega (arith, sum_by-cons (length {A = ℕ}) blob blobs, sum_by-cons (length {A = Owner}) owners layout)
 
 -- a hold of a layout that keeps the laws has a bit at least
-some_width : (layout : List (List Owner)) (slots : ℕ) (holds : List Hold) → IsLaidOut layout slots (map (λ (h : Hold). h.width) holds) → (leaf : ℕ) → leaf < length holds → 1 ≤ (hold_at holds leaf).width
+pub some_width : (layout : List (List Owner)) (slots : ℕ) (holds : List Hold) → IsLaidOut layout slots (map (λ (h : Hold). h.width) holds) → (leaf : ℕ) → leaf < length holds → 1 ≤ (hold_at holds leaf).width
 some_width layout slots holds lawful leaf l =
     (hold_widths layout slots holds lawful leaf (hold_at holds leaf) l (slice_get-get_or holds leaf (record { signed = false; width = 0 }) l)).0
 
@@ -102,6 +103,26 @@ module _ (mode : StoreMode) (term : Term) (extents : List ℕ) (fields : Fields)
       (image_of_table mode (layout_by term extents fields) (length (indices extents)) (kinds_of fields) (holds_by term fields) kept.lawful kept.paired (bit_in blobs) (bit_in_lt blobs)
       kept.laid.padded.padding kept.settled)
 
+  -- where the leaf is stored in the sign of its type, or each entry fits, an entry is its raw number
+  pub sign_entry : (row leaf : ℕ) → row < length (indices extents) → leaf < length (kinds_of fields)
+      → (hold_at (holds_by term fields) leaf).signed ≡ is_signed (kind_at (kinds_of fields) leaf)
+      → entry (table_under term extents fields blobs) row leaf ≡ entry (raw_under term extents fields blobs) row leaf
+  sign_entry row leaf l m sign =
+      entry_is_declared row leaf l m
+      ∙ same_sign mode (kind_at (kinds_of fields) leaf) (hold_at (holds_by term fields) leaf) (entry (raw_under term extents fields blobs) row leaf) (hold_some leaf m) sign (kept.settled row leaf l m)
+
+  pub strict_raw : mode ≡ Strict → (row leaf : ℕ) → row < length (indices extents) → leaf < length (kinds_of fields)
+      → entry (table_under term extents fields blobs) row leaf ≡ entry (raw_under term extents fields blobs) row leaf
+  strict_raw strict row leaf l m =
+      let kind = kind_at (kinds_of fields) leaf in
+      let hold = hold_at (holds_by term fields) leaf in
+      let raw = entry (raw_under term extents fields blobs) row leaf in
+      entry_is_declared row leaf l m
+      ∙ strict_entry kind hold raw (hold_some leaf m) (subst (λ (w : StoreMode). IsSettled w kind hold raw) strict (kept.settled row leaf l m))
+
+  pub kept_stays : AllStay mode (length (table_under term extents fields blobs)) (kinds_of fields) (holds_by term fields) (table_under term extents fields blobs)
+  kept_stays = λ row leaf l m. entry_stays row leaf (omega (arith, row_count)) m
+
   -- one raw number is written that is settled
   module _ (new : List (List ℕ)) (row leaf : ℕ) (raw : ℤ) (row_in : row < length (indices extents)) (leaf_in : leaf < length (kinds_of fields))
       (is : raw_under term extents fields new ≡ with_entry (raw_under term extents fields blobs) row leaf raw) where
@@ -120,25 +141,6 @@ module _ (mode : StoreMode) (term : Term) (extents : List ℕ) (fields : Fields)
     table_set =
         ap (declared_table (kinds_of fields)) is
         ∙ declared_with_entry (length (indices extents)) (kinds_of fields) (raw_under term extents fields blobs) raw_shape row leaf raw row_in leaf_in
-
--- where each entry fits, a raw number is its entry
-module _ (term : Term) (extents : List ℕ) (fields : Fields) (blobs : List (List ℕ)) (kept : IsKept Strict term extents fields blobs) where
-  pub entry_is_raw : (row leaf : ℕ) → row < length (indices extents) → leaf < length (kinds_of fields) →
-      entry (table_under term extents fields blobs) row leaf ≡ entry (raw_under term extents fields blobs) row leaf
-  entry_is_raw row leaf l m =
-      entry_is_declared Strict term extents fields blobs kept row leaf l m
-      ∙ strict_entry (kind_at (kinds_of fields) leaf) (hold_at (holds_by term fields) leaf) (entry (raw_under term extents fields blobs) row leaf)
-      (hold_some Strict term extents fields blobs kept leaf m) (kept.settled row leaf l m)
-
-  pub raw_is_table : raw_under term extents fields blobs ≡ table_under term extents fields blobs
-  raw_is_table =
-      let shape = raw_shape Strict term extents fields blobs kept in
-      tables_same (length (indices extents)) (length (kinds_of fields)) (raw_under term extents fields blobs) (table_under term extents fields blobs) shape
-      (declared_shape (length (indices extents)) (kinds_of fields) (raw_under term extents fields blobs) shape)
-      (λ row leaf l m. sym (entry_is_raw row leaf l m))
-
-  pub kept_fits : AllFit (length (table_under term extents fields blobs)) (kinds_of fields) (holds_by term fields) (table_under term extents fields blobs)
-  kept_fits = λ row leaf l m. entry_stays Strict term extents fields blobs kept row leaf (omega (arith, row_count Strict term extents fields blobs kept)) m
 
 -- 0 fits every leaf
 zero_held : (hold : Hold) → 1 ≤ hold.width → IsIn hold.signed hold.width (pos 0)
@@ -194,5 +196,7 @@ module _ (term : Term) (extents : List ℕ) (fields : Fields) (blobs : List (Lis
       let shape : HasShape rows (length (kinds_of fields)) (zeros rows (length (kinds_of fields))) = zeros_shape rows (length (kinds_of fields)) in
       tables_same rows (length (kinds_of fields)) (table_under term extents fields blobs) (zeros rows (length (kinds_of fields)))
       (declared_shape rows (kinds_of fields) (raw_under term extents fields blobs) (raw_shape Strict term extents fields blobs (kept_zeros Strict))) shape
-      (λ row leaf l m. entry_is_raw term extents fields blobs (kept_zeros Strict) row leaf l m ∙ zero_raw row leaf l m ∙ sym (zeros_entry rows (length (kinds_of fields)) row leaf l m))
+      (λ row leaf l m.
+      entry_is_declared Strict term extents fields blobs (kept_zeros Strict) row leaf l m ∙ ap (declared (kind_at (kinds_of fields) leaf)) (zero_raw row leaf l m)
+      ∙ declared_same (kind_at (kinds_of fields) leaf) (pos 0) (zero_declared (kind_at (kinds_of fields) leaf)) ∙ sym (zeros_entry rows (length (kinds_of fields)) row leaf l m))
       ∙ ap (zeros rows) (sym paired)

@@ -1,6 +1,6 @@
 pub mod KeptLaws
-pub mod StoreLaws
 pub mod Opened
+pub mod StoreLaws
 pub mod ZeroBlobs
 pub mod AccessLaws
 pub mod WideLaws

@@ -10,7 +10,8 @@ use Rattle.places.specs.Laws.{IsLaidOut}
 use Rattle.places.specs.Layout.{Owner}
 use Rattle.places.specs.declared.piece.Hold.{Hold}
 use Rattle.blobs.specs.Moves.{blocks}
-use Rattle.piece_bits.specs.Tables.{AreLaid, AreSized, table_in}
+use Rattle.places.specs.Image.{entry}
+use Rattle.piece_bits.specs.Tables.{AreLaid, AreSized, hold_at, table_in}
 use Rattle.map_expr.specs.Terms.{Term, uncounted, term_of}
 use Rattle.map_checks.specs.Mappings.{leaf_cells, layout_by, holds_by, most_slots}
 use Rattle.map_expr.specs.declared.expr.MapExpr.{MapExpr}
@@ -20,10 +21,13 @@ use Rattle.views.proofs.Opened.{seen_from}
 use Rattle.kept_tables.specs.declared.mode.StoreMode.{StoreMode}
 use Rattle.kept_tables.specs.Modes.{declared_table, AllSettled}
 use Rattle.views.specs.Kept.{IsKept, raw_under, table_under}
-use Rattle.views.specs.Tables.{Table}
+use Rattle.views.specs.Tables.{Table, leaf_types_of, table_holds}
 use Rattle.views.specs.UncountedLaws.{layout_uncounted, holds_uncounted, slots_uncounted}
 use Rattle.views.specs.Tallies.{Tally}
-use Rattle.views.specs.Moves.{blob_steps}
+use Rattle.views.specs.Moves.{blob_steps, MayMove}
+use Rattle.views.specs.MovesLaws.{settled_moves, may_move}
+use Rattle.views.specs.Stores.{kind_at}
+use Rattle.views.proofs.KeptLaws.{some_width}
 
 -- the bytes of blobs of a layout's lengths, and the blocks that they are
 sized_blocks : (layout : List (List Owner)) (blobs : List (List ℕ)) → length blobs ≡ length layout
@@ -89,24 +93,32 @@ module _ (a b : Term) (extents others : List ℕ) (fields trees : Fields) (same 
   moved_table blobs =
       ap (declared_table (kinds_of fields)) (moved_raw blobs) ∙ ap (λ (f : Fields). declared_table (kinds_of f) (raw_under b others trees blobs)) alike.0
 
-  -- what is kept of the blobs
-  pub moved_kept : (mode : StoreMode) (blobs : List (List ℕ)) → IsKept mode b others trees blobs → IsKept mode a extents fields blobs
-  moved_kept mode blobs kept = record {
-    lawful =
-        subst (λ (hs : List Hold). IsLaidOut (layout_by a extents fields) (length (indices extents)) (map (λ (h : Hold). h.width) hs)) holds_same
-        (subst (λ (n : ℕ). IsLaidOut (layout_by a extents fields) n (map (λ (h : Hold). h.width) (holds_by b trees))) rows_same
-        (subst (λ (l : List (List Owner)). IsLaidOut l (length (indices others)) (map (λ (h : Hold). h.width) (holds_by b trees))) layouts_same kept.lawful));
-    paired = ap (λ (hs : List Hold). length hs) (sym holds_same) ∙ kept.paired ∙ ap (λ (f : Fields). length (kinds_of f)) (sym alike.0);
-    within = λ big.
-        kept.within (subst (λ (l : List (List Owner)). IsTooBig (most_slots b others) l) (sym layouts_same)
-        (subst (λ (n : ℕ). IsTooBig n (layout_by a extents fields)) (sym slots_same) big));
-    laid = subst (λ (l : List (List Owner)). AreLaid l blobs) layouts_same kept.laid;
-    settled =
-        subst (λ (t : List (List ℤ)). AllSettled mode (length (indices extents)) (kinds_of fields) (holds_by a fields) t) (sym (moved_raw blobs))
-        (subst (λ (hs : List Hold). AllSettled mode (length (indices extents)) (kinds_of fields) hs (raw_under b others trees blobs)) holds_same
-        (subst (λ (n : ℕ). AllSettled mode n (kinds_of fields) (holds_by b trees) (raw_under b others trees blobs)) rows_same
-        (subst (λ (f : Fields). AllSettled mode (length (indices others)) (kinds_of f) (holds_by b trees) (raw_under b others trees blobs)) (sym alike.0) kept.settled)));
-  }
+  -- what is kept of the blobs, in a view that may hold them
+  pub moved_kept : (from to : StoreMode) → MayMove from to (kinds_of fields) (holds_by a fields) → (blobs : List (List ℕ)) → IsKept from b others trees blobs → IsKept to a extents fields blobs
+  moved_kept from to may blobs kept =
+      let lawful : IsLaidOut (layout_by a extents fields) (length (indices extents)) (map (λ (h : Hold). h.width) (holds_by a fields)) =
+      subst (λ (hs : List Hold). IsLaidOut (layout_by a extents fields) (length (indices extents)) (map (λ (h : Hold). h.width) hs)) holds_same
+      (subst (λ (n : ℕ). IsLaidOut (layout_by a extents fields) n (map (λ (h : Hold). h.width) (holds_by b trees))) rows_same
+      (subst (λ (l : List (List Owner)). IsLaidOut l (length (indices others)) (map (λ (h : Hold). h.width) (holds_by b trees))) layouts_same kept.lawful)) in
+      let paired : length (holds_by a fields) ≡ length (kinds_of fields) =
+      ap (λ (hs : List Hold). length hs) (sym holds_same) ∙ kept.paired ∙ ap (λ (f : Fields). length (kinds_of f)) (sym alike.0) in
+      let settled : AllSettled from (length (indices extents)) (kinds_of fields) (holds_by a fields) (raw_under a extents fields blobs) =
+      subst (λ (t : List (List ℤ)). AllSettled from (length (indices extents)) (kinds_of fields) (holds_by a fields) t) (sym (moved_raw blobs))
+      (subst (λ (hs : List Hold). AllSettled from (length (indices extents)) (kinds_of fields) hs (raw_under b others trees blobs)) holds_same
+      (subst (λ (n : ℕ). AllSettled from n (kinds_of fields) (holds_by b trees) (raw_under b others trees blobs)) rows_same
+      (subst (λ (f : Fields). AllSettled from (length (indices others)) (kinds_of f) (holds_by b trees) (raw_under b others trees blobs)) (sym alike.0) kept.settled))) in
+      record {
+        lawful = lawful;
+        paired = paired;
+        within = λ big.
+            kept.within (subst (λ (l : List (List Owner)). IsTooBig (most_slots b others) l) (sym layouts_same)
+            (subst (λ (n : ℕ). IsTooBig n (layout_by a extents fields)) (sym slots_same) big));
+        laid = subst (λ (l : List (List Owner)). AreLaid l blobs) layouts_same kept.laid;
+        settled = λ row leaf l m.
+            settled_moves from to (kind_at (kinds_of fields) leaf) (hold_at (holds_by a fields) leaf) (entry (raw_under a extents fields blobs) row leaf)
+            (some_width (layout_by a extents fields) (length (indices extents)) (holds_by a fields) lawful leaf (omega (arith, m, paired)))
+            (may_move from to (kinds_of fields) (holds_by a fields) may leaf m) (settled row leaf l m);
+      }
 
 -- two views over one array, by their fields
 pub views_alike : (one two : Table) {seen others : Table} → seen ≡ one → others ≡ two → (one.fields ≡ two.fields) × (one.extents ≡ two.extents)
@@ -119,10 +131,16 @@ views_alike one two is are alike = (
 pub views_one : (one two : Table) {seen others : Table} → seen ≡ one → others ≡ two → uncounted one.mapping ≡ uncounted two.mapping → uncounted seen.mapping ≡ uncounted others.mapping
 views_one one two is are same = ap (λ (t : Table). uncounted t.mapping) is ∙ same ∙ sym (ap (λ (t : Table). uncounted t.mapping) are)
 
+pub may_seen : (one two : Table) {seen others : Table} → seen ≡ one → others ≡ two → MayMove two.mode one.mode (leaf_types_of one) (table_holds one)
+    → MayMove others.mode seen.mode (leaf_types_of seen) (table_holds seen)
+may_seen one two {seen} {others} is are may =
+    subst (λ (t : Table). MayMove others.mode t.mode (leaf_types_of t) (table_holds t)) (sym is)
+    (subst (λ (t : Table). MayMove t.mode one.mode (leaf_types_of one) (table_holds one)) (sym are) may)
+
 -- what callers see once other blobs stand there
-pub seen_moved : (schema : Schema) (extents : List ℕ) (expr : MapExpr) (old new : List (List ℕ)) (tally : Tally) (seen : Table) (rows : List (List ℤ))
-    → seen_from schema extents expr old tally ≡ seen → table_under (term_of expr) extents (schema_fields schema) new ≡ rows
-    → seen_from schema extents expr new tally ≡ (let t : Table = record seen { rows = rows } in t)
-seen_moved schema extents expr old new tally seen rows is table =
-    ap (λ (t : List (List ℤ)). let s : Table = record (seen_from schema extents expr old tally) { rows = t } in s) table
+pub seen_moved : {mode : StoreMode} (schema : Schema) (extents : List ℕ) (expr : MapExpr) (old new : List (List ℕ)) (tally : Tally) (seen : Table) (rows : List (List ℤ))
+    → seen_from mode schema extents expr old tally ≡ seen → table_under (term_of expr) extents (schema_fields schema) new ≡ rows
+    → seen_from mode schema extents expr new tally ≡ (let t : Table = record seen { rows = rows } in t)
+seen_moved {mode} schema extents expr old new tally seen rows is table =
+    ap (λ (t : List (List ℤ)). let s : Table = record (seen_from mode schema extents expr old tally) { rows = t } in s) table
     ∙ ap (λ (s : Table). let t : Table = record s { rows = rows } in t) is

@@ -22,7 +22,7 @@ use Rattle.lanes.specs.Blocks.{is_inside}
 use Rattle.near_leaves.specs.Nears.{NearLeaf, IsNear, near_numbers}
 use Rattle.near_leaves.proofs.Nears.{rule_near, rule_numbers}
 use Rattle.views.specs.Columns.{column}
-use Rattle.kept_tables.specs.declared.mode.StoreMode.TheVariants.{Strict}
+use Rattle.kept_tables.specs.declared.mode.StoreMode.{StoreMode}
 use Rattle.views.specs.Kept.{IsKept, IsMappingOf}
 use Rattle.views.specs.NearStores.{IsNearIn, IsNearColumn}
 use Rattle.views.specs.Stores.{Fits}
@@ -32,7 +32,7 @@ use Rattle.views.specs.declared.near_column.NearColumn.{NearColumn}
 use Rattle.views.proofs.NearLaws.{near_there, near_shown}
 use Rattle.views.proofs.NearStoreLaws.{near_blob}
 use Rattle.views.proofs.Opened.{seen_from, cell_count, leaf_seen, rows_seen}
-use Rattle.views.proofs.StoreLaws.{between_true}
+use Rattle.views.specs.StrictLaws.{between_true}
 
 -- ---- values that are sure to be taken
 
@@ -129,8 +129,8 @@ module _ {layout : List (List Owner)} {slots : ℕ} (kinds : List LeafType) (hol
 
 -- ---- what a view and its mapping say of a near leaf
 
-module _ (schema : Schema) (extents : List ℕ) (expr : MapExpr) (blobs : List (List ℕ)) (kept : IsKept Strict (term_of expr) extents (schema_fields schema) blobs) {tally : Tally} (seen : Table)
-    (is : seen_from schema extents expr blobs tally ≡ seen) {mapped : Term} {inside : List ℕ} {layout : List (List Owner)} {slots : ℕ} {cells : List Cell} {holds : List Hold}
+module _ {mode : StoreMode} (schema : Schema) (extents : List ℕ) (expr : MapExpr) (blobs : List (List ℕ)) (kept : IsKept mode (term_of expr) extents (schema_fields schema) blobs) {tally : Tally} (seen : Table)
+    (is : seen_from mode schema extents expr blobs tally ≡ seen) {mapped : Term} {inside : List ℕ} {layout : List (List Owner)} {slots : ℕ} {cells : List Cell} {holds : List Hold}
     (mapping : IsMappingOf (term_of expr) extents (schema_fields schema) mapped inside layout slots cells holds) (near : NearColumn) where
   layouts : layout ≡ owners_of seen
   layouts = mapping.layout_is ∙ ap (λ (t : Table). owners_of t) is

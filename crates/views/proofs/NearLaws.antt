@@ -9,8 +9,11 @@ use Rattle.places.specs.Layout.{Owner}
 use Rattle.places.specs.Laws.{IsLaidOut}
 use Rattle.places.specs.declared.piece.Hold.{Hold}
 use Rattle.places.specs.declared.piece.Cell.{Cell}
-use Rattle.record_dim.specs.Trees.{Fields}
-use Rattle.map_expr.specs.Terms.{Term}
+use Rattle.record_dim.specs.Schemas.{schema_fields}
+use Rattle.record_dim.specs.declared.schema.Schema.{Schema}
+use Rattle.map_expr.specs.Terms.{Term, term_of}
+use Rattle.map_expr.specs.declared.expr.MapExpr.{MapExpr}
+use Rattle.kept_tables.specs.declared.mode.StoreMode.{StoreMode}
 use Rattle.piece_rules.specs.declared.rule.PieceRule.{PieceRule}
 use Rattle.piece_bits.specs.Tables.{AreLaid, hold_at, table_in}
 use Rattle.piece_bits.specs.Words.{word_bit, word_width}
@@ -20,9 +23,11 @@ use Rattle.short_rules.specs.Walks.{leads}
 use Rattle.short_rules.specs.declared.short.ShortRule.{ShortRule}
 use Rattle.near_leaves.specs.Nears.{NearLeaf, IsNearOf, stands_at}
 use Rattle.views.specs.Columns.{in_leaf, column}
-use Rattle.views.specs.Kept.{IsMappingOf, raw_under}
+use Rattle.views.specs.Kept.{IsKept, IsMappingOf, HasSign}
+use Rattle.views.specs.Tables.{Table, leaf_count_of}
+use Rattle.views.specs.Tallies.{Tally}
 use Rattle.views.proofs.AccessLaws.{word_there, word_read}
-use Rattle.views.proofs.Opened.{raw_same}
+use Rattle.views.proofs.Opened.{seen_from, rows_seen, sign_seen}
 
 near_column : (f : ℕ → ℤ) (leaf rows all : ℕ) (table : List (List ℤ)) → length table ≡ rows → all ≤ rows → ((row : ℕ) → row < rows → f row ≡ entry table row leaf)
     → map f (range_with_len 0 all) ≡ take all (column leaf table)
@@ -60,14 +65,27 @@ module _ {layout : List (List Owner)} {slots : ℕ} (holds : List Hold) (leaf : 
       ∙ near_column (stands_at short bytes) leaf slots (16 * (rows / 16)) (table_in layout slots holds blobs) size (omega (arith, all)) (λ row inside.
       word_read holds row leaf laid paired inside leaf_in (h is.leads) (start_in short row) refl blobs are_laid is.alone bytes (stands_at short bytes row) there refl)
 
--- the same of the table that callers see
-pub near_seen : (leaf rows : ℕ) (table seen : List (List ℤ)) (near : Option NearLeaf) → rows ≡ length seen → table ≡ seen
+-- a column of one table is that of another whose entries are the same
+column_same : (leaf rows : ℕ) (one two : List (List ℤ)) → length one ≡ rows → length two ≡ rows → ((row : ℕ) → row < rows → entry one row leaf ≡ entry two row leaf) → column leaf one ≡ column leaf two
+column_same leaf rows one two first second each =
+    same_lists (column leaf one) (column leaf two) (length-map one (in_leaf leaf) ∙ first ∙ sym (length-map two (in_leaf leaf) ∙ second)) (λ k d inside.
+    let low : k < rows = omega (arith, inside, length-map one (in_leaf leaf), first) in
+    get_or-map (in_leaf leaf) one k [] d (omega (arith, low, first)) ∙ each k low ∙ sym (get_or-map (in_leaf leaf) two k [] d (omega (arith, low, second))))
+
+-- the raw numbers of a leaf that is stored in the sign of its type are its column in the table that callers see
+module _ {mode : StoreMode} (schema : Schema) (extents : List ℕ) (expr : MapExpr) (blobs : List (List ℕ)) (kept : IsKept mode (term_of expr) extents (schema_fields schema) blobs) {tally : Tally} (seen : Table)
+    (is : seen_from mode schema extents expr blobs tally ≡ seen) {mapped : Term} {inside : List ℕ} {layout : List (List Owner)} {slots : ℕ} {cells : List Cell} {holds : List Hold}
+    (mapping : IsMappingOf (term_of expr) extents (schema_fields schema) mapped inside layout slots cells holds) (lent : List (List ℕ)) (same : lent ≡ blobs) where
+  pub column_seen : (leaf : ℕ) → leaf < leaf_count_of seen → HasSign cells holds leaf → column leaf (table_in layout slots holds lent) ≡ column leaf seen.rows
+  column_seen leaf leaf_in sign =
+      let raw : List (List ℤ) = table_in layout slots holds lent in
+      let size : length raw ≡ slots = length-map (range_with_len 0 slots) _ ∙ length-range_with_len 0 slots in
+      let rows : length seen.rows ≡ slots = rows_seen schema extents expr blobs kept seen is ∙ sym mapping.slots_are in
+      column_same leaf slots raw seen.rows size rows (λ row l. sign_seen schema extents expr blobs kept seen is mapping lent same row leaf (omega (arith, l, rows)) leaf_in sign)
+
+-- so it is of a near leaf
+pub near_seen : (leaf rows : ℕ) (table seen : List (List ℤ)) (near : Option NearLeaf) → rows ≡ length seen → (is_some near ≡ true → column leaf table ≡ column leaf seen)
     → IfSome near (λ n. n.numbers ≡ take (16 * (rows / 16)) (column leaf table)) → IfSome near (λ n. n.numbers ≡ take (16 * (length seen / 16)) (column leaf seen))
 near_seen leaf rows table seen None all same is = tt
 near_seen leaf rows table seen (Some near) all same is =
-    is ∙ ap (λ (n : ℕ). take (16 * (n / 16)) (column leaf table)) all ∙ ap (λ (t : List (List ℤ)). take (16 * (length seen / 16)) (column leaf t)) same
-
-pub raw_lent : {term mapped : Term} {extents inside : List ℕ} {fields : Fields} {layout : List (List Owner)} {slots : ℕ} {cells : List Cell} {holds : List Hold}
-    → IsMappingOf term extents fields mapped inside layout slots cells holds → (lent blobs : List (List ℕ)) → lent ≡ blobs
-    → table_in layout slots holds lent ≡ raw_under term extents fields blobs
-raw_lent {term} {mapped} {extents} {inside} {fields} {layout} {slots} {cells} {holds} mapping lent blobs same = ap (table_in layout slots holds) same ∙ raw_same mapping blobs
+    is ∙ ap (λ (n : ℕ). take (16 * (n / 16)) (column leaf table)) all ∙ ap (take (16 * (length seen / 16))) (same refl)

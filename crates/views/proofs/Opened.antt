@@ -1,14 +1,17 @@
 -- A view by its fields.
-use Rattle.std.proofs.Common.{◌≡◌, ℕ, ℤ, ◌<◌, List, [], ◌∷◌, Ok, false, length, map, sym, ap, ◌∙◌, subst, arith}
+use Rattle.std.proofs.Common.{◌≡◌, ℕ, ℤ, ◌<◌, ◌≤◌, List, [], ◌∷◌, Some, false, length, map, slice_get, sym, ap, ◌∙◌, subst, arith}
 use Rattle.std.specs.List.{enumerate_from}
 use Rattle.std.proofs.lemmas.List.{length-map}
 use Rattle.std.proofs.lemmas.List.FromFn.{length-enumerate_from}
+use Rattle.std.proofs.lemmas.Option.{get_or_from_slice_get}
 use Rattle.record_dim.specs.Trees.{Fields}
 use Rattle.extents.specs.Indices.{indices}
 use Rattle.record_dim.specs.declared.schema.Schema.{Schema}
 use Rattle.record_dim.specs.declared.leaf_type.LeafType.{LeafType}
+use Rattle.record_dim.specs.declared.leaf_type.LeafType.TheVariants.{Bool as Truth}
 use Rattle.record_dim.specs.Schemas.{schema_fields}
 use Rattle.record_dim.specs.Leaves.{leaves, kinds_of}
+use Rattle.record_dim.specs.LeafTypes.{IsIn, IsDeclared, is_signed}
 use Rattle.places.specs.Layout.{Owner}
 use Rattle.places.specs.Laws.{IsLaidOut}
 use Rattle.places.specs.Image.{entry}
@@ -16,21 +19,22 @@ use Rattle.places.specs.declared.piece.Cell.{Cell}
 use Rattle.places.specs.declared.piece.Hold.{Hold}
 use Rattle.map_expr.specs.declared.expr.MapExpr.{MapExpr}
 use Rattle.map_expr.specs.Terms.{Term, term_of}
+use Rattle.map_checks.specs.LeafCells.{kinds_are}
 use Rattle.map_checks.specs.Mappings.{leaf_cells, layout_by, holds_by, IsTooBigFor}
 use Rattle.map_any.specs.Counters.{is_counted}
+use Rattle.piece_bits.specs.CellsLaws.{hold_widths}
 use Rattle.piece_bits.specs.Tables.{AreLaid, table_in, hold_at, with_entry}
-use Rattle.views.specs.Tables.{Table, leaf_count_of, answer_of, after_log, after_stores, after_write, IsTable}
-use Rattle.views.specs.Stores.{kind_at, store_answer, Fits}
+use Rattle.views.specs.Tables.{Table, leaf_count_of, leaf_type_of, table_holds, after_log, after_raw, after_stores, IsTable, IsSettledIn}
+use Rattle.views.specs.Stores.{Fits, kind_at}
 use Rattle.views.specs.Tallies.{Access, Write, Tally, touched, tallied, all_touches}
-use Rattle.kept_numbers.specs.KeptLaws.{declared_same}
+use Rattle.kept_numbers.specs.Kept.{declared}
+use Rattle.kept_tables.specs.declared.mode.StoreMode.{StoreMode}
 use Rattle.kept_tables.specs.declared.mode.StoreMode.TheVariants.{Strict}
 use Rattle.kept_tables.specs.Modes.{IsSettled}
-use Rattle.kept_tables.specs.EntryLaws.{fitting_settled}
-use Rattle.views.specs.Kept.{IsKept, IsMappingOf, IsTallied, raw_under, table_under}
+use Rattle.kept_tables.specs.EntryLaws.{raw_held, stays_declared}
+use Rattle.views.specs.Kept.{IsKept, IsMappingOf, IsTallied, HasSign, raw_under, table_under}
 use Rattle.views.proofs.CountLaws.{idle_logged}
-use Rattle.views.proofs.KeptLaws.{kind_count, row_count, kept_shape, kept_fits, hold_some, entry_is_raw, kept_set, table_set}
-use Rattle.views.specs.AnswerLaws.{kept_of-same}
-use Rattle.views.proofs.StoreLaws.{stored_fits}
+use Rattle.views.proofs.KeptLaws.{kind_count, row_count, kept_shape, kept_stays, hold_some, entry_is_declared, entry_stays, sign_entry, strict_raw, kept_set, table_set}
 
 -- as many cells as leaves
 pub length-leaf_cells : (kinds : List LeafType) → length (leaf_cells kinds) ≡ length kinds
@@ -90,6 +94,12 @@ module _ {term : Term} {extents : List ℕ} {fields : Fields} {mapped : Term} {i
   pub paired_there : length holds ≡ length cells → length (holds_by term fields) ≡ length (kinds_of fields)
   paired_there paired = ap (length {A = Hold}) (sym mapping.holds_are) ∙ paired ∙ cell_count
 
+  -- a leaf that is stored in the sign of its type
+  pub sign_there : (leaf : ℕ) → HasSign cells holds leaf → (hold_at (holds_by term fields) leaf).signed ≡ is_signed (kind_at (kinds_of fields) leaf)
+  sign_there leaf sign =
+      subst (λ (hs : List Hold). (hold_at hs leaf).signed ≡ is_signed (kind_at (kinds_of fields) leaf)) mapping.holds_are
+      (subst (λ (ks : List LeafType). (hold_at holds leaf).signed ≡ is_signed (kind_at ks leaf)) (kinds_are cells (kinds_of fields) mapping.cells_are) sign)
+
 -- the same after copies of the schema and the expression
 pub mapping_copied : {term copy mapped : Term} {fields same : Fields} {extents inside : List ℕ} {layout : List (List Owner)} {slots : ℕ} {cells : List Cell} {holds : List Hold} →
     copy ≡ term → same ≡ fields → IsMappingOf term extents fields mapped inside layout slots cells holds → IsMappingOf copy extents same mapped inside layout slots cells holds
@@ -104,27 +114,34 @@ within_copied {term} {copy} {fields} {same} extents terms trees within =
     (subst (λ (f : Fields). IsTooBigFor term extents f (leaf_cells (kinds_of f)) → ⊥) (sym trees) within)
 
 -- what callers see of the fields
-abbrev pub seen_from : Schema → List ℕ → MapExpr → List (List ℕ) → Tally → Table
-seen_from schema extents expr blobs tally = record {
+abbrev pub seen_from : StoreMode → Schema → List ℕ → MapExpr → List (List ℕ) → Tally → Table
+seen_from mode schema extents expr blobs tally = record {
   fields = schema_fields schema;
   extents = extents;
   mapping = term_of expr;
+  mode = mode;
   rows = table_under (term_of expr) extents (schema_fields schema) blobs;
   tally = tally;
 }
 
-module _ (schema : Schema) (extents : List ℕ) (expr : MapExpr) (blobs : List (List ℕ)) (kept : IsKept Strict (term_of expr) extents (schema_fields schema) blobs)
-    {tally : Tally} (seen : Table) (is : seen_from schema extents expr blobs tally ≡ seen) where
+module _ {mode : StoreMode} (schema : Schema) (extents : List ℕ) (expr : MapExpr) (blobs : List (List ℕ)) (kept : IsKept mode (term_of expr) extents (schema_fields schema) blobs)
+    {tally : Tally} (seen : Table) (is : seen_from mode schema extents expr blobs tally ≡ seen) where
+  abbrev kind : ℕ → LeafType
+  kind leaf = kind_at (kinds_of (schema_fields schema)) leaf
+
+  abbrev hold : ℕ → Hold
+  hold leaf = hold_at (holds_by (term_of expr) (schema_fields schema)) leaf
+
   pub rows_seen : length seen.rows ≡ length (indices extents)
-  rows_seen = ap (λ (s : Table). length s.rows) (sym is) ∙ row_count Strict (term_of expr) extents (schema_fields schema) blobs kept
+  rows_seen = ap (λ (s : Table). length s.rows) (sym is) ∙ row_count mode (term_of expr) extents (schema_fields schema) blobs kept
 
   pub table_seen : IsTable seen
   table_seen =
-      let fields = schema_fields schema in
-      let here : IsTable (seen_from schema extents expr blobs tally) = record {
-        rows = row_count Strict (term_of expr) extents fields blobs kept;
-        shape = kept_shape Strict (term_of expr) extents fields blobs kept (length (leaves (schema_fields schema))) (kind_count (schema_fields schema));
-        fits = kept_fits (term_of expr) extents fields blobs kept;
+      let here : IsTable (seen_from mode schema extents expr blobs tally) = record {
+        rows = row_count mode (term_of expr) extents (schema_fields schema) blobs kept;
+        shape = kept_shape mode (term_of expr) extents (schema_fields schema) blobs kept (length (leaves (schema_fields schema))) (kind_count (schema_fields schema));
+        stays = kept_stays mode (term_of expr) extents (schema_fields schema) blobs kept;
+        some = hold_some mode (term_of expr) extents (schema_fields schema) blobs kept;
       } in
       subst (λ (s : Table). IsTable s) is here
 
@@ -134,71 +151,114 @@ module _ (schema : Schema) (extents : List ℕ) (expr : MapExpr) (blobs : List (
       let inside : leaf < length (leaves (schema_fields schema)) = subst (λ (s : Table). leaf < leaf_count_of s) (sym is) l in
       omega (arith, kind_count (schema_fields schema))
 
-  -- a value whose store is taken fits
-  pub fits_seen : (leaf : ℕ) (value : ℤ) → answer_of seen leaf value ≡ Ok value →
-      Fits (kind_at (kinds_of (schema_fields schema)) leaf) (hold_at (holds_by (term_of expr) (schema_fields schema)) leaf) value
-  fits_seen leaf value taken =
-      let kind = kind_at (kinds_of (schema_fields schema)) leaf in
-      let hold = hold_at (holds_by (term_of expr) (schema_fields schema)) leaf in
-      let here : store_answer kind hold value ≡ Ok value = ap (λ (s : Table). answer_of s leaf value) is ∙ taken in
-      stored_fits kind hold value here
+  -- its hold has a bit at least
+  pub some_seen : (leaf : ℕ) → leaf < leaf_count_of seen → 1 ≤ (hold_at (table_holds seen) leaf).width
+  some_seen leaf leaf_in =
+      subst (λ (s : Table). 1 ≤ (hold_at (table_holds s) leaf).width) is (hold_some mode (term_of expr) extents (schema_fields schema) blobs kept leaf (leaf_seen leaf leaf_in))
 
-  -- a raw number that a fitting value is
-  settled_seen : (leaf : ℕ) (value : ℤ) → leaf < leaf_count_of seen → answer_of seen leaf value ≡ Ok value →
-      IsSettled Strict (kind_at (kinds_of (schema_fields schema)) leaf) (hold_at (holds_by (term_of expr) (schema_fields schema)) leaf) value
-  settled_seen leaf value leaf_in taken =
-      fitting_settled Strict (kind_at (kinds_of (schema_fields schema)) leaf) (hold_at (holds_by (term_of expr) (schema_fields schema)) leaf) value
-      (hold_some Strict (term_of expr) extents (schema_fields schema) blobs kept leaf (leaf_seen leaf leaf_in)) (fits_seen leaf value taken)
+  -- its type and its hold, as they were found
+  pub kind_seen : (leaf : ℕ) (found : LeafType) → slice_get (kinds_of (schema_fields schema)) leaf ≡ Some found → leaf_type_of seen leaf ≡ found
+  kind_seen leaf found there = ap (λ (s : Table). leaf_type_of s leaf) (sym is) ∙ get_or_from_slice_get (kinds_of (schema_fields schema)) leaf found Truth there
+
+  pub hold_seen : {mapped : Term} {inside : List ℕ} {layout : List (List Owner)} {slots : ℕ} {cells : List Cell} {holds : List Hold}
+      → IsMappingOf (term_of expr) extents (schema_fields schema) mapped inside layout slots cells holds → (leaf : ℕ) (found : Hold) → leaf < leaf_count_of seen → slice_get holds leaf ≡ Some found
+      → (hold_at (table_holds seen) leaf ≡ found) × (1 ≤ found.width) × (found.width ≤ 64)
+  hold_seen {mapped} {inside} {layout} {slots} {cells} {holds} mapping leaf found leaf_in there =
+      let stored : List Hold = holds_by (term_of expr) (schema_fields schema) in
+      let here : slice_get stored leaf ≡ Some found = subst (λ (hs : List Hold). slice_get hs leaf ≡ Some found) mapping.holds_are there in
+      let in_kinds : leaf < length (kinds_of (schema_fields schema)) = leaf_seen leaf leaf_in in
+      let widths = hold_widths (layout_by (term_of expr) extents (schema_fields schema)) (length (indices extents)) stored kept.lawful leaf found (omega (arith, in_kinds, kept.paired)) here in (
+        ap (λ (s : Table). hold_at (table_holds s) leaf) (sym is) ∙ get_or_from_slice_get stored leaf found (record { signed = false; width = 0 }) here,
+        widths.0,
+        widths.1,
+      )
+
+  -- a value that is sure to fit
+  pub fit_seen : {mapped : Term} {inside : List ℕ} {layout : List (List Owner)} {slots : ℕ} {cells : List Cell} {holds : List Hold}
+      → IsMappingOf (term_of expr) extents (schema_fields schema) mapped inside layout slots cells holds → (leaf : ℕ) (value : ℤ) → IsDeclared (kind_at (map (λ cell. cell.kind) cells) leaf) value
+      → IsIn (hold_at holds leaf).signed (hold_at holds leaf).width value → Fits (leaf_type_of seen leaf) (hold_at (table_holds seen) leaf) value
+  fit_seen {mapped} {inside} {layout} {slots} {cells} {holds} mapping leaf value one two =
+      let here : Fits (kind leaf) (hold leaf) value = record {
+        declared = subst (λ (ks : List LeafType). IsDeclared (kind_at ks leaf) value) (kinds_are cells (kinds_of (schema_fields schema)) mapping.cells_are) one;
+        held = subst (λ (hs : List Hold). IsIn (hold_at hs leaf).signed (hold_at hs leaf).width value) mapping.holds_are two;
+      } in
+      subst (λ (s : Table). Fits (leaf_type_of s leaf) (hold_at (table_holds s) leaf) value) is here
+
+  -- a raw number that the view may hold lies in the range of its hold
+  settled_here : (leaf : ℕ) (raw : ℤ) → IsSettledIn seen leaf raw → IsSettled mode (kind leaf) (hold leaf) raw
+  settled_here leaf raw settled = subst (λ (s : Table). IsSettledIn s leaf raw) (sym is) settled
+
+  pub held_seen : (leaf : ℕ) (raw : ℤ) → leaf < leaf_count_of seen → IsSettledIn seen leaf raw → IsIn (hold leaf).signed (hold leaf).width raw
+  held_seen leaf raw leaf_in settled =
+      raw_held mode (kind leaf) (hold leaf) raw (hold_some mode (term_of expr) extents (schema_fields schema) blobs kept leaf (leaf_seen leaf leaf_in)) (settled_here leaf raw settled)
 
   -- it is written
-  module _ (row leaf : ℕ) (value : ℤ) (new : List (List ℕ)) (row_in : row < length seen.rows) (leaf_in : leaf < leaf_count_of seen) (taken : answer_of seen leaf value ≡ Ok value)
-      (raw : raw_under (term_of expr) extents (schema_fields schema) new ≡ with_entry (raw_under (term_of expr) extents (schema_fields schema) blobs) row leaf value) where
-    pub kept_after : AreLaid (layout_by (term_of expr) extents (schema_fields schema)) new → IsKept Strict (term_of expr) extents (schema_fields schema) new
+  module _ (row leaf : ℕ) (raw : ℤ) (new : List (List ℕ)) (row_in : row < length seen.rows) (leaf_in : leaf < leaf_count_of seen) (settled : IsSettledIn seen leaf raw)
+      (wrote : raw_under (term_of expr) extents (schema_fields schema) new ≡ with_entry (raw_under (term_of expr) extents (schema_fields schema) blobs) row leaf raw) where
+    pub kept_after : AreLaid (layout_by (term_of expr) extents (schema_fields schema)) new → IsKept mode (term_of expr) extents (schema_fields schema) new
     kept_after laid =
-        kept_set Strict (term_of expr) extents (schema_fields schema) blobs kept new row leaf value (omega (arith, row_in, rows_seen)) (leaf_seen leaf leaf_in) raw
-        (settled_seen leaf value leaf_in taken) laid
+        kept_set mode (term_of expr) extents (schema_fields schema) blobs kept new row leaf raw (omega (arith, row_in, rows_seen)) (leaf_seen leaf leaf_in) wrote
+        (settled_here leaf raw settled) laid
 
-    pub table_after : table_under (term_of expr) extents (schema_fields schema) new ≡ with_entry (table_under (term_of expr) extents (schema_fields schema) blobs) row leaf value
-    table_after =
-        table_set Strict (term_of expr) extents (schema_fields schema) blobs kept new row leaf value (omega (arith, row_in, rows_seen)) (leaf_seen leaf leaf_in) raw
-        ∙ ap (with_entry (table_under (term_of expr) extents (schema_fields schema) blobs) row leaf)
-        (declared_same (kind_at (kinds_of (schema_fields schema)) leaf) value (fits_seen leaf value taken).declared)
+    pub table_after : table_under (term_of expr) extents (schema_fields schema) new
+        ≡ with_entry (table_under (term_of expr) extents (schema_fields schema) blobs) row leaf (declared (kind leaf) raw)
+    table_after = table_set mode (term_of expr) extents (schema_fields schema) blobs kept new row leaf raw (omega (arith, row_in, rows_seen)) (leaf_seen leaf leaf_in) wrote
 
-  -- an entry that is read is one of the table that callers see
-  pub entry_seen : {mapped : Term} {inside : List ℕ} {layout : List (List Owner)} {slots : ℕ} {cells : List Cell} {holds : List Hold}
-      → IsMappingOf (term_of expr) extents (schema_fields schema) mapped inside layout slots cells holds → (lent : List (List ℕ)) → lent ≡ blobs
-      → (row leaf : ℕ) → row < length seen.rows → leaf < leaf_count_of seen → entry (table_in layout slots holds lent) row leaf ≡ entry seen.rows row leaf
-  entry_seen mapping lent same row leaf row_in leaf_in =
-      read_here mapping lent blobs same row leaf
-      ∙ sym (entry_is_raw (term_of expr) extents (schema_fields schema) blobs kept row leaf (omega (arith, row_in, rows_seen)) (leaf_seen leaf leaf_in))
-      ∙ ap (λ (s : Table). entry s.rows row leaf) is
+  -- an entry lies in the range of its leaf
+  pub declared_seen : (row leaf : ℕ) → row < length seen.rows → leaf < leaf_count_of seen → IsDeclared (leaf_type_of seen leaf) (entry seen.rows row leaf)
+  declared_seen row leaf row_in leaf_in =
+      subst (λ (s : Table). IsDeclared (leaf_type_of s leaf) (entry s.rows row leaf)) is
+      (stays_declared mode (kind leaf) (hold leaf) (entry (table_under (term_of expr) extents (schema_fields schema) blobs) row leaf)
+      (entry_stays mode (term_of expr) extents (schema_fields schema) blobs kept row leaf (omega (arith, row_in, rows_seen)) (leaf_seen leaf leaf_in)))
 
--- the view after accesses that left its table, after a value was stored that no counter sees, and after a store
-module _ (schema : Schema) (extents : List ℕ) (expr : MapExpr) (blobs : List (List ℕ)) {tally : Tally} {seen : Table} (is : seen_from schema extents expr blobs tally ≡ seen) where
-  pub seen_logged : (log : List Access) (new : Tally) → new ≡ tallied (layout_by (term_of expr) extents (schema_fields schema)) tally log → seen_from schema extents expr blobs new ≡ after_log seen log
-  seen_logged log new counts = ap (seen_from schema extents expr blobs) counts ∙ ap (λ (s : Table). after_log s log) is
+  -- a raw number that is read stands for an entry of the table that callers see
+  module _ {mapped : Term} {inside : List ℕ} {layout : List (List Owner)} {slots : ℕ} {cells : List Cell} {holds : List Hold}
+      (mapping : IsMappingOf (term_of expr) extents (schema_fields schema) mapped inside layout slots cells holds) (lent : List (List ℕ)) (same : lent ≡ blobs)
+      (row leaf : ℕ) (row_in : row < length seen.rows) (leaf_in : leaf < leaf_count_of seen) where
+    entry_there : entry (table_under (term_of expr) extents (schema_fields schema) blobs) row leaf ≡ entry seen.rows row leaf
+    entry_there = ap (λ (s : Table). entry s.rows row leaf) is
 
-  pub seen_touched : (access : Access) (new : Tally) → new ≡ tallied (layout_by (term_of expr) extents (schema_fields schema)) tally (access ∷ []) → seen_from schema extents expr blobs new ≡ after_log seen (access ∷ [])
+    pub raw_seen : declared (kind leaf) (entry (table_in layout slots holds lent) row leaf) ≡ entry seen.rows row leaf
+    raw_seen =
+        ap (declared (kind leaf)) (read_here mapping lent blobs same row leaf)
+        ∙ sym (entry_is_declared mode (term_of expr) extents (schema_fields schema) blobs kept row leaf (omega (arith, row_in, rows_seen)) (leaf_seen leaf leaf_in)) ∙ entry_there
+
+    -- it is this entry where the leaf is stored in the sign of its type, and in a strict view
+    pub sign_seen : HasSign cells holds leaf → entry (table_in layout slots holds lent) row leaf ≡ entry seen.rows row leaf
+    sign_seen sign =
+        read_here mapping lent blobs same row leaf
+        ∙ sym (sign_entry mode (term_of expr) extents (schema_fields schema) blobs kept row leaf (omega (arith, row_in, rows_seen)) (leaf_seen leaf leaf_in) (sign_there mapping leaf sign)) ∙ entry_there
+
+    pub strict_seen : mode ≡ Strict → entry (table_in layout slots holds lent) row leaf ≡ entry seen.rows row leaf
+    strict_seen strict =
+        read_here mapping lent blobs same row leaf
+        ∙ sym (strict_raw mode (term_of expr) extents (schema_fields schema) blobs kept strict row leaf (omega (arith, row_in, rows_seen)) (leaf_seen leaf leaf_in)) ∙ entry_there
+
+-- the view after accesses that left its table, after a number was stored that no counter sees, and after a raw number was written
+module _ {mode : StoreMode} (schema : Schema) (extents : List ℕ) (expr : MapExpr) (blobs : List (List ℕ)) {tally : Tally} {seen : Table} (is : seen_from mode schema extents expr blobs tally ≡ seen) where
+  pub seen_logged : (log : List Access) (new : Tally) → new ≡ tallied (layout_by (term_of expr) extents (schema_fields schema)) tally log → seen_from mode schema extents expr blobs new ≡ after_log seen log
+  seen_logged log new counts = ap (seen_from mode schema extents expr blobs) counts ∙ ap (λ (s : Table). after_log s log) is
+
+  pub seen_touched : (access : Access) (new : Tally) → new ≡ tallied (layout_by (term_of expr) extents (schema_fields schema)) tally (access ∷ []) → seen_from mode schema extents expr blobs new ≡ after_log seen (access ∷ [])
   seen_touched access new counts = seen_logged (access ∷ []) new counts
 
-  pub seen_stored : (row leaf : ℕ) (value : ℤ) (stored : List (List ℕ)) →
-      table_under (term_of expr) extents (schema_fields schema) stored ≡ with_entry (table_under (term_of expr) extents (schema_fields schema) blobs) row leaf value →
-      seen_from schema extents expr stored tally ≡ record seen { rows = with_entry seen.rows row leaf value }
-  seen_stored row leaf value stored table =
-      ap (λ (t : List (List ℤ)). let s : Table = record (seen_from schema extents expr blobs tally) { rows = t } in s) table
-      ∙ ap (λ (s : Table). let t : Table = record s { rows = with_entry s.rows row leaf value } in t) is
+  pub seen_stored : (row leaf : ℕ) (raw : ℤ) (stored : List (List ℕ)) → table_under (term_of expr) extents (schema_fields schema) stored
+      ≡ with_entry (table_under (term_of expr) extents (schema_fields schema) blobs) row leaf (declared (kind_at (kinds_of (schema_fields schema)) leaf) raw)
+      → seen_from mode schema extents expr stored tally ≡ record seen { rows = with_entry seen.rows row leaf (declared (leaf_type_of seen leaf) raw) }
+  seen_stored row leaf raw stored table =
+      ap (λ (t : List (List ℤ)). let s : Table = record (seen_from mode schema extents expr blobs tally) { rows = t } in s) table
+      ∙ ap (λ (s : Table). let t : Table = record s { rows = with_entry s.rows row leaf (declared (leaf_type_of s leaf) raw) } in t) is
 
-  pub seen_written : (row leaf : ℕ) (value : ℤ) (stored : List (List ℕ)) (new : Tally) →
-      table_under (term_of expr) extents (schema_fields schema) stored ≡ with_entry (table_under (term_of expr) extents (schema_fields schema) blobs) row leaf value →
-      new ≡ tallied (layout_by (term_of expr) extents (schema_fields schema)) tally (Write row leaf ∷ []) → seen_from schema extents expr stored new ≡ after_write seen row leaf value
-  seen_written row leaf value stored new table counts =
-      ap (λ (t : Tally). seen_from schema extents expr stored t) counts
-      ∙ ap (λ (t : List (List ℤ)). after_stores (seen_from schema extents expr blobs tally) t (Write row leaf ∷ [])) table
-      ∙ ap (λ (s : Table). after_stores s (with_entry s.rows row leaf value) (Write row leaf ∷ [])) is
-      ∙ ap (λ (v : ℤ). after_stores seen (with_entry seen.rows row leaf v) (Write row leaf ∷ [])) (sym (kept_of-same seen leaf value))
+  pub seen_written : (row leaf : ℕ) (raw : ℤ) (stored : List (List ℕ)) (new : Tally) → table_under (term_of expr) extents (schema_fields schema) stored
+      ≡ with_entry (table_under (term_of expr) extents (schema_fields schema) blobs) row leaf (declared (kind_at (kinds_of (schema_fields schema)) leaf) raw)
+      → new ≡ tallied (layout_by (term_of expr) extents (schema_fields schema)) tally (Write row leaf ∷ []) → seen_from mode schema extents expr stored new ≡ after_raw seen row leaf raw
+  seen_written row leaf raw stored new table counts =
+      ap (λ (t : Tally). seen_from mode schema extents expr stored t) counts
+      ∙ ap (λ (t : List (List ℤ)). after_stores (seen_from mode schema extents expr blobs tally) t (Write row leaf ∷ [])) table
+      ∙ ap (λ (s : Table). after_raw s row leaf raw) is
 
   -- where it counts nothing, no access changes anything
   pub idle_seen : {leaves : ℕ} → is_counted seen.mapping ≡ false → IsTallied (term_of expr) (layout_by (term_of expr) extents (schema_fields schema)) leaves tally → (log : List Access) → after_log seen log ≡ seen
   idle_seen idle has log =
       let none : is_counted (term_of expr) ≡ false = ap (λ (s : Table). is_counted s.mapping) is ∙ idle in
-      sym (ap (λ (s : Table). after_log s log) is) ∙ ap (seen_from schema extents expr blobs) (idle_logged log none has) ∙ is
+      sym (ap (λ (s : Table). after_log s log) is) ∙ ap (seen_from mode schema extents expr blobs) (idle_logged log none has) ∙ is

@@ -26,15 +26,15 @@ use Rattle.map_plans.specs.Arrays.{array_of, lanes_in}
 use Rattle.map_any.specs.ArrayRuns.{IsArrayRun}
 use Rattle.map_any.specs.ArrayRunLaws.{array_holds}
 use Rattle.map_any.specs.Strategies.{AreRuns}
-use Rattle.kept_tables.specs.declared.mode.StoreMode.TheVariants.{Strict}
+use Rattle.kept_tables.specs.declared.mode.StoreMode.{StoreMode}
 use Rattle.kept_tables.specs.Modes.{declared_table, IsSettled, AllSettled}
 use Rattle.kept_tables.specs.TableLaws.{declared_entry}
 use Rattle.kept_numbers.specs.Kept.{declared}
 use Rattle.views.specs.Kept.{IsKept, IsMappingOf, raw_under, table_under}
-use Rattle.views.proofs.KeptLaws.{raw_shape}
+use Rattle.views.proofs.KeptLaws.{raw_shape, hold_some}
 use Rattle.views.specs.Moves.{size_of, IsInBlock, IsInRun, IsRunMoved}
 use Rattle.views.specs.Tables.{Table, leaf_count_of}
-use Rattle.views.specs.MovesLaws.{run_laid, run_moved}
+use Rattle.views.specs.MovesLaws.{settled_moves, full_hold, full_own, run_laid, run_moved}
 use Rattle.views.specs.Stores.{kind_at}
 
 -- what is said of a value three times says another thing of it
@@ -56,19 +56,12 @@ two_of None p R P Q are a b = absurd are
 two_of (Some x) None R P Q are a b = absurd are
 two_of (Some x) (Some y) R P Q are a b = record { one = x; two = y; is_one = refl; both = are; of_one = a; of_two = b }
 
--- the hold and the width of a leaf that is stored as its type is
-full_kinds : (kinds : List LeafType) → full_holds (leaf_cells kinds) ≡ map hold_of kinds
-full_kinds kinds = holds_by_kind (leaf_cells kinds) ∙ ap (map hold_of) (leaf_cells_kinds kinds)
-
-pub full_hold : (kinds : List LeafType) (holds : List Hold) (leaf : ℕ) → leaf < length kinds → holds ≡ full_holds (leaf_cells kinds) → hold_at holds leaf ≡ hold_of (kind_at kinds leaf)
-full_hold kinds holds leaf inside full =
-    ap (λ (hs : List Hold). hold_at hs leaf) (full ∙ full_kinds kinds) ∙ get_or-map hold_of kinds leaf Truth (record { signed = false; width = 0 }) inside
-
+-- the width of a leaf that is stored as its type is
 full_width : (kinds : List LeafType) (holds : List Hold) (leaf : ℕ) → leaf < length kinds → holds ≡ full_holds (leaf_cells kinds)
     → slice_index (map (λ (h : Hold). h.width) holds) leaf ≡ width_of (kind_at kinds leaf)
 full_width kinds holds leaf inside full =
     let none : Hold = record { signed = false; width = 0 } in
-    let same : length holds ≡ length kinds = ap (λ (hs : List Hold). length hs) (full ∙ full_kinds kinds) ∙ length-map kinds hold_of in
+    let same : length holds ≡ length kinds = ap (λ (hs : List Hold). length hs) (full ∙ holds_by_kind (leaf_cells kinds)) ∙ length-map (map (λ (c : Cell). c.kind) (leaf_cells kinds)) hold_of ∙ ap (λ (ks : List LeafType). length ks) (leaf_cells_kinds kinds) in
     get_or-map (λ (h : Hold). h.width) holds leaf none 0 (omega arith) ∙ ap (λ (h : Hold). h.width) (full_hold kinds holds leaf inside full)
 
 -- widths are whole bytes
@@ -137,11 +130,11 @@ run_there {term} {extents} {fields} {mapped} {inside} {layout} {slots} {cells} {
     here within (array_holds term fields (leaf_cells (kinds_of fields)))
 
 -- a run that is moved between the blobs of two views
-module _ (a b : Term) (extents others_extents : List ℕ) (fields trees : Fields) (old others new : List (List ℕ)) (leaf slot count target at source from len : ℕ)
+module _ {mode lender : StoreMode} (a b : Term) (extents others_extents : List ℕ) (fields trees : Fields) (old others new : List (List ℕ)) (leaf slot count target at source from len : ℕ)
     (alike : (fields ≡ trees) × (extents ≡ others_extents)) (arrays : AreRuns a b) (leaf_in : leaf < length (kinds_of fields)) (some : 0 < count)
     (len_is : len ≡ count * size_of (kind_at (kinds_of fields) leaf))
     (one : IfSome (array_of a) (IsRunOf a extents fields leaf slot count target at)) (two : IfSome (array_of b) (IsRunOf b others_extents trees leaf slot count source from))
-    (kept : IsKept Strict a extents fields old) (others_kept : IsKept Strict b others_extents trees others) where
+    (kept : IsKept mode a extents fields old) (others_kept : IsKept lender b others_extents trees others) where
   abbrev OneOrder : Order × Option ℕ → Order × Option ℕ → Type 0
   OneOrder x y = x.0 ≡ y.0
 
@@ -151,8 +144,8 @@ module _ (a b : Term) (extents others_extents : List ℕ) (fields trees : Fields
       (subst (λ (f : Fields). IfSome (array_of b) (IsRunOf b extents f leaf slot count source from)) (sym alike.0)
       (subst (λ (e : List ℕ). IfSome (array_of b) (IsRunOf b e trees leaf slot count source from)) (sym alike.1) two))
 
-  there : IsKept Strict b extents fields others
-  there = subst (λ (f : Fields). IsKept Strict b extents f others) (sym alike.0) (subst (λ (e : List ℕ). IsKept Strict b e trees others) (sym alike.1) others_kept)
+  there : IsKept lender b extents fields others
+  there = subst (λ (f : Fields). IsKept lender b extents f others) (sym alike.0) (subst (λ (e : List ℕ). IsKept lender b e trees others) (sym alike.1) others_kept)
 
   abbrev width : ℕ
   width = width_of (kind_at (kinds_of fields) leaf)
@@ -216,12 +209,12 @@ module _ (a b : Term) (extents others_extents : List ℕ) (fields trees : Fields
     same_raw : table_in other (length (indices extents)) holds others ≡ raw_under b extents fields others
     same_raw = ap (λ (hs : List Hold). table_in other (length (indices extents)) hs others) (sym holds_same)
 
-    source_settled : AllSettled Strict (length (indices extents)) (kinds_of fields) holds (table_in other (length (indices extents)) holds others)
+    source_settled : AllSettled lender (length (indices extents)) (kinds_of fields) holds (table_in other (length (indices extents)) holds others)
     source_settled =
-        subst (λ (hs : List Hold). AllSettled Strict (length (indices extents)) (kinds_of fields) hs (table_in other (length (indices extents)) hs others)) holds_same there.settled
+        subst (λ (hs : List Hold). AllSettled lender (length (indices extents)) (kinds_of fields) hs (table_in other (length (indices extents)) hs others)) holds_same there.settled
 
     -- what is kept of the blobs then
-    pub run_kept : IsKept Strict a extents fields new
+    pub run_kept : IsKept mode a extents fields new
     run_kept = record {
       lawful = kept.lawful;
       paired = kept.paired;
@@ -230,7 +223,7 @@ module _ (a b : Term) (extents others_extents : List ℕ) (fields trees : Fields
           run_laid layout other order extents holds others old new leaf width slot count source (8 * from) target (8 * at) kept.lawful other_lawful in_holds width_is
           (some_width (kind_at (kinds_of fields) leaf)) both.of_one.run other_run moved_bits kept.laid there.laid;
       settled = λ row c row_in c_in.
-          let Settled : ℤ → Type 0 = λ value. IsSettled Strict (kind_at (kinds_of fields) c) (hold_at holds c) value in
+          let Settled : ℤ → Type 0 = λ value. IsSettled mode (kind_at (kinds_of fields) c) (hold_at holds c) value in
           let in_table : c < length holds = omega (arith, kept.paired) in
           let stands : ((c ≡ leaf) → IsInRun order extents slot count row → ⊥) → Settled (entry (raw_under a extents fields new) row c) =
           λ apart. subst Settled (sym (is_moved.stands row c row_in in_table apart)) (kept.settled row c row_in c_in) in
@@ -241,7 +234,8 @@ module _ (a b : Term) (extents others_extents : List ℕ) (fields trees : Fields
           ⊎_elim
           (λ (before : slot_at order extents row < slot + count).
           subst Settled (sym (ap (entry (raw_under a extents fields new) row) same ∙ is_moved.moved row row_in (from_slot, before) ∙ ap (entry (table_in other (length (indices extents)) holds others) row) (sym same)))
-          (source_settled row c row_in c_in))
+          (settled_moves lender mode (kind_at (kinds_of fields) c) (hold_at holds c) (entry (table_in other (length (indices extents)) holds others) row c)
+          (hold_some mode a extents fields old kept c c_in) (λ wrap strict. (full_own (kinds_of fields) holds c c_in both.of_one.full).0) (source_settled row c row_in c_in)))
           (λ (past : slot + count ≤ slot_at order extents row). stands (λ e run. absurd (let l : slot_at order extents row < slot + count = run.1 in omega arith)))
           (cases_lt (slot_at order extents row) (slot + count)))
           (cases_lt (slot_at order extents row) slot))
@@ -279,24 +273,24 @@ if_one : {X : Type 0} (o : Option X) (P Q : X → Type 0) → ((x : X) → P x �
 if_one None P Q f p = tt
 if_one (Some x) P Q f p = f x p
 
-pub run_table : (a b : Term) (extents others_extents : List ℕ) (fields trees : Fields) (old others new : List (List ℕ)) (leaf slot count : ℕ)
-    → (fields ≡ trees) × (extents ≡ others_extents) → leaf < length (kinds_of fields) → IsKept Strict a extents fields old → IsKept Strict b others_extents trees others → IsKept Strict a extents fields new
+pub run_table : {mode lender : StoreMode} (a b : Term) (extents others_extents : List ℕ) (fields trees : Fields) (old others new : List (List ℕ)) (leaf slot count : ℕ)
+    → (fields ≡ trees) × (extents ≡ others_extents) → leaf < length (kinds_of fields) → IsKept mode a extents fields old → IsKept lender b others_extents trees others → IsKept mode a extents fields new
     → IfSome (array_of a) (λ array. IsRunMoved array.0 extents (length (indices extents)) (length (kinds_of fields)) leaf slot count
     (raw_under b others_extents trees others) (raw_under a extents fields old) (raw_under a extents fields new))
     → IfSome (array_of a) (λ array. IsRunMoved array.0 extents (length (indices extents)) (length (kinds_of fields)) leaf slot count
     (table_under b others_extents trees others) (table_under a extents fields old) (table_under a extents fields new))
-run_table a b extents others_extents fields trees old others new leaf slot count alike leaf_in kept others_kept new_kept =
+run_table {mode} {lender} a b extents others_extents fields trees old others new leaf slot count alike leaf_in kept others_kept new_kept =
     let rows : ℕ = length (indices extents) in
     let kinds : List LeafType = kinds_of fields in
     let source : List (List ℤ) = raw_under b others_extents trees others in
     let shape : HasShape rows (length kinds) source =
     subst (λ (f : Fields). HasShape rows (length (kinds_of f)) source) (sym alike.0)
-    (subst (λ (e : List ℕ). HasShape (length (indices e)) (length (kinds_of trees)) source) (sym alike.1) (raw_shape Strict b others_extents trees others others_kept)) in
+    (subst (λ (e : List ℕ). HasShape (length (indices e)) (length (kinds_of trees)) source) (sym alike.1) (raw_shape lender b others_extents trees others others_kept)) in
     let same : declared_table kinds source ≡ table_under b others_extents trees others = ap (λ (f : Fields). declared_table (kinds_of f) source) alike.0 in
     if_one (array_of a) _ _ (λ array is.
     subst (λ (t : List (List ℤ)). IsRunMoved array.0 extents rows (length kinds) leaf slot count t (table_under a extents fields old) (table_under a extents fields new)) same
     (run_declared array.0 extents rows leaf slot count kinds source (raw_under a extents fields old) (raw_under a extents fields new) leaf_in shape
-    (raw_shape Strict a extents fields old kept) (raw_shape Strict a extents fields new new_kept) is))
+    (raw_shape mode a extents fields old kept) (raw_shape mode a extents fields new new_kept) is))
 
 -- a mapping that lays out arrays over few slots, as those of views are
 slots_are : (term : Term) (extents : List ℕ) → IfSome (array_of term) (λ array. slot_count array.0 extents ≡ most_slots term extents)

@@ -1,51 +1,65 @@
--- What the answer to a store says of the value.
-use Rattle.std.proofs.Common.{◌≡◌, true, false, ℤ, ◌≤ℤ◌, Ok, Err, refl, sym, ◌∙◌, ⊎_elim, arith}
-use Rattle.std.specs.Prelude.{int_le}
-use Rattle.std.proofs.lemmas.Int.{ints}
-use Rattle.std.proofs.lemmas.Bool.{cases_Bool, and_parts}
+-- What is written for a value that is stored.
+use Rattle.std.proofs.Common.{◌≡◌, ℕ, ◌<◌, ◌≤◌, List, [], ◌∷◌, length, map, get_or, ℤ, pos, zero, suc, Ok, refl, sym, ap, ◌∙◌, subst, arith}
 use Rattle.record_dim.specs.declared.leaf_type.LeafType.{LeafType}
-use Rattle.record_dim.specs.LeafTypes.{least_of, greatest_of, least_in, greatest_in, IsIn, IsDeclared}
 use Rattle.places.specs.declared.piece.Hold.{Hold}
-use Rattle.views.specs.Stores.{is_between, store_answer, Fits}
-use Rattle.views.specs.declared.fault.StoreFault.TheVariants.{Range, Narrow}
+use Rattle.piece_bits.specs.Tables.{hold_at, with_entry}
+use Rattle.kept_numbers.specs.Kept.{declared, held}
+use Rattle.kept_numbers.specs.KeptLaws.{declared_same}
+use Rattle.kept_tables.specs.EntryLaws.{fitting_held, fitting_settled, fitting_stays, stays_settled}
+use Rattle.kept_tables.specs.declared.mode.StoreMode.{StoreMode}
+use Rattle.kept_tables.specs.declared.mode.StoreMode.TheVariants.{Strict}
+use Rattle.views.specs.AnswerLaws.{answer_stays, stays_answer, strict_kept, told_kept}
+use Rattle.views.specs.Stores.{Fits, Stays, kept_or, told}
+use Rattle.views.specs.Tables.{Table, answer_of, kept_of, leaf_type_of, table_holds, after_raw, after_stores, after_write, IsSettledIn}
+use Rattle.views.specs.Tallies.{Write}
 
-int_le-true : (a b : ℤ) → int_le a b ≡ true → a ≤ℤ b
-int_le-true a b e = grind (arith, ints)
+-- ---- a value that fits
 
--- the test of a range
-pub between_true : (least greatest value : ℤ) → is_between least greatest value ≡ true → (least ≤ℤ value) × (value ≤ℤ greatest)
-between_true least greatest value e =
-    let both = and_parts (int_le least value) (int_le value greatest) e in
-    (int_le-true least value both.0, int_le-true value greatest both.1)
+module _ (table : Table) (leaf : ℕ) (value : ℤ) (some : 1 ≤ (hold_at (table_holds table) leaf).width) (fits : Fits (leaf_type_of table leaf) (hold_at (table_holds table) leaf) value) where
+  -- it is taken as it is
+  pub fit_answer : answer_of table leaf value ≡ Ok value
+  fit_answer =
+      stays_answer table.mode (leaf_type_of table leaf) (hold_at (table_holds table) leaf) value
+      (fitting_stays table.mode (leaf_type_of table leaf) (hold_at (table_holds table) leaf) value some fits)
 
--- the three answers
-pub answer_range : (kind : LeafType) (hold : Hold) (value : ℤ) → is_between (least_of kind) (greatest_of kind) value ≡ false → store_answer kind hold value ≡ Err Range
-answer_range kind hold value e = rw e refl
+  pub fit_kept : kept_of table leaf value ≡ value
+  fit_kept = ap (kept_or value) fit_answer
 
-pub answer_narrow : (kind : LeafType) (hold : Hold) (value : ℤ) → is_between (least_of kind) (greatest_of kind) value ≡ true →
-    is_between (least_in hold.signed hold.width) (greatest_in hold.signed hold.width) value ≡ false → store_answer kind hold value ≡ Err Narrow
-answer_narrow kind hold value e f = rw (e, f) refl
+  -- and is its own raw number
+  pub fit_settled : IsSettledIn table leaf value
+  fit_settled = fitting_settled table.mode (leaf_type_of table leaf) (hold_at (table_holds table) leaf) value some fits
 
--- a store that is taken is one of a value that fits
-pub stored_fits : (kind : LeafType) (hold : Hold) (value : ℤ) → store_answer kind hold value ≡ Ok value → Fits kind hold value
-stored_fits kind hold value taken =
-    ⊎_elim (λ (declared : is_between (least_of kind) (greatest_of kind) value ≡ true).
-    ⊎_elim (λ (held : is_between (least_in hold.signed hold.width) (greatest_in hold.signed hold.width) value ≡ true).
-    record { declared = between_true (least_of kind) (greatest_of kind) value declared; held = between_true (least_in hold.signed hold.width) (greatest_in hold.signed hold.width) value held })
-    (λ (not_held : is_between (least_in hold.signed hold.width) (greatest_in hold.signed hold.width) value ≡ false).
-    absurd (let clash : Ok value ≡ Err Narrow = sym taken ∙ answer_narrow kind hold value declared not_held in cc))
-    (cases_Bool (is_between (least_in hold.signed hold.width) (greatest_in hold.signed hold.width) value)))
-    (λ (not_declared : is_between (least_of kind) (greatest_of kind) value ≡ false).
-    absurd (let clash : Ok value ≡ Err Range = sym taken ∙ answer_range kind hold value not_declared in cc))
-    (cases_Bool (is_between (least_of kind) (greatest_of kind) value))
+  pub fit_declared : declared (leaf_type_of table leaf) value ≡ kept_of table leaf value
+  fit_declared = declared_same (leaf_type_of table leaf) value fits.declared ∙ sym fit_kept
 
-true_between : (least greatest value : ℤ) → least ≤ℤ value → value ≤ℤ greatest → is_between least greatest value ≡ true
-true_between least greatest value low high = grind (arith, ints)
+-- ---- a value that is taken
 
--- a value that fits is taken
-pub fitting_stored : (kind : LeafType) (hold : Hold) (value : ℤ) → IsDeclared kind value → IsIn hold.signed hold.width value → store_answer kind hold value ≡ Ok value
-fitting_stored kind hold value declared held =
-    rw (
-      true_between (least_of kind) (greatest_of kind) value declared.0 declared.1,
-      true_between (least_in hold.signed hold.width) (greatest_in hold.signed hold.width) value held.0 held.1,
-    ) refl
+module _ (table : Table) (leaf : ℕ) (value : ℤ) (some : 1 ≤ (hold_at (table_holds table) leaf).width) (taken : told (answer_of table leaf value) ≡ Ok tt) where
+  kept_stays : Stays table.mode (leaf_type_of table leaf) (hold_at (table_holds table) leaf) (kept_of table leaf value)
+  kept_stays =
+      answer_stays table.mode (leaf_type_of table leaf) (hold_at (table_holds table) leaf) value (kept_of table leaf value) some (told_kept value (answer_of table leaf value) taken)
+
+  -- what its image says is settled, and stands for what is kept of it
+  pub taken_raw : (declared (leaf_type_of table leaf) (held (hold_at (table_holds table) leaf) (kept_of table leaf value)) ≡ kept_of table leaf value)
+      × IsSettledIn table leaf (held (hold_at (table_holds table) leaf) (kept_of table leaf value))
+  taken_raw = stays_settled table.mode (leaf_type_of table leaf) (hold_at (table_holds table) leaf) (kept_of table leaf value) some kept_stays
+
+  -- in a strict view it is the value itself
+  pub strict_raw : table.mode ≡ Strict → held (hold_at (table_holds table) leaf) (kept_of table leaf value) ≡ value
+  strict_raw strict =
+      let kind : LeafType = leaf_type_of table leaf in
+      let hold : Hold = hold_at (table_holds table) leaf in
+      let same : kept_of table leaf value ≡ value = strict_kept table strict leaf value in
+      let here : Stays Strict kind hold (kept_of table leaf value) = subst (λ (mode : StoreMode). Stays mode kind hold (kept_of table leaf value)) strict kept_stays in
+      let fits : Fits kind hold value = subst (λ (v : ℤ). Fits kind hold v) same here in
+      ap (held hold) same ∙ fitting_held hold value some fits.held
+
+-- ---- a raw number that is written
+
+pub raw_written : (table : Table) (row leaf : ℕ) (raw value : ℤ) → declared (leaf_type_of table leaf) raw ≡ kept_of table leaf value → after_raw table row leaf raw ≡ after_write table row leaf value
+raw_written table row leaf raw value same = ap (λ (v : ℤ). after_stores table (with_entry table.rows row leaf v) (Write row leaf ∷ [])) same
+
+-- values that are left as they are
+pub map_same : (f : ℤ → ℤ) (values : List ℤ) → ((k : ℕ) → k < length values → f (get_or values k (pos 0)) ≡ get_or values k (pos 0)) → map f values ≡ values
+map_same f [] each = refl
+map_same f (value ∷ values) each = ap (λ (v : ℤ). v ∷ map f values) (each zero (omega arith)) ∙ ap (λ (rest : List ℤ). value ∷ rest) (map_same f values (λ k l. each (suc k) (omega (arith, l))))

@@ -1,14 +1,15 @@
 -- The values of one leaf that are stored, a lane at a time.
-use Rattle.std.proofs.Common.{◌≡◌, ℕ, zero, suc, ◌+◌, ◌<◌, ◌≤◌, List, [], ◌∷◌, ◌++◌, length, map, take, drop, set, get_or, ℤ, pos, Some, None, Ok, Err, refl, sym, ap, ◌∙◌, arith, subst, drop-cons, length-take, take_all, FitsSigned, to_z, of_z, w64}
+use Rattle.std.proofs.Common.{◌≡◌, ℕ, zero, suc, ◌+◌, ◌<◌, ◌≤◌, List, [], ◌∷◌, ◌++◌, length, take, drop, set, get_or, ℤ, pos, Some, None, Ok, Err, refl, sym, ap, ◌∙◌, arith, subst, drop-cons, length-take, take_all, FitsSigned, to_z, of_z, w64}
 use Rattle.std.specs.Prelude.{Option, Result}
 use Rattle.std.specs.Int.{w128}
 use Rattle.std.proofs.lemmas.Int.{to_z-of_z}
 use Rattle.std.specs.Option.{option_or}
 use Rattle.std.proofs.lemmas.List.FromFn.{map-range_with_len_more}
-use Rattle.piece_bits.specs.Tables.{hold_at, with_entry}
+use Rattle.kept_numbers.specs.Kept.{declared}
+use Rattle.piece_bits.specs.Tables.{with_entry}
 use Rattle.views.specs.Stores.{Answer, told}
-use Rattle.views.specs.AnswerLaws.{answer_keeps, told_err, kept_of-same}
-use Rattle.views.specs.Tables.{Table, answer_of, kept_of, leaf_type_of, table_holds, after_stores, after_write}
+use Rattle.views.specs.AnswerLaws.{told_err}
+use Rattle.views.specs.Tables.{Table, leaf_type_of, after_raw, after_stores}
 use Rattle.views.specs.Tallies.{Write}
 use Rattle.views.specs.TallyLaws.{after_log-none, after_stores-append}
 use Rattle.views.specs.Columns.{column_writes, with_column, lane_fault, first_lane_fault}
@@ -52,17 +53,6 @@ fault_here answer leaf lane values fault inside refused =
     ap (first_lane_fault answer leaf lane) (drop-cons values lane (pos 0) inside)
     ∙ ap (λ (r : Result ℤ StoreFault). option_or (lane_fault lane r) (first_lane_fault answer leaf (lane + 1) (drop (suc lane) values))) (told_err (answer leaf value) fault refused)
 
--- a lane whose value is taken is kept as it is
-pub lane_kept : (table : Table) (leaf first lane : ℕ) (values : List ℤ) → first_lane_fault (answer_of table) leaf first values ≡ None → lane < length values
-    → answer_of table leaf (get_or values lane (pos 0)) ≡ Ok (get_or values lane (pos 0))
-lane_kept table leaf first lane values none inside =
-    answer_keeps (leaf_type_of table leaf) (hold_at (table_holds table) leaf) (get_or values lane (pos 0)) (lane_taken (answer_of table) leaf first lane values none inside)
-
--- as all are
-pub all_kept : (table : Table) (leaf : ℕ) (values : List ℤ) → map (kept_of table leaf) values ≡ values
-all_kept table leaf [] = refl
-all_kept table leaf (value ∷ values) = rw (kept_of-same table leaf value, all_kept table leaf values) refl
-
 -- no value, and one more
 pub no_column : (leaf row : ℕ) (rows : List (List ℤ)) → with_column leaf row [] rows ≡ rows
 no_column leaf zero rows = refl
@@ -96,16 +86,15 @@ pub record HasStored (leaf row lane : ℕ) (old table : Table) (values : List �
 pub nothing_stored : (leaf row : ℕ) (old : Table) (values : List ℤ) → HasStored leaf row 0 old old values
 nothing_stored leaf row old values = record { stored = sym (ap (λ (rows : List (List ℤ)). after_stores old rows []) (no_column leaf row old.rows) ∙ after_log-none old) }
 
-pub stored_more : (leaf row lane at : ℕ) (old table new : Table) (values : List ℤ) (value : ℤ) → HasStored leaf row lane old table values → lane < length values → row + lane < length old.rows
-    → at ≡ row + lane → value ≡ get_or values lane (pos 0) → new ≡ after_write table at leaf value → HasStored leaf row (lane + 1) old new values
-stored_more leaf row lane at old table new values value stored inside below place is wrote =
+pub stored_more : (leaf row lane at : ℕ) (old table new : Table) (values : List ℤ) (raw : ℤ) → HasStored leaf row lane old table values → lane < length values → row + lane < length old.rows
+    → at ≡ row + lane → declared (leaf_type_of old leaf) raw ≡ get_or values lane (pos 0) → new ≡ after_raw table at leaf raw → HasStored leaf row (lane + 1) old new values
+stored_more leaf row lane at old table new values raw stored inside below place is wrote =
     let next : suc lane ≡ lane + 1 = omega arith in
     let so_far = with_column leaf row (take lane values) old.rows in
     record {
       stored = wrote
-          ∙ ap (λ (v : ℤ). after_stores table (with_entry table.rows at leaf v) (Write at leaf ∷ [])) (kept_of-same table leaf value)
-          ∙ ap (λ (t : Table). after_stores t (with_entry t.rows at leaf value) (Write at leaf ∷ [])) stored.stored
-          ∙ after_stores-append old so_far (with_entry so_far at leaf value) (column_writes leaf row lane) (Write at leaf ∷ [])
+          ∙ ap (λ (t : Table). after_raw t at leaf raw) stored.stored
+          ∙ after_stores-append old so_far (with_entry so_far at leaf (declared (leaf_type_of old leaf) raw)) (column_writes leaf row lane) (Write at leaf ∷ [])
           ∙ ap (λ (v : ℤ). after_stores old (with_entry so_far at leaf v) (column_writes leaf row lane ++ Write at leaf ∷ [])) is
           ∙ ap (λ (rows : List (List ℤ)). after_stores old rows (column_writes leaf row lane ++ Write at leaf ∷ [])) (entry_more leaf row lane at values old.rows inside place (omega arith))
           ∙ ap (λ (n : ℕ). after_stores old (with_column leaf row (take n values) old.rows) (column_writes leaf row lane ++ Write at leaf ∷ [])) next
@@ -119,13 +108,12 @@ passed value wide fits is =
     ap (λ (z : ℤ). to_z w128 (of_z w128 z)) same ∙ to_z-of_z w128 value (record { sfits = omega (arith, fits.sfits) })
 
 -- all are stored
-pub all_stored : (leaf row lane : ℕ) (old table : Table) (values : List ℤ) → HasStored leaf row lane old table values → lane ≡ length values
-    → table ≡ after_stores old (with_column leaf row (map (kept_of old leaf) values) old.rows) (column_writes leaf row (length values))
-all_stored leaf row lane old table values stored end =
+pub all_stored : (leaf row lane count : ℕ) (old table : Table) (values : List ℤ) → HasStored leaf row lane old table values → lane ≡ count → length values ≡ count
+    → table ≡ after_stores old (with_column leaf row values old.rows) (column_writes leaf row count)
+all_stored leaf row lane count old table values stored end all =
     stored.stored
     ∙ ap (λ (n : ℕ). after_stores old (with_column leaf row (take n values) old.rows) (column_writes leaf row n)) end
-    ∙ ap (λ (vs : List ℤ). after_stores old (with_column leaf row vs old.rows) (column_writes leaf row (length values))) (take_all (length values) values (omega arith))
-    ∙ ap (λ (vs : List ℤ). after_stores old (with_column leaf row vs old.rows) (column_writes leaf row (length values))) (sym (all_kept old leaf values))
+    ∙ ap (λ (vs : List ℤ). after_stores old (with_column leaf row vs old.rows) (column_writes leaf row count)) (take_all count values (omega arith))
 
 -- the first lanes of an array are those of a block
 pub first_lanes : (P : List ℤ → ℕ → Type 0) (numbers values : List ℤ) (lanes : ℕ) → numbers ≡ values → lanes ≤ length values → P (take lanes numbers) (length (take lanes numbers)) → P (take lanes values) lanes

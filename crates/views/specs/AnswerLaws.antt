@@ -1,76 +1,175 @@
 -- What an answer to a store keeps.
-use Rattle.std.proofs.Common.{◌≡◌, Bool, true, false, ℤ, Result, Ok, Err, is_ok, refl, sym, ap, ◌∙◌}
-use Rattle.std.specs.Prelude.{ℕ, ◌+◌, List, [], ◌∷◌, map, if◌then◌else◌}
+use Rattle.std.proofs.Common.{◌≡◌, ℕ, suc, ◌+◌, ◌<◌, ◌≤◌, ⊎_elim, Bool, true, false, ℤ, pos, List, [], ◌∷◌, length, map, get_or, Result, Ok, Err, is_ok, refl, sym, ap, ◌∙◌, subst, arith}
+use Rattle.std.specs.Prelude.{if◌then◌else◌}
 use Rattle.std.specs.List.{enumerate_from}
+use Rattle.std.proofs.lemmas.Bool.{cases_lt}
+use Rattle.std.proofs.lemmas.List.{length-map, get_or_past}
 use Rattle.record_dim.specs.declared.leaf_type.LeafType.{LeafType}
 use Rattle.record_dim.specs.LeafTypes.{least_of, greatest_of, least_in, greatest_in}
+use Rattle.record_dim.specs.Leaves.{Leaf, leaves, kinds_of}
+use Rattle.record_dim.specs.Trees.{Fields}
 use Rattle.places.specs.declared.piece.Hold.{Hold}
+use Rattle.places.specs.Image.{entry}
+use Rattle.map_any.specs.AnyLaws.{length-leaf_cells}
+use Rattle.map_checks.specs.Mappings.{leaf_cells}
+use Rattle.map_checks.specs.TermLaws.{length-holds}
 use Rattle.piece_bits.specs.Tables.{hold_at}
-use Rattle.views.specs.Stores.{is_between, store_answer, told, kept_or, kept_row, kept_rows}
-use Rattle.views.specs.Tables.{Table, kept_of, leaf_type_of, table_holds}
+use Rattle.kept_numbers.specs.Kept.{value_bits, kept}
+use Rattle.kept_numbers.specs.KeptLaws.{kept_again, wide_kept}
+use Rattle.kept_tables.specs.declared.mode.StoreMode.{StoreMode}
+use Rattle.kept_tables.specs.declared.mode.StoreMode.TheVariants.{Strict, Wrap}
+use Rattle.views.specs.StrictLaws.{stored_fits, fitting_stored}
+use Rattle.views.specs.Stores.{Keeping, Stays, kind_at, is_between, store_answer, told, kept_or, kept_row, kept_rows}
+use Rattle.views.specs.Tables.{Table, IsTable, IsWide, kept_of, leaf_count_of, leaf_types_of, leaf_type_of, table_holds}
 use Rattle.views.specs.declared.fault.StoreFault.{StoreFault}
 use Rattle.views.specs.declared.fault.StoreFault.TheVariants.{Range, Narrow}
 
-keeps : (declared held : Bool) (value : ℤ) → told (if declared then (if held then Ok value else Err Narrow) else Err Range) ≡ Ok tt
-    → (if declared then (if held then Ok value else Err Narrow) else Err Range) ≡ Ok value
-keeps true true value taken = refl
-keeps true false value taken = cc taken
-keeps false held value taken = cc taken
+-- ---- an answer that is no refusal, and one that is
 
--- a value that is taken is kept as it is
-pub answer_keeps : (kind : LeafType) (hold : Hold) (value : ℤ) → told (store_answer kind hold value) ≡ Ok tt → store_answer kind hold value ≡ Ok value
-answer_keeps kind hold value =
-    keeps (is_between (least_of kind) (greatest_of kind) value) (is_between (least_in hold.signed hold.width) (greatest_in hold.signed hold.width) value) value
-
-pub kept_is : (kind : LeafType) (hold : Hold) (value kept : ℤ) → store_answer kind hold value ≡ Ok kept → kept ≡ value
-kept_is kind hold value kept taken =
-    let same : Ok kept ≡ Ok value = sym taken ∙ answer_keeps kind hold value (ap told taken) in
-    cc
-
--- an answer that is no refusal, and one that is
 pub told_ok : (answer : Result ℤ StoreFault) → is_ok answer ≡ true → told answer ≡ Ok tt
-told_ok (Ok kept) taken = refl
+told_ok (Ok left) taken = refl
 told_ok (Err fault) taken = absurd (cc taken)
 
 pub told_same : (answer : Result ℤ StoreFault) → is_ok (told answer) ≡ is_ok answer
-told_same (Ok kept) = refl
+told_same (Ok left) = refl
 told_same (Err fault) = refl
 
 pub told_err : (answer : Result ℤ StoreFault) (fault : StoreFault) → told answer ≡ Err fault → answer ≡ Err fault
-told_err (Ok kept) fault refused = absurd (cc refused)
+told_err (Ok left) fault refused = absurd (cc refused)
 told_err (Err other) fault refused =
     let same : other ≡ fault = cc refused in
     ap (λ (f : StoreFault). Err f) same
 
--- so a store keeps the value as it is
+-- one that is none keeps what a store leaves
+pub told_kept : (value : ℤ) (answer : Result ℤ StoreFault) → told answer ≡ Ok tt → answer ≡ Ok (kept_or value answer)
+told_kept value (Ok left) taken = refl
+told_kept value (Err fault) taken = absurd (cc taken)
+
+-- ---- a value that stays
+
+abbrev as_it_is : ℤ → Result ℤ StoreFault
+as_it_is value = Ok value
+
+one_kept : (value left : ℤ) → as_it_is value ≡ as_it_is left → value ≡ left
+one_kept value left same = cc same
+
+keeps : (declared held : Bool) (value left : ℤ) → (if declared then (if held then Ok value else Err Narrow) else Err Range) ≡ Ok left → value ≡ left
+keeps true true value left taken = one_kept value left taken
+keeps true false value left taken = cc taken
+keeps false held value left taken = cc taken
+
+-- a strict view keeps what it takes as it is
+strict_same : (kind : LeafType) (hold : Hold) (value left : ℤ) → store_answer Strict kind hold value ≡ Ok left → value ≡ left
+strict_same kind hold value left =
+    keeps (is_between (least_of kind) (greatest_of kind) value) (is_between (least_in hold.signed hold.width) (greatest_in hold.signed hold.width) value) value left
+
+-- what a view holds it takes as it is
+pub stays_answer : (mode : StoreMode) (kind : LeafType) (hold : Hold) (value : ℤ) → Stays mode kind hold value → store_answer mode kind hold value ≡ Ok value
+stays_answer Strict kind hold value stays = fitting_stored kind hold value stays.declared stays.held
+stays_answer Wrap kind hold value stays = ap (λ (v : ℤ). Ok v) stays
+
+-- and what it keeps it may hold
+pub answer_stays : (mode : StoreMode) (kind : LeafType) (hold : Hold) (value left : ℤ) → 1 ≤ hold.width → store_answer mode kind hold value ≡ Ok left → Stays mode kind hold left
+answer_stays Strict kind hold value left some taken =
+    let same : value ≡ left = strict_same kind hold value left taken in
+    subst (λ (v : ℤ). Stays Strict kind hold v) same (stored_fits kind hold value (taken ∙ ap (λ (v : ℤ). Ok v) (sym same)))
+answer_stays Wrap kind hold value left some taken =
+    let same : kept kind hold value ≡ left = one_kept (kept kind hold value) left taken in
+    subst (λ (v : ℤ). Stays Wrap kind hold v) same (kept_again kind hold value some)
+
+-- ---- what a strict table keeps
+
 or_same : (declared held : Bool) (value : ℤ) → kept_or value (if declared then (if held then Ok value else Err Narrow) else Err Range) ≡ value
 or_same true true value = refl
 or_same true false value = refl
 or_same false held value = refl
 
-pub kept_of-same : (table : Table) (leaf : ℕ) (value : ℤ) → kept_of table leaf value ≡ value
-kept_of-same table leaf value =
+-- each value as it is
+pub strict_kept : (table : Table) → table.mode ≡ Strict → (leaf : ℕ) (value : ℤ) → kept_of table leaf value ≡ value
+strict_kept table strict leaf value =
     let kind = leaf_type_of table leaf in
     let hold = hold_at (table_holds table) leaf in
-    or_same (is_between (least_of kind) (greatest_of kind) value) (is_between (least_in hold.signed hold.width) (greatest_in hold.signed hold.width) value) value
+    ap (λ (mode : StoreMode). kept_or value (store_answer mode kind hold value)) strict
+    ∙ or_same (is_between (least_of kind) (greatest_of kind) value) (is_between (least_in hold.signed hold.width) (greatest_in hold.signed hold.width) value) value
 
-pub kept_plain : (table : Table) → kept_of table ≡ (λ leaf value. value)
-kept_plain table = λ i leaf value. kept_of-same table leaf value i
+-- ---- what tables keep of rows
 
--- and so every table does
-pub kept_alike : (table other : Table) → kept_of table ≡ kept_of other
-kept_alike table other = kept_plain table ∙ sym (kept_plain other)
+kept_from : (keep : Keeping) (leaf : ℕ) (values : List ℤ) → ((k : ℕ) → k < length values → keep (leaf + k) (get_or values k (pos 0)) ≡ get_or values k (pos 0))
+    → map (λ (v : ℕ × ℤ). keep v.0 v.1) (enumerate_from leaf values) ≡ values
+kept_from keep leaf [] each = refl
+kept_from keep leaf (value ∷ values) each =
+    let first : leaf + 0 ≡ leaf = omega arith in
+    let here : keep leaf value ≡ value = subst (λ (n : ℕ). keep n value ≡ value) first (each 0 (omega arith)) in
+    ap (λ (v : ℤ). v ∷ map (λ (w : ℕ × ℤ). keep w.0 w.1) (enumerate_from (leaf + 1) values)) here
+    ∙ ap (λ (rest : List ℤ). value ∷ rest)
+    (kept_from keep (leaf + 1) values (λ k l.
+    (let next : leaf + suc k ≡ (leaf + 1) + k = omega arith in
+    subst (λ (n : ℕ). keep n (get_or values k (pos 0)) ≡ get_or values k (pos 0)) next (each (suc k) (omega (arith, l))))))
 
-row_from : (table : Table) (leaf : ℕ) (values : List ℤ) → map (λ (v : ℕ × ℤ). kept_of table v.0 v.1) (enumerate_from leaf values) ≡ values
-row_from table leaf [] = refl
-row_from table leaf (value ∷ values) =
-    ap (λ (v : ℤ). v ∷ map (λ (w : ℕ × ℤ). kept_of table w.0 w.1) (enumerate_from (leaf + 1) values)) (kept_of-same table leaf value)
-    ∙ ap (λ (rest : List ℤ). value ∷ rest) (row_from table (leaf + 1) values)
+-- a row of which each value is kept as it is
+pub row_kept : (keep : Keeping) (values : List ℤ) → ((leaf : ℕ) → leaf < length values → keep leaf (get_or values leaf (pos 0)) ≡ get_or values leaf (pos 0)) → kept_row keep values ≡ values
+row_kept keep values each = kept_from keep 0 values (λ k l. (let same : 0 + k ≡ k = omega arith in subst (λ (n : ℕ). keep n (get_or values k (pos 0)) ≡ get_or values k (pos 0)) (sym same) (each k l)))
 
-pub kept_row-same : (table : Table) (values : List ℤ) → kept_row (kept_of table) values ≡ values
-kept_row-same table values = row_from table 0 values
+-- and rows
+pub rows_kept : (keep : Keeping) (rows : List (List ℤ))
+    → ((row leaf : ℕ) → row < length rows → leaf < length (get_or rows row []) → keep leaf (entry rows row leaf) ≡ entry rows row leaf) → kept_rows keep rows ≡ rows
+rows_kept keep [] each = refl
+rows_kept keep (row ∷ rows) each =
+    ap (λ (r : List ℤ). r ∷ kept_rows keep rows) (row_kept keep row (λ leaf l. each 0 leaf (omega arith) l))
+    ∙ ap (λ (rest : List (List ℤ)). row ∷ rest) (rows_kept keep rows (λ r leaf l m. each (suc r) leaf (omega (arith, l)) m))
 
-pub kept_rows-same : (table : Table) (rows : List (List ℤ)) → kept_rows (kept_of table) rows ≡ rows
-kept_rows-same table [] = refl
-kept_rows-same table (row ∷ rows) =
-    ap (λ (r : List ℤ). r ∷ kept_rows (kept_of table) rows) (kept_row-same table row) ∙ ap (λ (rest : List (List ℤ)). row ∷ rest) (kept_rows-same table rows)
+-- a strict table keeps rows as they are
+pub strict_rows : (table : Table) → table.mode ≡ Strict → (rows : List (List ℤ)) → kept_rows (kept_of table) rows ≡ rows
+strict_rows table strict rows = rows_kept (kept_of table) rows (λ row leaf l m. strict_kept table strict leaf (entry rows row leaf))
+
+-- each table keeps its own
+pub own_rows : (table : Table) → IsTable table → kept_rows (kept_of table) table.rows ≡ table.rows
+own_rows table is =
+    rows_kept (kept_of table) table.rows (λ row leaf l m.
+    (let in_leaves : leaf < leaf_count_of table = omega (arith, m, is.shape.leaf_count row l) in
+    let in_kinds : leaf < length (leaf_types_of table) = omega (arith, in_leaves, length-map (leaves table.fields) (λ (one : Leaf). one.kind)) in
+    ap (kept_or (entry table.rows row leaf))
+    (stays_answer table.mode (leaf_type_of table leaf) (hold_at (table_holds table) leaf) (entry table.rows row leaf) (is.stays row leaf l in_kinds))))
+
+-- ---- two tables that keep alike
+
+-- as many holds as leaves, whatever the mapping
+pub hold_count : (table : Table) → length (table_holds table) ≡ length (leaf_types_of table)
+hold_count table = length-holds table.mapping table.fields (leaf_cells (leaf_types_of table)) ∙ length-leaf_cells (leaf_types_of table)
+
+-- where there is room for all bits of each type, what is kept is told by the type alone; past the last leaf both keep alike
+wide_alike : (one other : List Hold) (kinds : List LeafType) → length one ≡ length kinds → length other ≡ length kinds
+    → ((leaf : ℕ) → leaf < length kinds → value_bits (kind_at kinds leaf) ≤ (hold_at one leaf).width)
+    → ((leaf : ℕ) → leaf < length kinds → value_bits (kind_at kinds leaf) ≤ (hold_at other leaf).width)
+    → (leaf : ℕ) (value : ℤ) → kept (kind_at kinds leaf) (hold_at one leaf) value ≡ kept (kind_at kinds leaf) (hold_at other leaf) value
+wide_alike one other kinds ones others wide room leaf value =
+    let none : Hold = record { signed = false; width = 0 } in
+    ⊎_elim (λ (inside : leaf < length kinds).
+    wide_kept (kind_at kinds leaf) (hold_at one leaf) value (wide leaf inside) ∙ sym (wide_kept (kind_at kinds leaf) (hold_at other leaf) value (room leaf inside)))
+    (λ (past : length kinds ≤ leaf).
+    ap (λ (hold : Hold). kept (kind_at kinds leaf) hold value) (get_or_past one leaf none (omega (arith, past, ones)) ∙ sym (get_or_past other leaf none (omega (arith, past, others)))))
+    (cases_lt leaf (length kinds))
+
+answers_alike : (mode other : StoreMode) (kind : LeafType) (one two : Hold) (value : ℤ) → mode ≡ other → (mode ≡ Wrap → kept kind one value ≡ kept kind two value)
+    → kept_or value (store_answer mode kind one value) ≡ kept_or value (store_answer other kind two value)
+answers_alike Strict Strict kind one two value same alike =
+    or_same (is_between (least_of kind) (greatest_of kind) value) (is_between (least_in one.signed one.width) (greatest_in one.signed one.width) value) value
+    ∙ sym (or_same (is_between (least_of kind) (greatest_of kind) value) (is_between (least_in two.signed two.width) (greatest_in two.signed two.width) value) value)
+answers_alike Wrap Wrap kind one two value same alike = alike refl
+answers_alike Strict Wrap kind one two value same alike = cc same
+answers_alike Wrap Strict kind one two value same alike = cc same
+
+-- two tables of one record and one mode, in which each leaf has room, keep the same of each value
+pub kept_alike : (one other : Table) → one.fields ≡ other.fields → one.mode ≡ other.mode → IsWide one → IsWide other → kept_of one ≡ kept_of other
+kept_alike one other trees modes wide room = λ i leaf value. alike leaf value i
+  where
+    same_kinds : leaf_types_of one ≡ leaf_types_of other
+    same_kinds = ap (λ (f : Fields). kinds_of f) trees
+
+    alike : (leaf : ℕ) (value : ℤ) → kept_of one leaf value ≡ kept_of other leaf value
+    alike leaf value =
+        answers_alike one.mode other.mode (leaf_type_of one leaf) (hold_at (table_holds one) leaf) (hold_at (table_holds other) leaf) value modes (λ wrap.
+        wide_alike (table_holds one) (table_holds other) (leaf_types_of one) (hold_count one) (hold_count other ∙ ap (length {A = LeafType}) (sym same_kinds)) (wide wrap)
+        (subst (λ (kinds : List LeafType). (leaf : ℕ) → leaf < length kinds → value_bits (kind_at kinds leaf) ≤ (hold_at (table_holds other) leaf).width) (sym same_kinds)
+        (room (sym modes ∙ wrap))) leaf value)
+        ∙ ap (λ (kinds : List LeafType). kept_or value (store_answer other.mode (kind_at kinds leaf) (hold_at (table_holds other) leaf) value)) same_kinds

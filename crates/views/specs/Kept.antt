@@ -2,6 +2,7 @@
 use Rattle.std.specs.Prelude.{ℕ, ℤ, ◌≡◌, List, length, map, Option, option_map, is_some, IfSome}
 use Rattle.extents.specs.Indices.{indices}
 use Rattle.record_dim.specs.Trees.{Fields}
+use Rattle.record_dim.specs.LeafTypes.{is_signed}
 use Rattle.record_dim.specs.Leaves.{kinds_of}
 use Rattle.places.specs.Layout.{Owner}
 use Rattle.places.specs.Laws.{IsLaidOut}
@@ -10,12 +11,12 @@ use Rattle.places.specs.declared.piece.Hold.{Hold}
 use Rattle.map_expr.specs.Terms.{Term}
 use Rattle.map_checks.specs.Mappings.{leaf_cells, layout_by, holds_by, IsTooBigFor}
 use Rattle.map_any.specs.Counters.{has_count, granule_of}
-use Rattle.piece_bits.specs.Tables.{AreLaid, table_in}
+use Rattle.piece_bits.specs.Tables.{AreLaid, hold_at, table_in}
 use Rattle.instrument.specs.Counters.{HeatCounts, leaf_counts, heat_counts, granules_of, HasLeaves}
 use Rattle.instrument.specs.declared.counts.Counts.{Counts}
 use Rattle.instrument.specs.declared.heat.Heat.{Heat}
 use Rattle.views.specs.Tallies.{Tally, blob_lengths}
-use Rattle.kept_tables.specs.Modes.{declared_table, AllSettled}
+use Rattle.kept_tables.specs.Modes.{kind_at, declared_table, AllSettled}
 use Rattle.kept_tables.specs.declared.mode.StoreMode.{StoreMode}
 
 -- a mapping is of an expression over an array, and has its layout, rows, leaves and holds
@@ -27,6 +28,10 @@ pub record IsMappingOf (term : Term) (extents : List ℕ) (fields : Fields) (map
   pub slots_are : slots ≡ length (indices extents)
   pub cells_are : cells ≡ leaf_cells (kinds_of fields)
   pub holds_are : holds ≡ holds_by term fields
+
+-- a leaf is stored in the sign of its type
+abbrev pub HasSign : List Cell → List Hold → ℕ → Type 0
+HasSign cells holds leaf = (hold_at holds leaf).signed ≡ is_signed (kind_at (map (λ cell. cell.kind) cells) leaf)
 
 -- the raw numbers that blobs hold under the layout of an expression, and the table that they stand for
 abbrev pub raw_under : Term → List ℕ → Fields → List (List ℕ) → List (List ℤ)

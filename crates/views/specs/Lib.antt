@@ -1,5 +1,6 @@
 pub mod Tables
 pub mod Stores
+pub mod StrictLaws
 pub mod AnswerLaws
 pub mod HalfLaws
 pub mod Kept

@@ -1,11 +1,16 @@
 -- What a table is after bytes were moved from another, and what that takes.
-use Rattle.std.specs.Prelude.{ℕ, ℤ, ◌≡◌, ◌+◌, ◌%◌, ◌/◌, ◌<◌, ◌≤◌, List, length, sum_by, IfSome}
+use Rattle.std.specs.Prelude.{ℕ, ℤ, ◌≡◌, ◌+◌, ◌%◌, ◌/◌, ◌<◌, ◌≤◌, ⊤, List, length, sum_by, IfSome}
 use Rattle.extents.specs.declared.order.Order.{Order}
 use Rattle.linearize.specs.Slots.{slot_at, slot_count}
-use Rattle.record_dim.specs.LeafTypes.{width_of}
+use Rattle.record_dim.specs.LeafTypes.{width_of, is_signed}
 use Rattle.record_dim.specs.declared.leaf_type.LeafType.{LeafType}
 use Rattle.places.specs.Image.{entry}
 use Rattle.places.specs.Layout.{Owner}
+use Rattle.places.specs.declared.piece.Hold.{Hold}
+use Rattle.piece_bits.specs.Tables.{hold_at}
+use Rattle.kept_tables.specs.Modes.{kind_at}
+use Rattle.kept_tables.specs.declared.mode.StoreMode.{StoreMode}
+use Rattle.kept_tables.specs.declared.mode.StoreMode.TheVariants.{Strict, Wrap}
 use Rattle.blobs.specs.Moves.{blocks}
 use Rattle.map_expr.specs.Terms.{Term}
 use Rattle.map_plans.specs.Arrays.{array_of, lanes_in}
@@ -17,6 +22,16 @@ blob_steps layout = sum_by (λ blob. blocks (length blob / 8)) layout
 -- the bytes of a leaf
 abbrev pub size_of : LeafType → ℕ
 size_of kind = width_of kind / 8
+
+-- a leaf is stored in the sign and the width of its type
+abbrev pub IsOwn : LeafType → Hold → Type 0
+IsOwn kind hold = (hold.signed ≡ is_signed kind) × (hold.width ≡ width_of kind)
+
+-- what the blobs of a view of one mode hold those of another may hold: a strict view holds nothing of one that keeps low bits unless each
+-- leaf is stored so
+abbrev pub MayMove : StoreMode → StoreMode → List LeafType → List Hold → Type 0
+MayMove Wrap Strict kinds holds = (leaf : ℕ) → leaf < length kinds → IsOwn (kind_at kinds leaf) (hold_at holds leaf)
+MayMove _ _ kinds holds = ⊤
 
 -- slots from one on are slots of one block of a mapping that lays out arrays
 abbrev pub IsInBlock : Term → List ℕ → ℕ → ℕ → Type 0

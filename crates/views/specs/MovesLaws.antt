@@ -1,16 +1,89 @@
 -- The table and the padding after a run was moved.
-use Rattle.std.proofs.Common.{◌≡◌, ℕ, ◌*◌, ◌<◌, false, ℤ, List, map, length, ap, ◌∙◌, subst}
+use Rattle.std.proofs.Common.{◌≡◌, ℕ, ◌*◌, ◌<◌, ◌≤◌, false, ℤ, List, map, length, Option, Some, None, refl, ap, ◌∙◌, subst}
+use Rattle.std.specs.Prelude.{IfSome, IsSomeAnd}
+use Rattle.std.proofs.lemmas.List.{get_or-map}
+use Rattle.record_dim.specs.LeafTypes.{IsIn, IsDeclared, is_signed}
+use Rattle.record_dim.specs.Leaves.{kinds_of}
+use Rattle.record_dim.specs.Trees.{Fields}
+use Rattle.record_dim.specs.declared.leaf_type.LeafType.{LeafType}
+use Rattle.record_dim.specs.declared.leaf_type.LeafType.TheVariants.{Bool as Truth}
 use Rattle.extents.specs.Indices.{indices}
 use Rattle.extents.specs.declared.order.Order.{Order}
+use Rattle.places.specs.Holds.{full_holds, hold_of}
 use Rattle.places.specs.Layout.{Owner}
 use Rattle.places.specs.Laws.{IsLaidOut}
+use Rattle.places.specs.declared.piece.Cell.{Cell}
 use Rattle.places.specs.declared.piece.Hold.{Hold}
+use Rattle.map_expr.specs.Terms.{Term}
+use Rattle.map_checks.specs.LeafCells.{leaf_cells_kinds, holds_by_kind}
+use Rattle.map_checks.specs.Mappings.{leaf_cells, holds_by}
+use Rattle.map_plans.specs.Arrays.{array_of}
 use Rattle.piece_bits.specs.Tables.{AreLaid, table_in, hold_at}
 use Rattle.piece_bits.specs.MovedLaws.{AreMoved, moved_laid, moved_entry, kept_entry}
 use Rattle.map_any.specs.ArrayRuns.{IsArrayRun}
-use Rattle.map_any.specs.ArrayRunLaws.{run_row, run_other, runs_alike}
-use Rattle.views.specs.Moves.{IsRunMoved}
+use Rattle.map_any.specs.ArrayRunLaws.{array_holds, run_row, run_other, runs_alike}
+use Rattle.map_any.specs.Strategies.{AreRuns}
+use Rattle.kept_numbers.specs.Kept.{declared}
+use Rattle.kept_numbers.specs.KeptLaws.{kept_in, own_sign_held}
+use Rattle.kept_tables.specs.EntryLaws.{fitting_stays}
+use Rattle.kept_tables.specs.Modes.{IsSettled}
+use Rattle.kept_tables.specs.declared.mode.StoreMode.{StoreMode}
+use Rattle.kept_tables.specs.declared.mode.StoreMode.TheVariants.{Strict, Wrap}
+use Rattle.views.specs.Moves.{IsOwn, MayMove, IsRunMoved}
+use Rattle.views.specs.Stores.{Stays, kind_at}
 use Rattle.views.specs.Tables.{Table}
+
+-- ---- what a view of one mode holds another may hold
+
+pub stays_moves : (from to : StoreMode) (kind : LeafType) (hold : Hold) (value : ℤ) → 1 ≤ hold.width → (from ≡ Wrap → to ≡ Strict → hold.signed ≡ is_signed kind)
+    → Stays from kind hold value → Stays to kind hold value
+stays_moves Strict Strict kind hold value some own stays = stays
+stays_moves Wrap Wrap kind hold value some own stays = stays
+stays_moves Strict Wrap kind hold value some own stays = fitting_stays Wrap kind hold value some stays
+stays_moves Wrap Strict kind hold value some own stays = record {
+  declared = subst (λ (v : ℤ). IsDeclared kind v) stays (kept_in kind hold value);
+  held = subst (λ (v : ℤ). IsIn hold.signed hold.width v) stays (own_sign_held kind hold value some (own refl refl));
+}
+
+pub settled_moves : (from to : StoreMode) (kind : LeafType) (hold : Hold) (raw : ℤ) → 1 ≤ hold.width → (from ≡ Wrap → to ≡ Strict → hold.signed ≡ is_signed kind)
+    → IsSettled from kind hold raw → IsSettled to kind hold raw
+settled_moves from to kind hold raw some own settled = record { stays = stays_moves from to kind hold (declared kind raw) some own settled.stays; image = settled.image }
+
+pub may_move : (from to : StoreMode) (kinds : List LeafType) (holds : List Hold) → MayMove from to kinds holds → (leaf : ℕ) → leaf < length kinds
+    → from ≡ Wrap → to ≡ Strict → (hold_at holds leaf).signed ≡ is_signed (kind_at kinds leaf)
+may_move Wrap Strict kinds holds may leaf inside one two = (may leaf inside).0
+may_move Strict to kinds holds may leaf inside one two = cc one
+may_move Wrap Wrap kinds holds may leaf inside one two = cc two
+
+-- ---- leaves of arrays
+
+full_kinds : (kinds : List LeafType) → full_holds (leaf_cells kinds) ≡ map hold_of kinds
+full_kinds kinds = holds_by_kind (leaf_cells kinds) ∙ ap (map hold_of) (leaf_cells_kinds kinds)
+
+-- a leaf that is stored as its type is
+pub full_hold : (kinds : List LeafType) (holds : List Hold) (leaf : ℕ) → leaf < length kinds → holds ≡ full_holds (leaf_cells kinds) → hold_at holds leaf ≡ hold_of (kind_at kinds leaf)
+full_hold kinds holds leaf inside full =
+    ap (λ (hs : List Hold). hold_at hs leaf) (full ∙ full_kinds kinds) ∙ get_or-map hold_of kinds leaf Truth (record { signed = false; width = 0 }) inside
+
+pub full_own : (kinds : List LeafType) (holds : List Hold) (leaf : ℕ) → leaf < length kinds → holds ≡ full_holds (leaf_cells kinds) → IsOwn (kind_at kinds leaf) (hold_at holds leaf)
+full_own kinds holds leaf inside full =
+    let same = full_hold kinds holds leaf inside full in (ap (λ (h : Hold). h.signed) same, ap (λ (h : Hold). h.width) same)
+
+said_of : {X : Type 0} (o : Option X) (P Q : X → Type 0) (A : Type 0) → IsSomeAnd o P → IfSome o Q → ((x : X) → P x → Q x → A) → A
+said_of None P Q A is said f = absurd is
+said_of (Some x) P Q A is said f = f x is said
+
+-- two mappings that lay out arrays in one order store each leaf so
+pub runs_full : (one two : Term) (fields : Fields) → AreRuns one two
+    → (holds_by one fields ≡ full_holds (leaf_cells (kinds_of fields))) × (holds_by two fields ≡ full_holds (leaf_cells (kinds_of fields)))
+runs_full one two fields runs =
+    let cells : List Cell = leaf_cells (kinds_of fields) in
+    said_of (array_of one) _ _ _ runs (array_holds one fields cells) (λ array other full. (
+      full,
+      said_of (array_of two) _ _ _ other (array_holds two fields cells) (λ array same full. full),
+    ))
+
+-- ---- runs
 
 -- a table with other rows
 abbrev pub with_rows : Table → List (List ℤ) → Table

@@ -1,6 +1,6 @@
 -- A leaf whose rows stand side by side: what a store in sixteen of them at once needs of the one blob that it touches, and what it makes of it.
 use Rattle.std.specs.Prelude.{ℕ, ◌≡◌, ◌+◌, ◌*◌, ◌%◌, ◌<◌, ◌≤◌, ◌≤ℤ◌, ℤ, pos, List, [], length, map, slice_index, slice_index_or, slice_set}
-use Rattle.record_dim.specs.LeafTypes.{IsIn}
+use Rattle.record_dim.specs.LeafTypes.{IsIn, is_signed}
 use Rattle.record_dim.specs.declared.leaf_type.LeafType.{LeafType}
 use Rattle.places.specs.Layout.{Owner}
 use Rattle.places.specs.declared.piece.Hold.{Hold}
@@ -24,6 +24,7 @@ pub record IsNearIn (layout : List (List Owner)) (slots : ℕ) (kinds : List Lea
   pub form : IsShortIn layout slots near.leaf (slice_index (map (λ h. h.width) holds) near.leaf) (hold_at holds near.leaf) rules short
   pub stands : IsNearRule short near.rule
   pub blob : near.blob ≡ short.blob
+  pub sign : (hold_at holds near.leaf).signed ≡ is_signed (kind_at kinds near.leaf)
   pub taken : (value : ℤ) → near.least ≤ℤ value → value ≤ℤ near.greatest → Fits (kind_at kinds near.leaf) (hold_at holds near.leaf) value
 
 -- the same of a leaf of a table that counts no access

@@ -1,13 +1,15 @@
 -- Which values can be stored in a leaf, and what a store answers.
-use Rattle.std.specs.Prelude.{ℕ, ◌<◌, ◌&&◌, Bool, ℤ, int_le, List, length, map, slice_index_or, if◌then◌else◌, Result, Ok, Err}
+use Rattle.std.specs.Prelude.{ℕ, ◌<◌, ◌&&◌, Bool, ℤ, int_le, List, length, map, if◌then◌else◌, Result, Ok, Err}
 use Rattle.std.specs.List.{enumerate_from}
 use Rattle.record_dim.specs.declared.leaf_type.LeafType.{LeafType}
-use Rattle.record_dim.specs.declared.leaf_type.LeafType.TheVariants.{Bool as Truth}
-use Rattle.record_dim.specs.LeafTypes.{least_of, greatest_of, least_in, greatest_in, IsIn, IsDeclared}
+use Rattle.record_dim.specs.LeafTypes.{least_of, greatest_of, least_in, greatest_in}
 use Rattle.places.specs.declared.piece.Hold.{Hold}
 use Rattle.places.specs.Image.{entry}
 use Rattle.piece_bits.specs.Tables.{hold_at}
-pub use Rattle.kept_tables.specs.Modes.{kind_at, Fits}
+use Rattle.kept_numbers.specs.Kept.{kept}
+use Rattle.kept_tables.specs.declared.mode.StoreMode.{StoreMode}
+use Rattle.kept_tables.specs.declared.mode.StoreMode.TheVariants.{Strict, Wrap}
+pub use Rattle.kept_tables.specs.Modes.{kind_at, Fits, Stays}
 use Rattle.views.specs.declared.fault.StoreFault.{StoreFault}
 use Rattle.views.specs.declared.fault.StoreFault.TheVariants.{Range, Narrow}
 
@@ -15,9 +17,11 @@ use Rattle.views.specs.declared.fault.StoreFault.TheVariants.{Range, Narrow}
 abbrev pub is_between : ℤ → ℤ → ℤ → Bool
 is_between least greatest value = int_le least value && int_le value greatest
 
--- the answer to a store: the number that is kept, or `Range` outside of the declared range, `Narrow` inside it and outside of the hold's range
-abbrev pub store_answer : LeafType → Hold → ℤ → Result ℤ StoreFault
-store_answer kind hold value =
+-- the answer to a store in a strict view: the value itself, or `Range` outside of the declared range, `Narrow` inside it and outside of the
+-- hold's range; any other view keeps of each value the low bits that fit
+abbrev pub store_answer : StoreMode → LeafType → Hold → ℤ → Result ℤ StoreFault
+store_answer Wrap kind hold value = Ok (kept kind hold value)
+store_answer Strict kind hold value =
     if is_between (least_of kind) (greatest_of kind) value
     then (if is_between (least_in hold.signed hold.width) (greatest_in hold.signed hold.width) value then Ok value else Err Narrow)
     else Err Range
@@ -50,7 +54,7 @@ abbrev pub told : Result ℤ StoreFault → Result Unit StoreFault
 told (Ok kept) = Ok tt
 told (Err fault) = Err fault
 
--- every value of a table fits
-abbrev pub AllFit : ℕ → List LeafType → List Hold → List (List ℤ) → Type 0
-AllFit rows kinds holds table =
-    (row leaf : ℕ) → row < rows → leaf < length kinds → Fits (kind_at kinds leaf) (hold_at holds leaf) (entry table row leaf)
+-- every value of a table is one that a view of this mode holds
+abbrev pub AllStay : StoreMode → ℕ → List LeafType → List Hold → List (List ℤ) → Type 0
+AllStay mode rows kinds holds table =
+    (row leaf : ℕ) → row < rows → leaf < length kinds → Stays mode (kind_at kinds leaf) (hold_at holds leaf) (entry table row leaf)

@@ -4,6 +4,7 @@ ghost use Rattle.places.specs.Image.{entry};
 ghost use Rattle.map_any.specs.Counters.{is_counted};
 ghost use Rattle.map_any.specs.Maps.{term_of_map};
 ghost use Rattle.piece_bits.specs.Tables.{AreLaid, hold_at, table_in, with_entry};
+ghost use Rattle.views.specs.Kept.{HasSign};
 
 use crate::view::BlobList;
 use blobs::Blob;
@@ -22,6 +23,7 @@ pub fn wide_read(map: &AnyMap, blobs: &[Blob], row: u64, leaf: usize) -> Option<
     requires laid { AreLaid (⟦<AnyMap as Mapping>⟧.layout map.now) blobs.now }
     ensures value { IfSome result (λ value. value ≡ entry (table_in (⟦<AnyMap as Mapping>⟧.layout map.now) (⟦<AnyMap as Mapping>⟧.slot_count map.now)
         (⟦<AnyMap as Mapping>⟧.hold_list map.now) blobs.now) row leaf) }
+    ensures sign { is_some result ≡ true → HasSign (⟦<AnyMap as Mapping>⟧.cell_list map.now) (⟦<AnyMap as Mapping>⟧.hold_list map.now) leaf }
     ensures uncounted { is_some result ≡ true → is_counted (term_of_map map.now) ≡ false }
 {
     laws_of(map);
@@ -54,6 +56,7 @@ pub fn short_read(map: &AnyMap, blobs: &[Blob], row: u64, leaf: usize) -> Option
     requires laid { AreLaid (⟦<AnyMap as Mapping>⟧.layout map.now) blobs.now }
     ensures value { IfSome result (λ value. value ≡ entry (table_in (⟦<AnyMap as Mapping>⟧.layout map.now) (⟦<AnyMap as Mapping>⟧.slot_count map.now)
         (⟦<AnyMap as Mapping>⟧.hold_list map.now) blobs.now) row leaf) }
+    ensures sign { is_some result ≡ true → HasSign (⟦<AnyMap as Mapping>⟧.cell_list map.now) (⟦<AnyMap as Mapping>⟧.hold_list map.now) leaf }
     ensures uncounted { is_some result ≡ true → is_counted (term_of_map map.now) ≡ false }
 {
     laws_of(map);

@@ -16,6 +16,7 @@ mod store;
 mod view;
 
 pub use fault::{LaneFault, MakeView, StoreFault};
+pub use kept_tables::StoreMode;
 pub use laws::{counts_are_entries, laws_of_table};
 pub use near_column::NearColumn;
 pub use row::RowRef;

@@ -5,6 +5,7 @@ ghost use Rattle.map_any.specs.Counters.{is_counted};
 ghost use Rattle.map_any.specs.Maps.{term_of_map};
 ghost use Rattle.piece_bits.specs.Tables.{AreLaid, table_in};
 ghost use Rattle.views.specs.Columns.{column};
+ghost use Rattle.views.specs.Kept.{HasSign};
 ghost use Rattle.views.specs.NearStores.{IsNearIn};
 
 use crate::near_column::NearColumn;
@@ -22,6 +23,7 @@ pub fn near_leaf<'a>(map: &AnyMap, blobs: &'a [Blob], rows: u64, leaf: usize) ->
     requires laid { AreLaid (⟦<AnyMap as Mapping>⟧.layout map.now) blobs.now }
     ensures numbers { IfSome result (λ near. near.numbers ≡ take (16 * (rows / 16)) (column leaf
         (table_in (⟦<AnyMap as Mapping>⟧.layout map.now) (⟦<AnyMap as Mapping>⟧.slot_count map.now) (⟦<AnyMap as Mapping>⟧.hold_list map.now) blobs.now))) }
+    ensures sign { is_some result ≡ true → HasSign (⟦<AnyMap as Mapping>⟧.cell_list map.now) (⟦<AnyMap as Mapping>⟧.hold_list map.now) leaf }
     ensures uncounted { is_some result ≡ true → is_counted (term_of_map map.now) ≡ false }
 {
     laws_of(map);

@@ -1,8 +1,8 @@
 ghost use Rattle.std.specs.Prelude.{◌≡◌, ◌+◌, ◌<◌, OnOk, OnErr, length};
 ghost use Rattle.places.specs.Image.{entry};
-ghost use Rattle.piece_bits.specs.Tables.{hold_at};
-ghost use Rattle.views.specs.Stores.{Fits, told};
-ghost use Rattle.views.specs.Tables.{leaf_count_of, leaf_type_of, table_holds, answer_of, after_read, after_write};
+ghost use Rattle.record_dim.specs.LeafTypes.{IsDeclared};
+ghost use Rattle.views.specs.Stores.{told};
+ghost use Rattle.views.specs.Tables.{leaf_count_of, leaf_type_of, answer_of, after_read, after_write};
 
 use crate::fault::StoreFault;
 use crate::laws::laws_of_table;
@@ -36,7 +36,7 @@ impl RowRef<'_> {
         requires row_in { self.old.row < length self.old.view.now.rows }
         requires leaf_in { leaf < leaf_count_of self.old.view.now }
         ensures value { result ≡ entry self.old.view.now.rows self.old.row leaf }
-        ensures fits { Fits (leaf_type_of self.old.view.now leaf) (hold_at (table_holds self.old.view.now) leaf) result }
+        ensures declared { IsDeclared (leaf_type_of self.old.view.now leaf) result }
         ensures same { self.new.view.now ≡ after_read self.old.view.now self.old.row leaf }
         ensures same_row { self.new.row ≡ self.old.row }
         ensures same_view { self.new.view.ghost_name ≡ self.old.view.ghost_name }

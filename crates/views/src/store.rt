@@ -1,15 +1,16 @@
 ghost use Rattle.std.specs.Prelude.{ℕ, ◌≡◌, ◌≤◌};
+ghost use Rattle.kept_tables.specs.declared.mode.StoreMode.TheVariants.{Strict};
 ghost use Rattle.views.specs.Stores.{is_between, store_answer, told};
 
 use crate::fault::StoreFault;
 use places::Hold;
 use record_dim::LeafType;
 
-/// Whether a value can be stored in a leaf of this type that is stored so.
+/// Whether a value can be stored in a leaf of this type that is stored so, in a strict view.
 pub fn answer(kind: LeafType, hold: Hold, value: i128) -> Result<(), StoreFault>
     requires some { 1 ≤ hold.width }
     requires narrow { hold.width ≤ 64 }
-    ensures { result ≡ told (store_answer kind hold value) }
+    ensures { result ≡ told (store_answer Strict kind hold value) }
 {
     if !is_between(kind.least(), kind.greatest(), value) {
         return Err(StoreFault::Range);

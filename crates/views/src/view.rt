@@ -1,4 +1,4 @@
-ghost use Rattle.std.specs.Prelude.{ℕ, ◌≡◌, ◌+◌, ◌*◌, ◌^◌, ◌<◌, ◌≤◌, IfOk, OnOk, IfErr, OnErr, IfSome, Ok, List, false, is_some, option_map, length, sum_by};
+ghost use Rattle.std.specs.Prelude.{ℕ, ◌≡◌, ◌+◌, ◌*◌, ◌^◌, ◌<◌, ◌≤◌, IfOk, OnOk, IfErr, OnErr, IfSome, Ok, List, true, false, is_some, option_map, length, sum_by};
 ghost use Rattle.extents.specs.Indices.{indices};
 ghost use Rattle.map_expr.specs.Terms.{term_of};
 ghost use Rattle.map_checks.specs.Mappings.{leaf_cells, layout_by, accepted, IsBuiltTerm};
@@ -16,6 +16,8 @@ use crate::store::answer;
 use blobs::Blob;
 use extents::Extents;
 use instrument::{Counts, Heat};
+use kept_numbers::{declared, held, kept};
+use kept_tables::StoreMode;
 use map_any::{AnyMap, MapExpr};
 use places::{Mapping, laws_of};
 use record_dim::Schema;
@@ -44,6 +46,8 @@ pub struct View {
     expr: MapExpr,
     map: AnyMap,
     blobs: BlobList,
+    /// How a value is stored that does not fit.
+    mode: StoreMode,
     /// The accesses by leaf, exactly where the expression counts them.
     counts: Option<Counts>,
     /// The accesses by granule, exactly where the expression counts them.
@@ -66,20 +70,20 @@ impl Model for View {
     ghost use Rattle.record_dim.specs.Leaves.{leaves};
     ghost use Rattle.map_checks.specs.Mappings.{layout_by};
     ghost use Rattle.map_any.specs.Maps.{extents_of, term_of_map};
-    ghost use Rattle.kept_tables.specs.declared.mode.StoreMode.TheVariants.{Strict};
     ghost use Rattle.views.specs.Kept.{IsKept, IsMappingOf, IsTallied, table_under, tally_of};
 
     ghost view = { λ v. record {
       fields = schema_fields v.schema;
       extents = v.extents;
       mapping = term_of v.expr;
+      mode = v.mode;
       rows = table_under (term_of v.expr) v.extents (schema_fields v.schema) v.blobs.items;
       tally = tally_of v.counts v.heat;
     } };
 
     ghost invariant = { λ v. IsMappingOf (term_of v.expr) v.extents (schema_fields v.schema) (term_of_map v.map) (extents_of v.map) (⟦<AnyMap as Mapping>⟧.layout v.map)
         (⟦<AnyMap as Mapping>⟧.slot_count v.map) (⟦<AnyMap as Mapping>⟧.cell_list v.map) (⟦<AnyMap as Mapping>⟧.hold_list v.map)
-        × IsKept Strict (term_of v.expr) v.extents (schema_fields v.schema) v.blobs.items
+        × IsKept v.mode (term_of v.expr) v.extents (schema_fields v.schema) v.blobs.items
         × IsTallied (term_of v.expr) (layout_by (term_of v.expr) v.extents (schema_fields v.schema)) (length (leaves (schema_fields v.schema)))
         (tally_of v.counts v.heat) };
 }
@@ -88,13 +92,15 @@ impl View {
     ghost use Rattle.record_dim.specs.Schemas.{schema_fields};
     ghost use Rattle.map_any.specs.Maps.{extents_of, term_of_map};
     ghost use Rattle.record_dim.specs.Leaves.{leaves, kinds_of};
-    ghost use Rattle.piece_bits.specs.Tables.{hold_at};
-    ghost use Rattle.views.specs.Stores.{Fits, told};
+    ghost use Rattle.record_dim.specs.LeafTypes.{IsDeclared};
+    ghost use Rattle.kept_numbers.specs.Kept.{declared};
+    ghost use Rattle.kept_tables.specs.declared.mode.StoreMode.TheVariants.{Strict, Wrap};
+    ghost use Rattle.views.specs.Stores.{told};
     ghost use Rattle.views.specs.Refusals.{IsOver, IsNoView, IsNoViewWithin};
-    ghost use Rattle.views.specs.Tables.{leaf_count_of, leaf_type_of, leaf_types_of, owners_of, table_holds, answer_of, blob_bits_of, after_log, after_read, after_write, IsTable};
+    ghost use Rattle.views.specs.Tables.{leaf_count_of, leaf_type_of, leaf_types_of, owners_of, table_holds, answer_of, kept_of, blob_bits_of, after_log, after_read, after_write, after_raw, IsTable, IsSettledIn};
 
-    /// A view of zeros, which lies in memory as the expression says. `Bad` comes exactly where the expression is refused, and `TooBig`
-    /// exactly where it is not and is over a limit.
+    /// A view of zeros, which lies in memory as the expression says and refuses a value that does not fit. `Bad` comes exactly where the
+    /// expression is refused, and `TooBig` exactly where it is not and is over a limit.
     pub fn new(
         alloc: Global,
         schema: &Schema,
@@ -105,6 +111,7 @@ impl View {
         ensures schema { IfOk result (λ v. v.fields ≡ schema_fields schema.now) }
         ensures extents { IfOk result (λ v. v.extents ≡ extents) }
         ensures expr { IfOk result (λ v. v.mapping ≡ term_of expr.now) }
+        ensures mode { IfOk result (λ v. v.mode ≡ Strict) }
         ensures tally { IfOk result (λ v. v.tally ≡ no_tally v.mapping (owners_of v) (leaf_count_of v)) }
         ensures table { IfOk result (λ v. v.rows ≡ zeros (length (indices extents)) (length (leaves (schema_fields schema.now)))) }
 
@@ -113,21 +120,47 @@ impl View {
         ensures fits { OnOk result (IsOver (term_of expr.now) extents (schema_fields schema.now) → ⊥) }
         ensures refused { IfErr result (IsNoView (term_of expr.now) extents (schema_fields schema.now)) }
     {
-        View::new_within(alloc, schema, extents, expr, MAX_BYTES)
+        View::new_within(alloc, schema, extents, expr, StoreMode::Strict, MAX_BYTES)
     }
 
-    /// The same, of at most so many bytes: `TooBig` also comes where the blobs have more, and before memory is asked for them.
+    /// The same view, which keeps of each value the low bits that fit.
+    pub fn wrapping(
+        alloc: Global,
+        schema: &Schema,
+        extents: Extents,
+        expr: &MapExpr,
+    ) -> Result<View, MakeView>
+        requires built { IsBuiltTerm (term_of expr.now) }
+        ensures schema { IfOk result (λ v. v.fields ≡ schema_fields schema.now) }
+        ensures extents { IfOk result (λ v. v.extents ≡ extents) }
+        ensures expr { IfOk result (λ v. v.mapping ≡ term_of expr.now) }
+        ensures mode { IfOk result (λ v. v.mode ≡ Wrap) }
+        ensures tally { IfOk result (λ v. v.tally ≡ no_tally v.mapping (owners_of v) (leaf_count_of v)) }
+        ensures table { IfOk result (λ v. v.rows ≡ zeros (length (indices extents)) (length (leaves (schema_fields schema.now)))) }
+
+        // Only want of memory comes before the other answers.
+        ensures accepted { OnOk result (accepted (term_of expr.now) (schema_fields schema.now) (leaf_cells (kinds_of (schema_fields schema.now))) ≡ Ok tt) }
+        ensures fits { OnOk result (IsOver (term_of expr.now) extents (schema_fields schema.now) → ⊥) }
+        ensures refused { IfErr result (IsNoView (term_of expr.now) extents (schema_fields schema.now)) }
+    {
+        View::new_within(alloc, schema, extents, expr, StoreMode::Wrap, MAX_BYTES)
+    }
+
+    /// The same in either mode, of at most so many bytes: `TooBig` also comes where the blobs have more, and before memory is asked for
+    /// them.
     pub fn new_within(
         alloc: Global,
         schema: &Schema,
         extents: Extents,
         expr: &MapExpr,
+        mode: StoreMode,
         most: u64,
     ) -> Result<View, MakeView>
         requires built { IsBuiltTerm (term_of expr.now) }
         ensures schema { IfOk result (λ v. v.fields ≡ schema_fields schema.now) }
         ensures extents { IfOk result (λ v. v.extents ≡ extents) }
         ensures expr { IfOk result (λ v. v.mapping ≡ term_of expr.now) }
+        ensures mode { IfOk result (λ v. v.mode ≡ mode) }
         ensures tally { IfOk result (λ v. v.tally ≡ no_tally v.mapping (owners_of v) (leaf_count_of v)) }
         ensures table { IfOk result (λ v. v.rows ≡ zeros (length (indices extents)) (length (leaves (schema_fields schema.now)))) }
 
@@ -153,6 +186,7 @@ impl View {
             expr,
             map,
             blobs,
+            mode,
             counts,
             heat,
         })
@@ -194,6 +228,13 @@ impl View {
         &self.map
     }
 
+    /// How a value is stored that does not fit.
+    pub fn mode(&self) -> StoreMode
+        ensures { result ≡ self.now.mode }
+    {
+        self.mode
+    }
+
     /// A blob. Its bits are those of the image of the table, and its padding is 0.
     pub fn blob(&self, b: usize) -> &Blob
         requires { b < length (owners_of self.now) }
@@ -220,7 +261,7 @@ impl View {
         requires row_in { row < length self.old.rows }
         requires leaf_in { leaf < leaf_count_of self.old }
         ensures value { result ≡ entry self.old.rows row leaf }
-        ensures fits { Fits (leaf_type_of self.old leaf) (hold_at (table_holds self.old) leaf) result }
+        ensures declared { IsDeclared (leaf_type_of self.old leaf) result }
         ensures same { self.new ≡ after_read self.old row leaf }
         ensures step { steps.new ≡ steps.old + 1 }
     {
@@ -234,7 +275,7 @@ impl View {
         requires row_in { row < length self.old.rows }
         requires leaf_in { leaf < leaf_count_of self.old }
         ensures value { result ≡ entry self.old.rows row leaf }
-        ensures fits { Fits (leaf_type_of self.old leaf) (hold_at (table_holds self.old) leaf) result }
+        ensures declared { IsDeclared (leaf_type_of self.old leaf) result }
         ensures same { self.new ≡ after_read self.old row leaf }
     {
         match wide_read(&self.map, self.blobs.as_slice(), row, leaf) {
@@ -249,7 +290,7 @@ impl View {
         requires row_in { row < length self.old.rows }
         requires leaf_in { leaf < leaf_count_of self.old }
         ensures value { result ≡ entry self.old.rows row leaf }
-        ensures fits { Fits (leaf_type_of self.old leaf) (hold_at (table_holds self.old) leaf) result }
+        ensures declared { IsDeclared (leaf_type_of self.old leaf) result }
         ensures same { self.new ≡ after_read self.old row leaf }
     {
         match short_read(&self.map, self.blobs.as_slice(), row, leaf) {
@@ -264,7 +305,7 @@ impl View {
         requires row_in { row < length self.old.rows }
         requires leaf_in { leaf < leaf_count_of self.old }
         ensures value { result ≡ entry self.old.rows row leaf }
-        ensures fits { Fits (leaf_type_of self.old leaf) (hold_at (table_holds self.old) leaf) result }
+        ensures declared { IsDeclared (leaf_type_of self.old leaf) result }
         ensures same { self.new ≡ after_read self.old row leaf }
     {
         if self.is_counted() {
@@ -279,7 +320,7 @@ impl View {
         requires row_in { row < length self.old.rows }
         requires leaf_in { leaf < leaf_count_of self.old }
         ensures value { result ≡ entry self.old.rows row leaf }
-        ensures fits { Fits (leaf_type_of self.old leaf) (hold_at (table_holds self.old) leaf) result }
+        ensures declared { IsDeclared (leaf_type_of self.old leaf) result }
         ensures same { self.new ≡ after_read self.old row leaf }
     {
         self.touch(false, row, leaf);
@@ -292,22 +333,38 @@ impl View {
         requires row_in { row < length self.now.rows }
         requires leaf_in { leaf < leaf_count_of self.now }
         ensures value { result ≡ entry self.now.rows row leaf }
-        ensures fits { Fits (leaf_type_of self.now leaf) (hold_at (table_holds self.now) leaf) result }
+        ensures declared { IsDeclared (leaf_type_of self.now leaf) result }
     {
-        read_by_rule(&self.map, self.blobs.as_slice(), row, leaf)
+        let raw = read_by_rule(&self.map, self.blobs.as_slice(), row, leaf);
+        match self.mode {
+            StoreMode::Strict => raw,
+            StoreMode::Wrap => declared(self.schema.leaf_type(leaf), raw),
+        }
     }
 
-    /// Whether a value can be stored in a leaf: `Range` exactly where it lies outside of the leaf's declared range, and `Narrow` exactly
-    /// where it lies inside that and outside of the range of how the leaf is stored.
+    /// Whether a value can be stored in a leaf. A view that keeps low bits takes each; a strict one answers `Range` exactly where the value
+    /// lies outside of the leaf's declared range, and `Narrow` exactly where it lies inside that and outside of the range of how the leaf is
+    /// stored.
     #[inline(always)]
     pub fn fits(&self, leaf: usize, value: i128) -> Result<(), StoreFault>
         requires { leaf < leaf_count_of self.now }
         ensures { result ≡ told (answer_of self.now leaf value) }
     {
-        if self.map.takes(leaf, value) {
+        if self.takes(leaf, value) {
             return Ok(());
         }
         self.tested(leaf, value)
+    }
+
+    // Whether a value is sure to fit. Then it is taken, and is its own raw number. False says nothing.
+    #[inline(always)]
+    fn takes(&self, leaf: usize, value: i128) -> bool
+        requires { leaf < leaf_count_of self.now }
+        ensures taken { result ≡ true → answer_of self.now leaf value ≡ Ok value }
+        ensures settled { result ≡ true → IsSettledIn self.now leaf value }
+        ensures kept { result ≡ true → declared (leaf_type_of self.now leaf) value ≡ kept_of self.now leaf value }
+    {
+        self.map.takes(leaf, value)
     }
 
     // The same where no range was worked out before.
@@ -316,7 +373,35 @@ impl View {
         requires { leaf < leaf_count_of self.now }
         ensures { result ≡ told (answer_of self.now leaf value) }
     {
-        answer(self.schema.leaf_type(leaf), self.map.hold(leaf), value)
+        match self.mode {
+            StoreMode::Strict => answer(self.schema.leaf_type(leaf), self.map.hold(leaf), value),
+            StoreMode::Wrap => Ok(()),
+        }
+    }
+
+    /// The number that a store of a value in a leaf leaves: in a strict view the value itself, and else what its low bits say.
+    pub fn kept(&self, leaf: usize, value: i128) -> i128
+        requires { leaf < leaf_count_of self.now }
+        ensures { result ≡ kept_of self.now leaf value }
+    {
+        match self.mode {
+            StoreMode::Strict => value,
+            StoreMode::Wrap => kept(self.schema.leaf_type(leaf), self.map.hold(leaf), value),
+        }
+    }
+
+    // The number that is written for a value that is taken.
+    #[inline(always)]
+    fn raw(&self, leaf: usize, value: i128) -> i128
+        requires leaf_in { leaf < leaf_count_of self.now }
+        requires taken { told (answer_of self.now leaf value) ≡ Ok tt }
+        ensures settled { IsSettledIn self.now leaf result }
+        ensures kept { declared (leaf_type_of self.now leaf) result ≡ kept_of self.now leaf value }
+    {
+        match self.mode {
+            StoreMode::Strict => value,
+            StoreMode::Wrap => held(self.map.hold(leaf), self.kept(leaf, value)),
+        }
     }
 
     /// Stores a value in a leaf of a row. It takes one step, also where the value does not fit; then the table stands.
@@ -336,74 +421,91 @@ impl View {
         ensures step { steps.new ≡ steps.old + 1 }
     {
         steps.tick();
-        self.fits(leaf, value)?;
-        self.store(row, leaf, value);
+        if self.takes(leaf, value) {
+            self.store(row, leaf, value);
+            return Ok(());
+        }
+        self.set_tested(row, leaf, value)
+    }
+
+    // The same, and no step, where no range was worked out before. It goes by the far way, so that the near one stands in one place.
+    #[inline(never)]
+    fn set_tested(&mut self, row: u64, leaf: usize, value: i128) -> Result<(), StoreFault>
+        requires row_in { row < length self.old.rows }
+        requires leaf_in { leaf < leaf_count_of self.old }
+        ensures answer { result ≡ told (answer_of self.old leaf value) }
+        ensures stored { OnOk result (self.new ≡ after_write self.old row leaf value) }
+        ensures refused { OnErr result (self.new ≡ self.old) }
+    {
+        self.tested(leaf, value)?;
+        let raw = self.raw(leaf, value);
+        self.store_far(row, leaf, raw);
         Ok(())
     }
 
-    // The same, of a value that is kept as it is.
+    // Writes a raw number that is settled.
     #[inline(always)]
-    fn store(&mut self, row: u64, leaf: usize, value: i128)
+    fn store(&mut self, row: u64, leaf: usize, raw: i128)
         requires row_in { row < length self.old.rows }
         requires leaf_in { leaf < leaf_count_of self.old }
-        requires kept { answer_of self.old leaf value ≡ Ok value }
-        ensures { self.new ≡ after_write self.old row leaf value }
+        requires settled { IsSettledIn self.old leaf raw }
+        ensures { self.new ≡ after_raw self.old row leaf raw }
     {
-        if near_write(&self.map, &mut self.blobs, row, leaf, value) {
+        if near_write(&self.map, &mut self.blobs, row, leaf, raw) {
             return;
         }
-        self.store_far(row, leaf, value);
+        self.store_far(row, leaf, raw);
     }
 
     // The same by all of the short form, and else by the whole rule.
     #[inline(never)]
-    fn store_far(&mut self, row: u64, leaf: usize, value: i128)
+    fn store_far(&mut self, row: u64, leaf: usize, raw: i128)
         requires row_in { row < length self.old.rows }
         requires leaf_in { leaf < leaf_count_of self.old }
-        requires kept { answer_of self.old leaf value ≡ Ok value }
-        ensures { self.new ≡ after_write self.old row leaf value }
+        requires settled { IsSettledIn self.old leaf raw }
+        ensures { self.new ≡ after_raw self.old row leaf raw }
     {
-        if short_write(&self.map, &mut self.blobs, row, leaf, value) {
+        if short_write(&self.map, &mut self.blobs, row, leaf, raw) {
             return;
         }
-        self.set_by_rule(row, leaf, value);
+        self.set_by_rule(row, leaf, raw);
     }
 
     // The same by the whole rule. The test for counters is as in `get_by_rule`.
     #[inline(never)]
-    fn set_by_rule(&mut self, row: u64, leaf: usize, value: i128)
+    fn set_by_rule(&mut self, row: u64, leaf: usize, raw: i128)
         requires row_in { row < length self.old.rows }
         requires leaf_in { leaf < leaf_count_of self.old }
-        requires kept { answer_of self.old leaf value ≡ Ok value }
-        ensures { self.new ≡ after_write self.old row leaf value }
+        requires settled { IsSettledIn self.old leaf raw }
+        ensures { self.new ≡ after_raw self.old row leaf raw }
     {
         if self.is_counted() {
-            return self.set_counted(row, leaf, value);
+            return self.set_counted(row, leaf, raw);
         }
-        self.write(row, leaf, value);
+        self.write(row, leaf, raw);
     }
 
     // The same of a view that counts.
     #[inline(never)]
-    fn set_counted(&mut self, row: u64, leaf: usize, value: i128)
+    fn set_counted(&mut self, row: u64, leaf: usize, raw: i128)
         requires row_in { row < length self.old.rows }
         requires leaf_in { leaf < leaf_count_of self.old }
-        requires kept { answer_of self.old leaf value ≡ Ok value }
-        ensures { self.new ≡ after_write self.old row leaf value }
+        requires settled { IsSettledIn self.old leaf raw }
+        ensures { self.new ≡ after_raw self.old row leaf raw }
     {
         self.touch(true, row, leaf);
-        self.write(row, leaf, value);
+        self.write(row, leaf, raw);
     }
 
-    // Makes the value of a leaf in a row this one, which is kept as it is, by the whole rule, and nothing is counted.
+    // Writes a raw number that is settled by the whole rule, and nothing is counted.
     #[inline(always)]
-    fn write(&mut self, row: u64, leaf: usize, value: i128)
+    fn write(&mut self, row: u64, leaf: usize, raw: i128)
         requires row_in { row < length self.old.rows }
         requires leaf_in { leaf < leaf_count_of self.old }
-        requires kept { answer_of self.old leaf value ≡ Ok value }
-        ensures { self.new ≡ record self.old { rows = with_entry self.old.rows row leaf value } }
+        requires settled { IsSettledIn self.old leaf raw }
+        ensures { self.new ≡ record self.old { rows = with_entry self.old.rows row leaf (declared (leaf_type_of self.old leaf) raw) } }
     {
-        write_by_rule(&self.map, &mut self.blobs, row, leaf, value);
+        write_by_rule(&self.map, &mut self.blobs, row, leaf, raw);
     }
 
     /// The accesses by leaf, exactly where the expression counts them.
@@ -440,6 +542,7 @@ impl View {
             expr: _,
             map: _,
             blobs: _,
+            mode: _,
             counts: _,
             heat: _,
         } = self;

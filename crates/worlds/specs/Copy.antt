@@ -1,4 +1,4 @@
--- `copy V to W` makes the table of W that of V, and `relayout V as ..` lays a table out anew.
+-- `copy V to W` makes the table of W what W keeps of that of V, and `relayout V as ..` lays a table out anew.
 use Rattle.std.specs.Prelude.{ℕ, ℤ, ◌&&◌, Bool, true, false, not, nat_eq, List, length}
 use Rattle.std.specs.Cmp.Lexicographic.{pointwise}
 use Rattle.record_dim.specs.Trees.{Tree, Fields, Single, Record, Array, End, Field}
@@ -38,13 +38,13 @@ are_alike source target = same_fields source.fields target.fields && pointwise n
 abbrev pub narrow_fault : Fields → Spot → CommandFault
 narrow_fault fields spot = Narrow spot.row (text_of_leaf fields spot.leaf)
 
--- a table with the rows of another, where it holds them, each value written once
+-- a table with what it keeps of the rows of another, where it takes them, each value written once
 unfoldable pub with_rows : Table → List (List ℤ) → Outcome Table
 with_rows table rows = do
   held ← refused_by (narrow_fault table.fields) (refused_at (answer_of table) 0 rows)
   Goes (after_stores table (kept_rows (kept_of table) rows) (all_accesses Write (leaf_count_of table) (length rows)))
 
--- the target with the rows of the source
+-- the target with what it keeps of the rows of the source
 unfoldable pub copied : Table → Table → Outcome Table
 copied source target = do
   alike ← refused_if (not (are_alike source target)) Mismatch
@@ -63,10 +63,10 @@ copy world name target_name = do
   new ← copied source target
   quiet (with_table read target_name new)
 
--- the same rows under a new mapping, in a table beside all of these, the old one among them
+-- what a table of the same mode keeps of the rows under a new mapping, beside all of these, the old one among them
 unfoldable pub laid_anew : List (Entry Table) → Table → MapTerm → Outcome Table
 laid_anew views table mapping = do
-  zeros ← made views table.fields table.extents mapping
+  zeros ← made views table.mode table.fields table.extents mapping
   with_rows zeros table.rows
 
 unfoldable pub relayout : World → List ℕ → MapTerm → Outcome Left

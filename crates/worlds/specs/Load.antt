@@ -1,4 +1,4 @@
--- `load V : P [..] as .. from "F"` makes a table of the values of a dataset.
+-- `load V : P [..] as .. from "F"` makes a table of what it keeps of the values of a dataset.
 use Rattle.std.specs.Prelude.{ℕ, ◌^◌, Bool, List, length, Option, Some, None, nat_lt, if◌then◌else◌}
 use Rattle.extents.specs.declared.words.ExtentWord.{ExtentWord}
 use Rattle.layout_io.specs.Files.{File, file_of}
@@ -37,7 +37,7 @@ row_fault fields (rows.Range row leaf) = fault.Range row (text_of_leaf fields le
 row_fault fields (rows.Narrow row leaf) = fault.Narrow row (text_of_leaf fields leaf)
 row_fault fields rows.NoMemory = fault.TooBig
 
--- a table of zeros with the values of a dataset in place of them, each written once
+-- a table with what it keeps of the values of a dataset in place of its own, each written once
 abbrev pub filled : Table → List (List (List ℕ)) → Outcome Table
 filled table records = do
   rows ← ok_or (row_fault table.fields) (dataset_of table records)
@@ -48,7 +48,7 @@ unfoldable pub loaded : List (Entry Table) → Named → List ExtentWord → Lis
 loaded views whole words bytes = do
   short ← refused_if (nat_lt (2 ^ 28) (length bytes)) fault.TooBig
   extents ← resolved words (Some (length (rows_of (records_of bytes))))
-  zeros ← made views whole.fields extents whole.mapping
+  zeros ← made views whole.mode whole.fields extents whole.mapping
   filled zeros (records_of bytes)
 
 -- the table of a dataset in a file

@@ -3,19 +3,21 @@ use Rattle.std.specs.Prelude.{ℕ, List, None}
 use Rattle.record_dim.specs.Trees.{Fields}
 use Rattle.map_expr.specs.Terms.{Term as MapTerm}
 use Rattle.line_grammar.specs.Sentences.{New}
+use Rattle.kept_tables.specs.declared.mode.StoreMode.{StoreMode}
 use Rattle.views.specs.Tables.{Table}
 use Rattle.worlds.specs.Worlds.{World, added}
 use Rattle.worlds.specs.Outcomes.{Outcome, Goes, ◌>>=◌, Left, quiet, free, known}
 use Rattle.worlds.specs.Names.{nameless}
-use Rattle.worlds.specs.Tables.{room, shaped, resolved, made}
+use Rattle.worlds.specs.Tables.{room, shaped, resolved, mode_by, made}
 
 -- the world with one more table
 abbrev pub with_view : World → List ℕ → Table → World
 with_view world name table = record world { views = added name table world.views }
 
--- what the names of a new view stand for: the fields of its record, and its mapping with no name in it
+-- what the words of a new view stand for: the fields of its record, how it stores, and its mapping with no name in it
 pub record Named : Type 0 where
   pub fields : Fields
+  pub mode : StoreMode
   pub mapping : MapTerm
 
 -- the tests of a new view that need no file
@@ -26,14 +28,14 @@ named world new = do
   whole ← nameless world.mappings new.term
   space ← room world.views
   ranked ← shaped new.words
-  Goes (record { fields = fields; mapping = whole })
+  Goes (record { fields = fields; mode = mode_by new.wrap; mapping = whole })
 
 -- the table that a view begins as
 unfoldable pub new_table : World → New → Outcome Table
 new_table world new = do
   whole ← named world new
   extents ← resolved new.words None
-  made world.views whole.fields extents whole.mapping
+  made world.views whole.mode whole.fields extents whole.mapping
 
 unfoldable pub view : World → New → Outcome Left
 view world new = do

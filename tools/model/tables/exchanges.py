@@ -29,6 +29,8 @@ CASES = [
     *pair('unknown_mapping', SET, PACKED, TABLE, 'M', 'line 2: Unknown M'),
     # counts of a view that does not count
     *pair('not_counted', PAIR + 'view V : P [2] as {} | counts V', 'count(aos(packed, row))', 'leaf,reads,writes | a,0,0 | b,0,0', PACKED, 'line 3: NotCounted'),
+    # a view that keeps low bits, and holds fewer of them
+    *pair('wrap', PAIR + 'view V : P [2] wrap as {} | set V[1].a = 7' + TAIL, PACKED, TABLE, 'bitaos(2, row)', 'a,b | 0,0 | 3,0'),
     # commands that show how a table lies
     *pair('bytes', PAIR + 'view V : P [2] as {} | set V[1].a = 7 | bytes V 0', PACKED, '00 00 00 00 00 07 00 00 00 00', 'aos(aligned, row)',
           '00 00 00 00 00 00 00 00 07 00 00 00 00 00 00 00'),

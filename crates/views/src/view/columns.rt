@@ -81,7 +81,8 @@ impl View {
     {
         self.lanes_fit(leaf, values)?;
         for (lane, value) in values.iter().enumerate() {
-            self.store(self.row_after(row, lane), leaf, i128::from(*value));
+            let raw = self.raw(leaf, i128::from(*value));
+            self.store(self.row_after(row, lane), leaf, raw);
         }
         Ok(())
     }

@@ -4,7 +4,7 @@ ghost use Rattle.blobs.specs.Moves.{blocks};
 ghost use Rattle.map_expr.specs.Terms.{uncounted};
 ghost use Rattle.map_plans.specs.Arrays.{array_of};
 ghost use Rattle.map_any.specs.Strategies.{AreRuns};
-ghost use Rattle.views.specs.Moves.{blob_steps, size_of, IsInBlock, IsRunMoved};
+ghost use Rattle.views.specs.Moves.{blob_steps, size_of, IsInBlock, IsRunMoved, MayMove};
 
 use super::View;
 use crate::moves::{move_all, move_between};
@@ -12,13 +12,15 @@ use std::sync::ledger::Ledger;
 use steps::Steps;
 
 impl View {
-    ghost use Rattle.views.specs.Tables.{leaf_count_of, leaf_type_of, owners_of};
+    ghost use Rattle.views.specs.Tables.{leaf_count_of, leaf_type_of, leaf_types_of, owners_of, table_holds};
 
     /// Makes the table that of `source`, which has the same leaves and extents, blob by blob: both are of one expression, counters left
-    /// out. It takes a step for each 64 bytes of a blob, and one for its rest. Nothing is counted.
+    /// out, and a strict view takes none of a view that keeps low bits unless each leaf is stored in the sign and width of its type. It
+    /// takes a step for each 64 bytes of a blob, and one for its rest. Nothing is counted.
     pub fn move_blobs<L: Ledger>(&mut self, source: &View, steps: &mut Steps<L>)
         requires blobs { uncounted self.old.mapping ≡ uncounted source.now.mapping }
         requires alike { (self.old.fields ≡ source.now.fields) × (self.old.extents ≡ source.now.extents) }
+        requires modes { MayMove source.now.mode self.old.mode (leaf_types_of self.old) (table_holds self.old) }
         ensures rows { self.new ≡ record self.old { rows = source.now.rows } }
         ensures steps { steps.new ≤ steps.old + blob_steps (owners_of self.old) }
     {

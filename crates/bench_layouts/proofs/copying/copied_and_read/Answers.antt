@@ -14,7 +14,7 @@ returns-in_err-copy_rounds-clause-fault g c =
     let rows : length written.rows ≡ work.rows =
     c.in_ok-write_rounds.ensures.rewritten.rows ∙ ap (λ (t : List (List ℤ)). length t) c.requires.table ∙ length-replicate work.rows _ in
     let once = written_once written work.rows c.in_ok-write_rounds.ensures.rewritten.measured rows c.in_ok-write_rounds.ensures.entries in
-    let why = no_copy written c.args.target.now work.to work.rows c.in_err-copy_rounds.field-0.0 c.requires.schemas.1 c.requires.exprs.1 once c.in_err-copy_rounds.ensures.refused in
+    let why = no_copy written c.args.target.now work.to work.rows c.in_err-copy_rounds.field-0.0 c.requires.schemas.1 c.requires.exprs.1 c.requires.modes.1 once c.in_err-copy_rounds.ensures.refused in
     let is : c.from_residual-in_err-copy_rounds.result ≡ Err (Copy c.in_err-copy_rounds.field-0.0) = search rules in
     rw is why
 

@@ -27,7 +27,7 @@ loop-round-preserved g c =
     let value_is : value ≡ unwrap_or number (pos 0) = search rules in
     let plain = total_plain round total more value few c.loop-round.invariant.bound more_is fits in
     rw plain (record {
-      same = run_more view c.loop-round.view c.run_lanes.new.view kernel c.args.lanes round number c.loop-round.invariant.same c.in_ok-number.ensures.run;
+      same = run_more view c.loop-round.view c.run_lanes.new.view kernel c.args.lanes round number c.loop-round.invariant.same c.requires.strict c.in_ok-number.ensures.run;
       given = given_more view c.loop-round.view c.run_lanes.new.view kernel c.args.lanes round number total more c.loop-round.invariant.same c.in_ok-number.ensures.run c.loop-round.invariant.given (more_is ∙ value_is);
       bound = bound_more round total more value c.loop-round.invariant.bound more_is fits;
     })

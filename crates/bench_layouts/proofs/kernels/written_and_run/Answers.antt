@@ -27,7 +27,7 @@ answers : (g : given.Over) (c : goal.After-kernel g) → answer_of c.write_round
 answers g c =
     let view = c.write_rounds.new.view in
     let same = c.in_ok-write_rounds.ensures.rewritten.same in
-    same_answers view c.args.work.form (ap (λ (v : Table). v.fields) same ∙ c.requires.schema) (ap (λ (v : Table). v.mapping) same ∙ c.requires.expr)
+    same_answers view c.args.work.form (ap (λ (v : Table). v.fields) same ∙ c.requires.schema) (ap (λ (v : Table). v.mapping) same ∙ c.requires.expr) (ap (λ (v : Table). v.mode) same ∙ c.requires.strict)
 
 pub returns-in_err-given-clause-fault : goal.returns-in_err-given-clause-fault
 returns-in_err-given-clause-fault g c =

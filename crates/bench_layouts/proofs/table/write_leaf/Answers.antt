@@ -1,6 +1,6 @@
 use Rattle.std.proofs.Common.{rules, ◌≡◌, ◌∙◌, ℤ, [], ◌∷◌, Err, ap, sym, refl, arith}
 use Rattle.piece_bits.specs.Tables.{with_entry}
-use Rattle.views.specs.AnswerLaws.{kept_of-same, told_err}
+use Rattle.views.specs.AnswerLaws.{strict_kept, told_err}
 use Rattle.views.specs.Stores.{told}
 use Rattle.views.specs.Tables.{after_stores, after_write, answer_of}
 use Rattle.views.specs.Tallies.{Write}
@@ -15,7 +15,7 @@ returns-clause-rewritten g c =
     let new = c.set.new.self in
     let number = value c.args.round c.args.row c.args.leaf in
     let wrote : new ≡ after_write old c.args.row c.args.leaf number = grind arith in
-    let is = wrote ∙ ap (λ (kept : ℤ). after_stores old (with_entry old.rows c.args.row c.args.leaf kept) (Write c.args.row c.args.leaf ∷ [])) (kept_of-same old c.args.leaf number) in
+    let is = wrote ∙ ap (λ (kept : ℤ). after_stores old (with_entry old.rows c.args.row c.args.leaf kept) (Write c.args.row c.args.leaf ∷ [])) (strict_kept old c.requires.measured.strict c.args.leaf number) in
     rewritten_on old old new c.args.row c.args.leaf number (still_here old c.requires.measured) c.requires.row_in c.requires.leaf_in is
 
 pub returns-clause-values : goal.returns-clause-values
@@ -24,7 +24,7 @@ returns-clause-values g c = λ values.
     let new = c.set.new.self in
     let number = value c.args.round c.args.row c.args.leaf in
     let wrote : new ≡ after_write old c.args.row c.args.leaf number = grind arith in
-    let is = wrote ∙ ap (λ (kept : ℤ). after_stores old (with_entry old.rows c.args.row c.args.leaf kept) (Write c.args.row c.args.leaf ∷ [])) (kept_of-same old c.args.leaf number) in
+    let is = wrote ∙ ap (λ (kept : ℤ). after_stores old (with_entry old.rows c.args.row c.args.leaf kept) (Write c.args.row c.args.leaf ∷ [])) (strict_kept old c.requires.measured.strict c.args.leaf number) in
     values_on old old new c.args.row c.args.leaf number (still_here old c.requires.measured) c.requires.row_in c.requires.leaf_in is c.args.round refl values
 
 pub returns-clause-others : goal.returns-clause-others
@@ -33,7 +33,7 @@ returns-clause-others g c =
     let new = c.set.new.self in
     let number = value c.args.round c.args.row c.args.leaf in
     let wrote : new ≡ after_write old c.args.row c.args.leaf number = grind arith in
-    let is = wrote ∙ ap (λ (kept : ℤ). after_stores old (with_entry old.rows c.args.row c.args.leaf kept) (Write c.args.row c.args.leaf ∷ [])) (kept_of-same old c.args.leaf number) in
+    let is = wrote ∙ ap (λ (kept : ℤ). after_stores old (with_entry old.rows c.args.row c.args.leaf kept) (Write c.args.row c.args.leaf ∷ [])) (strict_kept old c.requires.measured.strict c.args.leaf number) in
     others_on old old new c.args.row c.args.leaf number (still_here old c.requires.measured) c.requires.row_in c.requires.leaf_in is (λ other l apart. refl)
 
 pub returns-in_err-set-clause-refused : goal.returns-in_err-set-clause-refused

@@ -8,17 +8,17 @@ use Rattle.command_checks.proofs.tables.made.Goals as goal
 
 pub returns-then-live-gt-MAX_LIVE_BYTES-clause-made : goal.returns-then-live-gt-MAX_LIVE_BYTES-clause-made
 returns-then-live-gt-MAX_LIVE_BYTES-clause-made c =
-    made_full (map view_of c.args.views.now) (schema_fields c.args.schema.now) c.args.extents (term_of c.args.expr.now) c.in-Ok.ensures.accepted
+    made_full (map view_of c.args.views.now) c.args.mode (schema_fields c.args.schema.now) c.args.extents (term_of c.args.expr.now) c.in-Ok.ensures.accepted
     (bits_over c.live_bytes-live.result _ _ c.live_bytes-live.ensures.sum c.if-live-gt-MAX_LIVE_BYTES.true)
 
 pub returns-else-live-gt-MAX_LIVE_BYTES-clause-made : goal.returns-else-live-gt-MAX_LIVE_BYTES-clause-made
 returns-else-live-gt-MAX_LIVE_BYTES-clause-made c =
     let fields = schema_fields c.args.schema.now in
     let term = term_of c.args.expr.now in
-    let table = table_new c.in-Ok.view fields c.args.extents term c.in-Ok.ensures.schema c.in-Ok.ensures.extents c.in-Ok.ensures.expr c.in-Ok.ensures.table c.in-Ok.ensures.tally in
-    made_goes (map view_of c.args.views.now) fields c.args.extents term c.in-Ok.ensures.accepted c.in-Ok.ensures.fits
+    let table = table_new c.in-Ok.view c.args.mode fields c.args.extents term c.in-Ok.ensures.mode c.in-Ok.ensures.schema c.in-Ok.ensures.extents c.in-Ok.ensures.expr c.in-Ok.ensures.table c.in-Ok.ensures.tally in
+    made_goes (map view_of c.args.views.now) c.args.mode fields c.args.extents term c.in-Ok.ensures.accepted c.in-Ok.ensures.fits
     (bits_within c.live_bytes-live.result c.left_beside.result _ _ c.live_bytes-live.ensures.sum c.left_beside.ensures c.if-live-gt-MAX_LIVE_BYTES.false c.in-Ok.ensures.within) ∙ sym (ap Goes table)
 
 pub returns-else-live-gt-MAX_LIVE_BYTES-clause-zeros : goal.returns-else-live-gt-MAX_LIVE_BYTES-clause-zeros
 returns-else-live-gt-MAX_LIVE_BYTES-clause-zeros c =
-    table_new c.in-Ok.view (schema_fields c.args.schema.now) c.args.extents (term_of c.args.expr.now) c.in-Ok.ensures.schema c.in-Ok.ensures.extents c.in-Ok.ensures.expr c.in-Ok.ensures.table c.in-Ok.ensures.tally
+    table_new c.in-Ok.view c.args.mode (schema_fields c.args.schema.now) c.args.extents (term_of c.args.expr.now) c.in-Ok.ensures.mode c.in-Ok.ensures.schema c.in-Ok.ensures.extents c.in-Ok.ensures.expr c.in-Ok.ensures.table c.in-Ok.ensures.tally

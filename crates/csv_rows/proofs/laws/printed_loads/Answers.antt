@@ -15,4 +15,4 @@ returns c =
     let count = rw is at c.leaf_count-some.ensures.value in
     let some : 0 < length (leaves fields) = omega arith in
     let names = subst (λ (f : Fields). AreColumnNames (texts_of f)) is (column_names (schema_fields schema) schema.fit schema.named) in
-    view_again c.args._printed.now c.args._loaded.now c.requires.schema names c.schema.ensures.table some c.laws_of_table.ensures.paired c.requires.fit
+    view_again c.args._printed.now c.args._loaded.now c.requires.schema names c.schema.ensures.table some c.laws_of_table.ensures.paired c.requires.stay

@@ -1,4 +1,6 @@
 use Rattle.std.proofs.Common.{rules, ◌≡◌, ◌∙◌, refl, sym, arith, true, false, Err, inr}
+use Rattle.views.specs.Stores.{kept_row}
+use Rattle.views.specs.Tables.{kept_of}
 use Rattle.csv_rows.proofs.Accesses.{no_row_stored}
 use Rattle.csv_rows.proofs.Tables.{Loading, next_left, row_loaded, rows_loaded, rows_written, row_refused}
 use Rattle.csv_rows.proofs.load.load_records.Goals as goal
@@ -33,7 +35,7 @@ loop-records-preserved g c =
     let found : c.in_ok-next.field-0 ≡ true = search rules in
     let read = rw found at c.in_ok-next.ensures in
     let next = next_left (g.R.Records.left c.args.records.now) (g.R.Records.left c.loop-records.records) c.loop-records.row (g.R.Records.fields c.next.new.self) (g.R.Records.left c.next.new.self) i.left read.1 in
-    let after = row_loaded c.args.view.now c.loop-records.view c.load_row.new.view c.args.columns.now (g.R.Records.left c.args.records.now) c.loop-records.row (g.R.Records.fields c.next.new.self) (g.R.Records.left c.next.new.self) c.load_row.new.values i.loading c.requires.rows next c.in_ok-load_row.ensures.read c.in_ok-load_row.ensures.stored in
+    let after = row_loaded c.args.view.now c.loop-records.view c.load_row.new.view c.args.columns.now (g.R.Records.left c.args.records.now) c.loop-records.row (g.R.Records.fields c.next.new.self) (g.R.Records.left c.next.new.self) (kept_row (kept_of c.loop-records.view) c.load_row.new.values) i.loading c.requires.rows next c.in_ok-load_row.ensures.read c.in_ok-load_row.ensures.stored in
     record { reading = c.in_ok-load_row.ensures.asked.standing; left = c.in_ok-load_row.ensures.asked.behind ∙ sym next.behind_it; loading = after; values = c.in_ok-load_row.ensures.count ∙ i.values }
 
 pub returns-clause-loaded : goal.returns-clause-loaded

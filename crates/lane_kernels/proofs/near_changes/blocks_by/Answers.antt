@@ -1,12 +1,17 @@
 use Rattle.std.proofs.Common.{rules, arith, ◌≡◌, ◌+◌, ◌*◌, ◌/◌, ◌≤◌, ◌∙◌, true, length, ℕ, List, ap, sym, subst}
 use Rattle.extents.specs.Indices.{indices}
+use Rattle.views.specs.Tables.{Table}
 use Rattle.lane_kernels.specs.Changes.{AreChanged}
 use Rattle.lane_kernels.proofs.Changed.{none_changed}
-use Rattle.lane_kernels.proofs.NearChanges.{begun_more, counted_more}
+use Rattle.lane_kernels.proofs.NearChanges.{begun_more, counted_more, still_kernel}
 use Rattle.lane_kernels.proofs.near_changes.blocks_by.Goals as goal
 
 pub returns-in_default-clause-changed : goal.returns-in_default-clause-changed
 returns-in_default-clause-changed g c = none_changed c.args.view.now c.args.change.now 16 (omega arith)
+
+pub change_near-requires-clause-kernel : goal.change_near-requires-clause-kernel
+change_near-requires-clause-kernel g c =
+    still_kernel c.args.view.now c.loop-block.view c.args.change.now (ap (λ (t : Table). t.fields) c.loop-block.invariant.changed.same) c.requires
 
 pub loop-block-preserved : goal.loop-block-preserved
 loop-block-preserved g c =

@@ -1,22 +1,36 @@
-use Rattle.std.proofs.Common.{rules, ◌∙◌, sym}
-use Rattle.map_any.specs.Strategies.{IsStrategy}
+use Rattle.std.proofs.Common.{rules, ◌∙◌, sym, subst}
+use Rattle.map_any.specs.declared.strategy.Strategy.{Strategy}
 use Rattle.map_any.specs.declared.strategy.Strategy.TheVariants as way
 use Rattle.views.specs.Tables.{Table}
 use Rattle.views.specs.TallyLaws.{after_log-none}
 use Rattle.layout_copy.specs.Copies.{AreAlike}
-use Rattle.layout_copy.proofs.Whole.{strategy_is, fields_steps, blobs_copied, runs_copied}
+use Rattle.layout_copy.specs.Costs.{IsWay}
+use Rattle.layout_copy.proofs.WayLaws.{moved_way}
+use Rattle.layout_copy.proofs.Whole.{fields_steps, blobs_copied, runs_copied, runs_back}
 use Rattle.layout_copy.proofs.copies.copy.Goals as goal
 use Rattle.layout_copy.proofs.copies.copy.Goals.{in-Blobs, in-Runs}
 
 pub returns-then-not-are_alike-clause-source : goal.returns-then-not-are_alike-clause-source
 returns-then-not-are_alike-clause-source g c = sym (after_log-none c.args.source.now)
 
+pub move_blobs-requires-clause-blobs : goal.move_blobs-requires-clause-blobs
+move_blobs-requires-clause-blobs g c = sym (moved_way c.args.source.now c.args.target.now c.way_of-strategy.result way.Blobs c.in-Blobs.is (λ e. cc) c.way_of-strategy.ensures).1
+
+pub move_blobs-requires-clause-modes : goal.move_blobs-requires-clause-modes
+move_blobs-requires-clause-modes g c = (moved_way c.args.source.now c.args.target.now c.way_of-strategy.result way.Blobs c.in-Blobs.is (λ e. cc) c.way_of-strategy.ensures).0
+
+pub copy_runs-requires-clause-arrays : goal.copy_runs-requires-clause-arrays
+copy_runs-requires-clause-arrays g c =
+    let source : Table = c.args.source.now in
+    let target : Table = c.args.target.now in
+    runs_back source.mapping target.mapping (moved_way source target c.way_of-strategy.result way.Runs c.in-Runs.is (λ e. cc) c.way_of-strategy.ensures).1.1
+
 pub returns-in-Fields-clause-steps : goal.returns-in-Fields-clause-steps
 returns-in-Fields-clause-steps g c =
     let source : Table = c.args.source.now in
     let target : Table = c.args.target.now in
     let alike : AreAlike source target = search rules in
-    let fields : IsStrategy source.mapping target.mapping way.Fields = strategy_is source.mapping target.mapping way.Fields c.map.ensures.term c.map-2.ensures.term c.in-Fields.is c.strategy-strategy.ensures in
+    let fields : IsWay source target way.Fields = subst (λ (s : Strategy). IsWay source target s) c.in-Fields.is c.way_of-strategy.ensures in
     fields_steps source target c.args.steps.now c.copy_fields.new.steps c.laws_of_table.ensures.table alike fields c.copy_fields.ensures.steps
 
 pub returns-clause-copied : goal.returns-clause-copied
@@ -27,9 +41,10 @@ returns-clause-copied g c =
     let new : Table = c.touch_all-2.new.self in
     let alike : AreAlike source old = search rules in
     let table = c.laws_of_table.ensures.table in
+    let to = c.laws_of_table-2.ensures.table in
     elim c.match-strategy.branch [
-      | in-Blobs w ↦ blobs_copied source old now new table alike (w.target-is ∙ w.move_blobs.ensures.rows) c.touch_all-2.ensures
-          (strategy_is source.mapping old.mapping way.Blobs c.map.ensures.term c.map-2.ensures.term w.in-Blobs.is c.strategy-strategy.ensures)
-      | in-Runs w ↦ runs_copied source old now new table alike (w.target-is ∙ w.copy_runs.ensures.rows) c.touch_all-2.ensures
-          (strategy_is source.mapping old.mapping way.Runs c.map.ensures.term c.map-2.ensures.term w.in-Runs.is c.strategy-strategy.ensures).1
+      | in-Blobs w ↦ let by = moved_way source old c.way_of-strategy.result way.Blobs w.in-Blobs.is (λ e. cc) c.way_of-strategy.ensures in
+          blobs_copied source old now new table to alike by.0 (w.target-is ∙ w.move_blobs.ensures.rows) c.touch_all-2.ensures by.1
+      | in-Runs w ↦ let by = moved_way source old c.way_of-strategy.result way.Runs w.in-Runs.is (λ e. cc) c.way_of-strategy.ensures in
+          runs_copied source old now new table to alike by.0 (w.target-is ∙ w.copy_runs.ensures.rows) c.touch_all-2.ensures by.1.1
     ]

@@ -6,7 +6,7 @@ use Rattle.views.specs.Moves.{size_of}
 use Rattle.views.specs.MovesLaws.{rows_after}
 use Rattle.views.specs.Pieces.{move_steps}
 use Rattle.views.specs.Tables.{Table, leaf_count_of, leaf_types_of, leaf_type_of}
-use Rattle.layout_copy.proofs.CostLaws.{leaf_sum, all_leaves}
+use Rattle.layout_copy.proofs.CostLaws.{leaf_sum}
 use Rattle.layout_copy.proofs.Pieces.{leaf_moved}
 use Rattle.layout_copy.proofs.runs.copy_round.Goals as goal
 

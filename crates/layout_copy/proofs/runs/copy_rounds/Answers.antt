@@ -1,12 +1,9 @@
-use Rattle.std.proofs.Common.{◌≡◌, ◌+◌, ◌%◌, ◌≤◌, ℕ, List, sum_by, ap, sym, subst, arith}
-use Rattle.std.specs.Prelude.{min}
+use Rattle.std.proofs.Common.{◌≡◌, ◌≤◌, ℕ, List, ap, sym, subst, arith}
 use Rattle.linearize.specs.Slots.{slot_count}
-use Rattle.map_any.specs.Strategies.{AreRuns}
 use Rattle.views.specs.CutLaws.{same_slots}
 use Rattle.views.specs.MovesLaws.{rows_after}
-use Rattle.views.specs.Pieces.{slot_steps, HasSlots}
+use Rattle.views.specs.Pieces.{HasSlots}
 use Rattle.views.specs.Tables.{Table}
-use Rattle.layout_copy.specs.Copies.{AreAlike}
 use Rattle.layout_copy.specs.Costs.{leaf_sizes, round_steps, steps_before}
 use Rattle.layout_copy.specs.Runs.{order_by}
 use Rattle.map_plans.specs.Arrays.{array_of}

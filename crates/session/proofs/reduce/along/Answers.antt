@@ -5,7 +5,7 @@ use Rattle.extents.specs.Indices.{indices}
 use Rattle.worlds.specs.Outcomes.{Goes}
 use Rattle.worlds.specs.Reduce.{reduced, column}
 use Rattle.session.specs.Columns.{combined}
-use Rattle.session.proofs.Reductions.{fits_small, reduced_more, reads_more, reads_none}
+use Rattle.session.proofs.Reductions.{declared_small, reduced_more, reads_more, reads_none}
 use Rattle.session.proofs.reduce.along.Goals as goal
 
 pub loop-row-init : goal.loop-row-init
@@ -21,7 +21,7 @@ loop-row-init g c =
 pub combined-reached-requires-clause-next : goal.combined-reached-requires-clause-next
 combined-reached-requires-clause-next g c =
     let fits : FitsSigned w128 c.get-next.result = search rules in
-    rw (to_z-of_z w128 c.get-next.result fits) (fits_small _ _ c.get-next.result c.get-next.ensures.fits)
+    rw (to_z-of_z w128 c.get-next.result fits) (declared_small _ c.get-next.result c.get-next.ensures.declared)
 
 pub loop-row-preserved : goal.loop-row-preserved
 loop-row-preserved g c =

@@ -2,7 +2,7 @@ use Rattle.std.proofs.Common.{rules, arith, ◌≡◌, ◌<◌, ◌∙◌, lengt
 use Rattle.std.specs.Int.{w128}
 use Rattle.std.proofs.lemmas.Int.{to_z-of_z}
 use Rattle.extents.specs.Indices.{indices}
-use Rattle.session.proofs.Reductions.{reduced_first, reads_first, fits_small}
+use Rattle.session.proofs.Reductions.{reduced_first, reads_first, declared_small}
 use Rattle.session.proofs.reduce.reduced.Goals as goal
 
 pub along-requires-in-Min : goal.along-requires-in-Min
@@ -15,7 +15,7 @@ along-requires-in-Min g c =
       leaf_in = c.requires;
       start = some;
       before = reduced_first c.args.kind view.rows c.args.leaf c.get-first.result some c.get-first.ensures.value;
-      small = fits_small _ _ c.get-first.result c.get-first.ensures.fits;
+      small = declared_small _ c.get-first.result c.get-first.ensures.declared;
     })
 
 pub returns-else-count-eq0 : goal.returns-else-count-eq0

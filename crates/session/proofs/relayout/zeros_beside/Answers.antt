@@ -10,4 +10,4 @@ pub returns-clause-zeros : goal.returns-clause-zeros
 returns-clause-zeros c = λ d.
     subst (λ (e : ViewEntry). IfOk c.made.result (λ view. view ≡ zeros_like e.view (term_of c.args.expr.now)))
     (get_or_default c.args.views.now c.args.place c.index-views-place.result d c.requires.place)
-    (rw (c.schema.ensures.value, c.extents.ensures.value) at c.made.ensures.zeros)
+    (rw (c.mode.ensures, c.schema.ensures.value, c.extents.ensures.value) at c.made.ensures.zeros)

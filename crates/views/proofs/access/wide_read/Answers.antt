@@ -64,6 +64,11 @@ returns-then-row-rule-clause-uncounted c = λ _.
     let w = (wide_seen c.requires.laid c.short-rule.ensures.wide).whole c.args.row c.if-row-rule.true in
     c.short-rule.ensures.uncounted (plain_leads c.short-rule.result.now.short.walk w.walk)
 
+pub returns-then-row-rule-clause-sign : goal.returns-then-row-rule-clause-sign
+returns-then-row-rule-clause-sign c = λ _.
+    let w = (wide_seen c.requires.laid c.short-rule.ensures.wide).whole c.args.row c.if-row-rule.true in
+    c.short-rule.ensures.sign (plain_leads c.short-rule.result.now.short.walk w.walk)
+
 -- ---- whole bytes in blocks
 
 pub block_start-start-requires-clause-blocks : goal.block_start-start-requires-clause-blocks
@@ -121,6 +126,11 @@ pub returns-then-row-rule-2-clause-uncounted : goal.returns-then-row-rule-2-clau
 returns-then-row-rule-2-clause-uncounted c = λ _.
     let w = (wide_seen c.requires.laid c.short-rule.ensures.wide).blocks c.args.row c.if-row-rule-2.true in
     c.short-rule.ensures.uncounted (blocks_lead c.short-rule.result.now.short.walk w.walk)
+
+pub returns-then-row-rule-2-clause-sign : goal.returns-then-row-rule-2-clause-sign
+returns-then-row-rule-2-clause-sign c = λ _.
+    let w = (wide_seen c.requires.laid c.short-rule.ensures.wide).blocks c.args.row c.if-row-rule-2.true in
+    c.short-rule.ensures.sign (blocks_lead c.short-rule.result.now.short.walk w.walk)
 
 -- ---- whole bytes in reverse order
 
@@ -183,6 +193,11 @@ returns-then-row-rule-3-clause-uncounted c = λ _.
     let w = (wide_seen c.requires.laid c.short-rule.ensures.wide).turned c.args.row c.if-row-rule-3.true in
     c.short-rule.ensures.uncounted (plain_leads c.short-rule.result.now.short.walk w.walk)
 
+pub returns-then-row-rule-3-clause-sign : goal.returns-then-row-rule-3-clause-sign
+returns-then-row-rule-3-clause-sign c = λ _.
+    let w = (wide_seen c.requires.laid c.short-rule.ensures.wide).turned c.args.row c.if-row-rule-3.true in
+    c.short-rule.ensures.sign (plain_leads c.short-rule.result.now.short.walk w.walk)
+
 -- ---- fields
 
 pub plain_start-start-requires-then-row-rule-4-clause-plain : goal.plain_start-start-requires-then-row-rule-4-clause-plain
@@ -243,3 +258,8 @@ pub returns-then-row-rule-4-clause-uncounted : goal.returns-then-row-rule-4-clau
 returns-then-row-rule-4-clause-uncounted c = λ _.
     let w = (wide_seen c.requires.laid c.short-rule.ensures.wide).field c.args.row c.if-row-rule-4.true in
     c.short-rule.ensures.uncounted (plain_leads c.short-rule.result.now.short.walk w.walk)
+
+pub returns-then-row-rule-4-clause-sign : goal.returns-then-row-rule-4-clause-sign
+returns-then-row-rule-4-clause-sign c = λ _.
+    let w = (wide_seen c.requires.laid c.short-rule.ensures.wide).field c.args.row c.if-row-rule-4.true in
+    c.short-rule.ensures.sign (plain_leads c.short-rule.result.now.short.walk w.walk)

@@ -20,3 +20,6 @@ returns-clause-numbers c =
 
 pub returns-clause-uncounted : goal.returns-clause-uncounted
 returns-clause-uncounted c some = c.short.ensures.uncounted (near_leads _ _ c.args.rows c.of.result c.of.ensures some)
+
+pub returns-clause-sign : goal.returns-clause-sign
+returns-clause-sign c some = c.short.ensures.sign (near_leads _ _ c.args.rows c.of.result c.of.ensures some)

@@ -13,6 +13,7 @@ returns-clause-near c =
       form = c.short.ensures.form c.in_ok-rule.ensures.spread.leads;
       stands = c.in_ok-rule.ensures;
       blob = refl;
+      sign = c.short.ensures.sign c.in_ok-rule.ensures.spread.leads;
       taken = λ value low high.
           c.sure_range-least.ensures value (subst (λ (v : ℤ). v ≤ℤ value) (to_z-of_z w64 range.0 one) low) (subst (λ (v : ℤ). value ≤ℤ v) (to_z-of_z w64 range.1 two) high);
     }

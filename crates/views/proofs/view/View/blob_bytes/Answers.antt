@@ -6,7 +6,6 @@ use Rattle.record_dim.specs.Schemas.{schema_fields}
 use Rattle.map_expr.specs.Terms.{term_of}
 use Rattle.places.specs.Layout.{Owner}
 use Rattle.views.specs.Tables.{Table, owners_of}
-use Rattle.kept_tables.specs.declared.mode.StoreMode.TheVariants.{Strict}
 use Rattle.views.proofs.KeptLaws.{byte_count, few_bytes}
 use Rattle.views.proofs.view.View.blob_bytes.Goals as goal
 
@@ -19,7 +18,7 @@ overflow_add-bytes c =
     sum_by_more_le (length {A = ℕ}) items c.loop-blob.blob-index [] c.loop-blob-test.true in
     let item : c.blob-item.result ≡ get_or items c.loop-blob.blob-index [] = get_or_read items c.loop-blob.blob-index c.blob-item.result c.loop-blob-test.true c.blob-item.is [] in
     let long : length c.blob-item.result ≡ length (get_or items c.loop-blob.blob-index []) = ap (length {A = ℕ}) item in
-    omega (arith, c.loop-blob.invariant, c.len.ensures, few_bytes Strict (term_of a.expr) a.extents (schema_fields a.schema) a.blobs.items c.self.invariant.1)
+    omega (arith, c.loop-blob.invariant, c.len.ensures, few_bytes a.mode (term_of a.expr) a.extents (schema_fields a.schema) a.blobs.items c.self.invariant.1)
 
 pub returns-clause-sum : goal.returns-clause-sum
 returns-clause-sum c =
@@ -29,7 +28,7 @@ returns-clause-sum c =
     let bytes : c.loop-blob.bytes ≡ sum_by (length {A = ℕ}) a.blobs.items =
     c.loop-blob.invariant ∙ ap (sum_by (length {A = ℕ})) (whole ∙ c.deref-blob-items.ensures.value) in
     ap (λ (n : ℕ). 8 * n) bytes
-    ∙ byte_count Strict (term_of a.expr) a.extents (schema_fields a.schema) a.blobs.items c.self.invariant.1
+    ∙ byte_count a.mode (term_of a.expr) a.extents (schema_fields a.schema) a.blobs.items c.self.invariant.1
     ∙ ap (λ (s : Table). sum_by (length {A = Owner}) (owners_of s)) c.self.view_is
 
 pub returns-clause-few : goal.returns-clause-few
@@ -39,4 +38,4 @@ returns-clause-few c =
     let whole : take c.loop-blob.blob-index items ≡ items = take_all c.loop-blob.blob-index items (omega arith) in
     let bytes : c.loop-blob.bytes ≡ sum_by (length {A = ℕ}) a.blobs.items =
     c.loop-blob.invariant ∙ ap (sum_by (length {A = ℕ})) (whole ∙ c.deref-blob-items.ensures.value) in
-    omega (arith, few_bytes Strict (term_of a.expr) a.extents (schema_fields a.schema) a.blobs.items c.self.invariant.1)
+    omega (arith, few_bytes a.mode (term_of a.expr) a.extents (schema_fields a.schema) a.blobs.items c.self.invariant.1)

@@ -2,9 +2,8 @@ use Rattle.std.proofs.Common.{◌∙◌, ℤ, length, ap, sym, subst, arith, rul
 use Rattle.std.specs.Int.{w128}
 use Rattle.std.proofs.lemmas.Int.{to_z-of_z}
 use Rattle.places.specs.Image.{entry}
-use Rattle.piece_bits.specs.Tables.{hold_at}
-use Rattle.views.specs.Tables.{Table, leaf_type_of, leaf_count_of, table_holds}
-use Rattle.views.specs.Stores.{Fits}
+use Rattle.record_dim.specs.LeafTypes.{IsDeclared}
+use Rattle.views.specs.Tables.{Table, leaf_type_of, leaf_count_of}
 use Rattle.views.proofs.view.View.get_counted.Goals as goal
 
 pub read-requires-clause-row_in : goal.read-requires-clause-row_in
@@ -18,9 +17,8 @@ returns-clause-value c =
     let fits : SFits w128 c.read.result = search rules in
     to_z-of_z w128 c.read.result fits ∙ c.read.ensures.value ∙ ap (λ (t : Table). entry t.rows c.args.row c.args.leaf) c.touch.ensures
 
-pub returns-clause-fits : goal.returns-clause-fits
-returns-clause-fits c =
+pub returns-clause-declared : goal.returns-clause-declared
+returns-clause-declared c =
     let fits : SFits w128 c.read.result = search rules in
-    let old = c.args.self.now in
-    subst (λ (v : ℤ). Fits (leaf_type_of old c.args.leaf) (hold_at (table_holds old) c.args.leaf) v) (sym (to_z-of_z w128 c.read.result fits))
-    (subst (λ (t : Table). Fits (leaf_type_of t c.args.leaf) (hold_at (table_holds t) c.args.leaf) c.read.result) c.touch.ensures c.read.ensures.fits)
+    subst (λ (v : ℤ). IsDeclared (leaf_type_of c.args.self.now c.args.leaf) v) (sym (to_z-of_z w128 c.read.result fits))
+    (subst (λ (t : Table). IsDeclared (leaf_type_of t c.args.leaf) c.read.result) c.touch.ensures c.read.ensures.declared)

@@ -1,15 +1,15 @@
 use Rattle.std.proofs.Common.{◌≡◌, ◌∙◌, ℕ, List, length, sum_by, sym, ap, subst, arith}
+use Rattle.record_dim.specs.Leaves.{kinds_of}
 use Rattle.record_dim.specs.Schemas.{schema_fields}
 use Rattle.places.specs.Layout.{Owner}
 use Rattle.blobs.specs.Moves.{blocks}
 use Rattle.map_expr.specs.Terms.{term_of, uncounted}
-use Rattle.map_checks.specs.Mappings.{layout_by}
+use Rattle.map_checks.specs.Mappings.{layout_by, holds_by}
 use Rattle.piece_bits.specs.Tables.{AreSized}
-use Rattle.kept_tables.specs.declared.mode.StoreMode.TheVariants.{Strict}
 use Rattle.views.specs.Kept.{IsKept, tally_of, table_under}
-use Rattle.views.specs.Moves.{blob_steps}
+use Rattle.views.specs.Moves.{blob_steps, MayMove}
 use Rattle.views.specs.Tables.{Table, owners_of}
-use Rattle.views.proofs.MoveLaws.{blocks_are, same_lengths, moved_table, moved_kept, views_alike, views_one, seen_moved}
+use Rattle.views.proofs.MoveLaws.{blocks_are, same_lengths, moved_table, moved_kept, views_alike, views_one, may_seen, seen_moved}
 use Rattle.views.proofs.view.View.move_blobs.Goals as goal
 
 pub move_all-requires : goal.move_all-requires
@@ -19,7 +19,9 @@ move_all-requires g c =
     let layout : List (List Owner) = layout_by (term_of a.expr) a.extents (schema_fields a.schema) in
     let alike : (schema_fields a.schema ≡ schema_fields b.schema) × (a.extents ≡ b.extents) = views_alike c.args.self.now c.args.source.now c.self.view_is c.source.view_is c.requires.alike in
     let same : uncounted (term_of a.expr) ≡ uncounted (term_of b.expr) = views_one c.args.self.now c.args.source.now c.self.view_is c.source.view_is c.requires.blobs in
-    let kept = moved_kept (term_of a.expr) (term_of b.expr) a.extents b.extents (schema_fields a.schema) (schema_fields b.schema) same alike Strict b.blobs.items c.source.invariant.1 in
+    let may : MayMove b.mode a.mode (kinds_of (schema_fields a.schema)) (holds_by (term_of a.expr) (schema_fields a.schema)) =
+    may_seen c.args.self.now c.args.source.now c.self.view_is c.source.view_is c.requires.modes in
+    let kept = moved_kept (term_of a.expr) (term_of b.expr) a.extents b.extents (schema_fields a.schema) (schema_fields b.schema) same alike b.mode a.mode may b.blobs.items c.source.invariant.1 in
     record {
       lengths = same_lengths layout a.blobs.items c.as_slice.result.now c.self.invariant.1.laid.sized
           (subst (λ (bs : List (List ℕ)). AreSized layout bs) (sym c.as_slice.ensures.value) kept.laid.sized);
@@ -31,9 +33,11 @@ invariant_of-self g c =
     let b = c.source.inside in
     let alike : (schema_fields a.schema ≡ schema_fields b.schema) × (a.extents ≡ b.extents) = views_alike c.args.self.now c.args.source.now c.self.view_is c.source.view_is c.requires.alike in
     let same : uncounted (term_of a.expr) ≡ uncounted (term_of b.expr) = views_one c.args.self.now c.args.source.now c.self.view_is c.source.view_is c.requires.blobs in
-    let kept = moved_kept (term_of a.expr) (term_of b.expr) a.extents b.extents (schema_fields a.schema) (schema_fields b.schema) same alike Strict b.blobs.items c.source.invariant.1 in (
+    let may : MayMove b.mode a.mode (kinds_of (schema_fields a.schema)) (holds_by (term_of a.expr) (schema_fields a.schema)) =
+    may_seen c.args.self.now c.args.source.now c.self.view_is c.source.view_is c.requires.modes in
+    let kept = moved_kept (term_of a.expr) (term_of b.expr) a.extents b.extents (schema_fields a.schema) (schema_fields b.schema) same alike b.mode a.mode may b.blobs.items c.source.invariant.1 in (
       c.self.invariant.0,
-      subst (λ (bs : List (List ℕ)). IsKept Strict (term_of a.expr) a.extents (schema_fields a.schema) bs) (sym (c.move_all.ensures.blobs ∙ c.as_slice.ensures.value)) kept,
+      subst (λ (bs : List (List ℕ)). IsKept a.mode (term_of a.expr) a.extents (schema_fields a.schema) bs) (sym (c.move_all.ensures.blobs ∙ c.as_slice.ensures.value)) kept,
       c.self.invariant.2,
     )
 
@@ -56,7 +60,9 @@ returns-clause-steps g c =
     let layout : List (List Owner) = layout_by (term_of a.expr) a.extents (schema_fields a.schema) in
     let alike : (schema_fields a.schema ≡ schema_fields b.schema) × (a.extents ≡ b.extents) = views_alike c.args.self.now c.args.source.now c.self.view_is c.source.view_is c.requires.alike in
     let same : uncounted (term_of a.expr) ≡ uncounted (term_of b.expr) = views_one c.args.self.now c.args.source.now c.self.view_is c.source.view_is c.requires.blobs in
-    let kept = moved_kept (term_of a.expr) (term_of b.expr) a.extents b.extents (schema_fields a.schema) (schema_fields b.schema) same alike Strict b.blobs.items c.source.invariant.1 in
+    let may : MayMove b.mode a.mode (kinds_of (schema_fields a.schema)) (holds_by (term_of a.expr) (schema_fields a.schema)) =
+    may_seen c.args.self.now c.args.source.now c.self.view_is c.source.view_is c.requires.modes in
+    let kept = moved_kept (term_of a.expr) (term_of b.expr) a.extents b.extents (schema_fields a.schema) (schema_fields b.schema) same alike b.mode a.mode may b.blobs.items c.source.invariant.1 in
     let count : sum_by (λ (blob : List ℕ). blocks (length blob)) c.as_slice.result.now ≡ blob_steps (owners_of c.args.self.now) =
     ap (λ (bs : List (List ℕ)). sum_by (λ (blob : List ℕ). blocks (length blob)) bs) c.as_slice.ensures.value
     ∙ blocks_are layout b.blobs.items kept.laid.sized ∙ ap (λ (s : Table). blob_steps (owners_of s)) c.self.view_is in

@@ -18,7 +18,6 @@ use Rattle.views.specs.Pieces.{IsMovedEach}
 use Rattle.views.specs.Stores.{kind_at}
 use Rattle.views.specs.Tables.{Table, leaf_type_of}
 use Rattle.views.proofs.EachLaws.{run_at, AreEven, each_target_in, each_target_room, each_source_in, each_source_room, each_moved}
-use Rattle.kept_tables.specs.declared.mode.StoreMode.TheVariants.{Strict}
 use Rattle.views.proofs.KeptLaws.{kind_count, row_count}
 use Rattle.views.proofs.MoveLaws.{views_alike}
 use Rattle.views.proofs.Opened.{cell_count, leaf_seen}
@@ -148,7 +147,7 @@ returns-clause-moved g c = λ wrote.
     let after = (each_moved _ _ _ _ _ _ c.self.inside.blobs.items others _ _ _ _ _ _ _ _ _ _ _ (even g (goal.at.returns-clause-moved g c).After-as_slice) c.self.invariant.1 c.source.invariant.1
     c.move_pieces.new.blobs.items c.move_pieces.ensures.beside moved) in
     moved_seen c.args.self.now c.args.source.now c.args.leaf c.args.slot (c.args.pieces * c.args.n) (length (kinds_of (schema_fields a.schema))) _ c.self.view_is c.source.view_is (kind_count (schema_fields a.schema))
-    (sym (row_count Strict (term_of a.expr) a.extents (schema_fields a.schema) a.blobs.items c.self.invariant.1))
+    (sym (row_count a.mode (term_of a.expr) a.extents (schema_fields a.schema) a.blobs.items c.self.invariant.1))
     (run_table (term_of a.expr) (term_of c.source.inside.expr) a.extents c.source.inside.extents (schema_fields a.schema) (schema_fields c.source.inside.schema) a.blobs.items others
     c.move_pieces.new.blobs.items c.args.leaf c.args.slot (c.args.pieces * c.args.n) (even g (goal.at.returns-clause-moved g c).After-as_slice).alike (even g (goal.at.returns-clause-moved g c).After-as_slice).leaf_in
     c.self.invariant.1 c.source.invariant.1 after.0 after.1)

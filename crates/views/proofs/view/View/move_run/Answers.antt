@@ -15,7 +15,6 @@ use Rattle.views.specs.Kept.{tally_of, table_under}
 use Rattle.views.specs.Moves.{size_of, IsInBlock}
 use Rattle.views.specs.Stores.{kind_at}
 use Rattle.views.specs.Tables.{Table, leaf_type_of}
-use Rattle.kept_tables.specs.declared.mode.StoreMode.TheVariants.{Strict}
 use Rattle.views.proofs.KeptLaws.{kind_count, row_count}
 use Rattle.views.proofs.MoveLaws.{views_alike, seen_moved}
 use Rattle.views.proofs.Opened.{cell_count, leaf_seen}
@@ -191,7 +190,7 @@ returns-clause-moved g c =
     let moved : AreMoved b.blobs.items a.blobs.items c.move_between.new.blobs.items c.place_of-from.result.blob (8 * c.place_of-from.result.byte) c.place_of-to.result.blob (8 * c.place_of-to.result.byte) (8 * (n * (c.width.result / 8))) =
     subst (λ (bs : List (List ℕ)). AreMoved bs a.blobs.items c.move_between.new.blobs.items c.place_of-from.result.blob (8 * c.place_of-from.result.byte) c.place_of-to.result.blob (8 * c.place_of-to.result.byte) (8 * (n * (c.width.result / 8)))) c.as_slice.ensures.value c.move_between.ensures.moved in
     moved_seen c.args.self.now c.args.source.now c.args.leaf c.args.slot n (length (kinds_of (schema_fields a.schema))) _ c.self.view_is c.source.view_is (kind_count (schema_fields a.schema))
-    (sym (row_count Strict (term_of a.expr) a.extents (schema_fields a.schema) a.blobs.items c.self.invariant.1))
+    (sym (row_count a.mode (term_of a.expr) a.extents (schema_fields a.schema) a.blobs.items c.self.invariant.1))
     (run_table (term_of a.expr) (term_of b.expr) a.extents b.extents (schema_fields a.schema) (schema_fields b.schema) a.blobs.items b.blobs.items c.move_between.new.blobs.items c.args.leaf c.args.slot n alike leaf_in c.self.invariant.1 c.source.invariant.1
     (run_kept (term_of a.expr) (term_of b.expr) a.extents b.extents (schema_fields a.schema) (schema_fields b.schema) a.blobs.items b.blobs.items c.move_between.new.blobs.items c.args.leaf c.args.slot n
     c.place_of-to.result.blob c.place_of-to.result.byte c.place_of-from.result.blob c.place_of-from.result.byte (n * (c.width.result / 8)) alike arrays leaf_in some bytes one two c.self.invariant.1 c.source.invariant.1 moved)

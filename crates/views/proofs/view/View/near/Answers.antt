@@ -1,10 +1,8 @@
 use Rattle.std.proofs.Common.{◌≡◌, false, sym, ap, ◌∙◌, arith}
-use Rattle.record_dim.specs.Schemas.{schema_fields}
 use Rattle.map_expr.specs.Terms.{term_of}
 use Rattle.map_any.specs.Counters.{is_counted}
 use Rattle.views.specs.Tables.{Table}
-use Rattle.views.proofs.KeptLaws.{raw_is_table}
-use Rattle.views.proofs.NearLaws.{near_seen, raw_lent}
+use Rattle.views.proofs.NearLaws.{near_seen, column_seen}
 use Rattle.views.proofs.Opened.{cell_count, leaf_seen, laid_here, rows_seen, idle_seen}
 use Rattle.views.proofs.view.View.near.Goals as goal
 
@@ -25,8 +23,9 @@ returns-clause-numbers c =
     let seen = c.args.self.now in
     near_seen c.args.leaf c.count.result _ seen.rows c.near_leaf.result
     (c.count.ensures.rows ∙ sym (rows_seen a.schema a.extents a.expr a.blobs.items c.self.invariant.1 seen c.self.view_is))
-    (raw_lent c.self.invariant.0 c.as_slice.result.now a.blobs.items c.as_slice.ensures.value
-    ∙ raw_is_table (term_of a.expr) a.extents (schema_fields a.schema) a.blobs.items c.self.invariant.1 ∙ ap (λ (t : Table). t.rows) c.self.view_is)
+    (λ found.
+    column_seen a.schema a.extents a.expr a.blobs.items c.self.invariant.1 seen c.self.view_is c.self.invariant.0 c.as_slice.result.now c.as_slice.ensures.value c.args.leaf c.requires
+    (c.near_leaf.ensures.sign found))
     c.near_leaf.ensures.numbers
 
 pub returns-clause-uncounted : goal.returns-clause-uncounted

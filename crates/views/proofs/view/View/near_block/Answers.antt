@@ -1,11 +1,6 @@
 use Rattle.std.proofs.Common.{◌*◌, List, ℤ, take, drop, ap, ◌∙◌}
-use Rattle.record_dim.specs.Schemas.{schema_fields}
-use Rattle.map_expr.specs.Terms.{term_of}
-use Rattle.views.specs.Columns.{column}
-use Rattle.views.specs.Tables.{Table}
 use Rattle.views.proofs.NearColumnLaws.{near_here, near_leaf_in, near_rows_in}
-use Rattle.views.proofs.KeptLaws.{raw_is_table}
-use Rattle.views.proofs.NearLaws.{raw_lent}
+use Rattle.views.proofs.NearLaws.{column_seen}
 use Rattle.views.proofs.Opened.{laid_here}
 use Rattle.views.proofs.view.View.near_block.Goals as goal
 
@@ -30,7 +25,8 @@ block_of-requires-clause-laid c = laid_here c.self.invariant.0 c.as_slice.result
 pub returns-clause-values : goal.returns-clause-values
 returns-clause-values c =
     let a = c.self.inside in
+    let leaf = c.args.near.now.leaf in
     c.block_of.ensures.values
-    ∙ ap (λ (t : List (List ℤ)). take 16 (drop (16 * c.args.block) (column c.args.near.now.leaf t)))
-    (raw_lent c.self.invariant.0 c.as_slice.result.now a.blobs.items c.as_slice.ensures.value
-    ∙ raw_is_table (term_of a.expr) a.extents (schema_fields a.schema) a.blobs.items c.self.invariant.1 ∙ ap (λ (t : Table). t.rows) c.self.view_is)
+    ∙ ap (λ (values : List ℤ). take 16 (drop (16 * c.args.block) values))
+    (column_seen a.schema a.extents a.expr a.blobs.items c.self.invariant.1 c.args.self.now c.self.view_is c.self.invariant.0 c.as_slice.result.now c.as_slice.ensures.value leaf
+    c.requires.near.inside (near_here a.schema a.extents a.expr a.blobs.items c.self.invariant.1 c.args.self.now c.self.view_is c.self.invariant.0 c.args.near.now c.requires.near.stands).sign)

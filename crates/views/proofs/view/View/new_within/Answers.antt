@@ -9,7 +9,6 @@ use Rattle.map_checks.specs.Mappings.{layout_by}
 use Rattle.views.specs.Kept.{IsTallied, tally_of}
 use Rattle.views.specs.Tallies.{Tally, no_tally}
 use Rattle.views.proofs.CountLaws.{new_tally, no_tally-tallied}
-use Rattle.kept_tables.specs.declared.mode.StoreMode.TheVariants.{Strict}
 use Rattle.views.proofs.KeptLaws.{kind_count, kept_zeros, zero_table}
 use Rattle.views.proofs.Opened.{mapping_copied, within_copied, lawful_there, paired_there, laid_there}
 use Rattle.views.proofs.view.View.new_within.Goals as goal
@@ -28,7 +27,7 @@ invariant_of-result c =
       kept_zeros (term_of c.in_ok-expr.expr) c.args.extents (schema_fields c.in_ok-schema.schema) c.in_ok-blobs.blobs.items
           (lawful_there mapping c.laws_of.ensures.lawful) (paired_there mapping c.laws_of.ensures.paired)
           (within_copied c.args.extents c.in_ok-expr.ensures c.in_ok-schema.ensures made.fits)
-          (laid_there mapping c.in_ok-blobs.blobs.items c.in_ok-blobs.ensures.laid) c.in_ok-blobs.ensures.zero Strict,
+          (laid_there mapping c.in_ok-blobs.blobs.items c.in_ok-blobs.ensures.laid) c.in_ok-blobs.ensures.zero c.args.mode,
       subst (λ (t : Tally). IsTallied (term_of c.in_ok-expr.expr) layout leaf_count t) (sym tally) (no_tally-tallied (term_of c.in_ok-expr.expr) layout leaf_count),
     )
 

@@ -1,49 +1,77 @@
-use Rattle.std.proofs.Common.{ℤ, ◌≡◌, ◌<◌, length, sym, ◌∙◌, subst, arith, rules, SFits, to_z, of_z}
+use Rattle.std.proofs.Common.{ℤ, ◌≡◌, sym, ap, ◌∙◌, subst, arith, rules, SFits, to_z, of_z}
 use Rattle.std.specs.Int.{w128}
 use Rattle.std.proofs.lemmas.Int.{to_z-of_z}
+use Rattle.std.proofs.lemmas.Option.{get_or_from_slice_get}
+use Rattle.record_dim.specs.declared.leaf_type.LeafType.{LeafType}
+use Rattle.record_dim.specs.declared.leaf_type.LeafType.TheVariants.{Bool as Truth}
+use Rattle.record_dim.specs.LeafTypes.{IsDeclared}
+use Rattle.record_dim.specs.Leaves.{kinds_of}
+use Rattle.record_dim.specs.Schemas.{schema_fields}
 use Rattle.places.specs.Image.{entry}
-use Rattle.piece_bits.specs.Tables.{hold_at}
-use Rattle.views.specs.Tables.{leaf_types_of, leaf_type_of, table_holds}
-use Rattle.views.specs.Stores.{Fits}
-use Rattle.views.proofs.KeptLaws.{kind_count}
-use Rattle.views.proofs.Opened.{rows_seen, table_seen, leaf_seen, cell_count, laid_here, entry_seen}
+use Rattle.kept_numbers.specs.Kept.{declared}
+use Rattle.views.specs.Stores.{kind_at}
+use Rattle.views.specs.Tables.{leaf_type_of}
+use Rattle.views.proofs.Opened.{rows_seen, leaf_seen, cell_count, laid_here, raw_seen, strict_seen, declared_seen}
 use Rattle.views.proofs.view.View.read.Goals as goal
-use Rattle.views.proofs.view.View.read.Goals.{After-read_by_rule}
+use Rattle.views.proofs.view.View.read.Goals.{After-declared}
 
-pub read_by_rule-requires-clause-row_in : goal.read_by_rule-requires-clause-row_in
-read_by_rule-requires-clause-row_in c =
+pub read_by_rule-raw-requires-clause-row_in : goal.read_by_rule-raw-requires-clause-row_in
+read_by_rule-raw-requires-clause-row_in c =
     let a = c.self.inside in
     omega (arith, c.requires.row_in, c.self.invariant.0.slots_are, rows_seen a.schema a.extents a.expr a.blobs.items c.self.invariant.1 c.args.self.now c.self.view_is)
 
-pub read_by_rule-requires-clause-leaf_in : goal.read_by_rule-requires-clause-leaf_in
-read_by_rule-requires-clause-leaf_in c =
+pub read_by_rule-raw-requires-clause-leaf_in : goal.read_by_rule-raw-requires-clause-leaf_in
+read_by_rule-raw-requires-clause-leaf_in c =
     let a = c.self.inside in
     omega (arith, cell_count c.self.invariant.0, leaf_seen a.schema a.extents a.expr a.blobs.items c.self.invariant.1 c.args.self.now c.self.view_is c.args.leaf c.requires.leaf_in)
 
-pub read_by_rule-requires-clause-laid : goal.read_by_rule-requires-clause-laid
-read_by_rule-requires-clause-laid c =
+pub read_by_rule-raw-requires-clause-laid : goal.read_by_rule-raw-requires-clause-laid
+read_by_rule-raw-requires-clause-laid c =
     laid_here c.self.invariant.0 c.as_slice.result.now c.self.inside.blobs.items c.as_slice.ensures.value c.self.invariant.1.laid
 
-value : (c : goal.After-read_by_rule) → c.read_by_rule.result ≡ entry c.args.self.now.rows c.args.row c.args.leaf
-value c =
+-- a strict view holds the entry, and any other a number that stands for it
+pub returns-in-Strict-clause-value : goal.returns-in-Strict-clause-value
+returns-in-Strict-clause-value c =
     let a = c.self.inside in
-    c.read_by_rule.ensures ∙ entry_seen a.schema a.extents a.expr a.blobs.items c.self.invariant.1 c.args.self.now c.self.view_is c.self.invariant.0 c.as_slice.result.now c.as_slice.ensures.value c.args.row c.args.leaf
-    c.requires.row_in c.requires.leaf_in
+    let fits : SFits w128 c.read_by_rule-raw.result = search rules in
+    to_z-of_z w128 c.read_by_rule-raw.result fits ∙ c.read_by_rule-raw.ensures
+    ∙ strict_seen a.schema a.extents a.expr a.blobs.items c.self.invariant.1 c.args.self.now c.self.view_is c.self.invariant.0 c.as_slice.result.now c.as_slice.ensures.value c.args.row c.args.leaf
+    c.requires.row_in c.requires.leaf_in c.in-Strict.is
 
-pub returns-clause-value : goal.returns-clause-value
-returns-clause-value c =
-    let fits : SFits w128 c.read_by_rule.result = search rules in
-    to_z-of_z w128 c.read_by_rule.result fits ∙ value (goal.at.returns-clause-value c).After-read_by_rule
-
-pub returns-clause-fits : goal.returns-clause-fits
-returns-clause-fits c =
+pub returns-in-Strict-clause-declared : goal.returns-in-Strict-clause-declared
+returns-in-Strict-clause-declared c =
     let a = c.self.inside in
     let seen = c.args.self.now in
-    let row = c.args.row in
-    let leaf = c.args.leaf in
-    let table = table_seen a.schema a.extents a.expr a.blobs.items c.self.invariant.1 seen c.self.view_is in
-    let leaf_in : leaf < length (leaf_types_of seen) = omega (arith, kind_count seen.fields, c.requires.leaf_in) in
-    let fits : SFits w128 c.read_by_rule.result = search rules in
-    let is : entry seen.rows row leaf ≡ to_z w128 (of_z w128 c.read_by_rule.result) =
-    sym (value (goal.at.returns-clause-fits c).After-read_by_rule) ∙ sym (to_z-of_z w128 c.read_by_rule.result fits) in
-    subst (λ (v : ℤ). Fits (leaf_type_of seen leaf) (hold_at (table_holds seen) leaf) v) is (table.fits row leaf c.requires.row_in leaf_in)
+    let fits : SFits w128 c.read_by_rule-raw.result = search rules in
+    let read = c.read_by_rule-raw.ensures
+    ∙ strict_seen a.schema a.extents a.expr a.blobs.items c.self.invariant.1 seen c.self.view_is c.self.invariant.0 c.as_slice.result.now c.as_slice.ensures.value c.args.row c.args.leaf
+    c.requires.row_in c.requires.leaf_in c.in-Strict.is in
+    subst (λ (v : ℤ). IsDeclared (leaf_type_of seen c.args.leaf) v) (sym read ∙ sym (to_z-of_z w128 c.read_by_rule-raw.result fits))
+    (declared_seen a.schema a.extents a.expr a.blobs.items c.self.invariant.1 seen c.self.view_is c.args.row c.args.leaf c.requires.row_in c.requires.leaf_in)
+
+wrapped : (c : goal.After-declared) → c.declared.result ≡ entry c.args.self.now.rows c.args.row c.args.leaf
+wrapped c =
+    let a = c.self.inside in
+    let kinds = kinds_of (schema_fields a.schema) in
+    let raw = c.read_by_rule-raw.result in
+    let fits : SFits w128 raw = search rules in
+    let kind_is : kind_at kinds c.args.leaf ≡ c.leaf_type.result = get_or_from_slice_get kinds c.args.leaf c.leaf_type.result Truth c.leaf_type.ensures in
+    c.declared.ensures
+    ∙ ap (λ (k : LeafType). declared k (to_z w128 (of_z w128 raw))) (sym kind_is)
+    ∙ ap (declared (kind_at kinds c.args.leaf)) (to_z-of_z w128 raw fits ∙ c.read_by_rule-raw.ensures)
+    ∙ raw_seen a.schema a.extents a.expr a.blobs.items c.self.invariant.1 c.args.self.now c.self.view_is c.self.invariant.0 c.as_slice.result.now c.as_slice.ensures.value c.args.row c.args.leaf
+    c.requires.row_in c.requires.leaf_in
+
+pub returns-in-Wrap-clause-value : goal.returns-in-Wrap-clause-value
+returns-in-Wrap-clause-value c =
+    let fits : SFits w128 c.declared.result = search rules in
+    to_z-of_z w128 c.declared.result fits ∙ wrapped (goal.at.returns-in-Wrap-clause-value c).After-declared
+
+pub returns-in-Wrap-clause-declared : goal.returns-in-Wrap-clause-declared
+returns-in-Wrap-clause-declared c =
+    let a = c.self.inside in
+    let seen = c.args.self.now in
+    let fits : SFits w128 c.declared.result = search rules in
+    subst (λ (v : ℤ). IsDeclared (leaf_type_of seen c.args.leaf) v)
+    (sym (wrapped (goal.at.returns-in-Wrap-clause-declared c).After-declared) ∙ sym (to_z-of_z w128 c.declared.result fits))
+    (declared_seen a.schema a.extents a.expr a.blobs.items c.self.invariant.1 seen c.self.view_is c.args.row c.args.leaf c.requires.row_in c.requires.leaf_in)

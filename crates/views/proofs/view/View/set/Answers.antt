@@ -1,18 +1,19 @@
-use Rattle.std.proofs.Common.{ℤ, ◌≡◌, Ok, ◌∙◌, sym, ap, subst, rules, SFits}
+use Rattle.std.proofs.Common.{ℤ, ◌∙◌, sym, ap, rules, SFits, to_z, of_z}
 use Rattle.std.specs.Int.{w128}
 use Rattle.std.proofs.lemmas.Int.{to_z-of_z}
-use Rattle.piece_bits.specs.Tables.{hold_at}
-use Rattle.views.specs.Tables.{answer_of, leaf_type_of, table_holds}
 use Rattle.views.specs.Stores.{told}
-use Rattle.views.specs.AnswerLaws.{answer_keeps}
+use Rattle.views.specs.Tables.{answer_of, after_write}
+use Rattle.views.proofs.StoreLaws.{raw_written}
 use Rattle.views.proofs.view.View.set.Goals as goal
 
--- the value is kept as it is
-pub store-requires-clause-kept : goal.store-requires-clause-kept
-store-requires-clause-kept g c =
-    let seen = c.args.self.now in
-    let leaf = c.args.leaf in
+pub returns-then-takes-clause-answer : goal.returns-then-takes-clause-answer
+returns-then-takes-clause-answer g c =
     let fits : SFits w128 c.args.value = search rules in
-    let taken = ap (λ (v : ℤ). told (answer_of seen leaf v)) (sym (to_z-of_z w128 c.args.value fits)) ∙ sym c.in_ok-fits.ensures in
-    subst (λ (v : ℤ). answer_of seen leaf v ≡ Ok v) (sym (to_z-of_z w128 c.args.value fits))
-    (answer_keeps (leaf_type_of seen leaf) (hold_at (table_holds seen) leaf) c.args.value taken)
+    sym (ap told (c.takes.ensures.taken c.if-takes.true)) ∙ ap (λ (v : ℤ). told (answer_of c.args.self.now c.args.leaf v)) (to_z-of_z w128 c.args.value fits)
+
+pub returns-then-takes-clause-stored : goal.returns-then-takes-clause-stored
+returns-then-takes-clause-stored g c =
+    let fits : SFits w128 c.args.value = search rules in
+    let value = to_z w128 (of_z w128 c.args.value) in
+    c.store.ensures ∙ raw_written c.args.self.now c.args.row c.args.leaf value value (c.takes.ensures.kept c.if-takes.true)
+    ∙ ap (after_write c.args.self.now c.args.row c.args.leaf) (to_z-of_z w128 c.args.value fits)

@@ -1,9 +1,9 @@
-use Rattle.std.proofs.Common.{◌∙◌, ℤ, [], ◌∷◌, ap, sym, rules, SFits, to_z, of_z}
+use Rattle.std.proofs.Common.{◌∙◌, [], ◌∷◌, ap, sym, rules, SFits, to_z, of_z}
 use Rattle.std.specs.Int.{w128}
 use Rattle.std.proofs.lemmas.Int.{to_z-of_z}
+use Rattle.kept_numbers.specs.Kept.{declared}
 use Rattle.piece_bits.specs.Tables.{with_entry}
-use Rattle.views.specs.AnswerLaws.{kept_of-same}
-use Rattle.views.specs.Tables.{Table, after_stores}
+use Rattle.views.specs.Tables.{Table, leaf_type_of, after_raw}
 use Rattle.views.specs.Tallies.{Write}
 use Rattle.views.proofs.view.View.set_by_rule.Goals as goal
 
@@ -12,10 +12,9 @@ returns c =
     let old = c.args.self.now in
     let row = c.args.row in
     let leaf = c.args.leaf in
-    let value = c.args.value in
-    let log = Write row leaf ∷ [] in
-    let fits : SFits w128 value = search rules in
-    let number = to_z w128 (of_z w128 value) in
+    let raw = c.args.raw in
+    let fits : SFits w128 raw = search rules in
+    let number = declared (leaf_type_of old leaf) (to_z w128 (of_z w128 raw)) in
     c.write.ensures
-    ∙ ap (λ (t : Table). let s : Table = record t { rows = with_entry old.rows row leaf number } in s) (sym (c.is_counted.ensures.idle c.if-is_counted.false log))
-    ∙ ap (λ (v : ℤ). after_stores old (with_entry old.rows row leaf v) log) (to_z-of_z w128 value fits ∙ sym (kept_of-same old leaf value))
+    ∙ ap (λ (t : Table). let s : Table = record t { rows = with_entry old.rows row leaf number } in s) (sym (c.is_counted.ensures.idle c.if-is_counted.false (Write row leaf ∷ [])))
+    ∙ ap (after_raw old row leaf) (to_z-of_z w128 raw fits)

@@ -1,10 +1,9 @@
-use Rattle.std.proofs.Common.{◌≡◌, ◌∙◌, ℤ, [], ◌∷◌, Ok, length, ap, sym, subst, arith, rules, SFits, to_z, of_z}
+use Rattle.std.proofs.Common.{◌∙◌, ℤ, length, ap, sym, subst, arith, rules, SFits, to_z, of_z}
 use Rattle.std.specs.Int.{w128}
 use Rattle.std.proofs.lemmas.Int.{to_z-of_z}
+use Rattle.kept_numbers.specs.Kept.{declared}
 use Rattle.piece_bits.specs.Tables.{with_entry}
-use Rattle.views.specs.AnswerLaws.{kept_of-same}
-use Rattle.views.specs.Tables.{Table, leaf_count_of, answer_of, after_stores}
-use Rattle.views.specs.Tallies.{Write}
+use Rattle.views.specs.Tables.{Table, leaf_count_of, leaf_type_of, after_raw, IsSettledIn}
 use Rattle.views.proofs.view.View.set_counted.Goals as goal
 
 pub write-requires-clause-row_in : goal.write-requires-clause-row_in
@@ -13,21 +12,20 @@ write-requires-clause-row_in c = omega (arith, ap (λ (t : Table). length t.rows
 pub write-requires-clause-leaf_in : goal.write-requires-clause-leaf_in
 write-requires-clause-leaf_in c = omega (arith, ap leaf_count_of c.touch.ensures, c.requires.leaf_in)
 
-pub write-requires-clause-kept : goal.write-requires-clause-kept
-write-requires-clause-kept c =
-    let value = c.args.value in
-    let fits : SFits w128 value = search rules in
-    subst (λ (v : ℤ). answer_of c.touch.new.self c.args.leaf v ≡ Ok v) (sym (to_z-of_z w128 value fits))
-    (ap (λ (t : Table). answer_of t c.args.leaf value) c.touch.ensures ∙ c.requires.kept)
+pub write-requires-clause-settled : goal.write-requires-clause-settled
+write-requires-clause-settled c =
+    let fits : SFits w128 c.args.raw = search rules in
+    subst (λ (v : ℤ). IsSettledIn c.touch.new.self c.args.leaf v) (sym (to_z-of_z w128 c.args.raw fits))
+    (subst (λ (t : Table). IsSettledIn t c.args.leaf c.args.raw) (sym c.touch.ensures) c.requires.settled)
 
 pub returns : goal.returns
 returns c =
     let old = c.args.self.now in
     let row = c.args.row in
     let leaf = c.args.leaf in
-    let value = c.args.value in
-    let fits : SFits w128 value = search rules in
-    let number = to_z w128 (of_z w128 value) in
+    let raw = c.args.raw in
+    let fits : SFits w128 raw = search rules in
+    let number = to_z w128 (of_z w128 raw) in
     c.write.ensures
-    ∙ ap (λ (t : Table). let s : Table = record t { rows = with_entry t.rows row leaf number } in s) c.touch.ensures
-    ∙ ap (λ (v : ℤ). after_stores old (with_entry old.rows row leaf v) (Write row leaf ∷ [])) (to_z-of_z w128 value fits ∙ sym (kept_of-same old leaf value))
+    ∙ ap (λ (t : Table). let s : Table = record t { rows = with_entry t.rows row leaf (declared (leaf_type_of t leaf) number) } in s) c.touch.ensures
+    ∙ ap (after_raw old row leaf) (to_z-of_z w128 raw fits)

@@ -1,4 +1,4 @@
-use Rattle.std.proofs.Common.{ℤ, ◌≡◌, List, Ok, true, false, ◌∙◌, sym, ap, subst, arith, rules, SFits, to_z, of_z}
+use Rattle.std.proofs.Common.{ℤ, ◌≡◌, List, true, false, ◌∙◌, sym, ap, subst, arith, rules, SFits, to_z, of_z}
 use Rattle.std.specs.Int.{w128}
 use Rattle.std.proofs.lemmas.Int.{to_z-of_z}
 use Rattle.record_dim.specs.LeafTypes.{IsIn}
@@ -9,10 +9,10 @@ use Rattle.map_any.specs.Counters.{is_counted}
 use Rattle.map_checks.specs.Mappings.{holds_by}
 use Rattle.piece_bits.specs.Tables.{hold_at, with_entry}
 use Rattle.views.specs.Kept.{raw_under, tally_of}
-use Rattle.views.specs.Tables.{Table, answer_of}
+use Rattle.views.specs.Tables.{Table, IsSettledIn}
 use Rattle.views.specs.Tallies.{Write}
 use Rattle.views.proofs.CountLaws.{idle_tallied}
-use Rattle.views.proofs.Opened.{rows_seen, leaf_seen, cell_count, fits_seen, kept_after, table_after, raw_same, laid_there, seen_from, seen_written}
+use Rattle.views.proofs.Opened.{rows_seen, leaf_seen, cell_count, held_seen, kept_after, table_after, raw_same, laid_there, seen_from, seen_written}
 use Rattle.views.proofs.view.View.store.Goals as goal
 use Rattle.views.proofs.view.View.store.Goals.{After-near_write}
 
@@ -29,22 +29,22 @@ near_write-requires-clause-leaf_in c =
 pub near_write-requires-clause-held : goal.near_write-requires-clause-held
 near_write-requires-clause-held c =
     let a = c.self.inside in
-    let fits : SFits w128 c.args.value = search rules in
+    let fits : SFits w128 c.args.raw = search rules in
     let holds = holds_by (term_of a.expr) (schema_fields a.schema) in
-    let held = (fits_seen a.schema a.extents a.expr a.blobs.items c.self.invariant.1 c.args.self.now c.self.view_is c.args.leaf c.args.value c.requires.kept).held in
-    subst (λ (hs : List Hold). IsIn (hold_at hs c.args.leaf).signed (hold_at hs c.args.leaf).width (to_z w128 (of_z w128 c.args.value))) (sym c.self.invariant.0.holds_are)
-    (subst (λ (v : ℤ). IsIn (hold_at holds c.args.leaf).signed (hold_at holds c.args.leaf).width v) (sym (to_z-of_z w128 c.args.value fits)) held)
+    let held = held_seen a.schema a.extents a.expr a.blobs.items c.self.invariant.1 c.args.self.now c.self.view_is c.args.leaf c.args.raw c.requires.leaf_in c.requires.settled in
+    subst (λ (hs : List Hold). IsIn (hold_at hs c.args.leaf).signed (hold_at hs c.args.leaf).width (to_z w128 (of_z w128 c.args.raw))) (sym c.self.invariant.0.holds_are)
+    (subst (λ (v : ℤ). IsIn (hold_at holds c.args.leaf).signed (hold_at holds c.args.leaf).width v) (sym (to_z-of_z w128 c.args.raw fits)) held)
 
 -- what is stored then
 stored : (c : goal.After-near_write) → c.near_write.result ≡ true → raw_under (term_of c.self.inside.expr) c.self.inside.extents (schema_fields c.self.inside.schema) c.near_write.new.blobs.items
-    ≡ with_entry (raw_under (term_of c.self.inside.expr) c.self.inside.extents (schema_fields c.self.inside.schema) c.self.inside.blobs.items) c.args.row c.args.leaf c.args.value
+    ≡ with_entry (raw_under (term_of c.self.inside.expr) c.self.inside.extents (schema_fields c.self.inside.schema) c.self.inside.blobs.items) c.args.row c.args.leaf c.args.raw
 stored c wrote =
     let mapping = c.self.invariant.0 in
-    let fits : SFits w128 c.args.value = search rules in
+    let fits : SFits w128 c.args.raw = search rules in
     let old = raw_under (term_of c.self.inside.expr) c.self.inside.extents (schema_fields c.self.inside.schema) c.self.inside.blobs.items in
     sym (raw_same mapping c.near_write.new.blobs.items) ∙ c.near_write.ensures.table wrote
-    ∙ ap (λ (t : List (List ℤ)). with_entry t c.args.row c.args.leaf (to_z w128 (of_z w128 c.args.value))) (raw_same mapping c.self.inside.blobs.items)
-    ∙ ap (with_entry old c.args.row c.args.leaf) (to_z-of_z w128 c.args.value fits)
+    ∙ ap (λ (t : List (List ℤ)). with_entry t c.args.row c.args.leaf (to_z w128 (of_z w128 c.args.raw))) (raw_same mapping c.self.inside.blobs.items)
+    ∙ ap (with_entry old c.args.row c.args.leaf) (to_z-of_z w128 c.args.raw fits)
 
 pub invariant_of-self : goal.invariant_of-self
 invariant_of-self c =
@@ -52,8 +52,8 @@ invariant_of-self c =
     let mapping = c.self.invariant.0 in
     let new = c.near_write.new.blobs.items in (
       mapping,
-      kept_after a.schema a.extents a.expr a.blobs.items c.self.invariant.1 c.args.self.now c.self.view_is c.args.row c.args.leaf c.args.value new
-          c.requires.row_in c.requires.leaf_in c.requires.kept (stored (goal.at.invariant_of-self c).After-near_write c.if-near_write.true)
+      kept_after a.schema a.extents a.expr a.blobs.items c.self.invariant.1 c.args.self.now c.self.view_is c.args.row c.args.leaf c.args.raw new
+          c.requires.row_in c.requires.leaf_in c.requires.settled (stored (goal.at.invariant_of-self c).After-near_write c.if-near_write.true)
           (laid_there mapping new (c.near_write.ensures.still_laid c.if-near_write.true)),
       c.self.invariant.2,
     )
@@ -64,16 +64,15 @@ returns-then-near_write c =
     let wrote = c.if-near_write.true in
     let access = Write c.args.row c.args.leaf in
     let idle : is_counted (term_of a.expr) ≡ false = ap is_counted (sym c.self.invariant.0.term_is) ∙ c.near_write.ensures.uncounted wrote in
-    seen_written a.schema a.extents a.expr a.blobs.items c.self.view_is c.args.row c.args.leaf c.args.value c.near_write.new.blobs.items (tally_of a.counts a.heat)
-    (table_after a.schema a.extents a.expr a.blobs.items c.self.invariant.1 c.args.self.now c.self.view_is c.args.row c.args.leaf c.args.value c.near_write.new.blobs.items
-    c.requires.row_in c.requires.leaf_in c.requires.kept (stored (goal.at.returns-then-near_write c).After-near_write wrote))
+    seen_written a.schema a.extents a.expr a.blobs.items c.self.view_is c.args.row c.args.leaf c.args.raw c.near_write.new.blobs.items (tally_of a.counts a.heat)
+    (table_after a.schema a.extents a.expr a.blobs.items c.self.invariant.1 c.args.self.now c.self.view_is c.args.row c.args.leaf c.args.raw c.near_write.new.blobs.items
+    c.requires.row_in c.requires.leaf_in c.requires.settled (stored (goal.at.returns-then-near_write c).After-near_write wrote))
     (sym (idle_tallied access idle c.self.invariant.2))
 
-pub store_far-requires-clause-kept : goal.store_far-requires-clause-kept
-store_far-requires-clause-kept c =
+pub store_far-requires-clause-settled : goal.store_far-requires-clause-settled
+store_far-requires-clause-settled c =
     let a = c.self.inside in
     let leaf = c.args.leaf in
-    let fits : SFits w128 c.args.value = search rules in
-    let lent = seen_from a.schema a.extents a.expr c.near_write.new.blobs.items (tally_of a.counts a.heat) in
-    subst (λ (v : ℤ). answer_of lent leaf v ≡ Ok v) (sym (to_z-of_z w128 c.args.value fits))
-    (ap (λ (t : Table). answer_of t leaf c.args.value) c.self.view_is ∙ c.requires.kept)
+    let fits : SFits w128 c.args.raw = search rules in
+    let lent = seen_from a.mode a.schema a.extents a.expr c.near_write.new.blobs.items (tally_of a.counts a.heat) in
+    subst (λ (v : ℤ). IsSettledIn lent leaf v) (sym (to_z-of_z w128 c.args.raw fits)) (subst (λ (t : Table). IsSettledIn t leaf c.args.raw) (sym c.self.view_is) c.requires.settled)

@@ -1,4 +1,4 @@
-use Rattle.std.proofs.Common.{◌≡◌, ◌*◌, ◌<◌, ◌≤ℤ◌, ◌∙◌, ℕ, ℤ, pos, List, length, map, get_or, sym, ap, subst, arith, rules, SFits, w64}
+use Rattle.std.proofs.Common.{◌≡◌, ◌*◌, ◌<◌, ◌≤◌, ◌≤ℤ◌, ◌∙◌, ℕ, ℤ, pos, List, length, map, get_or, sym, ap, subst, arith, rules, SFits, w64}
 use Rattle.std.proofs.lemmas.Int.{to_z-of_z}
 use Rattle.record_dim.specs.LeafTypes.{IsIn}
 use Rattle.record_dim.specs.Schemas.{schema_fields}
@@ -14,9 +14,9 @@ use Rattle.views.specs.Stores.{Fits, kind_at, told}
 use Rattle.views.specs.Tables.{Table, answer_of, kept_of, leaf_type_of, table_holds, after_log, after_stores}
 use Rattle.views.proofs.NearColumnLaws.{lanes_inside, near_here, near_leaf_in, near_rows_in, near_still}
 use Rattle.views.proofs.NearStoreLaws.{kept_column, table_column, none_refused, seen_column}
-use Rattle.views.proofs.Opened.{laid_there, leaf_seen, raw_same}
+use Rattle.views.proofs.Opened.{laid_there, leaf_seen, raw_same, some_seen}
 use Rattle.views.proofs.StoredLaws.{length-with_column}
-use Rattle.views.proofs.StoreLaws.{fitting_stored}
+use Rattle.views.proofs.StoreLaws.{fit_answer, fit_kept, map_same}
 use Rattle.views.proofs.view.View.store_near.Goals as goal
 use Rattle.views.proofs.view.View.store_near.Goals.{After-to_array, After-put_block}
 
@@ -37,6 +37,16 @@ fits_here : (c : After-to_array) → (k : ℕ) → k < 16
     (get_or c.to_array.result k (pos 0))
 fits_here c k small =
     subst (λ (t : Table). Fits (leaf_type_of t c.args.near.now.leaf) (hold_at (table_holds t) c.args.near.now.leaf) (get_or c.to_array.result k (pos 0))) (sym c.self.view_is) (fits c k small)
+
+some_here : (c : After-to_array) → 1 ≤ (hold_at (table_holds c.args.self.now) c.args.near.now.leaf).width
+some_here c =
+    let a = c.self.inside in
+    some_seen a.schema a.extents a.expr a.blobs.items c.self.invariant.1 c.args.self.now c.self.view_is c.args.near.now.leaf c.requires.near.inside
+
+some : (c : After-put_block) → 1 ≤ (hold_at (table_holds c.args.self.now) c.args.near.now.leaf).width
+some c =
+    let a = c.self.inside in
+    some_seen a.schema a.extents a.expr a.blobs.items c.self.invariant.1 c.args.self.now c.self.view_is c.args.near.now.leaf c.requires.near.inside
 
 pub put_block-requires-clause-near : goal.put_block-requires-clause-near
 put_block-requires-clause-near c =
@@ -82,7 +92,7 @@ invariant_of-self c =
     let at = (goal.at.invariant_of-self c).After-to_array in
     let leaf_in = leaf_seen a.schema a.extents a.expr a.blobs.items c.self.invariant.1 c.args.self.now c.self.view_is near.leaf c.requires.near.inside in (
       mapping,
-      kept_column (term_of a.expr) a.extents (schema_fields a.schema) a.blobs.items c.self.invariant.1 new (16 * c.args.block) near.leaf c.to_array.result leaf_in
+      kept_column a.mode (term_of a.expr) a.extents (schema_fields a.schema) a.blobs.items c.self.invariant.1 new (16 * c.args.block) near.leaf c.to_array.result leaf_in
           (laid_there mapping new c.put_block.ensures.still_laid) (stored (goal.at.invariant_of-self c).After-put_block)
           (λ k l. fits_here at k (omega (arith, l, many at))),
       c.self.invariant.2,
@@ -95,6 +105,7 @@ shown : (c : After-put_block) → length c.to_array.result ≡ 16 → ((k : ℕ)
       fields = schema_fields c.self.inside.schema;
       extents = c.self.inside.extents;
       mapping = term_of c.self.inside.expr;
+      mode = c.self.inside.mode;
       rows = table_under (term_of c.self.inside.expr) c.self.inside.extents (schema_fields c.self.inside.schema) c.put_block.new.blobs.items;
       tally = tally_of c.self.inside.counts c.self.inside.heat;
     }
@@ -104,10 +115,13 @@ shown c sixteen each =
     let a = c.self.inside in
     let near = c.args.near.now in
     let seen = c.args.self.now in
+    let each_seen : (k : ℕ) → k < 16 → Fits (leaf_type_of seen near.leaf) (hold_at (table_holds seen) near.leaf) (get_or c.to_array.result k (pos 0)) =
+    λ k small. subst (λ (t : Table). Fits (leaf_type_of t near.leaf) (hold_at (table_holds t) near.leaf) (get_or c.to_array.result k (pos 0))) c.self.view_is (each k small) in
     let first = 16 * c.args.block in
     let log = column_writes near.leaf first 16 in
     seen_column a.schema a.extents a.expr a.blobs.items c.self.view_is first near.leaf 16 c.to_array.result c.put_block.new.blobs.items (tally_of a.counts a.heat)
-    (table_column (term_of a.expr) a.extents (schema_fields a.schema) a.blobs.items c.self.invariant.1 c.put_block.new.blobs.items first near.leaf c.to_array.result
+    (map_same (kept_of seen near.leaf) c.to_array.result (λ k l. fit_kept seen near.leaf (get_or c.to_array.result k (pos 0)) (some c) (each_seen k (omega (arith, l, sixteen)))))
+    (table_column a.mode (term_of a.expr) a.extents (schema_fields a.schema) a.blobs.items c.self.invariant.1 c.put_block.new.blobs.items first near.leaf c.to_array.result
     (leaf_seen a.schema a.extents a.expr a.blobs.items c.self.invariant.1 seen c.self.view_is near.leaf c.requires.near.inside)
     (laid_there c.self.invariant.0 c.put_block.new.blobs.items c.put_block.ensures.still_laid) (stored c)
     (λ k l. each k (omega (arith, l, sixteen))))
@@ -125,7 +139,7 @@ returns-clause-taken c = λ wrote.
     let fit = fits at k (omega (arith, l, c.to_array.ensures.count)) in
     let same : get_or c.to_array.result k (pos 0) ≡ value = ap (λ (vs : List ℤ). get_or vs k (pos 0)) c.to_array.ensures.numbers in
     let here = subst (λ (v : ℤ). Fits (leaf_type_of seen leaf) (hold_at (table_holds seen) leaf) v) same fit in
-    ap told (fitting_stored (leaf_type_of seen leaf) (hold_at (table_holds seen) leaf) value here.declared here.held))
+    ap told (fit_answer seen leaf value (some_here at) here))
 
 pub returns-clause-stored : goal.returns-clause-stored
 returns-clause-stored c = λ wrote.

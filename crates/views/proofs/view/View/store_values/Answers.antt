@@ -1,35 +1,62 @@
-use Rattle.std.proofs.Common.{◌≡◌, ℤ, pos, Ok, get_or, length, take, SFits, to_z, of_z, w64, sym, ap, subst, ◌∙◌, arith, rules}
+use Rattle.std.proofs.Common.{◌≡◌, ◌<◌, ℤ, pos, get_or, length, map, take, SFits, to_z, of_z, w64, sym, ap, subst, ◌∙◌, arith, rules}
 use Rattle.std.specs.Int.{w128}
-use Rattle.views.specs.Tables.{Table, answer_of}
-use Rattle.views.proofs.StoredLaws.{nothing_stored, stored_more, lane_kept, length-with_column, passed, all_stored}
+use Rattle.std.proofs.lemmas.Int.{to_z-of_z}
+use Rattle.std.proofs.lemmas.List.{get_or-map, length-map}
+use Rattle.kept_numbers.specs.Kept.{declared}
+use Rattle.views.specs.Stores.{told}
+use Rattle.views.specs.Tables.{Table, answer_of, kept_of, leaf_type_of, IsSettledIn}
+use Rattle.views.proofs.StoredLaws.{nothing_stored, stored_more, lane_taken, length-with_column, passed, all_stored}
 use Rattle.views.proofs.view.View.store_values.Goals as goal
 
 pub loop-lane-init : goal.loop-lane-init
-loop-lane-init c = nothing_stored c.args.leaf c.args.row c.args.self.now c.args.values.now
+loop-lane-init c = nothing_stored c.args.leaf c.args.row c.args.self.now (map (kept_of c.args.self.now c.args.leaf) c.args.values.now)
 
 pub row_after-requires : goal.row_after-requires
 row_after-requires c =
-    omega (arith, ap (λ (t : Table). length t.rows) c.loop-lane.invariant.stored, length-with_column c.args.leaf c.args.row (take c.loop-lane.lane c.args.values.now) c.args.self.now.rows)
+    let kept = map (kept_of c.args.self.now c.args.leaf) c.args.values.now in
+    omega (arith, ap (λ (t : Table). length t.rows) c.loop-lane.invariant.stored, length-with_column c.args.leaf c.args.row (take c.loop-lane.lane kept) c.args.self.now.rows)
 
 pub store-requires-clause-row_in : goal.store-requires-clause-row_in
 store-requires-clause-row_in c =
-    omega (arith, c.row_after.ensures, ap (λ (t : Table). length t.rows) c.loop-lane.invariant.stored, length-with_column c.args.leaf c.args.row (take c.loop-lane.lane c.args.values.now) c.args.self.now.rows)
+    let kept = map (kept_of c.args.self.now c.args.leaf) c.args.values.now in
+    omega (arith, c.row_after.ensures, ap (λ (t : Table). length t.rows) c.loop-lane.invariant.stored, length-with_column c.args.leaf c.args.row (take c.loop-lane.lane kept) c.args.self.now.rows)
 
-pub store-requires-clause-kept : goal.store-requires-clause-kept
-store-requires-clause-kept c =
+-- a lane whose value is taken
+pub raw-raw-requires-clause-taken : goal.raw-raw-requires-clause-taken
+raw-raw-requires-clause-taken c =
     let value = get_or c.args.values.now c.loop-lane.lane (pos 0) in
     let fit : SFits w64 value = search rules in
-    let same : value ≡ to_z w128 (of_z w128 c.from.result) = sym (passed value c.from.result fit c.from.ensures) in
-    subst (λ (v : ℤ). answer_of c.loop-lane.self c.args.leaf v ≡ Ok v) same
-    (ap (λ (t : Table). answer_of t c.args.leaf value) c.loop-lane.invariant.stored
-    ∙ lane_kept c.args.self.now c.args.leaf 0 c.loop-lane.lane c.args.values.now c.in_ok-lanes_fit.ensures.taken (omega arith))
+    ap (λ (v : ℤ). told (answer_of c.loop-lane.self c.args.leaf v)) (passed value c.from.result fit c.from.ensures)
+    ∙ ap (λ (t : Table). told (answer_of t c.args.leaf value)) c.loop-lane.invariant.stored
+    ∙ lane_taken (answer_of c.args.self.now) c.args.leaf 0 c.loop-lane.lane c.args.values.now c.in_ok-lanes_fit.ensures.taken (omega arith)
+
+pub store-requires-clause-settled : goal.store-requires-clause-settled
+store-requires-clause-settled c =
+    let fits : SFits w128 c.raw-raw.result = search rules in
+    subst (λ (v : ℤ). IsSettledIn c.loop-lane.self c.args.leaf v) (sym (to_z-of_z w128 c.raw-raw.result fits)) c.raw-raw.ensures.settled
 
 pub loop-lane-preserved : goal.loop-lane-preserved
 loop-lane-preserved c =
-    let value = get_or c.args.values.now c.loop-lane.lane (pos 0) in
+    let old = c.args.self.now in
+    let leaf = c.args.leaf in
+    let lane = c.loop-lane.lane in
+    let values = c.args.values.now in
+    let value = get_or values lane (pos 0) in
+    let raw = c.raw-raw.result in
     let fit : SFits w64 value = search rules in
-    stored_more c.args.leaf c.args.row c.loop-lane.lane c.row_after.result c.args.self.now c.loop-lane.self c.store.new.self c.args.values.now (to_z w128 (of_z w128 c.from.result)) c.loop-lane.invariant (omega arith) (omega arith)
-    c.row_after.ensures (passed value c.from.result fit c.from.ensures) c.store.ensures
+    let whole : SFits w128 raw = search rules in
+    let inside : lane < length values = omega arith in
+    let kept : declared (leaf_type_of old leaf) (to_z w128 (of_z w128 raw)) ≡ get_or (map (kept_of old leaf) values) lane (pos 0) =
+    ap (declared (leaf_type_of old leaf)) (to_z-of_z w128 raw whole)
+    ∙ sym (ap (λ (t : Table). declared (leaf_type_of t leaf) raw) c.loop-lane.invariant.stored)
+    ∙ c.raw-raw.ensures.kept
+    ∙ ap (kept_of c.loop-lane.self leaf) (passed value c.from.result fit c.from.ensures)
+    ∙ ap (λ (t : Table). kept_of t leaf value) c.loop-lane.invariant.stored
+    ∙ sym (get_or-map (kept_of old leaf) values lane (pos 0) (pos 0) inside) in
+    stored_more leaf c.args.row lane c.row_after.result old c.loop-lane.self c.store.new.self (map (kept_of old leaf) values) (to_z w128 (of_z w128 raw)) c.loop-lane.invariant
+    (omega (arith, inside, length-map values (kept_of old leaf))) (omega (arith, inside, c.requires.rows_in)) c.row_after.ensures kept c.store.ensures
 
 pub returns-clause-stored : goal.returns-clause-stored
-returns-clause-stored c = all_stored c.args.leaf c.args.row c.loop-lane.lane c.args.self.now c.loop-lane.self c.args.values.now c.loop-lane.invariant (omega arith)
+returns-clause-stored c =
+    let kept = map (kept_of c.args.self.now c.args.leaf) c.args.values.now in
+    all_stored c.args.leaf c.args.row c.loop-lane.lane (length c.args.values.now) c.args.self.now c.loop-lane.self kept c.loop-lane.invariant (omega arith) (length-map c.args.values.now (kept_of c.args.self.now c.args.leaf))

@@ -1,5 +1,7 @@
+use Rattle.std.proofs.Common.{map}
+use Rattle.views.specs.Tables.{kept_of}
 use Rattle.views.proofs.StoredLaws.{HasStored}
 use Rattle.views.proofs.view.View.store_values.Given as goal
 
 abbrev pub invariant-loop-lane : goal.invariant-loop-lane
-invariant-loop-lane l = HasStored l.leaf l.row l.lane l.fn.self l.self l.values
+invariant-loop-lane l = HasStored l.leaf l.row l.lane l.fn.self l.self (map (kept_of l.fn.self l.leaf) l.values)

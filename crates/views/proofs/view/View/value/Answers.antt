@@ -1,17 +1,14 @@
-use Rattle.std.proofs.Common.{ℤ, ◌≡◌, ◌<◌, false, length, refl, sym, ap, ◌∙◌, subst, arith, rules, SFits, to_z, of_z}
+use Rattle.std.proofs.Common.{ℤ, ◌≡◌, false, refl, sym, ap, ◌∙◌, subst, arith, rules, SFits}
 use Rattle.std.specs.Int.{w128}
 use Rattle.std.proofs.lemmas.Int.{to_z-of_z}
-use Rattle.places.specs.Image.{entry}
-use Rattle.piece_bits.specs.Tables.{hold_at}
+use Rattle.record_dim.specs.LeafTypes.{IsDeclared}
 use Rattle.map_expr.specs.Terms.{term_of}
 use Rattle.map_any.specs.Counters.{is_counted}
 use Rattle.views.specs.Kept.{tally_of}
-use Rattle.views.specs.Tables.{leaf_types_of, leaf_type_of, table_holds}
-use Rattle.views.specs.Stores.{Fits}
+use Rattle.views.specs.Tables.{leaf_type_of}
 use Rattle.views.specs.Tallies.{Read}
 use Rattle.views.proofs.CountLaws.{idle_tallied}
-use Rattle.views.proofs.KeptLaws.{kind_count}
-use Rattle.views.proofs.Opened.{rows_seen, table_seen, leaf_seen, cell_count, laid_here, entry_seen, seen_touched}
+use Rattle.views.proofs.Opened.{rows_seen, leaf_seen, cell_count, laid_here, sign_seen, declared_seen, seen_touched}
 use Rattle.views.proofs.view.View.value.Goals as goal
 
 pub wide_read-requires-clause-row_in : goal.wide_read-requires-clause-row_in
@@ -33,23 +30,19 @@ returns-in-Some-clause-value c =
     let a = c.self.inside in
     let fits : SFits w128 c.in-Some.value = search rules in
     to_z-of_z w128 c.in-Some.value fits ∙ c.in-Some.ensures.value
-    ∙ entry_seen a.schema a.extents a.expr a.blobs.items c.self.invariant.1 c.args.self.now c.self.view_is c.self.invariant.0 c.as_slice.result.now c.as_slice.ensures.value c.args.row c.args.leaf
-    c.requires.row_in c.requires.leaf_in
+    ∙ sign_seen a.schema a.extents a.expr a.blobs.items c.self.invariant.1 c.args.self.now c.self.view_is c.self.invariant.0 c.as_slice.result.now c.as_slice.ensures.value c.args.row c.args.leaf
+    c.requires.row_in c.requires.leaf_in (c.in-Some.ensures.sign refl)
 
-pub returns-in-Some-clause-fits : goal.returns-in-Some-clause-fits
-returns-in-Some-clause-fits c =
+pub returns-in-Some-clause-declared : goal.returns-in-Some-clause-declared
+returns-in-Some-clause-declared c =
     let a = c.self.inside in
     let seen = c.args.self.now in
-    let row = c.args.row in
-    let leaf = c.args.leaf in
-    let read : c.in-Some.value ≡ entry seen.rows row leaf =
-    c.in-Some.ensures.value ∙ entry_seen a.schema a.extents a.expr a.blobs.items c.self.invariant.1 c.args.self.now c.self.view_is c.self.invariant.0 c.as_slice.result.now c.as_slice.ensures.value row leaf
-    c.requires.row_in c.requires.leaf_in in
-    let table = table_seen a.schema a.extents a.expr a.blobs.items c.self.invariant.1 seen c.self.view_is in
-    let leaf_in : leaf < length (leaf_types_of seen) = omega (arith, kind_count seen.fields, c.requires.leaf_in) in
     let fits : SFits w128 c.in-Some.value = search rules in
-    let is : entry seen.rows row leaf ≡ to_z w128 (of_z w128 c.in-Some.value) = sym read ∙ sym (to_z-of_z w128 c.in-Some.value fits) in
-    subst (λ (v : ℤ). Fits (leaf_type_of seen leaf) (hold_at (table_holds seen) leaf) v) is (table.fits row leaf c.requires.row_in leaf_in)
+    let read = c.in-Some.ensures.value
+    ∙ sign_seen a.schema a.extents a.expr a.blobs.items c.self.invariant.1 seen c.self.view_is c.self.invariant.0 c.as_slice.result.now c.as_slice.ensures.value c.args.row c.args.leaf
+    c.requires.row_in c.requires.leaf_in (c.in-Some.ensures.sign refl) in
+    subst (λ (v : ℤ). IsDeclared (leaf_type_of seen c.args.leaf) v) (sym read ∙ sym (to_z-of_z w128 c.in-Some.value fits))
+    (declared_seen a.schema a.extents a.expr a.blobs.items c.self.invariant.1 seen c.self.view_is c.args.row c.args.leaf c.requires.row_in c.requires.leaf_in)
 
 pub returns-in-Some-clause-same : goal.returns-in-Some-clause-same
 returns-in-Some-clause-same c =

@@ -8,7 +8,7 @@ use Rattle.map_expr.specs.Terms.{term_of}
 use Rattle.map_checks.specs.Mappings.{holds_by}
 use Rattle.piece_bits.specs.Tables.{hold_at, with_entry}
 use Rattle.views.specs.Kept.{raw_under}
-use Rattle.views.proofs.Opened.{rows_seen, leaf_seen, cell_count, fits_seen, kept_after, table_after, raw_same, laid_there, seen_stored}
+use Rattle.views.proofs.Opened.{rows_seen, leaf_seen, cell_count, held_seen, kept_after, table_after, raw_same, laid_there, seen_stored}
 use Rattle.views.proofs.view.View.write.Goals as goal
 use Rattle.views.proofs.view.View.write.Goals.{After-write_by_rule}
 
@@ -25,30 +25,30 @@ write_by_rule-requires-clause-leaf_in c =
 pub write_by_rule-requires-clause-held : goal.write_by_rule-requires-clause-held
 write_by_rule-requires-clause-held c =
     let a = c.self.inside in
-    let fits : SFits w128 c.args.value = search rules in
+    let fits : SFits w128 c.args.raw = search rules in
     let holds = holds_by (term_of a.expr) (schema_fields a.schema) in
-    let held = (fits_seen a.schema a.extents a.expr a.blobs.items c.self.invariant.1 c.args.self.now c.self.view_is c.args.leaf c.args.value c.requires.kept).held in
-    subst (λ (hs : List Hold). IsIn (hold_at hs c.args.leaf).signed (hold_at hs c.args.leaf).width (to_z w128 (of_z w128 c.args.value))) (sym c.self.invariant.0.holds_are)
-    (subst (λ (v : ℤ). IsIn (hold_at holds c.args.leaf).signed (hold_at holds c.args.leaf).width v) (sym (to_z-of_z w128 c.args.value fits)) held)
+    let held = held_seen a.schema a.extents a.expr a.blobs.items c.self.invariant.1 c.args.self.now c.self.view_is c.args.leaf c.args.raw c.requires.leaf_in c.requires.settled in
+    subst (λ (hs : List Hold). IsIn (hold_at hs c.args.leaf).signed (hold_at hs c.args.leaf).width (to_z w128 (of_z w128 c.args.raw))) (sym c.self.invariant.0.holds_are)
+    (subst (λ (v : ℤ). IsIn (hold_at holds c.args.leaf).signed (hold_at holds c.args.leaf).width v) (sym (to_z-of_z w128 c.args.raw fits)) held)
 
 -- what is stored then
 stored : (c : goal.After-write_by_rule) → raw_under (term_of c.self.inside.expr) c.self.inside.extents (schema_fields c.self.inside.schema) c.write_by_rule.new.blobs.items
-    ≡ with_entry (raw_under (term_of c.self.inside.expr) c.self.inside.extents (schema_fields c.self.inside.schema) c.self.inside.blobs.items) c.args.row c.args.leaf c.args.value
+    ≡ with_entry (raw_under (term_of c.self.inside.expr) c.self.inside.extents (schema_fields c.self.inside.schema) c.self.inside.blobs.items) c.args.row c.args.leaf c.args.raw
 stored c =
     let mapping = c.self.invariant.0 in
-    let fits : SFits w128 c.args.value = search rules in
+    let fits : SFits w128 c.args.raw = search rules in
     let old = raw_under (term_of c.self.inside.expr) c.self.inside.extents (schema_fields c.self.inside.schema) c.self.inside.blobs.items in
     sym (raw_same mapping c.write_by_rule.new.blobs.items) ∙ c.write_by_rule.ensures.table
-    ∙ ap (λ (t : List (List ℤ)). with_entry t c.args.row c.args.leaf (to_z w128 (of_z w128 c.args.value))) (raw_same mapping c.self.inside.blobs.items)
-    ∙ ap (with_entry old c.args.row c.args.leaf) (to_z-of_z w128 c.args.value fits)
+    ∙ ap (λ (t : List (List ℤ)). with_entry t c.args.row c.args.leaf (to_z w128 (of_z w128 c.args.raw))) (raw_same mapping c.self.inside.blobs.items)
+    ∙ ap (with_entry old c.args.row c.args.leaf) (to_z-of_z w128 c.args.raw fits)
 
 pub invariant_of-self : goal.invariant_of-self
 invariant_of-self c =
     let a = c.self.inside in
     let mapping = c.self.invariant.0 in (
       mapping,
-      kept_after a.schema a.extents a.expr a.blobs.items c.self.invariant.1 c.args.self.now c.self.view_is c.args.row c.args.leaf c.args.value c.write_by_rule.new.blobs.items
-          c.requires.row_in c.requires.leaf_in c.requires.kept (stored (goal.at.invariant_of-self c).After-write_by_rule)
+      kept_after a.schema a.extents a.expr a.blobs.items c.self.invariant.1 c.args.self.now c.self.view_is c.args.row c.args.leaf c.args.raw c.write_by_rule.new.blobs.items
+          c.requires.row_in c.requires.leaf_in c.requires.settled (stored (goal.at.invariant_of-self c).After-write_by_rule)
           (laid_there mapping c.write_by_rule.new.blobs.items c.write_by_rule.ensures.still_laid),
       c.self.invariant.2,
     )
@@ -56,6 +56,6 @@ invariant_of-self c =
 pub returns : goal.returns
 returns c =
     let a = c.self.inside in
-    seen_stored a.schema a.extents a.expr a.blobs.items c.self.view_is c.args.row c.args.leaf c.args.value c.write_by_rule.new.blobs.items
-    (table_after a.schema a.extents a.expr a.blobs.items c.self.invariant.1 c.args.self.now c.self.view_is c.args.row c.args.leaf c.args.value c.write_by_rule.new.blobs.items
-    c.requires.row_in c.requires.leaf_in c.requires.kept (stored (goal.at.returns c).After-write_by_rule))
+    seen_stored a.schema a.extents a.expr a.blobs.items c.self.view_is c.args.row c.args.leaf c.args.raw c.write_by_rule.new.blobs.items
+    (table_after a.schema a.extents a.expr a.blobs.items c.self.invariant.1 c.args.self.now c.self.view_is c.args.row c.args.leaf c.args.raw c.write_by_rule.new.blobs.items
+    c.requires.row_in c.requires.leaf_in c.requires.settled (stored (goal.at.returns c).After-write_by_rule))

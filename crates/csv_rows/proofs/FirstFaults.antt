@@ -1,0 +1,103 @@
+-- The first fault of a dataset: what holds of each that a value or a name may have holds of it.
+use Rattle.std.proofs.Common.{◌≡◌, ◌⊎◌, inl, inr, ℕ, ◌+◌, ℤ, List, [], ◌∷◌, Option, Some, None, Result, Ok, Err, IfErr, refl, sym, ap, subst, ◌∙◌}
+use Rattle.std.specs.List.{slice_get, enumerate_from}
+use Rattle.record_dim.specs.Leaves.{texts_of}
+use Rattle.record_dim.specs.declared.leaf_type.LeafType.{LeafType}
+use Rattle.places.specs.declared.piece.Hold.{Hold}
+use Rattle.kept_tables.specs.declared.mode.StoreMode.{StoreMode}
+use Rattle.kept_tables.specs.declared.mode.StoreMode.TheVariants.{Wrap}
+use Rattle.views.specs.Stores.{store_answer}
+use Rattle.views.specs.Tables.{Table, leaf_types_of, table_holds}
+use Rattle.csv_rows.specs.Datasets.{◌>>=◌, Place, unspaced, number_of, the_field, the_number, taken, value_at, row_values, table_from, with_columns, columns_named, one_column, columns_of, header_of, rows_of, dataset_table}
+use Rattle.csv_rows.specs.Loads.{dataset_of, IsNoRefusal}
+use Rattle.csv_rows.specs.declared.fault.RowFault.{RowFault}
+use Rattle.csv_rows.specs.declared.fault.RowFault.TheVariants.{MissingColumn, ColumnTwice, NoMemory}
+
+abbrev err_or : {A : Type 0} → RowFault → Result A RowFault → RowFault
+err_or d (Ok x) = d
+err_or d (Err fault) = fault
+
+pub err_is : {A : Type 0} {x y : RowFault} → ◌≡◌ {A = Result A RowFault} (Err x) (Err y) → x ≡ y
+err_is {x = x} is = ap (err_or x) is
+
+rest_err : {X : Type 0} (x : X) (read : Result (List X) RowFault) (f : RowFault) → (read >>= (λ more. Ok (x ∷ more))) ≡ Err f → read ≡ Err f
+rest_err x (Ok more) f is = absurd (cc is)
+rest_err x (Err fault) f is = ap Err (err_is is)
+
+abbrev pub place_in : StoreMode → ℕ → ℕ → ℕ → LeafType → Hold → Place
+place_in mode row leaf column kind hold = record { row = row; leaf = leaf; column = column; mode = mode; kind = kind; hold = hold }
+
+-- the fault of a row, from a leaf on
+pub of_row : (P : RowFault → Type 0) (mode : StoreMode) (row : ℕ) (fields : List (List ℕ))
+    → ((leaf column : ℕ) (kind : LeafType) (hold : Hold) (f : RowFault) → value_at (place_in mode row leaf column kind hold) fields ≡ Err f → P f)
+    → (leaf : ℕ) (columns : List ℕ) (kinds : List LeafType) (holds : List Hold) (f : RowFault) → row_values row fields leaf (with_columns mode columns kinds holds) ≡ Err f → P f
+of_row P mode row fields each leaf [] kinds holds f is = absurd (cc is)
+of_row P mode row fields each leaf (column ∷ columns) [] holds f is = absurd (cc is)
+of_row P mode row fields each leaf (column ∷ columns) (kind ∷ kinds) [] f is = absurd (cc is)
+of_row P mode row fields each leaf (column ∷ columns) (kind ∷ kinds) (hold ∷ holds) f is =
+    first (value_at (place_in mode row leaf column kind hold) fields) refl (of_row P mode row fields each (leaf + 1) columns kinds holds f) is
+  where
+    first : (found : Result ℤ RowFault) → value_at (place_in mode row leaf column kind hold) fields ≡ found
+        → (row_values row fields (leaf + 1) (with_columns mode columns kinds holds) ≡ Err f → P f)
+        → (found >>= (λ value. row_values row fields (leaf + 1) (with_columns mode columns kinds holds) >>= (λ values. Ok (value ∷ values)))) ≡ Err f → P f
+    first (Ok value) found more e = more (rest_err value (row_values row fields (leaf + 1) (with_columns mode columns kinds holds)) f e)
+    first (Err g) found more e = each leaf column kind hold f (found ∙ ap Err (err_is e))
+
+-- of rows
+of_rows : (P : RowFault → Type 0) (mode : StoreMode)
+    → ((row : ℕ) (fields : List (List ℕ)) (leaf column : ℕ) (kind : LeafType) (hold : Hold) (f : RowFault) → value_at (place_in mode row leaf column kind hold) fields ≡ Err f → P f)
+    → (columns : List ℕ) (kinds : List LeafType) (holds : List Hold) (row : ℕ) (rows : List (List (List ℕ))) (f : RowFault) → table_from row rows (with_columns mode columns kinds holds) ≡ Err f → P f
+of_rows P mode each columns kinds holds row [] f is = absurd (cc is)
+of_rows P mode each columns kinds holds row (fields ∷ rows) f is =
+    first (row_values row fields 0 (with_columns mode columns kinds holds)) refl (of_rows P mode each columns kinds holds (row + 1) rows f) is
+  where
+    first : (found : Result (List ℤ) RowFault) → row_values row fields 0 (with_columns mode columns kinds holds) ≡ found
+        → (table_from (row + 1) rows (with_columns mode columns kinds holds) ≡ Err f → P f)
+        → (found >>= (λ values. table_from (row + 1) rows (with_columns mode columns kinds holds) >>= (λ rest. Ok (values ∷ rest)))) ≡ Err f → P f
+    first (Ok values) found more e = more (rest_err values (table_from (row + 1) rows (with_columns mode columns kinds holds)) f e)
+    first (Err g) found more e = of_row P mode row fields (each row fields) 0 columns kinds holds f (found ∙ ap Err (err_is e))
+
+-- of a header that does not name each leaf once
+of_column : (P : RowFault → Type 0) → ((leaf : ℕ) → P (MissingColumn leaf)) → ((leaf : ℕ) → P (ColumnTwice leaf)) → (leaf : ℕ) (columns : List ℕ) (f : RowFault) → one_column leaf columns ≡ Err f → P f
+of_column P missing twice leaf [] f is = subst P (err_is is) (missing leaf)
+of_column P missing twice leaf (column ∷ []) f is = absurd (cc is)
+of_column P missing twice leaf (column ∷ other ∷ columns) f is = subst P (err_is is) (twice leaf)
+
+pub of_header : (P : RowFault → Type 0) → ((leaf : ℕ) → P (MissingColumn leaf)) → ((leaf : ℕ) → P (ColumnTwice leaf))
+    → (header : List (List ℕ)) (leaf : ℕ) (names : List (List ℕ)) (f : RowFault) → columns_of header leaf names ≡ Err f → P f
+of_header P missing twice header leaf [] f is = absurd (cc is)
+of_header P missing twice header leaf (name ∷ names) f is =
+    first (one_column leaf (columns_named name (enumerate_from 0 header))) refl (of_header P missing twice header (leaf + 1) names f) is
+  where
+    first : (found : Result ℕ RowFault) → one_column leaf (columns_named name (enumerate_from 0 header)) ≡ found → (columns_of header (leaf + 1) names ≡ Err f → P f)
+        → (found >>= (λ column. columns_of header (leaf + 1) names >>= (λ columns. Ok (column ∷ columns)))) ≡ Err f → P f
+    first (Ok column) found more e = more (rest_err column (columns_of header (leaf + 1) names) f e)
+    first (Err g) found more e = of_column P missing twice leaf (columns_named name (enumerate_from 0 header)) f (found ∙ ap Err (err_is e))
+
+-- a view that keeps low bits refuses no number
+number_taken : (place : Place) (number : Option ℤ) (f : RowFault) → (the_number place number >>= (λ value. taken place (store_answer Wrap place.kind place.hold value))) ≡ Err f → IsNoRefusal f
+number_taken place None f is = subst IsNoRefusal (err_is is) tt
+number_taken place (Some value) f is = absurd (cc is)
+
+field_taken : (place : Place) (field : Option (List ℕ)) (f : RowFault)
+    → (the_field place field >>= (λ text. the_number place (number_of (unspaced text)) >>= (λ value. taken place (store_answer Wrap place.kind place.hold value)))) ≡ Err f → IsNoRefusal f
+field_taken place None f is = subst IsNoRefusal (err_is is) tt
+field_taken place (Some text) f is = number_taken place (number_of (unspaced text)) f is
+
+dataset_taken : (names : List (List ℕ)) (kinds : List LeafType) (holds : List Hold) (records : List (List (List ℕ))) (f : RowFault) → dataset_table Wrap names kinds holds records ≡ Err f → IsNoRefusal f
+unfolding dataset_table
+dataset_taken names kinds holds records f is = first (columns_of (header_of records) 0 names) refl is
+  where
+    first : (found : Result (List ℕ) RowFault) → columns_of (header_of records) 0 names ≡ found
+        → (found >>= (λ columns. table_from 0 (rows_of records) (with_columns Wrap columns kinds holds))) ≡ Err f → IsNoRefusal f
+    first (Ok columns) found e =
+        of_rows IsNoRefusal Wrap (λ row fields leaf column kind hold. field_taken (place_in Wrap row leaf column kind hold) (slice_get fields column)) columns kinds holds 0 (rows_of records) f e
+    first (Err g) found e = of_header IsNoRefusal (λ leaf. tt) (λ leaf. tt) (header_of records) 0 names f (found ∙ ap Err (err_is e))
+
+pub load_taken : (table : Table) (records : List (List (List ℕ))) (result : Result Unit RowFault) → IfErr result (λ f. (f ≡ NoMemory) ⊎ (dataset_of table records ≡ Err f))
+    → IfErr result (λ f. table.mode ≡ Wrap → IsNoRefusal f)
+load_taken table records (Ok done) refused = tt
+load_taken table records (Err f) (inl none) = λ wrap. subst IsNoRefusal (sym none) tt
+load_taken table records (Err f) (inr refused) = λ wrap.
+    dataset_taken (texts_of table.fields) (leaf_types_of table) (table_holds table) records f
+    (ap (λ (mode : StoreMode). dataset_table mode (texts_of table.fields) (leaf_types_of table) (table_holds table) records) (sym wrap) ∙ refused)

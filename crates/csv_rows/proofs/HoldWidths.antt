@@ -1,0 +1,67 @@
+-- No leaf is stored in more than 64 bits, whatever the mapping.
+use Rattle.std.proofs.Common.{ℕ, zero, suc, ◌≤◌, Bool, true, false, List, [], ◌∷◌, min, length, replicate, arith}
+use Rattle.record_dim.specs.LeafTypes.{width_of}
+use Rattle.record_dim.specs.Trees.{Fields}
+use Rattle.places.specs.Holds.{hold_of, hold_within, full_holds, narrow_holds}
+use Rattle.places.specs.WidthsLaws.{width_narrow}
+use Rattle.places.specs.declared.piece.Cell.{Cell}
+use Rattle.places.specs.declared.piece.Hold.{Hold}
+use Rattle.piece_bits.specs.Tables.{hold_at}
+use Rattle.map_expr.specs.Terms.{Term, Aos, Soa, Aosoa, BitAos, BitSoa, Split, Byteswap, Bytesplit, Change, Count, Heat, Named}
+use Rattle.map_bytes.specs.Cells.{changed}
+use Rattle.map_split.specs.Sides.{merged}
+use Rattle.map_checks.specs.Sides.{side_of, cells_under, cells_beside}
+use Rattle.map_checks.specs.Mappings.{leaf_cells, holds_of}
+use Rattle.views.specs.Tables.{Table, leaf_types_of, table_holds}
+
+-- no hold of a list has more
+abbrev AreFew : List Hold → Type 0
+AreFew holds = (i : ℕ) → (hold_at holds i).width ≤ 64
+
+none_few : (i : ℕ) → (hold_at [] i).width ≤ 64
+none_few zero = let small : 0 ≤ 64 = omega arith in small
+none_few (suc i) = let small : 0 ≤ 64 = omega arith in small
+
+one_few : (hold : Hold) (holds : List Hold) → hold.width ≤ 64 → AreFew holds → (i : ℕ) → (hold_at (hold ∷ holds) i).width ≤ 64
+one_few hold holds few rest zero = few
+one_few hold holds few rest (suc i) = rest i
+
+full_few : (cells : List Cell) → AreFew (full_holds cells)
+full_few [] = none_few
+full_few (cell ∷ cells) = one_few (hold_of cell.kind) (full_holds cells) (width_narrow cell.kind) (full_few cells)
+
+narrow_few : (widths : List ℕ) (cells : List Cell) → AreFew (narrow_holds widths cells)
+narrow_few [] cells = none_few
+narrow_few (width ∷ widths) [] = none_few
+narrow_few (width ∷ widths) (cell ∷ cells) =
+    let few : min width (width_of cell.kind) ≤ 64 = omega (arith, width_narrow cell.kind) in
+    one_few (hold_within width cell.kind) (narrow_holds widths cells) few (narrow_few widths cells)
+
+merged_few : (side : List Bool) (one other : List Hold) → AreFew one → AreFew other → AreFew (merged side one other)
+merged_few [] one other ones others = none_few
+merged_few (true ∷ side) [] other ones others = none_few
+merged_few (true ∷ side) (hold ∷ one) other ones others =
+    one_few hold (merged side one other) (ones zero) (merged_few side one other (λ i. ones (suc i)) others)
+merged_few (false ∷ side) one [] ones others = none_few
+merged_few (false ∷ side) one (hold ∷ other) ones others =
+    one_few hold (merged side one other) (others zero) (merged_few side one other ones (λ i. others (suc i)))
+
+holds_few : (term : Term) (fields : Fields) (cells : List Cell) → AreFew (holds_of term fields cells)
+holds_few (Aos form order) fields cells = full_few cells
+holds_few (Soa form order) fields cells = full_few cells
+holds_few (Aosoa lanes order) fields cells = full_few cells
+holds_few (BitAos width order) fields cells = narrow_few (replicate (length cells) width) cells
+holds_few (BitSoa width order) fields cells = narrow_few (replicate (length cells) width) cells
+holds_few (Split path first rest) fields cells =
+    let under = cells_under fields path cells in
+    let beside = cells_beside fields path cells in
+    merged_few (side_of fields path cells) (holds_of first fields under) (holds_of rest fields beside) (holds_few first fields under) (holds_few rest fields beside)
+holds_few (Byteswap inner) fields cells = full_few cells
+holds_few (Bytesplit inner) fields cells = full_few cells
+holds_few (Change from to inner) fields cells = holds_few inner fields (changed from to cells)
+holds_few (Count inner) fields cells = holds_few inner fields cells
+holds_few (Heat granule inner) fields cells = holds_few inner fields cells
+holds_few (Named name) fields cells = full_few cells
+
+pub leaf_few : (table : Table) (leaf : ℕ) → (hold_at (table_holds table) leaf).width ≤ 64
+leaf_few table leaf = holds_few table.mapping table.fields (leaf_cells (leaf_types_of table)) leaf

@@ -1,0 +1,59 @@
+use Rattle.std.proofs.Common.{rules, arith, ◌≡◌, ◌<◌, ◌≤◌, ◌∙◌, ⊎_elim, ℕ, List, length, Some, sym, ap, subst}
+use Rattle.std.specs.Prelude.{slice_get}
+use Rattle.std.proofs.lemmas.Bool.{cases_lt}
+use Rattle.std.proofs.lemmas.List.{length-map}
+use Rattle.record_dim.specs.Leaves.{Leaf, leaves, kinds_of}
+use Rattle.record_dim.specs.Trees.{Fields}
+use Rattle.places.specs.declared.piece.Cell.{Cell}
+use Rattle.places.specs.declared.piece.Hold.{Hold}
+use Rattle.piece_bits.specs.Tables.{hold_at}
+use Rattle.map_any.specs.AnyLaws.{length-leaf_cells}
+use Rattle.views.specs.Moves.{IsOwn}
+use Rattle.views.specs.Stores.{kind_at}
+use Rattle.views.specs.Tables.{leaf_types_of, table_holds}
+use Rattle.layout_copy.proofs.WayLaws.{own_read, read_own}
+use Rattle.layout_copy.proofs.ways.has_own_holds.Goals as goal
+use Rattle.layout_copy.proofs.ways.has_own_holds.Goals.{After-of}
+
+pub hold-requires : goal.hold-requires
+hold-requires c =
+    let view = c.args.view.now in
+    let cells = ap (λ (cs : List Cell). length cs) c.map-map.ensures.cells in
+    let count = ap (λ (f : Fields). length (leaves f)) c.schema-schema.ensures.value in
+    omega (arith, cells, count, length-leaf_cells (leaf_types_of view), length-map (leaves view.fields) (λ (one : Leaf). one.kind))
+
+-- what is read at a leaf, as the lists of the view have it
+kind_is : (c : After-of) → slice_get (leaf_types_of c.args.view.now) c.loop-leaf.leaf ≡ Some c.leaf_type.result
+kind_is c = sym (ap (λ (f : Fields). slice_get (kinds_of f) c.loop-leaf.leaf) c.schema-schema.ensures.value) ∙ c.leaf_type.ensures
+
+hold_is : (c : After-of) → slice_get (table_holds c.args.view.now) c.loop-leaf.leaf ≡ Some c.hold.result
+hold_is c = sym (ap (λ (hs : List Hold). slice_get hs c.loop-leaf.leaf) c.map-map.ensures.holds) ∙ c.hold.ensures
+
+pub returns-then-ne : goal.returns-then-ne
+returns-then-ne c =
+    let here = (goal.at.returns-then-ne c).After-of in
+    let view = c.args.view.now in
+    let leaf = c.loop-leaf.leaf in
+    let count = ap (λ (f : Fields). length (leaves f)) c.schema-schema.ensures.value in
+    let inside : leaf < length (leaf_types_of view) = omega (arith, count, length-map (leaves view.fields) (λ (one : Leaf). one.kind)) in (
+      λ is. absurd (cc is),
+      λ own.
+          let both = read_own (leaf_types_of view) (table_holds view) leaf c.leaf_type.result c.hold.result c.of.result (kind_is here) (hold_is here) c.of.ensures (own leaf inside) in
+          let signed : c.hold.result.signed ≡ c.of.result.signed = both.0 in
+          let width : c.hold.result.width ≡ c.of.result.width = both.1 in
+          search rules,
+    )
+
+pub loop-leaf-preserved : goal.loop-leaf-preserved
+loop-leaf-preserved c =
+    let here = (goal.at.loop-leaf-preserved c).After-of in
+    let view = c.args.view.now in
+    let signed : c.hold.result.signed ≡ c.of.result.signed = search rules in
+    let width : c.hold.result.width ≡ c.of.result.width = search rules in
+    let own = own_read (leaf_types_of view) (table_holds view) c.loop-leaf.leaf c.leaf_type.result c.hold.result c.of.result (kind_is here) (hold_is here) c.of.ensures signed width in
+    λ leaf below.
+    ⊎_elim (λ (less : leaf < c.loop-leaf.leaf). c.loop-leaf.invariant leaf less)
+    (λ (more : c.loop-leaf.leaf ≤ leaf).
+    let same : c.loop-leaf.leaf ≡ leaf = omega (arith, below, more) in
+    subst (λ (l : ℕ). IsOwn (kind_at (leaf_types_of view) l) (hold_at (table_holds view) l)) same own)
+    (cases_lt leaf c.loop-leaf.leaf)

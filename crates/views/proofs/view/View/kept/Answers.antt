@@ -1,0 +1,54 @@
+use Rattle.std.proofs.Common.{ℤ, ◌≡◌, ◌∙◌, sym, ap, arith, rules, SFits}
+use Rattle.std.specs.Int.{w128}
+use Rattle.std.proofs.lemmas.Int.{to_z-of_z}
+use Rattle.record_dim.specs.declared.leaf_type.LeafType.{LeafType}
+use Rattle.places.specs.declared.piece.Hold.{Hold}
+use Rattle.piece_bits.specs.Tables.{hold_at}
+use Rattle.kept_numbers.specs.Kept.{kept}
+use Rattle.kept_tables.specs.declared.mode.StoreMode.{StoreMode}
+use Rattle.kept_tables.specs.declared.mode.StoreMode.TheVariants.{Strict, Wrap}
+use Rattle.views.specs.AnswerLaws.{strict_kept}
+use Rattle.views.specs.Stores.{store_answer, kept_or}
+use Rattle.views.specs.Tables.{Table, leaf_type_of, table_holds}
+use Rattle.views.proofs.Opened.{cell_count, leaf_seen, kind_seen, hold_seen}
+use Rattle.views.proofs.view.View.kept.Goals as goal
+
+pub hold-requires : goal.hold-requires
+hold-requires c =
+    let a = c.self.inside in
+    let leaf_in = leaf_seen a.schema a.extents a.expr a.blobs.items c.self.invariant.1 c.args.self.now c.self.view_is c.args.leaf c.requires in
+    omega (arith, leaf_in, cell_count c.self.invariant.0)
+
+pub kept-requires-clause-some : goal.kept-requires-clause-some
+kept-requires-clause-some c =
+    let a = c.self.inside in
+    (hold_seen a.schema a.extents a.expr a.blobs.items c.self.invariant.1 c.args.self.now c.self.view_is c.self.invariant.0 c.args.leaf c.hold.result c.requires c.hold.ensures).1
+
+pub kept-requires-clause-narrow : goal.kept-requires-clause-narrow
+kept-requires-clause-narrow c =
+    let a = c.self.inside in
+    (hold_seen a.schema a.extents a.expr a.blobs.items c.self.invariant.1 c.args.self.now c.self.view_is c.self.invariant.0 c.args.leaf c.hold.result c.requires c.hold.ensures).2
+
+pub returns-in-Strict : goal.returns-in-Strict
+returns-in-Strict c =
+    let seen = c.args.self.now in
+    let fits : SFits w128 c.args.value = search rules in
+    let mode_is : seen.mode ≡ Strict = sym (ap (λ (s : Table). s.mode) c.self.view_is) ∙ c.in-Strict.is in
+    to_z-of_z w128 c.args.value fits ∙ sym (strict_kept seen mode_is c.args.leaf c.args.value)
+
+pub returns-in-Wrap : goal.returns-in-Wrap
+returns-in-Wrap c =
+    let a = c.self.inside in
+    let seen = c.args.self.now in
+    let leaf = c.args.leaf in
+    let value = c.args.value in
+    let fits : SFits w128 value = search rules in
+    let whole : SFits w128 c.kept.result = search rules in
+    let mode_is : Wrap ≡ seen.mode = sym c.in-Wrap.is ∙ ap (λ (s : Table). s.mode) c.self.view_is in
+    let kind_is = kind_seen a.schema a.extents a.expr a.blobs.items c.self.invariant.1 seen c.self.view_is leaf c.leaf_type.result c.leaf_type.ensures in
+    let hold_is = (hold_seen a.schema a.extents a.expr a.blobs.items c.self.invariant.1 seen c.self.view_is c.self.invariant.0 leaf c.hold.result c.requires c.hold.ensures).0 in
+    to_z-of_z w128 c.kept.result whole ∙ c.kept.ensures
+    ∙ ap (λ (v : ℤ). kept c.leaf_type.result c.hold.result v) (to_z-of_z w128 value fits)
+    ∙ ap (λ (k : LeafType). kept k c.hold.result value) (sym kind_is)
+    ∙ ap (λ (h : Hold). kept (leaf_type_of seen leaf) h value) (sym hold_is)
+    ∙ ap (λ (m : StoreMode). kept_or value (store_answer m (leaf_type_of seen leaf) (hold_at (table_holds seen) leaf) value)) mode_is

@@ -1,0 +1,52 @@
+-- What the answer to a store in a strict view says of the value.
+use Rattle.std.proofs.Common.{◌≡◌, true, false, ℤ, ◌≤ℤ◌, Ok, Err, refl, sym, ◌∙◌, ⊎_elim, arith}
+use Rattle.std.specs.Prelude.{int_le}
+use Rattle.std.proofs.lemmas.Int.{ints}
+use Rattle.std.proofs.lemmas.Bool.{cases_Bool, and_parts}
+use Rattle.record_dim.specs.declared.leaf_type.LeafType.{LeafType}
+use Rattle.record_dim.specs.LeafTypes.{least_of, greatest_of, least_in, greatest_in, IsIn, IsDeclared}
+use Rattle.places.specs.declared.piece.Hold.{Hold}
+use Rattle.kept_tables.specs.declared.mode.StoreMode.TheVariants.{Strict}
+use Rattle.views.specs.Stores.{is_between, store_answer, Fits}
+use Rattle.views.specs.declared.fault.StoreFault.TheVariants.{Range, Narrow}
+
+int_le-true : (a b : ℤ) → int_le a b ≡ true → a ≤ℤ b
+int_le-true a b e = grind (arith, ints)
+
+-- the test of a range
+pub between_true : (least greatest value : ℤ) → is_between least greatest value ≡ true → (least ≤ℤ value) × (value ≤ℤ greatest)
+between_true least greatest value e =
+    let both = and_parts (int_le least value) (int_le value greatest) e in
+    (int_le-true least value both.0, int_le-true value greatest both.1)
+
+-- the three answers
+pub answer_range : (kind : LeafType) (hold : Hold) (value : ℤ) → is_between (least_of kind) (greatest_of kind) value ≡ false → store_answer Strict kind hold value ≡ Err Range
+answer_range kind hold value e = rw e refl
+
+pub answer_narrow : (kind : LeafType) (hold : Hold) (value : ℤ) → is_between (least_of kind) (greatest_of kind) value ≡ true →
+    is_between (least_in hold.signed hold.width) (greatest_in hold.signed hold.width) value ≡ false → store_answer Strict kind hold value ≡ Err Narrow
+answer_narrow kind hold value e f = rw (e, f) refl
+
+-- a store that is taken is one of a value that fits
+pub stored_fits : (kind : LeafType) (hold : Hold) (value : ℤ) → store_answer Strict kind hold value ≡ Ok value → Fits kind hold value
+stored_fits kind hold value taken =
+    ⊎_elim (λ (declared : is_between (least_of kind) (greatest_of kind) value ≡ true).
+    ⊎_elim (λ (held : is_between (least_in hold.signed hold.width) (greatest_in hold.signed hold.width) value ≡ true).
+    record { declared = between_true (least_of kind) (greatest_of kind) value declared; held = between_true (least_in hold.signed hold.width) (greatest_in hold.signed hold.width) value held })
+    (λ (not_held : is_between (least_in hold.signed hold.width) (greatest_in hold.signed hold.width) value ≡ false).
+    absurd (let clash : Ok value ≡ Err Narrow = sym taken ∙ answer_narrow kind hold value declared not_held in cc))
+    (cases_Bool (is_between (least_in hold.signed hold.width) (greatest_in hold.signed hold.width) value)))
+    (λ (not_declared : is_between (least_of kind) (greatest_of kind) value ≡ false).
+    absurd (let clash : Ok value ≡ Err Range = sym taken ∙ answer_range kind hold value not_declared in cc))
+    (cases_Bool (is_between (least_of kind) (greatest_of kind) value))
+
+true_between : (least greatest value : ℤ) → least ≤ℤ value → value ≤ℤ greatest → is_between least greatest value ≡ true
+true_between least greatest value low high = grind (arith, ints)
+
+-- a value that fits is taken
+pub fitting_stored : (kind : LeafType) (hold : Hold) (value : ℤ) → IsDeclared kind value → IsIn hold.signed hold.width value → store_answer Strict kind hold value ≡ Ok value
+fitting_stored kind hold value declared held =
+    rw (
+      true_between (least_of kind) (greatest_of kind) value declared.0 declared.1,
+      true_between (least_in hold.signed hold.width) (greatest_in hold.signed hold.width) value held.0 held.1,
+    ) refl
