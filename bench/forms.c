@@ -10,7 +10,13 @@
 
 // ---- bits: a field of up to 57 bits lies in the eight bytes from its first
 
+// In place of one width for all leaves: a width for each.
+#define MIXED 0
+
 static inline unsigned fixed_bits(unsigned width, unsigned leaf) {
+    static const unsigned mixed[LEAVES] = {8, 11, 23, 57};
+    if (width == MIXED)
+        return mixed[leaf];
     return width < 8 * fixed_bytes(leaf) ? width : 8 * fixed_bytes(leaf);
 }
 
@@ -52,13 +58,14 @@ static inline void store_bits(unsigned char *bytes, size_t bit, unsigned width, 
         return true;                                                                                                   \
     }
 
-#define FIXED_BIT_FORMS(width)                                                                                         \
-    FIXED_BITS(bitaos_##width, width, (size_t)row * fixed_bit(width, LEAVES) + fixed_bit(width, leaf))                 \
-    FIXED_BITS(bitsoa_##width, width, 8 * table->arrays[leaf] + (size_t)row * fixed_bits(width, leaf))
+#define FIXED_BIT_FORMS(name, width)                                                                                   \
+    FIXED_BITS(bitaos_##name, width, (size_t)row * fixed_bit(width, LEAVES) + fixed_bit(width, leaf))                  \
+    FIXED_BITS(bitsoa_##name, width, 8 * table->arrays[leaf] + (size_t)row * fixed_bits(width, leaf))
 
-FIXED_BIT_FORMS(9)
-FIXED_BIT_FORMS(23)
-FIXED_BIT_FORMS(57)
+FIXED_BIT_FORMS(9, 9)
+FIXED_BIT_FORMS(23, 23)
+FIXED_BIT_FORMS(57, 57)
+FIXED_BIT_FORMS(mixed, MIXED)
 
 // A field of the general accessors begins at a bit of its own, and again with each step of a row.
 static inline size_t general_bit(const struct table *table, uint32_t row, unsigned leaf) {
@@ -251,9 +258,11 @@ SPLIT_ACCESSORS(general_split, general_byte, table->leaves[leaf].width, table->l
 WORK(fixed_bitaos_9)
 WORK(fixed_bitaos_23)
 WORK(fixed_bitaos_57)
+WORK(fixed_bitaos_mixed)
 WORK(fixed_bitsoa_9)
 WORK(fixed_bitsoa_23)
 WORK(fixed_bitsoa_57)
+WORK(fixed_bitsoa_mixed)
 WORK(fixed_aos_swap)
 WORK(fixed_soa_swap)
 WORK(fixed_aos_split)
@@ -288,9 +297,11 @@ static const struct measured MEASURED[] = {
     BY_ROWS(bitaos_9, BIT_RECORDS, 9, bits),
     BY_ROWS(bitaos_23, BIT_RECORDS, 23, bits),
     BY_ROWS(bitaos_57, BIT_RECORDS, 57, bits),
+    BY_ROWS(bitaos_mixed, BIT_RECORDS, MIXED, bits),
     BY_ROWS(bitsoa_9, BIT_ARRAYS, 9, bits),
     BY_ROWS(bitsoa_23, BIT_ARRAYS, 23, bits),
     BY_ROWS(bitsoa_57, BIT_ARRAYS, 57, bits),
+    BY_ROWS(bitsoa_mixed, BIT_ARRAYS, MIXED, bits),
     BY_ROWS(aos_swap, RECORDS, 64, aos_swap),
     BY_ROWS(soa_swap, ARRAYS, 64, soa_swap),
     BY_ROWS(aos_split, RECORDS, 64, split),
@@ -322,7 +333,7 @@ NOT_LOOKED_INTO static size_t plan_form(struct table *table, const struct measur
     bool is_array = form->lie == ARRAYS || form->lie == BIT_ARRAYS;
     size_t unit = is_in_bits ? 8 : 1, end = 0, cell = 0;
     for (unsigned leaf = 0; leaf < LEAVES; leaf++) {
-        unsigned bytes = 1u << leaf, bits = form->width < 8 * bytes ? form->width : 8 * bytes;
+        unsigned bytes = 1u << leaf, bits = fixed_bits(form->width, leaf);
         number least = -((number)1 << (bits - 1));
         table->arrays[leaf] = end / unit;
         table->steps[leaf] = bits;

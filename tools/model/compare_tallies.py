@@ -3,24 +3,23 @@
 import sys
 
 import llama_model
-from grammar import read_line
+from tables.case import in_version_2
 from tables.tallies import thrown_case
+from tables.widths import thrown_widths
 
-DEPTHS, EACH = range(1, 9), range(100, 125)
+DEPTHS, EACH, EACH_OF_VERSION_2 = range(1, 9), range(100, 125), range(100, 110)
 
 
 def printed(script):
-    """What the commands of a script print in the model."""
-    world = llama_model.World('.')
-    text = b''
-    for line in script.split(' | '):
-        command, parts = read_line(line.encode())
-        text += llama_model.DOES[command](world, parts) or b''
+    """What a script prints in the model."""
+    text, _ = llama_model.run_lines(llama_model.World('.'), script.encode().split(b' | '))
     return text.decode()
 
 
 def main():
-    wrong, cases = 0, [thrown_case(number, depth) for depth in DEPTHS for number in EACH]
+    cases = [thrown_case(number, depth) for depth in DEPTHS for number in EACH]
+    cases += [in_version_2(thrown_case(number, depth, thrown_widths)) for depth in DEPTHS for number in EACH_OF_VERSION_2]
+    wrong = 0
     for case in cases:
         due = case.due.replace(' | ', '\n') + '\n'
         if printed(case.script) != due:

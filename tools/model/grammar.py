@@ -1,4 +1,4 @@
-"""Lines of a script: tokens, and the grammar of docs/LANGUAGE.md read from left to right.
+"""Lines of a script: tokens, and the grammar of docs/LANGUAGE.md in each of its versions, read from left to right.
 
 A map, a record, a path and an expression are tuples whose first entry says which form they are.
 """
@@ -12,8 +12,11 @@ TYPES = {'bool', 'u8', 'u16', 'u32', 'u64', 'i8', 'i16', 'i32', 'i64'}
 COMPARISONS = {'==', '!=', '<', '<=', '>', '>='}
 GREATEST_NUMBER = 2 ** 127 - 1
 GREATEST_COUNT = 2 ** 32 - 1
+VERSIONS = (1, 2)
 
 Token = namedtuple('Token', 'kind value begin end')
+Widths = namedtuple('Widths', 'most entries')
+Widths.__doc__ = """The bits that a bit mapping says: a number, and pairs of a path and a number of its own."""
 
 
 class SyntaxFault(Exception):
@@ -87,10 +90,10 @@ def tokens_of(line):
 
 
 class Reader:
-    """The tokens of a line, and how many of them were read."""
+    """The tokens of a line of a version, and how many of them were read."""
 
-    def __init__(self, tokens):
-        self.tokens = tokens
+    def __init__(self, tokens, version):
+        self.tokens, self.version = tokens, version
         self.place = 0
 
     def fail(self):
@@ -148,13 +151,17 @@ def in_parens(reader, item):
     return value
 
 
+def listed_in_braces(reader, item):
+    reader.sign('{')
+    items = listed(reader, item)
+    reader.sign('}')
+    return items
+
+
 # records
 
 def read_fields(reader):
-    reader.sign('{')
-    fields = listed(reader, read_field)
-    reader.sign('}')
-    return ('fields', fields)
+    return ('fields', listed_in_braces(reader, read_field))
 
 
 def read_field(reader):
@@ -215,6 +222,20 @@ def read_counted(read_rest):
     return read
 
 
+def read_entry(reader):
+    path = read_path(reader)
+    reader.sign(':')
+    return (path, reader.count())
+
+
+def read_bits(reader):
+    most, entries = reader.count(), []
+    if reader.version >= 2 and reader.stands('sign', ['{']):
+        entries = listed_in_braces(reader, read_entry)
+    reader.sign(',')
+    return (Widths(most, tuple(entries)), read_order(reader))
+
+
 def read_split(reader):
     path = read_path(reader)
     reader.sign(',')
@@ -239,8 +260,8 @@ FORMS = {
     'aos': read_formed('packed', 'aligned', 'min'),
     'soa': read_formed('single', 'aligned', 'multi'),
     'aosoa': read_counted(read_order),
-    'bitaos': read_counted(read_order),
-    'bitsoa': read_counted(read_order),
+    'bitaos': read_bits,
+    'bitsoa': read_bits,
     'split': read_split,
     'byteswap': read_inner,
     'bytesplit': read_inner,
@@ -455,17 +476,26 @@ COMMANDS = {
 }
 
 
-def read_line(text):
-    """The command of a line as its word and its parts, or None where the line is blank."""
+def read_line(text, version):
+    """The command of a line of a version as its word and its parts, or None where the line is blank."""
     tokens = tokens_of(text)
     if not tokens:
         return None
-    reader = Reader(tokens)
+    reader = Reader(tokens, version)
     command = reader.word(*COMMANDS)
     line = COMMANDS[command](reader)
     if reader.place < len(tokens):
         reader.fail()
     return (command, line)
+
+
+def version_in(text):
+    """The number that a version line says, or None where the line is none."""
+    tokens = [(token.kind, token.value) for token in tokens_of(text)]
+    if len(tokens) != 2 or tokens[0] != ('word', 'version'):
+        return None
+    kind, number = tokens[1]
+    return number if kind == 'number' and number <= GREATEST_COUNT else None
 
 
 def depth(expr):

@@ -1,7 +1,7 @@
 """Where the bits of a table lie in the base forms: each blob is a list of owners, one a bit, made by putting lists side by side.
 
-An owner is (row, cell, bit), or None where the bit is padding. The cells are told by their widths, and the slots by their rows: None
-where a slot has no row.
+An owner is (row, cell, bit), or None where the bit is padding. The cells are told by the bits that they take, and the slots by their
+rows: None where a slot has no row.
 """
 import itertools
 
@@ -121,16 +121,12 @@ def aosoa_blobs(lanes, rows, widths):
     return [blob]
 
 
-def narrowed(most, widths):
-    return [min(most, width) for width in widths]
+def bitaos_blobs(_, rows, widths):
+    return [padded(blob, WHOLE) for blob in aos_blobs('packed', rows, widths)]
 
 
-def bitaos_blobs(most, rows, widths):
-    return [padded(blob, WHOLE) for blob in aos_blobs('packed', rows, narrowed(most, widths))]
-
-
-def bitsoa_blobs(most, rows, widths):
-    return [padded(blob, WHOLE) for blob in soa_blobs('multi', rows, narrowed(most, widths))]
+def bitsoa_blobs(_, rows, widths):
+    return [padded(blob, WHOLE) for blob in soa_blobs('multi', rows, widths)]
 
 
 BLOBS = {'aos': aos_blobs, 'soa': soa_blobs, 'aosoa': aosoa_blobs, 'bitaos': bitaos_blobs, 'bitsoa': bitsoa_blobs}
@@ -155,12 +151,12 @@ def aosoa_lengths(lanes, slots, widths):
     return [rises_to(slots, lanes) * sum(widths)]
 
 
-def bitaos_lengths(most, slots, widths):
-    return [rises_to(slots * sum(narrowed(most, widths)), WHOLE)]
+def bitaos_lengths(_, slots, widths):
+    return [rises_to(slots * sum(widths), WHOLE)]
 
 
-def bitsoa_lengths(most, slots, widths):
-    return [rises_to(slots * width, WHOLE) for width in narrowed(most, widths)]
+def bitsoa_lengths(_, slots, widths):
+    return [rises_to(slots * width, WHOLE) for width in widths]
 
 
 LENGTHS = {'aos': aos_lengths, 'soa': soa_lengths, 'aosoa': aosoa_lengths, 'bitaos': bitaos_lengths, 'bitsoa': bitsoa_lengths}

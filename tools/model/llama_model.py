@@ -14,7 +14,7 @@ import tempfile
 import generator
 from accesses import Log, heat_of, runs_of
 from datasets import DatasetFault, records_of, table_of, without_mark
-from grammar import COMMANDS, SyntaxFault, depth, expressions_of, path_text, read_line
+from grammar import COMMANDS, VERSIONS, SyntaxFault, depth, expressions_of, path_text, read_line, tokens_of, version_in
 from kernels import bad_kernel, leaves_of as leaves_of_kernel, number_of, stored
 from layouts import image, product
 from mappings import (Cell, bad_alone, bad_mapping, blobs_of, counters_of, full, granules_of, holds_of, inner_of, lengths_of, most_slots,
@@ -537,12 +537,12 @@ assert set(DOES) == set(COMMANDS)
 
 # lines and the run
 
-def step(world, text):
-    """What a line prints."""
+def step(world, text, version):
+    """What a line of a version prints."""
     if len(text) > MOST_LINE_BYTES:
         raise Fault('LineTooLong')
     try:
-        line = read_line(text)
+        line = read_line(text, version)
     except SyntaxFault as fault:
         raise Fault('Syntax', f'column {fault.column}') from None
     if line is None:
@@ -560,11 +560,28 @@ def lines_of(script):
     return [line[:-1] if line.endswith(b'\r') else line for line in lines]
 
 
+def version_line(lines):
+    """The number of the version line, counted from 1, and the version that it says. A script has one where its first line that is not
+    blank is one, and no line before it is too long; else it has none, and is read in version 1."""
+    for number, text in enumerate(lines, 1):
+        if len(text) > MOST_LINE_BYTES:
+            break
+        if tokens_of(text):
+            version = version_in(text)
+            return (None, 1) if version is None else (number, version)
+    return None, 1
+
+
 def run_lines(world, lines):
     printed = b''
+    said, version = version_line(lines)
+    if version not in VERSIONS:
+        return f'line {said}: BadVersion\n'.encode(), 1
     for number, text in enumerate(lines, 1):
+        if number == said:
+            continue
         try:
-            printed += step(world, text)
+            printed += step(world, text, version)
         except Fault as fault:
             return printed + f'line {number}: {fault}\n'.encode(), 1
         except CannotRead as missing:

@@ -12,6 +12,7 @@ Cell.__doc__ = """The path of a leaf, and the type in which it is kept."""
 Hold = namedtuple('Hold', 'signed width')
 MOST_DEPTH, MOST_LANES, MOST_WIDTH, MOST_GRANULE = 8, 64, 64, 4096
 COUNTERS = ('count', 'heat')
+BIT_FORMS = ('bitaos', 'bitsoa')
 
 
 # what a mapping is made of
@@ -70,10 +71,15 @@ def full(cell):
     return Hold(cell.kind[0] == 'i', WIDTHS[cell.kind])
 
 
+def said_of(widths, cell):
+    """The number that a bit mapping says of a cell: that of the last entry which the cell is under, and the first number where it is under none."""
+    return next((width for path, width in reversed(widths.entries) if is_under(path, cell)), widths.most)
+
+
 def holds_of(mapping, cells):
     form = mapping[0]
-    if form in ('bitaos', 'bitsoa'):
-        return [Hold(full(cell).signed, min(mapping[1], full(cell).width)) for cell in cells]
+    if form in BIT_FORMS:
+        return [Hold(full(cell).signed, min(said_of(mapping[1], cell), full(cell).width)) for cell in cells]
     if form in ('aos', 'soa', 'aosoa', 'byteswap', 'bytesplit'):
         return [full(cell) for cell in cells]
     below = [hold for part in parts_of(mapping, cells) for hold in holds_of(*part)]
@@ -112,7 +118,7 @@ def bad_number(mapping):
     """Lanes, Width or Granule where the number of a node by itself is none."""
     if mapping[0] == 'aosoa' and not 1 <= mapping[1] <= MOST_LANES:
         return 'Lanes'
-    if mapping[0] in ('bitaos', 'bitsoa') and not 1 <= mapping[1] <= MOST_WIDTH:
+    if mapping[0] in BIT_FORMS and not all(1 <= width <= MOST_WIDTH for width in [mapping[1].most, *(width for _, width in mapping[1].entries)]):
         return 'Width'
     if mapping[0] == 'heat' and mapping[1] not in [2 ** power for power in range(MOST_GRANULE.bit_length())]:
         return 'Granule'
@@ -132,6 +138,11 @@ def has_bad_side(mapping, cells):
     return mapping[0] == 'split' and [] in sides_of(mapping[1], cells)
 
 
+def has_idle_entry(mapping, cells):
+    """An entry of a bit mapping says a number of none of its cells, whatever the others say."""
+    return mapping[0] in BIT_FORMS and not all(any(is_under(path, cell) for cell in cells) for path, _ in mapping[1].entries)
+
+
 def is_not_full(mapping, cells):
     if mapping[0] not in ('byteswap', 'bytesplit'):
         return False
@@ -143,9 +154,8 @@ def bad_mapping(mapping, cells):
     """The first refusal of a mapping over these cells, or None."""
     if bad_alone(mapping):
         return bad_alone(mapping)
-    if any(has_bad_side(*node) for node in handed_to(mapping, cells)):
-        return 'Side'
-    return 'NotFull' if any(is_not_full(*node) for node in handed_to(mapping, cells)) else None
+    over_cells = (('Side', has_bad_side), ('Field', has_idle_entry), ('NotFull', is_not_full))
+    return next((fault for fault, is_so in over_cells if any(is_so(*node) for node in handed_to(mapping, cells))), None)
 
 
 # where the bits lie
@@ -174,6 +184,10 @@ def bytesplit_blobs(mapping, cells, extents):
     return renamed(blobs_of(mapping[1], bytes_of(cells), extents), joined)
 
 
+def bits_taken(mapping, cells):
+    return [hold.width for hold in holds_of(mapping, cells)]
+
+
 RULES = {'split': split_blobs, 'byteswap': byteswap_blobs, 'bytesplit': bytesplit_blobs}
 
 
@@ -181,7 +195,7 @@ def blobs_of(mapping, cells, extents):
     """The blobs of a mapping over these cells, their owners by rows and by numbers of cells."""
     form = mapping[0]
     if form in BLOBS:
-        return BLOBS[form](mapping[1], rows_by_slot(mapping[2], extents), [WIDTHS[cell.kind] for cell in cells])
+        return BLOBS[form](mapping[1], rows_by_slot(mapping[2], extents), bits_taken(mapping, cells))
     if form in RULES:
         return RULES[form](mapping, cells, extents)
     (inner, below), = parts_of(mapping, cells)
@@ -192,7 +206,7 @@ def lengths_of(mapping, cells, extents):
     """The bytes of each blob, without making them."""
     form = mapping[0]
     if form in BLOBS:
-        bits = LENGTHS[form](mapping[1], slots_of(mapping[2], extents), [WIDTHS[cell.kind] for cell in cells])
+        bits = LENGTHS[form](mapping[1], slots_of(mapping[2], extents), bits_taken(mapping, cells))
         return [length // 8 for length in bits]
     return [length for inner, below in parts_of(mapping, cells) for length in lengths_of(inner, below, extents)]
 

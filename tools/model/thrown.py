@@ -8,9 +8,9 @@ from collections import namedtuple
 
 from grammar import SyntaxFault, read_line
 from layouts import product
-from llama_model import declared_range, leaves_of, record_depth
+from llama_model import Fault, declared_range, leaves_of, nameless, record_depth
 from mappings import bad_mapping, holds_of, lengths_of, range_of
-from thrown_texts import Exprs, damaged, deep_expr, one_in, respaced, thrown_dataset, thrown_number, with_comment
+from thrown_texts import TOO_GREAT, Exprs, damaged, deep_expr, one_in, respaced, thrown_dataset, thrown_number, with_comment
 
 Thrown = namedtuple('Thrown', 'words files')
 Table = namedtuple('Table', 'record leaves extents limits mapping wrap')
@@ -22,11 +22,12 @@ MOST_ROWS = 40
 
 
 class Script:
-    """The lines so far, and what they named."""
+    """The lines so far, and what they named. One in three is of version 2."""
 
     def __init__(self, dice):
         self.dice, self.lines, self.files = dice, [], {}
         self.records, self.mappings, self.tables = {}, {}, {}
+        self.version = 2 if one_in(dice, 3) else 1
 
     # names
 
@@ -68,7 +69,7 @@ class Script:
                                      '{ a:u8[1][1][1][1][1][1][1] }', '{ a:u8[1][1][1][1][1][1][1][1] }'])
         self.add(f'record {name} {text}')
         try:
-            _, line = read_line(f'record P {text}'.encode())
+            _, line = self.read(f'record P {text}')
         except SyntaxFault:
             return
         if record_depth(line['record']) <= 8 and 1 <= len(text) and self.leaf_count(line['record']) <= 64:
@@ -83,12 +84,23 @@ class Script:
 
     # mappings
 
-    def base(self):
+    def width(self):
+        return self.dice.choice([1, 2, 7, 8, 13, 24, 32, 33, 63, 64, 64, 64] if self.dice.randrange(60) else [0, 65])
+
+    def widths(self, paths):
+        """The number of a bit mapping, and in version 2 mostly entries behind it."""
+        dice = self.dice
+        if one_in(dice, 5) if self.version == 2 else dice.randrange(150):
+            return str(self.width())
+        paths = [self.under(paths) if dice.randrange(60) else 'z' for _ in range(dice.choice([1, 1, 2, 2, 3, 5]))]
+        return f'{self.width()} {{ {", ".join(f"{path}: {self.width()}" for path in paths)} }}'
+
+    def base(self, paths):
         dice, order = self.dice, self.dice.choice(ORDERS)
         lanes = dice.choice([1, 2, 3, 4, 8, 64] if dice.randrange(60) else [0, 65])
-        width = dice.choice([1, 2, 7, 8, 13, 24, 32, 33, 63, 64, 64, 64] if dice.randrange(60) else [0, 65])
-        return dice.choice([f'aos({dice.choice(["packed", "aligned", "min"])}, {order})', f'soa({dice.choice(["single", "aligned", "multi"])}, {order})', f'aosoa({lanes}, {order})',
-                            f'bitaos({width}, {order})', f'bitsoa({width}, {order})'])
+        bits = f'{dice.choice(["bitaos", "bitsoa"])}({self.widths(paths)}, {order})'
+        return dice.choice([f'aos({dice.choice(["packed", "aligned", "min"])}, {order})', f'soa({dice.choice(["single", "aligned", "multi"])}, {order})', f'aosoa({lanes}, {order})'] +
+                           [bits] * (4 if self.version == 2 else 2))
 
     def under(self, paths):
         """A path of a leaf, or a front of one."""
@@ -99,7 +111,7 @@ class Script:
     def layout(self, depth, paths):
         dice = self.dice
         if depth <= 1 or one_in(dice, 4):
-            return self.known(self.mappings) if self.mappings and one_in(dice, 3) else self.base()
+            return self.known(self.mappings) if self.mappings and one_in(dice, 3) else self.base(paths)
         kind = dice.choice(['split', 'split', 'byteswap', 'bytesplit', 'change'])
         if kind == 'split':
             return f'split({self.under(paths)}, {self.layout(depth - 1, paths)}, {self.layout(depth - 1, paths)})'
@@ -120,16 +132,10 @@ class Script:
     def whole(self, text):
         """The mapping of a text with names replaced, or None."""
         try:
-            _, line = read_line(f'mapping M = {text}'.encode())
-            return self.replaced(line['map'])
-        except (SyntaxFault, KeyError):
+            _, line = self.read(f'mapping M = {text}')
+            return nameless(self, line['map'])
+        except (SyntaxFault, Fault):
             return None
-
-    def replaced(self, mapping):
-        if mapping[0] == 'name':
-            return self.mappings[mapping[1]]
-        return tuple(self.replaced(part) if isinstance(part, tuple) and place >= 1 and not (mapping[0] == 'split' and place == 1) else part
-                     for place, part in enumerate(mapping))
 
     def layout_for(self, leaves):
         """A layout that is mostly accepted over these leaves, and its mapping where it is."""
@@ -144,7 +150,7 @@ class Script:
     def mapping(self):
         name = self.new_name(self.mappings, 'M')
         record = self.dice.choice(sorted(self.records)) if self.records else None
-        text, whole = self.layout_for(leaves_of(self.records[record])) if record else (self.base(), None)
+        text, whole = self.layout_for(leaves_of(self.records[record])) if record else (self.base([]), None)
         self.add(f'mapping {name} = {text}')
         if whole:
             self.mappings[name] = whole
@@ -292,6 +298,9 @@ class Script:
 
     # lines
 
+    def read(self, line):
+        return read_line(line.encode(), self.version)
+
     def add(self, line):
         self.lines.append(line)
 
@@ -304,7 +313,7 @@ class Script:
         if one_in(dice, 10):
             return self.mapping()
         if one_in(dice, 20):
-            return self.add(dice.choice(['', '', '# note', '   ', '\t#', 'nothing', 'print', 'print V V', 'drop 5', '}', '"']) if one_in(dice, 4) else '')
+            return self.add(dice.choice(['', '', '# note', '   ', '\t#', 'nothing', 'print', 'print V V', 'drop 5', '}', '"', 'version 2', 'version 1']) if one_in(dice, 4) else '')
         name = dice.choice(sorted(self.tables))
         act = dice.choice([self.set, self.set, self.update, self.update, self.update, self.kernel, self.kernel, self.reduce, self.reduce, self.copy, self.relayout,
                            self.show, self.show, self.show] + [self.drop] * one_in(dice, 2))
@@ -313,29 +322,41 @@ class Script:
     def rendered(self):
         """The bytes of the script."""
         dice, spaced = self.dice, one_in(self.dice, 3)
-        lines = [with_comment(dice, respaced_or(dice, line) if spaced else line) for line in self.lines]
+        lines = [with_comment(dice, self.respaced(line) if spaced else line) for line in version_lines(dice, self.version) + self.lines]
         if one_in(dice, 60):
             at = dice.randrange(len(lines))
             lines[at] += b' ' * (dice.choice([4096, 4097]) - len(lines[at]))
         end = dice.choice([b'\n', b'\n', b'\n', b'\r\n'])
         return end.join(lines) + (end if dice.randrange(6) else b'')
 
+    def respaced(self, line):
+        """The line with other blanks, where it has no bad token."""
+        try:
+            line.encode('ascii')
+            text = respaced(self.dice, line)
+            same = self.read(text) == self.read(line)
+        except (SyntaxFault, UnicodeEncodeError):
+            return line
+        return text if same else line
 
-def respaced_or(dice, line):
-    """The line with other blanks, where it has no bad token."""
-    try:
-        line.encode('ascii')
-        text = respaced(dice, line)
-        same = read_line(text.encode()) == read_line(line.encode())
-    except (SyntaxFault, UnicodeEncodeError):
-        return line
-    return text if same else line
+
+RIGHT = ['version 2', 'version 2', 'version 02', '\tversion  2 ', 'version 2# note', 'version 2' + ' ' * 4087]
+OTHERS = ['version 1', 'version 1', 'version 001', 'version 2', 'version 0', 'version 3', 'version 12', 'version 4294967295', 'version 4294967296', f'version {TOO_GREAT}', 'version', 'version 2 2',
+          'version two', 'versions 2', 'Version 2', 'version2', 'version 2' + ' ' * 4088]
+
+
+def version_lines(dice, version):
+    """The lines before those of a script: blank ones, and mostly the version line that it needs, or none."""
+    blank = [dice.choice(['', '# note', '# version 2', ' \t']) for _ in range(dice.choice([0, 0, 0, 1, 2]))]
+    if one_in(dice, 16):
+        return blank + [dice.choice(OTHERS)]
+    return blank + ([dice.choice(RIGHT)] if version == 2 else [])
 
 
 def limit_script(dice):
     """A script at or past a limit of lines, bytes or views."""
     views = 'record P { a:u8 }\n' + ''.join(f'view V{number} : P [1] as soa(multi, row)\n' for number in range(64))
-    return dice.choice(['\n' * 65536, '\n' * 65537, '\n' * 65535 + 'print V', '#' * 4096 + '\n', '#' * 4097, ('#' * 1023 + '\n') * 1024, ('#' * 1023 + '\n') * 1024 + '\n',
+    return dice.choice(['\n' * 65536, '\n' * 65537, '\n' * 65535 + 'version 3', '\n' * 65536 + 'version 3', '#' * 4096 + '\nversion 3', '#' * 4097 + '\nversion 3', '\n' * 65535 + 'print V', '#' * 4096 + '\n', '#' * 4097, ('#' * 1023 + '\n') * 1024, ('#' * 1023 + '\n') * 1024 + '\n',
                         views + 'print V63', views + 'view V64 : P [1] as soa(multi, row)', views + 'drop V3\nview V64 : P [1] as soa(multi, row)\nprint V64', '',
                         'record P { a:u8[64] }\nview V : P [1024] as aos(packed, row)\nreduce V sum a[0]\nlayout V', 'record P { a:u64 }\nview V : P [8193] as aos(packed, row)\nbytes V 0']).encode()
 

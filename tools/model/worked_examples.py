@@ -51,6 +51,8 @@ HEATED = ('record P { a:u8, b:u32 } | view V : P [16] as count(heat(64, aosoa(8,
           ' | heat V')
 COPIED = ('record P { a:u8, b:u16 } | view V : P [5] as aosoa(4, row) | update V set a = i0, b = 300 + i0 | view W : P [5] as count(soa(multi, row)) | copy V to W'
           ' | copy W to W | print W | counts W | view X : P [4] as aos(packed, row) | copy V to X')
+CHOSEN = ('record P { a:u16, b:u16, c:u8 } | view V : P [2] as bitaos(8 { a: 12, b: 4 }, row) | set V[0].a = 2748 | set V[0].b = 13 | set V[0].c = 239'
+          ' | bytes V 0 | set V[0].b = 16')
 
 
 def lines(text):
@@ -127,6 +129,11 @@ EXAMPLES = [
 EXAMPLES += [
     (three('aos(aligned, row)').replace('bytes V 0', 'layout V'), b'', DRAWN, 0),
     (HEATED, b'', 'leaf,reads,writes | a,16,16 | b,0,8 | blob,granule,accesses | 0,0,38 | 0,1,2', 0),
+    ('version 2 | ' + CHOSEN, b'', 'bc da ef 00 00 00 00 00 | line 8: Narrow record 0 leaf b', 1),
+    (CHOSEN, b'', 'line 2: Syntax column 28', 1),
+    ('version 3', b'', 'line 1: BadVersion', 1),
+    ('record P { a:u8 } | version 2', b'', 'line 2: Syntax column 1', 1),
+    ('version 2 | ' + CHOSEN.replace('b: 4', 'z: 4'), b'', 'line 3: BadMapping Field', 1),
     (COPIED, b'', 'a,b | 0,300 | 1,301 | 2,302 | 3,303 | 4,304 | leaf,reads,writes | a,10,10 | b,10,10 | line 10: Mismatch', 1),
 ]
 

@@ -3,6 +3,8 @@ use Rattle.std.specs.Prelude.{ℕ, List, [], ◌∷◌, Option, Some, None, if�
 use Rattle.extents.specs.declared.order.Order.TheVariants.{Row, Col, Morton}
 use Rattle.places.specs.declared.forms.AosForm.TheVariants.{Packed}
 use Rattle.places.specs.declared.forms.SoaForm.TheVariants.{Aligned, Multi}
+use Rattle.record_dim.specs.declared.path.PathStep.TheVariants.{Name as Named}
+use Rattle.map_expr.specs.declared.widths.FieldWidth.{FieldWidth}
 use Rattle.map_expr.specs.Terms as terms
 use Rattle.bench_layouts.specs.declared.form.Form.{Form}
 use Rattle.bench_layouts.specs.declared.form.Form.TheVariants as form
@@ -24,13 +26,22 @@ form_named text =
     else (if bytes_eq text (codes "bitsoa_9") then Some form.BitSoa9
     else (if bytes_eq text (codes "bitsoa_23") then Some form.BitSoa23
     else (if bytes_eq text (codes "bitsoa_57") then Some form.BitSoa57
+    else (if bytes_eq text (codes "bitaos_mixed") then Some form.BitAosMixed
+    else (if bytes_eq text (codes "bitsoa_mixed") then Some form.BitSoaMixed
     else (if bytes_eq text (codes "aos_swap") then Some form.AosSwapped
     else (if bytes_eq text (codes "soa_swap") then Some form.SoaSwapped
     else (if bytes_eq text (codes "aos_split") then Some form.AosSplit
     else (if bytes_eq text (codes "soa_split") then Some form.SoaSplit
     else (if bytes_eq text (codes "aos_morton") then Some form.AosMorton
     else (if bytes_eq text (codes "soa_morton") then Some form.SoaMorton
-    else None))))))))))))))))))
+    else None))))))))))))))))))))
+
+-- a width of the leaves under a field, and those of all leaves but the first
+abbrev pub entry_of : List ℕ → ℕ → FieldWidth
+entry_of name width = record { path = Named name ∷ []; width = width }
+
+abbrev pub mixed_widths : List FieldWidth
+mixed_widths = entry_of (codes "b") 11 ∷ entry_of (codes "c") 23 ∷ entry_of (codes "d") 57 ∷ []
 
 -- packed records, an array for each leaf, or blocks of 8 lanes, by rows, by columns or in Morton order; in bits, swapped or split by rows
 abbrev pub form_term : Form → terms.Term
@@ -41,12 +52,14 @@ form_term form.Aosoa = terms.Aosoa 8 Row
 form_term form.AosByColumns = terms.Aos Packed Col
 form_term form.SoaByColumns = terms.Soa Aligned Col
 form_term form.AosoaByColumns = terms.Aosoa 8 Col
-form_term form.BitAos9 = terms.BitAos 9 Row
-form_term form.BitAos23 = terms.BitAos 23 Row
-form_term form.BitAos57 = terms.BitAos 57 Row
-form_term form.BitSoa9 = terms.BitSoa 9 Row
-form_term form.BitSoa23 = terms.BitSoa 23 Row
-form_term form.BitSoa57 = terms.BitSoa 57 Row
+form_term form.BitAos9 = terms.BitAos 9 [] Row
+form_term form.BitAos23 = terms.BitAos 23 [] Row
+form_term form.BitAos57 = terms.BitAos 57 [] Row
+form_term form.BitSoa9 = terms.BitSoa 9 [] Row
+form_term form.BitSoa23 = terms.BitSoa 23 [] Row
+form_term form.BitSoa57 = terms.BitSoa 57 [] Row
+form_term form.BitAosMixed = terms.BitAos 9 mixed_widths Row
+form_term form.BitSoaMixed = terms.BitSoa 9 mixed_widths Row
 form_term form.AosSwapped = terms.Byteswap (terms.Aos Packed Row)
 form_term form.SoaSwapped = terms.Byteswap (terms.Soa Multi Row)
 form_term form.AosSplit = terms.Bytesplit (terms.Aos Packed Row)

@@ -1,14 +1,16 @@
 // The mapping expressions of the forms.
-ghost use Rattle.std.specs.Prelude.{◌≡◌, IfOk};
+ghost use Rattle.std.specs.Prelude.{◌≡◌, IfOk, IsTrue};
+ghost use Rattle.record_dim.specs.Names.{is_name};
 ghost use Rattle.places.specs.declared.forms.AosForm.TheVariants.{Packed};
 ghost use Rattle.map_expr.specs.Terms.{term_of, Aos, Soa, Aosoa, BitAos, BitSoa, Byteswap, Bytesplit};
 ghost use Rattle.map_checks.specs.Mappings.{IsBuiltTerm};
-ghost use Rattle.bench_layouts.specs.Forms.{form_term};
+ghost use Rattle.bench_layouts.specs.Forms.{entry_of, form_term, mixed_widths};
 
 use crate::form::Form;
 use extents::Order;
-use map_expr::MapExpr;
+use map_expr::{FieldWidth, MapExpr, WidthList};
 use places::{AosForm, SoaForm};
+use record_dim::{Name, Path};
 use std::alloc::{AllocError as NoMemory, Global};
 
 /// The expression of a form.
@@ -24,12 +26,14 @@ pub fn expr_of(alloc: Global, form: Form) -> Result<MapExpr, NoMemory>
         Form::AosByColumns => Ok(packed(Order::Col)),
         Form::SoaByColumns => Ok(arrays(SoaForm::Aligned, Order::Col)),
         Form::AosoaByColumns => Ok(blocks(Order::Col)),
-        Form::BitAos9 => Ok(bit_records(9)),
-        Form::BitAos23 => Ok(bit_records(23)),
-        Form::BitAos57 => Ok(bit_records(57)),
-        Form::BitSoa9 => Ok(bit_arrays(9)),
-        Form::BitSoa23 => Ok(bit_arrays(23)),
-        Form::BitSoa57 => Ok(bit_arrays(57)),
+        Form::BitAos9 => Ok(bit_records(9, WidthList::new(alloc))),
+        Form::BitAos23 => Ok(bit_records(23, WidthList::new(alloc))),
+        Form::BitAos57 => Ok(bit_records(57, WidthList::new(alloc))),
+        Form::BitSoa9 => Ok(bit_arrays(9, WidthList::new(alloc))),
+        Form::BitSoa23 => Ok(bit_arrays(23, WidthList::new(alloc))),
+        Form::BitSoa57 => Ok(bit_arrays(57, WidthList::new(alloc))),
+        Form::BitAosMixed => Ok(bit_records(9, mixed_widths(alloc)?)),
+        Form::BitSoaMixed => Ok(bit_arrays(9, mixed_widths(alloc)?)),
         Form::AosSwapped => swapped(alloc, packed(Order::Row)),
         Form::SoaSwapped => swapped(alloc, arrays(SoaForm::Multi, Order::Row)),
         Form::AosSplit => split(alloc, packed(Order::Row)),
@@ -60,22 +64,47 @@ fn blocks(order: Order) -> MapExpr
     MapExpr::Aosoa { lanes: 8, order }
 }
 
-fn bit_records(width: u32) -> MapExpr
-    ensures { term_of result ≡ BitAos width Order.Row }
+fn bit_records(width: u32, fields: WidthList) -> MapExpr
+    ensures { term_of result ≡ BitAos width fields Order.Row }
 {
     MapExpr::BitAos {
         width,
+        fields,
         order: Order::Row,
     }
 }
 
-fn bit_arrays(width: u32) -> MapExpr
-    ensures { term_of result ≡ BitSoa width Order.Row }
+fn bit_arrays(width: u32, fields: WidthList) -> MapExpr
+    ensures { term_of result ≡ BitSoa width fields Order.Row }
 {
     MapExpr::BitSoa {
         width,
+        fields,
         order: Order::Row,
     }
+}
+
+// Widths for all leaves but the first.
+fn mixed_widths(alloc: Global) -> Result<WidthList, NoMemory>
+    ensures { IfOk result (λ fields. fields ≡ mixed_widths) }
+{
+    let mut fields = WidthList::new(alloc);
+    fields.push(entry_of(alloc, "b", 11)?)?;
+    fields.push(entry_of(alloc, "c", 23)?)?;
+    fields.push(entry_of(alloc, "d", 57)?)?;
+    Ok(fields)
+}
+
+// The width of the leaves under a field.
+fn entry_of(alloc: Global, name: &str, width: u32) -> Result<FieldWidth, NoMemory>
+    requires { IsTrue (is_name name.now) }
+    ensures { IfOk result (λ entry. entry ≡ entry_of name.now width) }
+{
+    let Some(name) = Name::new(name) else {
+        unreachable!()
+    };
+    let path = Path::new(alloc, name)?;
+    Ok(FieldWidth { path, width })
 }
 
 fn swapped(alloc: Global, inner: MapExpr) -> Result<MapExpr, NoMemory>

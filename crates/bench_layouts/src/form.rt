@@ -23,6 +23,9 @@ pub enum Form {
     BitSoa9,
     BitSoa23,
     BitSoa57,
+    /// Packed records, and a blob for each leaf, each leaf in bits of its own: 8, 11, 23 and 57.
+    BitAosMixed,
+    BitSoaMixed,
     /// Packed records, and a blob for each leaf, with the bytes of each value in reverse order.
     AosSwapped,
     SoaSwapped,
@@ -53,6 +56,8 @@ impl Form {
             "bitsoa_9" => Some(Form::BitSoa9),
             "bitsoa_23" => Some(Form::BitSoa23),
             "bitsoa_57" => Some(Form::BitSoa57),
+            "bitaos_mixed" => Some(Form::BitAosMixed),
+            "bitsoa_mixed" => Some(Form::BitSoaMixed),
             "aos_swap" => Some(Form::AosSwapped),
             "soa_swap" => Some(Form::SoaSwapped),
             "aos_split" => Some(Form::AosSplit),

@@ -24,8 +24,8 @@ pub nameless_built : (term : Term) → is_nameless term ≡ true → IsBuiltTerm
 nameless_built (Aos form order) e = tt
 nameless_built (Soa form order) e = tt
 nameless_built (Aosoa lanes order) e = tt
-nameless_built (BitAos width order) e = tt
-nameless_built (BitSoa width order) e = tt
+nameless_built (BitAos width fields order) e = tt
+nameless_built (BitSoa width fields order) e = tt
 nameless_built (Split path first rest) e =
     let names = both (is_nameless first) (is_nameless rest) e in
     (nameless_built first names.0, nameless_built rest names.1)
@@ -41,8 +41,8 @@ pub nameless_term : (term : Term) → is_nameless term ≡ true → IsNameless t
 nameless_term (Aos form order) e = tt
 nameless_term (Soa form order) e = tt
 nameless_term (Aosoa lanes order) e = tt
-nameless_term (BitAos width order) e = tt
-nameless_term (BitSoa width order) e = tt
+nameless_term (BitAos width fields order) e = tt
+nameless_term (BitSoa width fields order) e = tt
 nameless_term (Split path first rest) e =
     let names = both (is_nameless first) (is_nameless rest) e in
     (nameless_term first names.0, nameless_term rest names.1)

@@ -1,5 +1,5 @@
 -- No leaf is stored in more than 64 bits, whatever the mapping.
-use Rattle.std.proofs.Common.{ℕ, zero, suc, ◌≤◌, Bool, true, false, List, [], ◌∷◌, min, length, replicate, arith}
+use Rattle.std.proofs.Common.{ℕ, zero, suc, ◌≤◌, Bool, true, false, List, [], ◌∷◌, min, arith}
 use Rattle.record_dim.specs.LeafTypes.{width_of}
 use Rattle.record_dim.specs.Trees.{Fields}
 use Rattle.places.specs.Holds.{hold_of, hold_within, full_holds, narrow_holds}
@@ -12,6 +12,7 @@ use Rattle.map_bytes.specs.Cells.{changed}
 use Rattle.map_split.specs.Sides.{merged}
 use Rattle.map_checks.specs.Sides.{side_of, cells_under, cells_beside}
 use Rattle.map_checks.specs.Mappings.{leaf_cells, holds_of}
+use Rattle.map_checks.specs.Widths.{cell_widths}
 use Rattle.views.specs.Tables.{Table, leaf_types_of, table_holds}
 
 -- no hold of a list has more
@@ -50,8 +51,8 @@ holds_few : (term : Term) (fields : Fields) (cells : List Cell) → AreFew (hold
 holds_few (Aos form order) fields cells = full_few cells
 holds_few (Soa form order) fields cells = full_few cells
 holds_few (Aosoa lanes order) fields cells = full_few cells
-holds_few (BitAos width order) fields cells = narrow_few (replicate (length cells) width) cells
-holds_few (BitSoa width order) fields cells = narrow_few (replicate (length cells) width) cells
+holds_few (BitAos width entries order) fields cells = narrow_few (cell_widths fields width entries cells) cells
+holds_few (BitSoa width entries order) fields cells = narrow_few (cell_widths fields width entries cells) cells
 holds_few (Split path first rest) fields cells =
     let under = cells_under fields path cells in
     let beside = cells_beside fields path cells in

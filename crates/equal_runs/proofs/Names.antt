@@ -24,5 +24,5 @@ nameless_told mappings (Named name) = known_told name (found name mappings)
 nameless_told mappings (Aos form order) = goes (Aos form order) tt
 nameless_told mappings (Soa form order) = goes (Soa form order) tt
 nameless_told mappings (Aosoa lanes order) = goes (Aosoa lanes order) tt
-nameless_told mappings (BitAos width order) = goes (BitAos width order) tt
-nameless_told mappings (BitSoa width order) = goes (BitSoa width order) tt
+nameless_told mappings (BitAos width fields order) = goes (BitAos width fields order) tt
+nameless_told mappings (BitSoa width fields order) = goes (BitSoa width fields order) tt

@@ -17,6 +17,7 @@ pub fn words_of(fault: &CommandFault) -> Words<'_>
         CommandFault::Syntax { column } => words("Syntax column ", Detail::Count(*column)),
         CommandFault::TooDeep => name_alone("TooDeep"),
         CommandFault::LineTooLong => name_alone("LineTooLong"),
+        CommandFault::BadVersion => name_alone("BadVersion"),
         CommandFault::ScriptTooLong => name_alone("ScriptTooLong"),
         CommandFault::TooBig => name_alone("TooBig"),
         CommandFault::BadIndex => name_alone("BadIndex"),
@@ -118,6 +119,7 @@ fn mapping_words(bad: BadMapping) -> &'static str
         BadMapping::Width => "Width",
         BadMapping::Granule => "Granule",
         BadMapping::Side => "Side",
+        BadMapping::Field => "Field",
         BadMapping::NotFull => "NotFull",
     }
 }

@@ -7,7 +7,7 @@ use crate::forms::{fault_answer, no_form};
 use crate::row::LoggedRow;
 use expr_lang::{BindFault, Bound, EvalFault, Expr, bind, eval};
 use record_dim::{MakeSchema, PathStep, Schema};
-use schema_lang::{Line, LineFault, MAX_LINE_BYTES, parse_line};
+use schema_lang::{Line, LineFault, MAX_LINE_BYTES, Version, parse_line};
 use std::alloc::{AllocError as NoMemory, Global};
 use std::marker::Brand;
 use std::sync::ledger::{Blank, Ledger};
@@ -20,7 +20,11 @@ struct Place {
     index: Vec<u64>,
 }
 
-pub(crate) fn value_answer(alloc: Global, asked: &[u8]) -> Result<String, NoMemory> {
+pub(crate) fn value_answer(
+    alloc: Global,
+    version: Version,
+    asked: &[u8],
+) -> Result<String, NoMemory> {
     let Some((words, expr)) = str::from_utf8(asked).unwrap_or("").split_once(" : ") else {
         return no_form(alloc);
     };
@@ -33,7 +37,7 @@ pub(crate) fn value_answer(alloc: Global, asked: &[u8]) -> Result<String, NoMemo
     if text.len() > MAX_LINE_BYTES {
         return no_form(alloc);
     }
-    match parse_line(alloc, text.as_slice()) {
+    match parse_line(alloc, text.as_slice(), version) {
         Ok(Line::Count { view: _, filter }) => bound_answer(alloc, &filter, &place),
         Ok(_) => no_form(alloc),
         Err(fault) => fault_answer(alloc, fault),
@@ -77,7 +81,7 @@ fn bound_answer(alloc: Global, expr: &Expr, place: &Place) -> Result<String, NoM
 
 // a:i64, b:i64
 fn schema(alloc: Global) -> Result<Option<Schema>, NoMemory> {
-    match parse_line(alloc, b"record P { a:i64, b:i64 }") {
+    match parse_line(alloc, b"record P { a:i64, b:i64 }", Version::One) {
         Ok(line) => schema_of(alloc, line),
         Err(LineFault::NoMemory) => Err(NoMemory),
         Err(_) => Ok(None),

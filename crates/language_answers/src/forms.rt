@@ -8,35 +8,64 @@
 //! | `nested COUNT HEAD\|FRONT\|MIDDLE\|BACK` | `line`, or the fault, of HEAD, COUNT of FRONT, MIDDLE and COUNT of BACK |
 //! | `chain HEAD\|PART\|TAIL` | the same of 4,096 bytes: HEAD, as many PART as there is room for, TAIL, and spaces |
 //! | `written HEAD\|PART\|TAIL` | the canonical text of these 4,096 bytes |
-//! | any other line | its canonical text, or its fault with the column |
+//! | `version_of TEXT` | the number of the version line TEXT, or `none` |
+//! | `is_blank TEXT` | whether TEXT has no token: `yes` or `no` |
+//! | `two ASKED` | the answer to ASKED, its lines read in version 2 of the language |
+//! | any other line | its canonical text in version 1, or its fault with the column |
 
 use crate::expressions::value_answer;
 use crate::repeats::{chain_answer, nested_answer, written_answer};
 use crate::tokens::{next_answer, tokens_answer};
 use line_writer::write_line;
-use schema_lang::{LineFault, MAX_LINE_BYTES, parse_line};
+use schema_lang::{LineFault, MAX_LINE_BYTES, Version, is_blank, parse_line, version_of};
 use std::alloc::{AllocError as NoMemory, Global};
 
 /// The answer to a line of stdin.
 pub(crate) fn answer(alloc: Global, asked: &[u8]) -> Result<String, NoMemory> {
     let (word, rest) = cut(asked, b' ');
     match str::from_utf8(word).unwrap_or("") {
+        "two" => answer_in(alloc, Version::Two, rest),
+        _ => answer_in(alloc, Version::One, asked),
+    }
+}
+
+// The answer, where lines are of this version.
+fn answer_in(alloc: Global, version: Version, asked: &[u8]) -> Result<String, NoMemory> {
+    let (word, rest) = cut(asked, b' ');
+    match str::from_utf8(word).unwrap_or("") {
         "next" => next_answer(alloc, rest),
         "tokens" => tokens_answer(alloc, rest),
-        "value" => value_answer(alloc, rest),
-        "nested" => nested_answer(alloc, rest),
-        "chain" => chain_answer(alloc, rest),
-        "written" => written_answer(alloc, rest),
-        _ => text_answer(alloc, asked),
+        "value" => value_answer(alloc, version, rest),
+        "nested" => nested_answer(alloc, version, rest),
+        "chain" => chain_answer(alloc, version, rest),
+        "written" => written_answer(alloc, version, rest),
+        "version_of" => version_answer(alloc, rest),
+        "is_blank" => String::from_str(alloc, if is_blank(rest) { "yes" } else { "no" }),
+        _ => text_answer(alloc, version, asked),
+    }
+}
+
+// The number of a version line.
+fn version_answer(alloc: Global, text: &[u8]) -> Result<String, NoMemory> {
+    if text.len() > MAX_LINE_BYTES {
+        return no_form(alloc);
+    }
+    match version_of(text) {
+        Some(number) => format!(in alloc; "{number}"),
+        None => String::from_str(alloc, "none"),
     }
 }
 
 /// The canonical text of a line, or its fault.
-pub(crate) fn text_answer(alloc: Global, text: &[u8]) -> Result<String, NoMemory> {
+pub(crate) fn text_answer(
+    alloc: Global,
+    version: Version,
+    text: &[u8],
+) -> Result<String, NoMemory> {
     if text.len() > MAX_LINE_BYTES {
         return String::from_str(alloc, "LineTooLong");
     }
-    match parse_line(alloc, text) {
+    match parse_line(alloc, text, version) {
         Ok(line) => String::from_str(alloc, write_line(alloc, &line)?.as_str()),
         Err(fault) => fault_answer(alloc, fault),
     }

@@ -1,9 +1,13 @@
 // Lines that are made of one part many times.
 use crate::forms::{cut, fault_answer, no_form, number_of, text_answer};
-use schema_lang::{MAX_LINE_BYTES, parse_line};
+use schema_lang::{MAX_LINE_BYTES, Version, parse_line};
 use std::alloc::{AllocError as NoMemory, Global};
 
-pub(crate) fn nested_answer(alloc: Global, asked: &[u8]) -> Result<String, NoMemory> {
+pub(crate) fn nested_answer(
+    alloc: Global,
+    version: Version,
+    asked: &[u8],
+) -> Result<String, NoMemory> {
     let (count, parts) = cut(asked, b' ');
     let Some(count) = number_of(count) else {
         return no_form(alloc);
@@ -16,15 +20,23 @@ pub(crate) fn nested_answer(alloc: Global, asked: &[u8]) -> Result<String, NoMem
     push_many(&mut text, front, count)?;
     text.extend_from_slice(middle)?;
     push_many(&mut text, back, count)?;
-    short_answer(alloc, text.as_slice())
+    short_answer(alloc, version, text.as_slice())
 }
 
-pub(crate) fn chain_answer(alloc: Global, asked: &[u8]) -> Result<String, NoMemory> {
-    short_answer(alloc, chain(alloc, asked)?.as_slice())
+pub(crate) fn chain_answer(
+    alloc: Global,
+    version: Version,
+    asked: &[u8],
+) -> Result<String, NoMemory> {
+    short_answer(alloc, version, chain(alloc, asked)?.as_slice())
 }
 
-pub(crate) fn written_answer(alloc: Global, asked: &[u8]) -> Result<String, NoMemory> {
-    text_answer(alloc, chain(alloc, asked)?.as_slice())
+pub(crate) fn written_answer(
+    alloc: Global,
+    version: Version,
+    asked: &[u8],
+) -> Result<String, NoMemory> {
+    text_answer(alloc, version, chain(alloc, asked)?.as_slice())
 }
 
 // Head, as many parts as there is room for, tail, and spaces.
@@ -51,11 +63,11 @@ fn push_many(text: &mut Vec<u8>, part: &[u8], count: usize) -> Result<(), NoMemo
 }
 
 // `line`, or the fault.
-fn short_answer(alloc: Global, text: &[u8]) -> Result<String, NoMemory> {
+fn short_answer(alloc: Global, version: Version, text: &[u8]) -> Result<String, NoMemory> {
     if text.len() > MAX_LINE_BYTES {
         return no_form(alloc);
     }
-    match parse_line(alloc, text) {
+    match parse_line(alloc, text, version) {
         Ok(_) => String::from_str(alloc, "line"),
         Err(fault) => fault_answer(alloc, fault),
     }

@@ -1,10 +1,10 @@
 -- The runs of scripts that are within the limits are those over their lines.
-use Rattle.std.proofs.Common.{◌≡◌, ℕ, ◌≤◌, ◌^◌, Bool, false, ltb, List, length, Option, None, sym, ap, ◌∙◌, arith}
+use Rattle.std.proofs.Common.{◌≡◌, ℕ, ◌≤◌, ◌^◌, Bool, false, ltb, List, length, Option, None, Some, sym, ap, ◌∙◌, arith}
 use Rattle.std.specs.Prelude.{if◌then◌else◌, Result}
 use Rattle.std.proofs.lemmas.Bool.Decides.{nat_tests}
 use Rattle.layout_io.specs.Files.{File, file_of}
 use Rattle.line_grammar.specs.Sentences.{Sentence, deepest}
-use Rattle.line_grammar.specs.declared.version.Version.TheVariants.{One}
+use Rattle.line_grammar.specs.declared.version.Version.{Version}
 use Rattle.schema_lang.specs.LineOf.{line_of}
 use Rattle.worlds.specs.Worlds.{World, empty}
 use Rattle.worlds.specs.Outcomes.{Outcome, Faults, Left}
@@ -13,37 +13,48 @@ use Rattle.worlds.specs.declared.fault.CommandFault.TheVariants.{LineTooLong, To
 use Rattle.script_runs.specs.Fold.{run_from, fails_at}
 use Rattle.equal_runs.specs.EqualRuns.{DoesLines, EqualRuns}
 use Rattle.layout_cli.specs.Steps.{step_text, step_line}
-use Rattle.layout_cli.specs.Run.{run_file, run_script, run_form, faulted, script_lines}
+use Rattle.layout_cli.specs.Run.{run_file, run_script, run_form, run_headed, run_versioned, faulted, script_lines, version_line, version_said, without_version}
 use Rattle.layout_cli.specs.EqualScripts.{IsScript, EqualScripts}
+use Rattle.layout_cli.specs.Heads.{RunsUnversioned}
 
 -- a text that is a line within the limits does what the line does
-pub text_does : (files : List File) → DoesLines One files (step_text One files)
-text_does files world text line unread is =
+pub text_does : (version : Version) (files : List File) → DoesLines version files (step_text version files)
+text_does version files world text line unread is =
     let short : ltb 4096 (length text) ≡ false = below 4096 (length text) is.short in
     let shallow : ltb 32 (deepest line) ≡ false = below 32 (deepest line) is.shallow in
-    ap (λ (b : Bool). if b then Faults LineTooLong else step_line files world (line_of One text) unread) short
+    ap (λ (b : Bool). if b then Faults LineTooLong else step_line files world (line_of version text) unread) short
     ∙ ap (λ (read : Result Sentence ℕ). step_line files world read unread) is.parsed
     ∙ ap (λ (b : Bool). if b then Faults TooDeep else step world line files unread) shallow
   where
     below : (limit n : ℕ) → n ≤ limit → ltb limit n ≡ false
     below limit n few = grind (arith, nat_tests)
 
--- a script within the limits is run line by line
-script_run : (files : List File) (name : List ℕ) (lines : List Sentence) (unread : Option ℕ) (is : IsScript files name lines) → fails_at unread 0 ≡ false
-    → run_file name files unread ≡ run_from (step_text One files) 1 empty (script_lines is.script) unread
+-- a script within the limits is run line by line, in the version that it says
+script_run : (files : List File) (name : List ℕ) (head : Option (ℕ × ℕ)) (version : Version) (lines : List Sentence) (unread : Option ℕ) (is : IsScript files name head version lines) → fails_at unread 0 ≡ false → version_said head ≡ Some version
+    → run_file name files unread ≡ run_from (step_text version files) 1 empty (without_version head (script_lines is.script)) unread
 unfolding run_form
-script_run files name lines unread is reads =
+script_run files name head version lines unread is reads said =
+    let all = script_lines is.script in
     let short : ltb (2 ^ 20) (length is.script) ≡ false = below (2 ^ 20) (length is.script) is.short in
-    let few : ltb 65536 (length (script_lines is.script)) ≡ false = below 65536 (length (script_lines is.script)) is.few in
+    let few : ltb 65536 (length all) ≡ false = below 65536 (length all) is.few in
     ap (λ (b : Bool). run_script name (if b then None else file_of files name) files unread) reads ∙ ap (λ file. run_script name file files unread) is.there
     ∙ ap (λ (b : Bool). if b then faulted 0 ScriptTooLong else run_form is.script files unread) short
-    ∙ ap (λ (b : Bool). if b then faulted 0 ScriptTooLong else run_from (step_text One files) 1 empty (script_lines is.script) unread) few
+    ∙ ap (λ (b : Bool). if b then faulted 0 ScriptTooLong else run_headed (version_line all) files all unread) few
+    ∙ ap (λ (h : Option (ℕ × ℕ)). run_headed h files all unread) is.headed
+    ∙ ap (λ (v : Option Version). run_versioned v head files all unread) said
   where
     below : (limit n : ℕ) → n ≤ limit → ltb limit n ≡ false
     below limit n few = grind (arith, nat_tests)
 
-pub equal_scripts_from : ((files : List File) (outcome : World → List ℕ → Bool → Outcome Left) → DoesLines One files outcome → EqualRuns One files outcome) → (files : List File) → EqualScripts files
-equal_scripts_from equal files name other lines others unread reads is also differ =
-    script_run files name lines unread is reads
-    ∙ equal files (step_text One files) (text_does files) (script_lines is.script) (script_lines also.script) lines others unread is.lines_are also.lines_are differ
-    ∙ sym (script_run files other others unread also reads)
+pub equal_scripts_from : ((version : Version) (files : List File) (outcome : World → List ℕ → Bool → Outcome Left) → DoesLines version files outcome → EqualRuns version files outcome) → (files : List File) → EqualScripts files
+equal_scripts_from equal files name other head version lines others unread reads said is also differ =
+    script_run files name head version lines unread is reads said
+    ∙ equal version files (step_text version files) (text_does version files) (without_version head (script_lines is.script)) (without_version head (script_lines also.script)) lines others unread is.lines_are also.lines_are differ
+    ∙ sym (script_run files other head version others unread also reads said)
+
+-- a script without a version line
+pub runs_unversioned : (script : List ℕ) (files : List File) → RunsUnversioned script files
+unfolding run_form
+runs_unversioned script files unread none =
+    let lines = script_lines script in
+    ap (λ (head : Option (ℕ × ℕ)). if ltb 65536 (length lines) then faulted 0 ScriptTooLong else run_headed head files lines unread) none

@@ -1,5 +1,5 @@
 -- The run over the generated script reads no file that is not there, so it ends as a run that reads nothing.
-use Rattle.std.proofs.Common.{◌≡◌, ℕ, ◌+◌, ◌≤◌, Bool, true, false, inl, ⊎_elim, List, [], ◌∷◌, length, Option, None, Some, Result, Ok, Err, refl, sym, ap, subst, ◌∙◌, arith}
+use Rattle.std.proofs.Common.{◌≡◌, ℕ, ◌+◌, ◌≤◌, Bool, true, false, inl, ⊎_elim, List, [], ◌∷◌, get_or, drop, length, Option, None, Some, Result, Ok, Err, refl, sym, ap, subst, ◌∙◌, arith, lit≤}
 use Rattle.std.specs.Prelude.{if◌then◌else◌, nat_lt}
 use Rattle.std.specs.List.{AllByRecursion}
 use Rattle.layout_io.specs.Faults.{Rose}
@@ -9,26 +9,23 @@ use Rattle.schema_lang.specs.LineOf.{line_of}
 use Rattle.worlds.specs.Worlds.{World, empty}
 use Rattle.worlds.specs.Outcomes.{Outcome, Goes, Faults, CannotRead, Left}
 use Rattle.worlds.specs.declared.fault.CommandFault.TheVariants.{LineTooLong, TooDeep, ScriptTooLong}
-use Rattle.script_runs.specs.Outcome.{Output, End, Misused, Unread, Gives, IsText}
-use Rattle.script_runs.specs.Fold.{run_from, after, fails_at}
+use Rattle.script_runs.specs.Outcome.{Output, End, Unread, Gives, IsText}
+use Rattle.script_runs.specs.Fold.{run_from, after}
 use Rattle.script_runs.specs.Answers.{Answers, IsRun, HasCause, HasSinkCause}
 use Rattle.script_runs.specs.declared.status.Status.{Status}
 use Rattle.script_runs.specs.declared.status.Status.TheVariants.{Done, CommandFault, Usage, SourceFault, SinkFault, NoMemory}
 use Rattle.generator.specs.Generated.{script_text, dataset_text, generated_lines, generated_files}
 use Rattle.line_grammar.specs.declared.version.Version.TheVariants.{One}
 use Rattle.layout_cli.specs.Steps.{step_text, step_line}
-use Rattle.layout_cli.specs.Run.{run, run_file, run_words, run_form, run_generated, script_name, gen_words, script_lines, faulted}
+use Rattle.layout_cli.specs.Run.{run, run_file, run_words, run_form, run_headed, run_generated, script_name, gen_words, script_lines, version_line, faulted}
 use Rattle.layout_cli.proofs.ScriptLines.{script_lines_are}
 use Rattle.layout_cli.proofs.FileLines.{ReadsDataset, lines_read}
+use Rattle.layout_cli.proofs.Heads.{said_first}
 use Rattle.layout_cli.proofs.Readable.{IsReadable, goes, faults, refused_or, step_reads}
 
 abbrev IsUnread : End → Type 0
 IsUnread (Unread line) = Unit {0}
 IsUnread end = ⊥
-
-abbrev IsMisused : End → Type 0
-IsMisused Misused = Unit {0}
-IsMisused end = ⊥
 
 -- lines that can read what they read
 run_reads : (outcome : World → List ℕ → Bool → Outcome Left) (lines : List (List ℕ)) → AllByRecursion (λ text. (world : World) → IsReadable (outcome world text false)) lines
@@ -41,16 +38,6 @@ run_reads outcome (text ∷ lines) reads number world unread =
       of_outcome below (Faults _) (faults fault) unread = unread
       of_outcome below (CannotRead _) is unread = elim is [ ]
 
--- no run over lines is one of other words
-run_used : (outcome : World → List ℕ → Bool → Outcome Left) (lines : List (List ℕ)) (unread : Option ℕ) (number : ℕ) (world : World) → IsMisused (run_from outcome number world lines unread).end → ⊥
-run_used outcome [] unread number world misused = misused
-run_used outcome (text ∷ lines) unread number world misused =
-    of_outcome (λ next. run_used outcome lines unread (number + 1) next) (outcome world text (fails_at unread number)) misused where
-      of_outcome : ((next : World) → IsMisused (run_from outcome (number + 1) next lines unread).end → ⊥) → (o : Outcome Left) → IsMisused (after number o (λ next. run_from outcome (number + 1) next lines unread)).end → ⊥
-      of_outcome below (Goes left) misused = below left.held misused
-      of_outcome below (Faults fault) misused = misused
-      of_outcome below (CannotRead name) misused = misused
-
 -- a line that reads the dataset, if a file
 text_reads : (dataset text : List ℕ) → ReadsDataset dataset text → (world : World) → IsReadable (step_text One (generated_files dataset) world text false)
 text_reads dataset text reads world = refused_or (nat_lt 4096 (length text)) LineTooLong (of_read (line_of One text) refl) where
@@ -62,26 +49,27 @@ texts_read : (dataset : List ℕ) (lines : List (List ℕ)) → AllByRecursion (
 texts_read dataset [] reads = tt
 texts_read dataset (text ∷ lines) reads = (text_reads dataset text reads.0, texts_read dataset lines reads.1)
 
+-- the first line of the generated script is a record
+generated_headless : (rows : ℕ) → version_line (generated_lines rows) ≡ None
+generated_headless rows = said_first (get_or (generated_lines rows) 0 []) (drop 1 (generated_lines rows)) None (lit≤ tt) refl refl
+
 -- the end of the run over the generated script
 generated_reads : (rows : ℕ) → rows ≤ 65536 → IsUnread (run_generated rows).end → ⊥
 unfolding run_form
-generated_reads rows few unread = of_test (nat_lt 65536 (length (script_lines (script_text rows)))) unread where
+generated_reads rows few unread = of_test (nat_lt 65536 (length (script_lines (script_text rows)))) (version_line (script_lines (script_text rows))) headless unread where
   dataset : List ℕ
   dataset = dataset_text rows
 
   reads : AllByRecursion (λ text. (world : World) → IsReadable (step_text One (generated_files dataset) world text false)) (script_lines (script_text rows))
   reads = subst (AllByRecursion (λ text. (world : World) → IsReadable (step_text One (generated_files dataset) world text false))) (sym (script_lines_are rows few)) (texts_read dataset (generated_lines rows) (lines_read dataset rows))
 
-  of_test : (test : Bool) → IsUnread (if test then faulted 0 ScriptTooLong else run_from (step_text One (generated_files dataset)) 1 empty (script_lines (script_text rows)) None).end → ⊥
-  of_test true unread = unread
-  of_test false unread = run_reads (step_text One (generated_files dataset)) (script_lines (script_text rows)) reads 1 empty unread
+  headless : version_line (script_lines (script_text rows)) ≡ None
+  headless = ap version_line (script_lines_are rows few) ∙ generated_headless rows
 
-form_used : (script : List ℕ) (files : List File) (unread : Option ℕ) → IsMisused (run_form script files unread).end → ⊥
-unfolding run_form
-form_used script files unread misused = of_test (nat_lt 65536 (length (script_lines script))) misused where
-  of_test : (test : Bool) → IsMisused (if test then faulted 0 ScriptTooLong else run_from (step_text One files) 1 empty (script_lines script) unread).end → ⊥
-  of_test true misused = misused
-  of_test false misused = run_used (step_text One files) (script_lines script) unread 1 empty misused
+  of_test : (test : Bool) (head : Option (ℕ × ℕ)) → head ≡ None → IsUnread (if test then faulted 0 ScriptTooLong else run_headed head (generated_files dataset) (script_lines (script_text rows)) None).end → ⊥
+  of_test true head none unread = unread
+  of_test false (Some found) none unread = absurd (cc)
+  of_test false None none unread = run_reads (step_text One (generated_files dataset)) (script_lines (script_text rows)) reads 1 empty unread
 
 -- no read failed of a shelf that counts none
 unrisen : Rose 0 0 → ⊥
@@ -89,9 +77,6 @@ unrisen rose = omega (arith, rose)
 
 unread_end : (output : Output) (out : List ℕ) (line : ℕ) → Gives output out (Unread line) → IsUnread output.end
 unread_end output out line gives = subst (λ (o : Output). IsUnread o.end) (sym gives) tt
-
-misused_end : (output : Output) (out : List ℕ) → Gives output out Misused → IsMisused output.end
-misused_end output out gives = subst (λ (o : Output). IsMisused o.end) (sym gives) tt
 
 -- where no read fails the text is that of the run in which none does
 text_same : (first whole : Option ℕ → Output) (failed other : Type 0) (text : List ℕ) → whole None ≡ first None → (failed → ⊥) → IsText first failed text → IsText whole other text

@@ -1,3 +1,5 @@
+pub mod Blanks
+pub mod Heads
 pub mod Runs
 pub mod Texts
 pub mod Equals

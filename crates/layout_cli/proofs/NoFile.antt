@@ -11,7 +11,7 @@ use Rattle.line_grammar.specs.declared.line.Command.{Command}
 use Rattle.line_grammar.specs.declared.line.Command.TheVariants as command
 use Rattle.line_grammar.specs.declared.version.Version.{Version}
 use Rattle.schema_lang.specs.Bodies.{line_at, command_at, body_at, define_at, mapping_at, new_at, view_at, assign_at, update_at, kernel_line_at, reduce_at, copy_at, relayout_at, bytes_at}
-use Rattle.line_tokens.specs.declared.sign.Sign.TheVariants.{Colon, Dot, Equals}
+use Rattle.line_tokens.specs.declared.sign.Sign.TheVariants.{Dot, Equals}
 use Rattle.line_phrases.specs.Exprs.{expr_at}
 use Rattle.line_phrases.specs.Fields.{fields_at}
 use Rattle.line_phrases.specs.Lists.{bracket_list_at, fixed_at, listed_at}

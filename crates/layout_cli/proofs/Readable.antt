@@ -94,8 +94,8 @@ nameless_reads mappings (NamedTerm name) = known_reads name mappings
 nameless_reads mappings (Aos form order) = goes _
 nameless_reads mappings (Soa form order) = goes _
 nameless_reads mappings (Aosoa lanes order) = goes _
-nameless_reads mappings (BitAos width order) = goes _
-nameless_reads mappings (BitSoa width order) = goes _
+nameless_reads mappings (BitAos width fields order) = goes _
+nameless_reads mappings (BitSoa width fields order) = goes _
 
 fit_reads : (tree : Tree) → IsReadable (fit tree)
 fit_reads tree = next (caused _ _) (λ good. goes _)

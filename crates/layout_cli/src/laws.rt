@@ -1,9 +1,11 @@
-// Laws of the run of the program: of scripts that differ in their mapping expressions alone, and of what is shown of accesses.
-ghost use Rattle.std.specs.Prelude.{List};
+// Laws of the run of the program: of scripts that differ in their mapping expressions alone, of what is shown of accesses, and of version
+// lines and blank lines.
+ghost use Rattle.std.specs.Prelude.{ℕ, List};
 ghost use Rattle.layout_io.specs.Files.{File};
 ghost use Rattle.equal_runs.specs.Entries.{ShowsEntries};
-ghost use Rattle.line_grammar.specs.declared.version.Version.TheVariants.{One};
+ghost use Rattle.line_grammar.specs.declared.version.Version.{Version};
 ghost use Rattle.layout_cli.specs.EqualScripts.{EqualScripts};
+ghost use Rattle.layout_cli.specs.Heads.{PassesBlanks, RunsUnversioned};
 ghost use Rattle.layout_cli.specs.Steps.{step_text};
 
 use equal_runs::{same_results, shown_entries};
@@ -19,7 +21,18 @@ pub fn equal_scripts()
 /// What a script writes at a `counts` or a `heat` are the accesses that its lines made until then: see `shown_entries`, for what the
 /// program does with the text of a line. It does nothing: its contract is the law.
 pub fn printed_entries()
-    ensures { (files : List File) → ShowsEntries One files (step_text One files) }
+    ensures { (version : Version) (files : List File) → ShowsEntries version files (step_text version files) }
 {
     shown_entries();
 }
+
+/// A script whose first line that is not blank is no version line is run line by line in the first version. It
+/// does nothing: its contract is the law.
+pub fn unversioned_scripts()
+    ensures { (script : List ℕ) (files : List File) → RunsUnversioned script files }
+{}
+
+/// Blank lines do nothing in a run of any version. It does nothing: its contract is the law.
+pub fn blank_lines()
+    ensures { (version : Version) (files : List File) → PassesBlanks version files }
+{}

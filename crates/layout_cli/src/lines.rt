@@ -13,7 +13,7 @@ ghost use Rattle.layout_cli.specs.Steps.{step_text, TellsFile};
 
 use layout_io::{Shelf, Sink};
 use record_dim::Text;
-use schema_lang::{FileName, Line, LineFault, MAX_LINE_BYTES, Version, parse_line_in};
+use schema_lang::{FileName, Line, LineFault, MAX_LINE_BYTES, Version, parse_line};
 use script_runs::{LineEnd, Stepper};
 use session::{CommandFault, Session, StepFault};
 use std::alloc::{AllocError as NoMemory, Global};
@@ -72,7 +72,7 @@ fn do_line<H: Shelf, K: Sink, L: Ledger>(
     if text.len() > MAX_LINE_BYTES {
         return Err(LineEnd::Command(CommandFault::LineTooLong));
     }
-    match parse_line_in(alloc, version, text) {
+    match parse_line(alloc, text, version) {
         Ok(line) => do_command(alloc, session, &line, shelf, sink, steps),
         Err(fault) => match fault {
             LineFault::Syntax { column } => Err(LineEnd::Command(CommandFault::Syntax { column })),

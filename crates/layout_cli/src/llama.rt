@@ -1,12 +1,17 @@
-ghost use Rattle.std.specs.Prelude.{◌≡◌, ◌≢◌, ◌<◌, ◌≤◌, ◌⊎◌, ℕ, List, Option, Some, None, map, string_bytes, option_map, IfSome};
+ghost use Rattle.std.specs.Prelude.{◌≡◌, ◌≢◌, ◌+◌, ◌^◌, ◌<◌, ◌≤◌, ◌⊎◌, ℕ, List, Option, Some, None, length, map, string_bytes, option_map, IfSome};
 ghost use Rattle.csv.specs.Reading.{strip_bom};
 ghost use Rattle.layout_io.specs.Faults.{Rose};
 ghost use Rattle.layout_io.specs.Files.{File};
 ghost use Rattle.layout_io.specs.Writing.{Writes};
 ghost use Rattle.script_runs.specs.Answers.{IsRun, HasCause, HasSinkCause};
-ghost use Rattle.layout_cli.specs.Run.{run, run_file, run_generated, run_form, script_name, gen_words, IsMisuse, usage_text};
+ghost use Rattle.script_runs.specs.Fold.{run_from};
+ghost use Rattle.script_runs.specs.Lines.{lines_in};
+ghost use Rattle.worlds.specs.Worlds.{empty};
+ghost use Rattle.layout_cli.specs.Run.{run, run_file, run_generated, run_form, run_headed, version_line, script_name, gen_words, IsMisuse, usage_text};
+ghost use Rattle.layout_cli.specs.Steps.{step_text};
 
 use crate::lines::Running;
+use crate::version::{version_line, version_numbered};
 use fault_lines::{write_fault, write_unread};
 use generator::{GeneratedShelf, gen_dataset, gen_number, gen_script};
 use layout_io::{Failed, ReadEnd, Shelf, Sink, read_all, write_all};
@@ -145,12 +150,60 @@ fn run_counted<H: Shelf, K: Sink, L: Ledger>(
             Status::CommandFault,
         );
     }
+    run_headed(alloc, lines, shelf, sink, &mut Steps::<L>::new(blank))
+}
+
+// The lines of a script, in the version that its version line says.
+fn run_headed<H: Shelf, K: Sink, L: Ledger>(
+    alloc: Global,
+    lines: &[u8],
+    shelf: &mut H,
+    sink: &mut K,
+    steps: &mut Steps<L>,
+) -> Status
+    requires { length (lines_in lines.now) ≤ 65536 }
+    ensures run { (files : List File) → H.files shelf.old ≡ Some files
+        → IsRun K.taken sink.old sink.new (run_headed (version_line (lines_in lines.now)) files (lines_in lines.now))
+        (Rose (H.faults shelf.old) (H.faults shelf.new)) result }
+    ensures cause { HasCause ⊥ (H.files shelf.old) (H.faults shelf.old) (H.faults shelf.new)
+        (K.faults sink.old) (K.faults sink.new) result }
+{
+    let Some(head) = version_line(lines) else {
+        return run_behind(alloc, Version::One, 0, lines, shelf, sink, steps);
+    };
+    let number = head.before + 1;
+    match version_numbered(head.number) {
+        Some(version) => run_behind(alloc, version, number, head.rest, shelf, sink, steps),
+        None => ended(
+            write_fault(number, &CommandFault::BadVersion, sink),
+            Status::CommandFault,
+        ),
+    }
+}
+
+// The lines behind so many others, which leave nothing, in a version of the language.
+fn run_behind<H: Shelf, K: Sink, L: Ledger>(
+    alloc: Global,
+    version: Version,
+    before: u64,
+    lines: &[u8],
+    shelf: &mut H,
+    sink: &mut K,
+    steps: &mut Steps<L>,
+) -> Status
+    requires { before + length (lines_in lines.now) < 2 ^ 64 }
+    ensures run { (files : List File) → H.files shelf.old ≡ Some files
+        → IsRun K.taken sink.old sink.new (run_from (step_text version files) (before + 1) empty (lines_in lines.now))
+        (Rose (H.faults shelf.old) (H.faults shelf.new)) result }
+    ensures cause { HasCause ⊥ (H.files shelf.old) (H.faults shelf.old) (H.faults shelf.new)
+        (K.faults sink.old) (K.faults sink.new) result }
+{
     let running = Running {
         alloc,
-        version: Version::One,
+        version,
         session: Session::new(alloc),
     };
-    run_lines(running, lines, shelf, sink, &mut Steps::<L>::new(blank))
+    run_lines(running, before, lines, shelf, sink, steps)
 }
 
 // The bytes behind a byte order mark.

@@ -5,6 +5,7 @@
 mod laws;
 mod lines;
 mod llama;
+mod version;
 
 use layout_io::{FileShelf, OutSink};
 use script_runs::Status;

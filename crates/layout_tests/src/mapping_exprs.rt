@@ -12,6 +12,7 @@ use std::test::Fail;
 const MAPPINGS: &str = "\
 mapping M = split ( a , soa ( multi , row ) , bytesplit ( change ( i64 -> i16 , aos ( min , col ) ) ) )\n\
 mapping M = split ( a . b [ 2 ] , bitaos ( 5 , row ) , bitsoa ( 64 , morton ) )\n\
+mapping M = split ( a , bitaos ( 5 { a . b [ 2 ] : 12 , a : 1 } , row ) , bitsoa ( 64 { b : 63 } , col ) )\n\
 mapping M = count ( heat ( 64 , byteswap ( aosoa ( 8 , col ) ) ) )\n\
 mapping M = change ( u8 -> u32 , N )";
 
@@ -24,7 +25,9 @@ mapping M = count(heat(0, count(aosoa(0, morton)))) => a counter stands below a 
 mapping M = byteswap(count(aosoa(1, morton))) => a counter stands below a node that is none, or twice\n\
 mapping M = heat(3, aosoa(0, morton)) => the granule is no power of two from 1 to 4096\n\
 mapping M = heat(8192, aosoa(2, morton)) => the granule is no power of two from 1 to 4096\n\
-mapping M = split(a, bitaos(65, row), aosoa(0, morton)) => the width is not 1 to 64\n\
+mapping M = split(a, bitaos(65, row), aosoa(0, morton)) => a width is not 1 to 64\n\
+mapping M = split(a, bitaos(64 { a: 1, b: 64 }, row), bitsoa(1 { c: 0 }, col)) => a width is not 1 to 64\n\
+mapping M = bitaos(64 { a: 1, b: 64 }, row) => fit\n\
 mapping M = split(a, aosoa(65, morton), bitsoa(0, col)) => the lanes are not 1 to 64";
 
 // The mapping that a line names.

@@ -93,10 +93,18 @@ fn spelled(alloc: Global, schema: &Schema) -> Result<String, NoMemory> {
     Ok(text)
 }
 
-// Whether these are the leaves of the schema, and of its copy.
+// Whether the tree of a schema makes the same schema.
+fn is_of_its_tree(alloc: Global, schema: &Schema) -> Result<bool, NoMemory> {
+    match Schema::new(alloc, schema.tree(alloc)?) {
+        Ok(again) => Ok(schema.same(&again)),
+        Err(_) => Ok(false),
+    }
+}
+
+// Whether these are the leaves of the schema, and of its copy, and its tree is its own.
 fn are_leaves(alloc: Global, schema: &Schema, told: &str) -> Result<bool, NoMemory> {
     let copy = schema.copy(alloc)?;
-    let same = schema.same(&copy);
+    let same = schema.same(&copy) && is_of_its_tree(alloc, schema)?;
     Ok(same && spelled(alloc, schema)?.as_str() == told && spelled(alloc, &copy)?.as_str() == told)
 }
 

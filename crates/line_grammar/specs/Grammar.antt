@@ -1,16 +1,18 @@
 -- The grammar of a line. A word or a sign in `Behind` stands for itself, and `Joined` puts one phrase behind another.
 -- `n` bounds how deep brackets nest in the recursive phrases: a line has any such depth. `version` is the version of the language.
 use Rattle.std.specs.Prelude.{ℕ, zero, suc, Bool, true, false, List, [], ◌∷◌, ◌++◌, Option, Some, None, codes, ℤ, neg_ℤ}
-use Rattle.phrases.specs.Phrases.{IsItem, Behind, Joined, IsEither, IsNothing, Repeats}
+use Rattle.phrases.specs.Phrases.{IsItem, Behind, Joined, IsEither, IsNothing, Repeats, WhichIs}
 use Rattle.phrases.specs.Column.{IsAny}
 use Rattle.line_tokens.specs.declared.sign.Sign.TheVariants.{OpenBrace, CloseBrace, OpenBracket, CloseBracket, OpenParen, CloseParen, Colon, Comma, Dot, Equals, Minus, Arrow, Question}
 use Rattle.record_dim.specs.declared.path.PathStep.{PathStep}
 use Rattle.record_dim.specs.declared.path.PathStep.TheVariants as step
 use Rattle.record_dim.specs.Trees.{Tree, Single, Record, Array, Fields, End, Field}
+use Rattle.extents.specs.declared.order.Order.{Order}
 use Rattle.extents.specs.declared.words.ExtentWord.{ExtentWord}
 use Rattle.extents.specs.declared.words.ExtentWord.TheVariants as extent
 use Rattle.expr_lang.specs.declared.expr.BinOp.{BinOp}
 use Rattle.expr_lang.specs.Terms.{Number as Constant, Entry, Index, Neg, Not, Binary}
+use Rattle.map_expr.specs.declared.widths.FieldWidth.{FieldWidth}
 use Rattle.map_expr.specs.Terms.{Term as MapTerm, Aos, Soa, Aosoa, BitAos, BitSoa, Split, Byteswap, Bytesplit, Change, Count as Counted, Heat as Heated, Named}
 use Rattle.line_grammar.specs.declared.token.Token.{Token}
 use Rattle.line_grammar.specs.declared.token.Token.TheVariants.{Word, Sign}
@@ -23,6 +25,7 @@ use Rattle.line_grammar.specs.declared.line.KernelWord.TheVariants as kernel_wor
 use Rattle.line_grammar.specs.declared.line.MapWord.{MapWord}
 use Rattle.line_grammar.specs.declared.line.MapWord.TheVariants as form
 use Rattle.line_grammar.specs.declared.version.Version.{Version}
+use Rattle.line_grammar.specs.Versions.{is_two}
 use Rattle.line_grammar.specs.Tokens.{name_of, number_of, count_of, string_of, type_of, integer_type_of, order_of, aos_form_of, soa_form_of, map_word, index_of, choice_of, or_of, and_of, comparison_of, sum_of, product_of, kernel_word_of, reduction_of, command_of}
 use Rattle.line_grammar.specs.Sentences.{Assignment, New, Sentence, Value, Blank, Define, Mapping, View, Load, Assign, Update, Kernel, Reduce, Count, Copy, Relayout, Show, Drop, Bytes}
 
@@ -102,6 +105,23 @@ IsFields n = IsBraced (IsField n)
 abbrev pub IsConst : Phrase ℤ
 IsConst = IsEither (Behind (Sign Minus) (Joined IsNumber (λ number. IsNothing (neg_ℤ number)))) IsNumber
 
+-- path ":" COUNT
+abbrev pub IsFieldWidth : Phrase FieldWidth
+IsFieldWidth = Joined IsPath (λ path. Behind (Sign Colon) (Joined IsCount (λ width. IsNothing (record { path = path; width = width }))))
+
+-- "{" path ":" COUNT ("," path ":" COUNT)* "}"
+abbrev pub IsBracedWidths : Phrase (List FieldWidth)
+IsBracedWidths = Behind (Sign OpenBrace) (Joined (IsListed IsFieldWidth) (λ fields. Behind (Sign CloseBrace) (IsNothing fields)))
+
+-- nothing, or in the second version such widths in braces
+abbrev pub IsFieldWidths : Version → Phrase (List FieldWidth)
+IsFieldWidths version = WhichIs (is_two version) (IsEither IsBracedWidths (IsNothing [])) (IsNothing [])
+
+-- COUNT widths "," order
+abbrev pub IsBits : Version → (ℕ → List FieldWidth → Order → MapTerm) → Phrase MapTerm
+IsBits version value = Joined IsCount (λ width. Joined (IsFieldWidths version) (λ fields.
+    Behind (Sign Comma) (Joined (IsItem order_of) (λ order. IsNothing (value width fields order)))))
+
 -- the inside of a form's brackets, in which maps are `IsMap`
 abbrev pub IsForm : Version → Phrase MapTerm → MapWord → Phrase MapTerm
 -- ("packed" | "aligned" | "min") "," order
@@ -110,8 +130,9 @@ IsForm version IsMap form.Aos = Joined (IsItem aos_form_of) (λ form. Behind (Si
 IsForm version IsMap form.Soa = Joined (IsItem soa_form_of) (λ form. Behind (Sign Comma) (Joined (IsItem order_of) (λ order. IsNothing (Soa form order))))
 -- COUNT "," order
 IsForm version IsMap form.Aosoa = Joined IsCount (λ lanes. Behind (Sign Comma) (Joined (IsItem order_of) (λ order. IsNothing (Aosoa lanes order))))
-IsForm version IsMap form.BitAos = Joined IsCount (λ width. Behind (Sign Comma) (Joined (IsItem order_of) (λ order. IsNothing (BitAos width order))))
-IsForm version IsMap form.BitSoa = Joined IsCount (λ width. Behind (Sign Comma) (Joined (IsItem order_of) (λ order. IsNothing (BitSoa width order))))
+-- COUNT widths "," order
+IsForm version IsMap form.BitAos = IsBits version BitAos
+IsForm version IsMap form.BitSoa = IsBits version BitSoa
 -- path "," map "," map
 IsForm version IsMap form.Split = Joined IsPath (λ path. Behind (Sign Comma) (Joined IsMap (λ first. Behind (Sign Comma) (Joined IsMap (λ rest. IsNothing (Split path first rest))))))
 -- map

@@ -2,6 +2,7 @@ pub mod Gives
 pub mod Lists
 pub mod Paths
 pub mod Fields
+pub mod Widths
 pub mod Maps
 pub mod Constants
 pub mod Exprs
@@ -12,3 +13,4 @@ pub mod ListLaws
 pub mod MapLaws
 pub mod NestingLaws
 pub mod PathsLaws
+pub mod WidthLaws

@@ -5,11 +5,12 @@ use Rattle.phrases.specs.Reading.{item_at, behind_at, then_at, give_at}
 use Rattle.phrases.specs.ParsesLaws.{Always, Parses, behind_parses, either_parses, give_parses, item_parses, then_parses}
 use Rattle.phrases.specs.MoreLaws.{behind_starts}
 use Rattle.extents.specs.declared.order.Order.{Order}
-use Rattle.line_tokens.specs.declared.sign.Sign.TheVariants.{OpenParen, CloseParen, Comma, Arrow}
+use Rattle.line_tokens.specs.declared.sign.Sign.TheVariants.{OpenBrace, OpenParen, CloseParen, Comma, Arrow}
 use Rattle.record_dim.specs.declared.leaf_type.LeafType.TheVariants.{Bool as Truth, U8}
 use Rattle.extents.specs.declared.order.Order.TheVariants.{Row}
 use Rattle.places.specs.declared.forms.AosForm.TheVariants as aos
 use Rattle.places.specs.declared.forms.SoaForm.TheVariants as soa
+use Rattle.map_expr.specs.declared.widths.FieldWidth.{FieldWidth}
 use Rattle.map_expr.specs.Terms.{Term as MapTerm, Aos, Soa, Aosoa, BitAos, BitSoa, Split, Byteswap, Bytesplit, Change, Count, Heat, Named}
 use Rattle.line_grammar.specs.declared.line.MapWord.{MapWord}
 use Rattle.line_grammar.specs.declared.line.MapWord.TheVariants as form
@@ -17,10 +18,11 @@ use Rattle.line_grammar.specs.declared.token.Token.{Token}
 use Rattle.line_grammar.specs.declared.token.Token.TheVariants.{Word, Sign as Signed}
 use Rattle.line_grammar.specs.declared.version.Version.{Version}
 use Rattle.line_grammar.specs.Tokens.{is_sign, type_of, integer_type_of, order_of, aos_form_of, soa_form_of, map_word}
-use Rattle.line_grammar.specs.Grammar.{IsForm, IsFormOrName, IsMap}
-use Rattle.line_phrases.specs.Maps.{aos_at, aosoa_at, bit_aos_at, bit_soa_at, form_at, form_or_name_at, map_at, soa_at}
+use Rattle.line_grammar.specs.Grammar.{IsBits, IsForm, IsFormOrName, IsMap}
+use Rattle.line_phrases.specs.Maps.{aos_at, aosoa_at, bits_at, form_at, form_or_name_at, map_at, soa_at}
 use Rattle.line_phrases.specs.BasicsLaws.{AfterLevel, Not, anything, behind_after, behind_not, count_parses, exact_sign, name_parses}
 use Rattle.line_phrases.specs.PathsLaws.{path_parses}
+use Rattle.line_phrases.specs.WidthLaws.{field_widths_parses}
 
 order_parses : Parses (IsItem order_of) (item_at order_of) Always
 order_parses = item_parses order_of (Word (codes "row")) Row refl
@@ -41,14 +43,21 @@ ordered_parses : (f : Order → MapTerm) → Parses (Behind (Signed Comma) (Join
     (behind_at (is_sign Comma) (then_at (item_at order_of) (λ order. give_at (f order)))) (Not OpenParen)
 ordered_parses f = behind_parses (exact_sign Comma) (then_parses Always order_parses (λ order. give_parses (Not OpenParen) (f order)) (anything _ _))
 
+-- a width, those of chosen leaves, and an order
+bits_parses : (version : Version) (value : ℕ → List FieldWidth → Order → MapTerm) → Parses (IsBits version value) (bits_at version value) (Not OpenParen)
+unfolding bits_at
+bits_parses version value = then_parses Always count_parses (λ width. then_parses (Not OpenBrace) (field_widths_parses version)
+    (λ fields. ordered_parses (λ order. value width fields order))
+    (λ a ys v rest h after. behind_not OpenBrace (Signed Comma) refl _ ys v rest h)) (anything _ _)
+
 pub form_parses : (version : Version) {Is : List Token → MapTerm → Type 0} {read : List Token → Result (MapTerm × List Token) ℕ} → Parses Is read (Not OpenParen) → (form : MapWord)
     → Parses (IsForm version Is form) (form_at version read form) (Not OpenParen)
-unfolding form_at aos_at soa_at aosoa_at bit_aos_at bit_soa_at
+unfolding form_at aos_at soa_at aosoa_at
 form_parses version p form.Aos = then_parses Always (item_parses aos_form_of (Word (codes "packed")) aos.Packed refl) (λ form. ordered_parses (λ order. Aos form order)) (anything _ _)
 form_parses version p form.Soa = then_parses Always (item_parses soa_form_of (Word (codes "single")) soa.Single refl) (λ form. ordered_parses (λ order. Soa form order)) (anything _ _)
 form_parses version p form.Aosoa = then_parses Always count_parses (λ lanes. ordered_parses (λ order. Aosoa lanes order)) (anything _ _)
-form_parses version p form.BitAos = then_parses Always count_parses (λ width. ordered_parses (λ order. BitAos width order)) (anything _ _)
-form_parses version p form.BitSoa = then_parses Always count_parses (λ width. ordered_parses (λ order. BitSoa width order)) (anything _ _)
+form_parses version p form.BitAos = bits_parses version BitAos
+form_parses version p form.BitSoa = bits_parses version BitSoa
 form_parses version p form.Split = then_parses (AfterLevel 6) path_parses (λ path. behind_parses (exact_sign Comma) (then_parses (Not OpenParen) p
     (λ first. behind_parses (exact_sign Comma) (inner_parses p (λ rest. Split path first rest)))
     (λ a ys v rest h after. behind_not OpenParen (Signed Comma) refl _ ys v rest h)))

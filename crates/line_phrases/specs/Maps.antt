@@ -2,13 +2,18 @@
 use Rattle.std.specs.Prelude.{ℕ, zero, suc, List, Option, Some, None, Result}
 use Rattle.phrases.specs.Reading.{item_at, behind_at, then_at, give_at, either_at}
 use Rattle.line_tokens.specs.declared.sign.Sign.TheVariants.{OpenParen, CloseParen, Comma, Arrow}
+use Rattle.extents.specs.declared.order.Order.{Order}
+use Rattle.map_expr.specs.declared.widths.FieldWidth.{FieldWidth}
 use Rattle.map_expr.specs.Terms.{Term as MapTerm, Aos, Soa, Aosoa, BitAos, BitSoa, Split, Byteswap, Bytesplit, Change, Count, Heat, Named}
 use Rattle.line_grammar.specs.declared.line.MapWord.{MapWord}
 use Rattle.line_grammar.specs.declared.line.MapWord.TheVariants as form
 use Rattle.line_grammar.specs.declared.token.Token.{Token}
 use Rattle.line_grammar.specs.declared.version.Version.{Version}
 use Rattle.line_grammar.specs.Tokens.{is_sign, name_of, count_of, type_of, integer_type_of, order_of, aos_form_of, soa_form_of, map_word}
+use Rattle.line_phrases.specs.declared.maps.BitForm.{BitForm}
+use Rattle.line_phrases.specs.declared.maps.BitForm.TheVariants as bits
 use Rattle.line_phrases.specs.Paths.{path_at}
+use Rattle.line_phrases.specs.Widths.{field_widths_at}
 
 -- the inside of the brackets of the forms without mappings in them
 unfoldable pub aos_at : List Token → Result (MapTerm × List Token) ℕ
@@ -20,19 +25,22 @@ soa_at = then_at (item_at soa_form_of) (λ form. behind_at (is_sign Comma) (then
 unfoldable pub aosoa_at : List Token → Result (MapTerm × List Token) ℕ
 aosoa_at = then_at (item_at count_of) (λ lanes. behind_at (is_sign Comma) (then_at (item_at order_of) (λ order. give_at (Aosoa lanes order))))
 
-unfoldable pub bit_aos_at : List Token → Result (MapTerm × List Token) ℕ
-bit_aos_at = then_at (item_at count_of) (λ width. behind_at (is_sign Comma) (then_at (item_at order_of) (λ order. give_at (BitAos width order))))
+unfoldable pub bits_at : Version → (ℕ → List FieldWidth → Order → MapTerm) → List Token → Result (MapTerm × List Token) ℕ
+bits_at version value = then_at (item_at count_of) (λ width. then_at (field_widths_at version) (λ fields.
+    behind_at (is_sign Comma) (then_at (item_at order_of) (λ order. give_at (value width fields order)))))
 
-unfoldable pub bit_soa_at : List Token → Result (MapTerm × List Token) ℕ
-bit_soa_at = then_at (item_at count_of) (λ width. behind_at (is_sign Comma) (then_at (item_at order_of) (λ order. give_at (BitSoa width order))))
+-- what is made of a width, those of chosen leaves and an order
+abbrev pub bits_of : BitForm → ℕ → List FieldWidth → Order → MapTerm
+bits_of bits.Aos = BitAos
+bits_of bits.Soa = BitSoa
 
 -- the inside of the brackets of each form, in which `read` reads mappings
 unfoldable pub form_at : Version → (List Token → Result (MapTerm × List Token) ℕ) → MapWord → List Token → Result (MapTerm × List Token) ℕ
 form_at version read form.Aos = aos_at
 form_at version read form.Soa = soa_at
 form_at version read form.Aosoa = aosoa_at
-form_at version read form.BitAos = bit_aos_at
-form_at version read form.BitSoa = bit_soa_at
+form_at version read form.BitAos = bits_at version BitAos
+form_at version read form.BitSoa = bits_at version BitSoa
 form_at version read form.Split = then_at path_at (λ path. behind_at (is_sign Comma) (then_at read (λ first. behind_at (is_sign Comma) (then_at read (λ rest. give_at (Split path first rest))))))
 form_at version read form.Byteswap = then_at read (λ inner. give_at (Byteswap inner))
 form_at version read form.Bytesplit = then_at read (λ inner. give_at (Bytesplit inner))

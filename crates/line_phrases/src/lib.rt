@@ -10,6 +10,7 @@ mod fields;
 mod maps;
 mod path;
 mod tokens;
+mod widths;
 
 pub use brackets::{read_extents, read_fixed_extents, read_index};
 pub use constant::read_const;

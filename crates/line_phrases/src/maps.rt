@@ -2,8 +2,9 @@ ghost use Rattle.std.specs.Prelude.{◌≡◌, ◌<◌, length, OnOk, IfErr};
 ghost use Rattle.map_expr.specs.Terms.{term_of};
 ghost use Rattle.line_grammar.specs.declared.line.MapWord.TheVariants as form;
 ghost use Rattle.line_phrases.specs.Gives.{Gives, IsSyntax};
-ghost use Rattle.line_phrases.specs.Maps.{aos_at, aosoa_at, bit_aos_at, bit_soa_at, form_at, map_at, soa_at};
+ghost use Rattle.line_phrases.specs.Maps.{aos_at, aosoa_at, bits_at, bits_of, form_at, map_at, soa_at};
 
+use crate::widths::read_field_widths;
 use crate::{ReadError, Tokens, read_path};
 use extents::Order;
 use line_grammar::{Count, IntegerType, MapWord, Version, map_word};
@@ -60,8 +61,8 @@ fn read_form(
         MapWord::Aos => read_aos(tokens),
         MapWord::Soa => read_soa(tokens),
         MapWord::Aosoa => read_aosoa(tokens),
-        MapWord::BitAos => read_bit_aos(tokens),
-        MapWord::BitSoa => read_bit_soa(tokens),
+        MapWord::BitAos => read_bits(alloc, version, BitForm::Aos, tokens),
+        MapWord::BitSoa => read_bits(alloc, version, BitForm::Soa, tokens),
         MapWord::Split => read_split(alloc, version, room, tokens),
         MapWord::Byteswap => {
             let map = read_map(alloc, version, room, tokens)?;
@@ -175,26 +176,37 @@ fn read_aosoa(tokens: &mut Tokens) -> Result<MapExpr, ReadError>
     Ok(MapExpr::Aosoa { lanes, order })
 }
 
-#[tactic(auto, unfolding(crate::specs::Maps::bit_aos_at))]
-fn read_bit_aos(tokens: &mut Tokens) -> Result<MapExpr, ReadError>
-    ensures gives { Gives (λ x. (term_of x, tokens.new)) result (bit_aos_at tokens.old) }
-    ensures shorter { OnOk result (length tokens.new < length tokens.old) }
-    ensures fault { IfErr result IsSyntax }
-{
-    let width = tokens.item::<Count>()?;
-    tokens.sign(Sign::Comma)?;
-    let order = tokens.item::<Order>()?;
-    Ok(MapExpr::BitAos { width, order })
+// The two forms that pack bits.
+#[derive(Clone, Copy)]
+enum BitForm {
+    Aos,
+    Soa,
 }
 
-#[tactic(auto, unfolding(crate::specs::Maps::bit_soa_at))]
-fn read_bit_soa(tokens: &mut Tokens) -> Result<MapExpr, ReadError>
-    ensures gives { Gives (λ x. (term_of x, tokens.new)) result (bit_soa_at tokens.old) }
+#[tactic(auto, unfolding(crate::specs::Maps::bits_at))]
+fn read_bits(
+    alloc: Global,
+    version: Version,
+    form: BitForm,
+    tokens: &mut Tokens,
+) -> Result<MapExpr, ReadError>
+    ensures gives { Gives (λ x. (term_of x, tokens.new)) result (bits_at version (bits_of form) tokens.old) }
     ensures shorter { OnOk result (length tokens.new < length tokens.old) }
-    ensures fault { IfErr result IsSyntax }
 {
     let width = tokens.item::<Count>()?;
+    let fields = read_field_widths(alloc, version, tokens)?;
     tokens.sign(Sign::Comma)?;
     let order = tokens.item::<Order>()?;
-    Ok(MapExpr::BitSoa { width, order })
+    match form {
+        BitForm::Aos => Ok(MapExpr::BitAos {
+            width,
+            fields,
+            order,
+        }),
+        BitForm::Soa => Ok(MapExpr::BitSoa {
+            width,
+            fields,
+            order,
+        }),
+    }
 }

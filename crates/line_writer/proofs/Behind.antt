@@ -3,13 +3,13 @@ use Rattle.std.proofs.Common.{◌≡◌, ℕ, suc, ◌+◌, ◌<◌, ◌≤◌, 
 use Rattle.std.specs.List.{flat_map}
 use Rattle.std.proofs.Math.Seq.{take-length}
 use Rattle.line_tokens.specs.Spelled.{spaced, joined}
-use Rattle.line_tokens.specs.declared.sign.Sign.TheVariants.{OpenBrace, Comma}
+use Rattle.line_tokens.specs.declared.sign.Sign.TheVariants.{OpenBrace, CloseBrace, Comma}
 use Rattle.record_dim.specs.Trees.{Tree, Fields, Field}
+use Rattle.map_expr.specs.declared.widths.FieldWidth.{FieldWidth}
 use Rattle.line_grammar.specs.declared.token.Token.{Token}
 use Rattle.line_grammar.specs.declared.token.Token.TheVariants.{Word, Sign}
-use Rattle.line_grammar.specs.Sentences.{Sentence, assignment_of}
-use Rattle.line_grammar.specs.declared.line.SetText.{SetText}
-use Rattle.line_writer.specs.Canonical.{with_commas, assignment_tokens, fields_tokens, later_tokens, held_tokens, line_tokens}
+use Rattle.line_grammar.specs.Sentences.{Sentence}
+use Rattle.line_writer.specs.Canonical.{with_commas, width_tokens, widths_tokens, fields_tokens, later_tokens, held_tokens, line_tokens}
 use Rattle.line_writer.specs.Texts.{written, canonical, behind}
 
 pub behind_append : (text : List ℕ) (xs ys : List Token) → behind text (xs ++ ys) ≡ behind (behind text xs) ys
@@ -47,29 +47,31 @@ fields_more text before after fields name held rest is e e' =
     rw is (ap (λ k. behind k (later_tokens rest)) (e' ∙ ap (λ k. behind k (Word name ∷ held_tokens held)) e)
     ∙ sym (behind_append (text ++ 32 ∷ codes ",") (Word name ∷ held_tokens held) (later_tokens rest)))
 
--- the first assignment, and a later one behind a comma
-abbrev set_tokens : List SetText → List (List Token)
-set_tokens sets = map assignment_tokens (map assignment_of sets)
-
+-- the first part of a list, and a later one behind a comma
 abbrev after_commas : List (List Token) → List Token
 after_commas parts = flat_map (λ next. Sign Comma ∷ next) parts
 
-pub sets_begun : (text after : List ℕ) (sets : List SetText) (first : SetText) → 1 ≤ length sets → first ≡ get_or sets 0 first → after ≡ behind text (assignment_tokens (assignment_of first)) →
-    behind after (after_commas (set_tokens (drop 0 (take (length sets - 1) (drop 1 sets))))) ≡ behind text (with_commas (set_tokens sets))
-sets_begun text after [] first some is e = absurd (omega arith)
-sets_begun text after (set ∷ sets) first some is e =
-    let less : suc (length sets) - 1 ≡ length sets = omega arith in
-    let all : take (suc (length sets) - 1) sets ≡ sets = ap (λ k. take k sets) less ∙ take-length sets in
-    ap (λ k. behind after (after_commas (set_tokens k))) all
-    ∙ ap (λ k. behind k (after_commas (set_tokens sets))) (e ∙ ap (λ k. behind text (assignment_tokens (assignment_of k))) is)
-    ∙ sym (behind_append text (assignment_tokens (assignment_of set)) (after_commas (set_tokens sets)))
+pub parts_begun : {A : Type 0} (tokens : A → List Token) (text after : List ℕ) (parts : List A) (first : A) → 1 ≤ length parts → first ≡ get_or parts 0 first → after ≡ behind text (tokens first) →
+    behind after (after_commas (map tokens (drop 0 (take (length parts - 1) (drop 1 parts))))) ≡ behind text (with_commas (map tokens parts))
+parts_begun tokens text after [] first some is e = absurd (omega arith)
+parts_begun tokens text after (part ∷ parts) first some is e =
+    let less : suc (length parts) - 1 ≡ length parts = omega arith in
+    let all : take (suc (length parts) - 1) parts ≡ parts = ap (λ k. take k parts) less ∙ take-length parts in
+    ap (λ k. behind after (after_commas (map tokens k))) all
+    ∙ ap (λ k. behind k (after_commas (map tokens parts))) (e ∙ ap (λ k. behind text (tokens k)) is)
+    ∙ sym (behind_append text (tokens part) (after_commas (map tokens parts)))
 
-pub sets_more : (text before after : List ℕ) (later : List SetText) (i : ℕ) (next : SetText) → i < length later → next ≡ get_or later i next →
-    before ≡ text ++ 32 ∷ codes "," → after ≡ behind before (assignment_tokens (assignment_of next)) →
-    behind after (after_commas (set_tokens (drop (i + 1) later))) ≡ behind text (after_commas (set_tokens (drop i later)))
-sets_more text before after later i next inside is e e' =
-    let split : drop i later ≡ next ∷ drop (i + 1) later = drop-cons later i next inside ∙ ap (λ (k : SetText). k ∷ drop (suc i) later) (sym is) ∙ ap (λ k. next ∷ drop k later) (sym (add-one i)) in
-    let rest : List Token = after_commas (set_tokens (drop (i + 1) later)) in
-    ap (λ k. behind k rest) (e' ∙ ap (λ k. behind k (assignment_tokens (assignment_of next))) e)
-    ∙ sym (behind_append (text ++ 32 ∷ codes ",") (assignment_tokens (assignment_of next)) rest)
-    ∙ ap (λ k. behind text (after_commas (set_tokens k))) (sym split)
+pub parts_more : {A : Type 0} (tokens : A → List Token) (text before after : List ℕ) (later : List A) (i : ℕ) (next : A) → i < length later → next ≡ get_or later i next →
+    before ≡ text ++ 32 ∷ codes "," → after ≡ behind before (tokens next) →
+    behind after (after_commas (map tokens (drop (i + 1) later))) ≡ behind text (after_commas (map tokens (drop i later)))
+parts_more {A = A} tokens text before after later i next inside is e e' =
+    let split : drop i later ≡ next ∷ drop (i + 1) later = drop-cons later i next inside ∙ ap (λ (k : A). k ∷ drop (suc i) later) (sym is) ∙ ap (λ k. next ∷ drop k later) (sym (add-one i)) in
+    let rest : List Token = after_commas (map tokens (drop (i + 1) later)) in
+    ap (λ k. behind k rest) (e' ∙ ap (λ k. behind k (tokens next)) e)
+    ∙ sym (behind_append (text ++ 32 ∷ codes ",") (tokens next) rest)
+    ∙ ap (λ k. behind text (after_commas (map tokens k))) (sym split)
+
+-- widths stand in braces where there are any
+pub some_widths : (fields : List FieldWidth) → 1 ≤ length fields → widths_tokens fields ≡ Sign OpenBrace ∷ (with_commas (map width_tokens fields) ++ Sign CloseBrace ∷ [])
+some_widths [] some = absurd (omega arith)
+some_widths (entry ∷ fields) some = refl

@@ -1,5 +1,5 @@
 -- A path, a record and a mapping have one list of tokens each: the canonical one.
-use Rattle.std.proofs.Common.{◌≡◌, ℕ, zero, suc, List, [], ◌∷◌, ◌++◌, Option, Some, None, map, codes, refl, sym, ap, ◌∙◌, append-nil, append_assoc}
+use Rattle.std.proofs.Common.{◌≡◌, ℕ, zero, suc, ◌≤◌, List, [], ◌∷◌, ◌++◌, length, Option, Some, None, map, codes, refl, sym, ap, ◌∙◌, append-nil, append_assoc, arith}
 use Rattle.std.specs.List.{flat_map}
 use Rattle.std.proofs.lemmas.Grind.{flat_map-append}
 use Rattle.phrases.specs.Phrases.{IsItem, Behind, Joined, IsNothing, Repeats}
@@ -8,17 +8,20 @@ use Rattle.record_dim.specs.declared.path.PathStep.TheVariants as step
 use Rattle.record_dim.specs.Trees.{Tree, Single, Record, Fields}
 use Rattle.extents.specs.declared.words.ExtentWord.TheVariants as extent
 use Rattle.extents.specs.declared.order.Order.{Order}
+use Rattle.map_expr.specs.declared.widths.FieldWidth.{FieldWidth}
 use Rattle.map_expr.specs.Terms.{Term as MapTerm, Aos, Soa, Aosoa, BitAos, BitSoa, Split, Byteswap, Bytesplit, Change, Count as Counted, Heat as Heated, Named}
 use Rattle.line_grammar.specs.declared.token.Token.{Token}
 use Rattle.line_grammar.specs.declared.token.Token.TheVariants.{Word, Sign}
 use Rattle.line_grammar.specs.declared.version.Version.{Version}
+use Rattle.line_grammar.specs.declared.version.Version.TheVariants.{One, Two}
 use Rattle.line_grammar.specs.declared.line.MapWord.{MapWord}
 use Rattle.line_grammar.specs.declared.line.MapWord.TheVariants as form
 use Rattle.line_grammar.specs.Tokens.{map_word, order_of}
-use Rattle.line_grammar.specs.Grammar.{Phrase, IsName, IsCount, IsMore, IsListed, IsPart, IsPath, IsDims, arrays, fields_of_list, IsTyped, IsNested, IsBraced, IsField, IsFields, IsForm, IsFormOrName, IsMap, IsExtent, IsBracketList}
+use Rattle.line_grammar.specs.Grammar.{Phrase, IsName, IsCount, IsMore, IsListed, IsPart, IsPath, IsDims, arrays, fields_of_list, IsTyped, IsNested, IsBraced, IsField, IsFields, IsFieldWidth, IsBracedWidths, IsFieldWidths, IsBits, IsForm, IsFormOrName, IsMap, IsExtent, IsBracketList}
 use Rattle.line_grammar.specs.Words.{type_word, order_word, aos_word, soa_word, form_word}
-use Rattle.line_writer.specs.Canonical.{count_token, bracketed_count, with_commas, bracket_list, step_tokens, path_tokens, dims_tokens, core_tokens, fields_tokens, later_tokens, held_tokens, form_tokens, ordered_tokens, map_tokens, extent_tokens}
+use Rattle.line_writer.specs.Canonical.{count_token, bracketed_count, with_commas, bracket_list, step_tokens, path_tokens, dims_tokens, core_tokens, fields_tokens, later_tokens, held_tokens, form_tokens, ordered_tokens, width_tokens, widths_tokens, bits_tokens, map_tokens, extent_tokens}
 use Rattle.line_writer.proofs.Gives.{Gives, nothing_gives, behind_gives, joined_gives, either_gives, repeats_gives, gives_also}
+use Rattle.line_writer.proofs.Behind.{some_widths}
 use Rattle.line_writer.proofs.Words.{name_gives, count_gives, type_gives, integer_type_gives, order_gives, aos_form_gives, soa_form_gives, map_word_is}
 
 -- the tokens are the canonical ones
@@ -45,15 +48,25 @@ more_gives {A = A} {Is = Is} tokens one found = repeats_gives {Step = IsMore Is}
           flat_map-append tokens q.0 (next ∷ []) ∙ ap (λ k. k ++ (tokens next ++ [])) q.2 ∙ ap (λ k. before ++ (k ++ [])) same,
         ))
 
-pub listed_gives : {A : Type 0} {Is : Phrase A} (tokens : A → List Token) → Gives Is (IsWritten tokens) → Gives (IsListed Is) (λ xs v. with_commas (map tokens v) ≡ xs)
-listed_gives {A = A} {Is = Is} tokens one = joined_gives {Q = λ xs v. with_commas (map tokens v) ≡ xs} one (λ front first is same spelled.
+-- a list with an item at least
+abbrev IsWrittenList : {A : Type 0} → (A → List Token) → List Token → List A → Type 0
+IsWrittenList tokens xs v = (1 ≤ length v) × (with_commas (map tokens v) ≡ xs)
+
+filled_gives : {A : Type 0} {Is : Phrase A} (tokens : A → List Token) → Gives Is (IsWritten tokens) → Gives (IsListed Is) (IsWrittenList tokens)
+filled_gives {A = A} {Is = Is} tokens one = joined_gives {Q = IsWrittenList tokens} one (λ front first is same spelled.
     gives_also (more_gives (λ v. Sign Comma ∷ tokens v) (behind_gives {Q = IsWritten (λ v. Sign Comma ∷ tokens v)} (Sign Comma) sound
     (gives_also one (λ xs v is spelled same. ap (λ k. Sign Comma ∷ k) same))) (first ∷ []))
-    (λ back v is spelled h. rw h.1 (ap (λ k. tokens first ++ k) (commas h.0 ∙ h.2) ∙ ap (λ k. k ++ back) same)))
+    (λ back v is spelled h. (
+      let some : 1 ≤ length (first ∷ h.0) = omega arith in rw h.1 some,
+      rw h.1 (ap (λ k. tokens first ++ k) (commas h.0 ∙ h.2) ∙ ap (λ k. k ++ back) same),
+    )))
   where
     commas : (vs : List A) → flat_map (λ next. Sign Comma ∷ next) (map tokens vs) ≡ flat_map (λ v. Sign Comma ∷ tokens v) vs
     commas [] = refl
     commas (v ∷ vs) = ap (λ k. Sign Comma ∷ (tokens v ++ k)) (commas vs)
+
+pub listed_gives : {A : Type 0} {Is : Phrase A} (tokens : A → List Token) → Gives Is (IsWritten tokens) → Gives (IsListed Is) (λ xs v. with_commas (map tokens v) ≡ xs)
+listed_gives tokens one = gives_also (filled_gives tokens one) (λ xs v is spelled h. h.1)
 
 pub bracketed_count_gives : {A : Type 0} (value : ℕ → A) (tokens : A → List Token) → ((count : ℕ) → tokens (value count) ≡ bracketed_count count) →
     Gives (Behind (Sign OpenBracket) (Joined IsCount (λ number. Behind (Sign CloseBracket) (IsNothing (value number))))) (IsWritten tokens)
@@ -156,6 +169,38 @@ ordered_gives first word value one is = joined_gives {Q = IsInside word} one (λ
     (is a order ∙ ap (λ k. form_tokens word (k ++ Sign Comma ∷ Word (order_word order) ∷ [])) same
     ∙ ap (λ k. form_tokens word (front ++ Sign Comma ∷ (k ++ []))) same'))))
 
+-- widths of chosen leaves
+field_width_gives : Gives IsFieldWidth (IsWritten width_tokens)
+field_width_gives = joined_gives {Q = IsWritten width_tokens} path_gives (λ front path i same s.
+    behind_gives {Q = λ xs v. width_tokens v ≡ front ++ xs} (Sign Colon) sound
+    (joined_gives {Q = λ xs v. width_tokens v ≡ front ++ (Sign Colon ∷ xs)} count_gives (λ back width i' same' s'.
+    nothing_gives {Q = λ xs v. width_tokens v ≡ front ++ (Sign Colon ∷ (back ++ xs))} (record { path = path; width = width })
+    (ap (λ k. k ++ Sign Colon ∷ count_token width ∷ []) same ∙ ap (λ k. front ++ Sign Colon ∷ (k ++ [])) same'))))
+
+braced_widths_gives : Gives IsBracedWidths (IsWritten widths_tokens)
+braced_widths_gives = behind_gives {Q = IsWritten widths_tokens} (Sign OpenBrace) sound
+    (joined_gives {Q = λ xs v. widths_tokens v ≡ Sign OpenBrace ∷ xs} (filled_gives width_tokens field_width_gives) (λ front fields i h s.
+    behind_gives {Q = λ xs v. widths_tokens v ≡ Sign OpenBrace ∷ (front ++ xs)} (Sign CloseBrace) sound
+    (nothing_gives {Q = λ xs v. widths_tokens v ≡ Sign OpenBrace ∷ (front ++ (Sign CloseBrace ∷ xs))} fields
+    (some_widths fields h.0 ∙ ap (λ k. Sign OpenBrace ∷ (k ++ Sign CloseBrace ∷ [])) h.1))))
+
+field_widths_gives : (version : Version) → Gives (IsFieldWidths version) (IsWritten widths_tokens)
+field_widths_gives One = nothing_gives {Q = IsWritten widths_tokens} [] refl
+field_widths_gives Two = either_gives braced_widths_gives (nothing_gives {Q = IsWritten widths_tokens} [] refl)
+
+bits_gives : (version : Version) (word : List ℕ) (value : ℕ → List FieldWidth → Order → MapTerm) →
+    ((width : ℕ) (fields : List FieldWidth) (order : Order) → map_tokens (value width fields order) ≡ form_tokens word (bits_tokens width fields order)) →
+    Gives (IsBits version value) (IsInside word)
+bits_gives version word value is = joined_gives {Q = IsInside word} count_gives (λ front width i same s.
+    joined_gives {Q = λ xs v. IsInside word (front ++ xs) v} (field_widths_gives version) (λ middle fields i' same' s'.
+    behind_gives {Q = λ xs v. IsInside word (front ++ (middle ++ xs)) v} (Sign Comma) sound
+    (joined_gives {Q = λ xs v. IsInside word (front ++ (middle ++ (Sign Comma ∷ xs))) v} order_gives (λ back order i'' same'' s''.
+    nothing_gives {Q = λ xs v. IsInside word (front ++ (middle ++ (Sign Comma ∷ (back ++ xs)))) v} (value width fields order)
+    (is width fields order
+    ∙ ap (λ k. form_tokens word (k ++ (widths_tokens fields ++ Sign Comma ∷ Word (order_word order) ∷ []))) same
+    ∙ ap (λ k. form_tokens word (front ++ (k ++ Sign Comma ∷ Word (order_word order) ∷ []))) same'
+    ∙ ap (λ k. form_tokens word (front ++ (middle ++ Sign Comma ∷ (k ++ [])))) same'')))))
+
 inner_gives : {Is : Phrase MapTerm} (word : List ℕ) (value : MapTerm → MapTerm) → Gives Is (IsWritten map_tokens) →
     ((inner : MapTerm) → map_tokens (value inner) ≡ form_tokens word (map_tokens inner)) → Gives (Joined Is (λ inner. IsNothing (value inner))) (IsInside word)
 inner_gives word value one is = joined_gives {Q = IsInside word} one (λ front inner i same spelled.
@@ -196,8 +241,8 @@ form_gives : (version : Version) {Is : Phrase MapTerm} → Gives Is (IsWritten m
 form_gives version one form.Aos = ordered_gives (λ form. Word (aos_word form)) (codes "aos") Aos aos_form_gives (λ form order. refl)
 form_gives version one form.Soa = ordered_gives (λ form. Word (soa_word form)) (codes "soa") Soa soa_form_gives (λ form order. refl)
 form_gives version one form.Aosoa = ordered_gives count_token (codes "aosoa") Aosoa count_gives (λ lanes order. refl)
-form_gives version one form.BitAos = ordered_gives count_token (codes "bitaos") BitAos count_gives (λ width order. refl)
-form_gives version one form.BitSoa = ordered_gives count_token (codes "bitsoa") BitSoa count_gives (λ width order. refl)
+form_gives version one form.BitAos = bits_gives version (codes "bitaos") BitAos (λ width fields order. refl)
+form_gives version one form.BitSoa = bits_gives version (codes "bitsoa") BitSoa (λ width fields order. refl)
 form_gives version one form.Split = split_gives version one
 form_gives version one form.Byteswap = inner_gives (codes "byteswap") Byteswap one (λ inner. refl)
 form_gives version one form.Bytesplit = inner_gives (codes "bytesplit") Bytesplit one (λ inner. refl)

@@ -12,6 +12,7 @@ use Rattle.extents.specs.declared.order.Order.{Order}
 use Rattle.expr_lang.specs.declared.expr.BinOp.{BinOp}
 use Rattle.expr_lang.specs.declared.expr.BinOp.TheVariants.{Min, Max}
 use Rattle.expr_lang.specs.Terms.{Number as Constant, Entry, Index, Neg, Not, Binary}
+use Rattle.map_expr.specs.declared.widths.FieldWidth.{FieldWidth}
 use Rattle.map_expr.specs.Terms.{Term as MapTerm, Aos, Soa, Aosoa, BitAos, BitSoa, Split, Byteswap, Bytesplit, Change, Count as Counted, Heat as Heated, Named}
 use Rattle.line_grammar.specs.declared.token.Token.{Token}
 use Rattle.line_grammar.specs.declared.token.Token.TheVariants.{Word, Number, Text, Sign}
@@ -90,13 +91,26 @@ form_tokens word inside = Word word ∷ Sign OpenParen ∷ (inside ++ Sign Close
 abbrev pub ordered_tokens : Token → Order → List Token
 ordered_tokens token order = token ∷ Sign Comma ∷ Word (order_word order) ∷ []
 
+-- the width of the cells under a path
+abbrev pub width_tokens : FieldWidth → List Token
+width_tokens entry = path_tokens entry.path ++ Sign Colon ∷ count_token entry.width ∷ []
+
+-- such widths in braces; where there is none, no braces
+abbrev pub widths_tokens : List FieldWidth → List Token
+widths_tokens [] = []
+widths_tokens fields = Sign OpenBrace ∷ (with_commas (map width_tokens fields) ++ Sign CloseBrace ∷ [])
+
+-- a number of bits, widths and an order
+abbrev pub bits_tokens : ℕ → List FieldWidth → Order → List Token
+bits_tokens width fields order = count_token width ∷ (widths_tokens fields ++ Sign Comma ∷ Word (order_word order) ∷ [])
+
 -- a mapping
 abbrev pub map_tokens : MapTerm → List Token
 map_tokens (Aos form order) = form_tokens (form_word map_form.Aos) (ordered_tokens (Word (aos_word form)) order)
 map_tokens (Soa form order) = form_tokens (form_word map_form.Soa) (ordered_tokens (Word (soa_word form)) order)
 map_tokens (Aosoa lanes order) = form_tokens (form_word map_form.Aosoa) (ordered_tokens (count_token lanes) order)
-map_tokens (BitAos width order) = form_tokens (form_word map_form.BitAos) (ordered_tokens (count_token width) order)
-map_tokens (BitSoa width order) = form_tokens (form_word map_form.BitSoa) (ordered_tokens (count_token width) order)
+map_tokens (BitAos width fields order) = form_tokens (form_word map_form.BitAos) (bits_tokens width fields order)
+map_tokens (BitSoa width fields order) = form_tokens (form_word map_form.BitSoa) (bits_tokens width fields order)
 map_tokens (Split path first rest) = form_tokens (form_word map_form.Split) (path_tokens path ++ Sign Comma ∷ (map_tokens first ++ Sign Comma ∷ map_tokens rest))
 map_tokens (Byteswap inner) = form_tokens (form_word map_form.Byteswap) (map_tokens inner)
 map_tokens (Bytesplit inner) = form_tokens (form_word map_form.Bytesplit) (map_tokens inner)

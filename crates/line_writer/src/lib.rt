@@ -9,6 +9,7 @@ mod parts;
 mod record;
 mod tokens;
 mod value;
+mod widths;
 
 pub use laws::canonical_law;
 pub use line::write_line;

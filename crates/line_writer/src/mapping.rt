@@ -7,6 +7,7 @@ ghost use Rattle.line_writer.specs.Canonical.{count_token, form_tokens, ordered_
 ghost use Rattle.line_writer.specs.Texts.{behind};
 
 use crate::tokens::{push, push_count, write_path};
+use crate::widths::write_bits;
 use extents::Order;
 use line_grammar::{MapWord, Spelled};
 use map_expr::MapExpr;
@@ -38,16 +39,26 @@ pub(crate) fn write_map(text: &mut Text, expr: &MapExpr) -> Result<(), NoMemory>
             *lanes,
             *order,
         ),
-        MapExpr::BitAos { width, order } => write_counted(
+        MapExpr::BitAos {
+            width,
+            fields,
+            order,
+        } => write_bits(
             text,
             MapWord::BitAos.word(),
             *width,
+            fields.as_slice(),
             *order,
         ),
-        MapExpr::BitSoa { width, order } => write_counted(
+        MapExpr::BitSoa {
+            width,
+            fields,
+            order,
+        } => write_bits(
             text,
             MapWord::BitSoa.word(),
             *width,
+            fields.as_slice(),
             *order,
         ),
         MapExpr::Split { path, first, rest } => {

@@ -1,6 +1,5 @@
 // Lists with a comma between each two items.
 ghost use Rattle.std.specs.Prelude.{◌≡◌, ◌∷◌, [], map, OnOk};
-ghost use Rattle.expr_lang.specs.Terms.{term_of};
 ghost use Rattle.line_grammar.specs.Sentences.{assignment_of};
 ghost use Rattle.line_writer.specs.Canonical.{count_token, bracket_list, with_commas, extent_tokens, assignment_tokens};
 ghost use Rattle.line_writer.specs.Texts.{behind};
@@ -12,38 +11,51 @@ use line_grammar::SetText;
 use record_dim::Text;
 use std::alloc::AllocError as NoMemory;
 
-#[tactic(auto, using(crate::proofs::Behind::behind_append))]
-pub(crate) fn write_extents(text: &mut Text, words: &[ExtentWord]) -> Result<(), NoMemory>
-    ensures { OnOk result (text.new ≡ behind text.old (bracket_list (map extent_tokens words.now))) }
-{
-    push(text, "[")?;
-    write_words(text, words)?;
-    push(text, "]")
+// An item of such a list.
+pub(crate) trait Part {
+    ghost use Rattle.std.specs.Prelude.{List};
+    ghost use Rattle.line_grammar.specs.declared.token.Token.{Token};
+
+    ghost tokens: { Self → List Token };
+
+    fn write_part(&self, text: &mut Text) -> Result<(), NoMemory>
+        ensures { OnOk result (text.new ≡ behind text.old (tokens self.now)) };
 }
 
 #[tactic(auto, using(crate::proofs::Behind::behind_append))]
-fn write_words(text: &mut Text, words: &[ExtentWord]) -> Result<(), NoMemory>
-    ensures { OnOk result (text.new ≡ behind text.old (with_commas (map extent_tokens words.now))) }
+pub(crate) fn write_parts<T: Part>(text: &mut Text, parts: &[T]) -> Result<(), NoMemory>
+    ensures { OnOk result (text.new ≡ behind text.old (with_commas (map T.tokens parts.now))) }
 {
-    match words {
+    match parts {
         [] => Ok(()),
         [first, later @ ..] => {
-            write_extent(text, first)?;
-            for word in later {
+            first.write_part(text)?;
+            for part in later {
                 push(text, ",")?;
-                write_extent(text, word)?;
+                part.write_part(text)?;
             }
             Ok(())
         }
     }
 }
 
-fn write_extent(text: &mut Text, word: &ExtentWord) -> Result<(), NoMemory>
-    ensures { OnOk result (text.new ≡ behind text.old (extent_tokens word.now)) }
+#[tactic(auto, using(crate::proofs::Behind::behind_append))]
+pub(crate) fn write_extents(text: &mut Text, words: &[ExtentWord]) -> Result<(), NoMemory>
+    ensures { OnOk result (text.new ≡ behind text.old (bracket_list (map extent_tokens words.now))) }
 {
-    match word {
-        ExtentWord::Fixed(count) => push_count(text, *count),
-        ExtentWord::Rows => push(text, "?"),
+    push(text, "[")?;
+    write_parts(text, words)?;
+    push(text, "]")
+}
+
+impl Part for ExtentWord {
+    ghost tokens = { extent_tokens };
+
+    fn write_part(&self, text: &mut Text) -> Result<(), NoMemory> {
+        match self {
+            ExtentWord::Fixed(count) => push_count(text, *count),
+            ExtentWord::Rows => push(text, "?"),
+        }
     }
 }
 
@@ -52,49 +64,31 @@ pub(crate) fn write_index(text: &mut Text, index: &[u32]) -> Result<(), NoMemory
     ensures { OnOk result (text.new ≡ behind text.old (bracket_list (map (λ count. count_token count ∷ []) index.now))) }
 {
     push(text, "[")?;
-    write_counts(text, index)?;
+    write_parts(text, index)?;
     push(text, "]")
 }
 
-#[tactic(auto, using(crate::proofs::Behind::behind_append))]
-fn write_counts(text: &mut Text, counts: &[u32]) -> Result<(), NoMemory>
-    ensures { OnOk result (text.new ≡ behind text.old (with_commas (map (λ count. count_token count ∷ []) counts.now))) }
-{
-    match counts {
-        [] => Ok(()),
-        [first, later @ ..] => {
-            push_count(text, *first)?;
-            for count in later {
-                push(text, ",")?;
-                push_count(text, *count)?;
-            }
-            Ok(())
-        }
+impl Part for u32 {
+    ghost tokens = { λ count. count_token count ∷ [] };
+
+    fn write_part(&self, text: &mut Text) -> Result<(), NoMemory> {
+        push_count(text, *self)
     }
 }
 
-#[tactic(auto, using(crate::proofs::Behind::behind_append))]
 pub(crate) fn write_sets(text: &mut Text, sets: &[SetText]) -> Result<(), NoMemory>
     ensures { OnOk result (text.new ≡ behind text.old (with_commas (map assignment_tokens (map assignment_of sets.now)))) }
 {
-    match sets {
-        [] => Ok(()),
-        [first, later @ ..] => {
-            write_set(text, first)?;
-            for set in later {
-                push(text, ",")?;
-                write_set(text, set)?;
-            }
-            Ok(())
-        }
-    }
+    write_parts(text, sets)
 }
 
-#[tactic(auto, using(crate::proofs::Behind::behind_append))]
-fn write_set(text: &mut Text, set: &SetText) -> Result<(), NoMemory>
-    ensures { OnOk result (text.new ≡ behind text.old (assignment_tokens (assignment_of set.now))) }
-{
-    write_path(text, &set.path)?;
-    push(text, "=")?;
-    write_value(text, &set.value)
+impl Part for SetText {
+    ghost tokens = { λ set. assignment_tokens (assignment_of set) };
+
+    #[tactic(auto, using(crate::proofs::Behind::behind_append))]
+    fn write_part(&self, text: &mut Text) -> Result<(), NoMemory> {
+        write_path(text, &self.path)?;
+        push(text, "=")?;
+        write_value(text, &self.value)
+    }
 }

@@ -86,8 +86,8 @@ pub array_rows : (term : Term) (extents : List ℕ) (fields : Fields) (cells : L
 array_rows (Aos form order) extents fields cells = tt
 array_rows (Soa form order) extents fields cells = refl
 array_rows (Aosoa lanes order) extents fields cells = refl
-array_rows (BitAos width order) extents fields cells = tt
-array_rows (BitSoa width order) extents fields cells = tt
+array_rows (BitAos width entries order) extents fields cells = tt
+array_rows (BitSoa width entries order) extents fields cells = tt
 array_rows (Split path first rest) extents fields cells = tt
 array_rows (Byteswap inner) extents fields cells = tt
 array_rows (Bytesplit inner) extents fields cells = tt

@@ -2,10 +2,10 @@
 use Rattle.std.proofs.Common.{◌≡◌, Bool, true, false, Option, None, Some, Ok, Err, refl}
 use Rattle.std.specs.Prelude.{if◌then◌else◌, not, nat_lt, List, Result}
 use Rattle.map_expr.specs.declared.check.BadMapping.{BadMapping}
-use Rattle.map_expr.specs.declared.check.BadMapping.TheVariants.{TooDeep, Counter, Side, NotFull}
+use Rattle.map_expr.specs.declared.check.BadMapping.TheVariants.{TooDeep, Counter, Side, Field, NotFull}
 use Rattle.map_expr.specs.Terms.{Term, Aos, Soa, Aosoa, BitAos, BitSoa, Split, Byteswap, Bytesplit, Change, Count, Heat, Named, depth_of}
 use Rattle.map_expr.specs.Checks.{IsNameless, checked, answered, bad_number, counts_once}
-use Rattle.map_checks.specs.Mappings.{IsBuiltTerm, accepted, bad_side, else_for, not_full}
+use Rattle.map_checks.specs.Mappings.{IsBuiltTerm, accepted, bad_field, bad_side, else_for, not_full}
 use Rattle.places.specs.declared.piece.Cell.{Cell}
 use Rattle.record_dim.specs.Trees.{Fields}
 
@@ -14,8 +14,8 @@ pub built_nameless : (term : Term) → IsBuiltTerm term → IsNameless term
 built_nameless (Aos form order) h = tt
 built_nameless (Soa form order) h = tt
 built_nameless (Aosoa lanes order) h = tt
-built_nameless (BitAos width order) h = tt
-built_nameless (BitSoa width order) h = tt
+built_nameless (BitAos width entries order) h = tt
+built_nameless (BitSoa width entries order) h = tt
 built_nameless (Split path first rest) h = (built_nameless first h.0, built_nameless rest h.1)
 built_nameless (Byteswap inner) h = built_nameless inner h
 built_nameless (Bytesplit inner) h = built_nameless inner h
@@ -42,10 +42,17 @@ else_ok bad false (Ok x) e = (refl, e)
 
 -- over cells, too: its parts under byteswap and bytesplit are full
 module _ (term : Term) (fields : Fields) (cells : List Cell) (ok : accepted term fields cells ≡ Ok tt) where
+  abbrev with_sides : Result Unit BadMapping
+  with_sides = else_for Side (bad_side term fields cells) (checked term)
+
+  abbrev with_fields : Result Unit BadMapping
+  with_fields = else_for Field (bad_field term fields cells) with_sides
+
   pub good_parts : not_full term fields cells ≡ false
-  good_parts = (else_ok NotFull (not_full term fields cells) (else_for Side (bad_side term fields cells) (checked term)) ok).0
+  good_parts = (else_ok NotFull (not_full term fields cells) with_fields ok).0
 
   pub good_number : bad_number term ≡ None
   good_number =
-      let sides = (else_ok NotFull (not_full term fields cells) (else_for Side (bad_side term fields cells) (checked term)) ok).1 in
+      let named = (else_ok NotFull (not_full term fields cells) with_fields ok).1 in
+      let sides = (else_ok Field (bad_field term fields cells) with_sides named).1 in
       accepted_numbers term (else_ok Side (bad_side term fields cells) (checked term) sides).1

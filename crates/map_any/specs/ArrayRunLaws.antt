@@ -142,8 +142,8 @@ pub array_holds : (term : Term) (fields : Fields) (cells : List Cell) → IfSome
 array_holds (Aos form order) fields cells = tt
 array_holds (Soa form order) fields cells = refl
 array_holds (Aosoa lanes order) fields cells = refl
-array_holds (BitAos width order) fields cells = tt
-array_holds (BitSoa width order) fields cells = tt
+array_holds (BitAos width entries order) fields cells = tt
+array_holds (BitSoa width entries order) fields cells = tt
 array_holds (Split path first rest) fields cells = tt
 array_holds (Byteswap inner) fields cells = tt
 array_holds (Bytesplit inner) fields cells = tt

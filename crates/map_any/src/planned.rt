@@ -6,7 +6,7 @@ ghost use Rattle.map_plans.specs.Arrays.{HasArrays};
 ghost use Rattle.map_plans.specs.Plans.{IsPlanOf};
 
 use extents::Extents;
-use map_checks::{MakeMap, has_bad_side, has_part_not_full};
+use map_checks::{MakeMap, has_bad_field, has_bad_side, has_part_not_full};
 use map_expr::{BadMapping, MapExpr};
 use map_plans::{Plan, make_plan};
 use places::CellList;
@@ -35,6 +35,9 @@ pub fn planned(
     }
     if has_bad_side(alloc, schema, cells, expr)? {
         return Err(MakeMap::Bad(BadMapping::Side));
+    }
+    if has_bad_field(alloc, schema, cells, expr)? {
+        return Err(MakeMap::Bad(BadMapping::Field));
     }
     if has_part_not_full(alloc, schema, cells, expr)? {
         return Err(MakeMap::Bad(BadMapping::NotFull));

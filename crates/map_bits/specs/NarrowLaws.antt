@@ -1,5 +1,5 @@
 -- Cells that are stored each in at most its own number of bits.
-use Rattle.std.proofs.Common.{◌≡◌, ℕ, zero, suc, ◌+◌, ◌<◌, ◌≤◌, Bool, true, false, not, ◌&&◌, ◌||◌, nat_le, List, [], ◌∷◌, ◌++◌, map, replicate, min, length, get_or, take, All, refl, sym, ap, ◌∙◌, subst, arith}
+use Rattle.std.proofs.Common.{◌≡◌, ℕ, zero, suc, ◌+◌, ◌<◌, ◌≤◌, Bool, true, false, not, ◌&&◌, nat_le, List, [], ◌∷◌, ◌++◌, map, min, length, get_or, take, All, refl, sym, ap, ◌∙◌, subst, arith}
 use Rattle.std.proofs.lemmas.List.Elements.{All-cons, All-nil}
 use Rattle.std.proofs.lemmas.Bool.{or_parts, leb-true}
 use Rattle.record_dim.specs.LeafTypes.{width_of}
@@ -33,14 +33,10 @@ low_of false high e = cc
 good_width : (width : ℕ) → is_bad_width width ≡ false → 1 ≤ width
 good_width width good = leb-true 1 width (low_of (nat_le 1 width) (nat_le width 64) good)
 
--- one width for all cells
-pub same_good : (width n : ℕ) → is_bad_width width ≡ false → has_bad_width (replicate n width) ≡ false
-same_good width zero good = refl
-same_good width (suc n) good = ap (λ b. b || has_bad_width (replicate n width)) good ∙ same_good width n good
-
-pub narrow_same : (width : ℕ) (cells : List Cell) → narrow_holds (replicate (length cells) width) cells ≡ map (λ (cell : Cell). hold_within width cell.kind) cells
-narrow_same width [] = refl
-narrow_same width (cell ∷ cells) = ap (λ (hs : List Hold). hold_within width cell.kind ∷ hs) (narrow_same width cells)
+-- each cell in the width that a function gives it
+pub narrow_each : (width : Cell → ℕ) (cells : List Cell) → narrow_holds (map width cells) cells ≡ map (λ (cell : Cell). hold_within (width cell) cell.kind) cells
+narrow_each width [] = refl
+narrow_each width (cell ∷ cells) = ap (λ (hs : List Hold). hold_within (width cell) cell.kind ∷ hs) (narrow_each width cells)
 
 -- widths of 1 to 64 give holds of 1 to 64 bits
 pub narrow_wide : (widths : List ℕ) (cells : List Cell) → has_bad_width widths ≡ false → All (λ w. 1 ≤ w) (widths_in (narrow_holds widths cells))

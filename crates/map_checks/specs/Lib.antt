@@ -1,4 +1,5 @@
 pub mod Sides
+pub mod Widths
 pub mod Mappings
 pub mod InnerCells
 pub mod Faults

@@ -1,5 +1,5 @@
 -- What an expression means over the leaves of a schema and the extents of an array: the layout by rows, and how each leaf is stored.
-use Rattle.std.specs.Prelude.{ℕ, ◌≡◌, ⊤, max, Bool, true, false, ◌||◌, List, [], length, map, replicate, None, Result, Ok, Err}
+use Rattle.std.specs.Prelude.{ℕ, ◌≡◌, ⊤, max, Bool, true, false, ◌||◌, List, [], map, None, Result, Ok, Err}
 use Rattle.std.specs.List.{enumerate_from}
 use Rattle.record_dim.specs.declared.leaf_type.LeafType.{LeafType}
 use Rattle.record_dim.specs.Trees.{Fields}
@@ -13,12 +13,14 @@ use Rattle.places.specs.declared.piece.Cell.{Cell}
 use Rattle.places.specs.declared.piece.Hold.{Hold}
 use Rattle.places.specs.Forms.{aos_layout, soa_layout}
 use Rattle.map_expr.specs.Terms.{Term, Aos, Soa, Aosoa, BitAos, BitSoa, Split, Byteswap, Bytesplit, Change, Count, Heat, Named}
-use Rattle.map_expr.specs.Checks.{checked, bad_lanes, bad_width, bad_granule}
+use Rattle.map_expr.specs.Checks.{checked, bad_lanes, bad_widths, bad_granule}
+use Rattle.map_expr.specs.declared.widths.FieldWidth.{FieldWidth}
 use Rattle.map_expr.specs.declared.check.BadMapping.{BadMapping}
-use Rattle.map_expr.specs.declared.check.BadMapping.TheVariants.{Side, NotFull}
+use Rattle.map_expr.specs.declared.check.BadMapping.TheVariants.{Side, Field, NotFull}
 use Rattle.map_bytes.specs.Cells.{bytes_of, changed, differ}
 use Rattle.map_split.specs.Sides.{merged, is_one_sided}
 use Rattle.map_checks.specs.Sides.{side_of, cells_under, cells_beside}
+use Rattle.map_checks.specs.Widths.{cell_widths, has_empty}
 use Rattle.map_checks.specs.declared.fault.MakeMap.{MakeMap}
 use Rattle.map_checks.specs.declared.fault.MakeMap.TheVariants.{Bad, TooBig, NoMemory}
 
@@ -31,8 +33,8 @@ abbrev pub IsBuiltTerm : Term → Type 0
 IsBuiltTerm (Aos form order) = ⊤
 IsBuiltTerm (Soa form order) = ⊤
 IsBuiltTerm (Aosoa lanes order) = ⊤
-IsBuiltTerm (BitAos width order) = ⊤
-IsBuiltTerm (BitSoa width order) = ⊤
+IsBuiltTerm (BitAos width entries order) = ⊤
+IsBuiltTerm (BitSoa width entries order) = ⊤
 IsBuiltTerm (Split path first rest) = IsBuiltTerm first × IsBuiltTerm rest
 IsBuiltTerm (Byteswap inner) = IsBuiltTerm inner
 IsBuiltTerm (Bytesplit inner) = IsBuiltTerm inner
@@ -44,8 +46,8 @@ IsBuiltTerm _ = ⊥
 -- every number in it is in its range
 abbrev pub HasNumbers : Term → Type 0
 HasNumbers (Aosoa lanes order) = bad_lanes lanes ≡ None
-HasNumbers (BitAos width order) = bad_width width ≡ None
-HasNumbers (BitSoa width order) = bad_width width ≡ None
+HasNumbers (BitAos width entries order) = bad_widths width entries ≡ None
+HasNumbers (BitSoa width entries order) = bad_widths width entries ≡ None
 HasNumbers (Split path first rest) = HasNumbers first × HasNumbers rest
 HasNumbers (Byteswap inner) = HasNumbers inner
 HasNumbers (Bytesplit inner) = HasNumbers inner
@@ -58,17 +60,17 @@ HasNumbers _ = ⊤
 abbrev pub ordered : Order → List ℕ → (ℕ → List (List Owner)) → List (List Owner)
 ordered order extents layout = in_rows (row_at order extents) (layout (slot_count order extents))
 
--- each cell in at most this number of bits
-abbrev pub held_within : ℕ → List Cell → List Hold
-held_within width cells = narrow_holds (replicate (length cells) width) cells
+-- each cell in at most its number of bits: that of the last entry that its leaf is under, or the first number
+abbrev pub held_within : Fields → ℕ → List FieldWidth → List Cell → List Hold
+held_within fields width entries cells = narrow_holds (cell_widths fields width entries cells) cells
 
 -- the layout of an expression over cells, whose slots are rows; paths are those of the record's leaves
 abbrev pub layout_of : Term → List ℕ → Fields → List Cell → List (List Owner)
 layout_of (Aos form order) extents fields cells = ordered order extents (λ slots. aos_layout form slots (widths_of cells))
 layout_of (Soa form order) extents fields cells = ordered order extents (λ slots. soa_layout form slots (widths_of cells))
 layout_of (Aosoa lanes order) extents fields cells = ordered order extents (λ slots. aosoa lanes slots (widths_of cells))
-layout_of (BitAos width order) extents fields cells = ordered order extents (λ slots. bit_aos slots (widths_in (held_within width cells)))
-layout_of (BitSoa width order) extents fields cells = ordered order extents (λ slots. bit_soa slots (widths_in (held_within width cells)))
+layout_of (BitAos width entries order) extents fields cells = ordered order extents (λ slots. bit_aos slots (widths_in (held_within fields width entries cells)))
+layout_of (BitSoa width entries order) extents fields cells = ordered order extents (λ slots. bit_soa slots (widths_in (held_within fields width entries cells)))
 layout_of (Split path first rest) extents fields cells =
     split (side_of fields path cells) (layout_of first extents fields (cells_under fields path cells)) (layout_of rest extents fields (cells_beside fields path cells))
 layout_of (Byteswap inner) extents fields cells = byteswap (widths_of cells) (layout_of inner extents fields cells)
@@ -80,8 +82,8 @@ layout_of (Named name) extents fields cells = []
 
 -- how each cell is stored
 abbrev pub holds_of : Term → Fields → List Cell → List Hold
-holds_of (BitAos width order) fields cells = held_within width cells
-holds_of (BitSoa width order) fields cells = held_within width cells
+holds_of (BitAos width entries order) fields cells = held_within fields width entries cells
+holds_of (BitSoa width entries order) fields cells = held_within fields width entries cells
 holds_of (Split path first rest) fields cells =
     merged (side_of fields path cells) (holds_of first fields (cells_under fields path cells)) (holds_of rest fields (cells_beside fields path cells))
 holds_of (Change from to inner) fields cells = holds_of inner fields (changed from to cells)
@@ -94,8 +96,8 @@ abbrev pub most_slots : Term → List ℕ → ℕ
 most_slots (Aos form order) extents = slot_count order extents
 most_slots (Soa form order) extents = slot_count order extents
 most_slots (Aosoa lanes order) extents = slot_count order extents
-most_slots (BitAos width order) extents = slot_count order extents
-most_slots (BitSoa width order) extents = slot_count order extents
+most_slots (BitAos width entries order) extents = slot_count order extents
+most_slots (BitSoa width entries order) extents = slot_count order extents
 most_slots (Split path first rest) extents = max (most_slots first extents) (most_slots rest extents)
 most_slots (Byteswap inner) extents = most_slots inner extents
 most_slots (Bytesplit inner) extents = most_slots inner extents
@@ -120,6 +122,18 @@ bad_side (Count inner) fields cells = bad_side inner fields cells
 bad_side (Heat granule inner) fields cells = bad_side inner fields cells
 bad_side _ fields cells = false
 
+-- some bit mapping in it says a width of a path that none of its cells is under
+abbrev pub bad_field : Term → Fields → List Cell → Bool
+bad_field (BitAos width entries order) fields cells = has_empty fields cells entries
+bad_field (BitSoa width entries order) fields cells = has_empty fields cells entries
+bad_field (Split path first rest) fields cells = bad_field first fields (cells_under fields path cells) || bad_field rest fields (cells_beside fields path cells)
+bad_field (Byteswap inner) fields cells = bad_field inner fields cells
+bad_field (Bytesplit inner) fields cells = bad_field inner fields (bytes_of cells)
+bad_field (Change from to inner) fields cells = bad_field inner fields (changed from to cells)
+bad_field (Count inner) fields cells = bad_field inner fields cells
+bad_field (Heat granule inner) fields cells = bad_field inner fields cells
+bad_field _ fields cells = false
+
 -- some part of it under byteswap or bytesplit stores a cell in another sign or width than the cell's type has
 abbrev pub not_full : Term → Fields → List Cell → Bool
 not_full (Split path first rest) fields cells = not_full first fields (cells_under fields path cells) || not_full rest fields (cells_beside fields path cells)
@@ -136,9 +150,11 @@ else_for bad holds (Err earlier) = Err earlier
 else_for bad true (Ok x) = Err bad
 else_for bad false (Ok x) = Ok x
 
--- the first of the causes: those of the expression alone, then a split with an empty side, then a part that is not full
+-- the first of the causes: those of the expression alone, then a split with an empty side, then a width that is said of no cell, then a part
+-- that is not full
 abbrev pub accepted : Term → Fields → List Cell → Result Unit BadMapping
-accepted term fields cells = else_for NotFull (not_full term fields cells) (else_for Side (bad_side term fields cells) (checked term))
+accepted term fields cells =
+    else_for NotFull (not_full term fields cells) (else_for Field (bad_field term fields cells) (else_for Side (bad_side term fields cells) (checked term)))
 
 -- an answer that is no mapping: the expression is refused so, or is accepted and over a limit; want of memory is free
 abbrev pub IsRefusal : Term → List ℕ → Fields → List Cell → MakeMap → Type 0

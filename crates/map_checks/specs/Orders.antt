@@ -7,8 +7,8 @@ pub IsBuiltTerm-prop : (term : Term) → IsProp (IsBuiltTerm term)
 IsBuiltTerm-prop (Aos form order) = hlevel
 IsBuiltTerm-prop (Soa form order) = hlevel
 IsBuiltTerm-prop (Aosoa lanes order) = hlevel
-IsBuiltTerm-prop (BitAos width order) = hlevel
-IsBuiltTerm-prop (BitSoa width order) = hlevel
+IsBuiltTerm-prop (BitAos width entries order) = hlevel
+IsBuiltTerm-prop (BitSoa width entries order) = hlevel
 IsBuiltTerm-prop (Split path first rest) = ×_prop (IsBuiltTerm-prop first) (IsBuiltTerm-prop rest)
 IsBuiltTerm-prop (Byteswap inner) = IsBuiltTerm-prop inner
 IsBuiltTerm-prop (Bytesplit inner) = IsBuiltTerm-prop inner

@@ -1,10 +1,10 @@
 -- The laws of the layout of an expression.
-use Rattle.std.proofs.Common.{◌≡◌, ℕ, ◌<◌, ◌≤◌, List, map, replicate, length, All, Bool, true, false, Option, None, Some, refl, sym, ◌∙◌, arith}
+use Rattle.std.proofs.Common.{◌≡◌, ℕ, ◌<◌, ◌≤◌, List, [], ◌∷◌, map, length, All, Bool, true, false, Option, None, Some, refl, sym, ap, ◌∙◌, arith}
 use Rattle.std.specs.Prelude.{◌&&◌, ◌||◌, not, nat_le, if◌then◌else◌}
-use Rattle.std.specs.List.{count_by}
+use Rattle.std.specs.List.{count_by, list_all}
 use Rattle.std.specs.Option.{option_or}
-use Rattle.std.proofs.lemmas.Bool.{leb-true}
-use Rattle.std.proofs.lemmas.List.{length-map, length-replicate}
+use Rattle.std.proofs.lemmas.Bool.{and_parts, leb-true, or_from}
+use Rattle.std.proofs.lemmas.List.{length-map}
 use Rattle.std.proofs.lemmas.List.Sums.{length-filter}
 use Rattle.extents.specs.Indices.{indices}
 use Rattle.linearize.specs.Slots.{slot_count}
@@ -25,9 +25,10 @@ use Rattle.map_aosoa.specs.AosoaLaws.{aosoa_laws}
 use Rattle.map_expr.specs.declared.check.BadMapping.{BadMapping}
 use Rattle.map_expr.specs.declared.check.BadMapping.TheVariants.{Lanes, Width}
 use Rattle.map_expr.specs.Terms.{Term, Aos, Soa, Aosoa, BitAos, BitSoa, Split, Byteswap, Bytesplit, Change, Count, Heat, Named}
-use Rattle.map_expr.specs.Checks.{bad_number, bad_lanes, bad_width, bad_granule}
-use Rattle.map_bits.specs.Bits.{has_bad_width}
-use Rattle.map_bits.specs.NarrowLaws.{length-narrow, narrow_wide, narrow_low, same_good}
+use Rattle.map_expr.specs.Checks.{bad_number, bad_lanes, bad_widths, bad_granule, is_width}
+use Rattle.map_expr.specs.declared.widths.FieldWidth.{FieldWidth}
+use Rattle.map_bits.specs.Bits.{has_bad_width, is_bad_width}
+use Rattle.map_bits.specs.NarrowLaws.{length-narrow, narrow_wide, narrow_low}
 use Rattle.map_bits.specs.BitLaws.{bit_aos_laws, bit_soa_laws}
 use Rattle.map_bytes.specs.Cells.{bytes_of, changed, differ}
 use Rattle.map_bytes.specs.FullLaws.{differ_none}
@@ -35,6 +36,7 @@ use Rattle.map_bytes.specs.SwapLaws.{byteswap_laws}
 use Rattle.map_bytes.specs.BytesplitLaws.{bytesplit_laws}
 use Rattle.map_bytes.specs.ChangeLaws.{length-changed}
 use Rattle.map_checks.specs.Sides.{side_of, cells_under, cells_beside}
+use Rattle.map_checks.specs.Widths.{cell_widths, width_at, width_by}
 use Rattle.map_split.specs.SidesLaws.{length-merged, count-mapped}
 use Rattle.map_split.specs.SplitLaws.{split_laws}
 use Rattle.map_checks.specs.Mappings.{layout_of, holds_of, held_within, not_full, IsBuiltTerm, HasNumbers}
@@ -55,8 +57,12 @@ module _ (fields : Fields) (path : List PathStep) (cells : List Cell) where
   pub length-side : length (side_of fields path cells) ≡ length cells
   length-side = length-map cells (λ (cell : Cell). is_under fields path cell.leaf)
 
-length-within : (width : ℕ) (cells : List Cell) → length (held_within width cells) ≡ length cells
-length-within width cells = length-narrow (replicate (length cells) width) cells (length-replicate (length cells) width)
+-- a width for each cell
+pub length-cell_widths : (fields : Fields) (width : ℕ) (entries : List FieldWidth) (cells : List Cell) → length (cell_widths fields width entries cells) ≡ length cells
+length-cell_widths fields width entries cells = length-map cells (λ (cell : Cell). width_at fields width entries cell.leaf)
+
+length-within : (fields : Fields) (width : ℕ) (entries : List FieldWidth) (cells : List Cell) → length (held_within fields width entries cells) ≡ length cells
+length-within fields width entries cells = length-narrow (cell_widths fields width entries cells) cells (length-cell_widths fields width entries cells)
 
 -- each cell is stored
 pub length-holds : (term : Term) (fields : Fields) (cells : List Cell) → length (holds_of term fields cells) ≡ length cells
@@ -72,8 +78,8 @@ length-holds (Count inner) fields cells = length-holds inner fields cells
 length-holds (Aos form order) fields cells = length-full cells
 length-holds (Soa form order) fields cells = length-full cells
 length-holds (Aosoa lanes order) fields cells = length-full cells
-length-holds (BitAos width order) fields cells = length-within width cells
-length-holds (BitSoa width order) fields cells = length-within width cells
+length-holds (BitAos width entries order) fields cells = length-within fields width entries cells
+length-holds (BitSoa width entries order) fields cells = length-within fields width entries cells
 length-holds (Byteswap inner) fields cells = length-full cells
 length-holds (Bytesplit inner) fields cells = length-full cells
 length-holds (Change from to inner) fields cells = length-holds inner fields (changed from to cells) ∙ length-changed from to cells
@@ -90,19 +96,46 @@ some_lanes lanes e =
     let low : 1 ≤ lanes = leb-true 1 lanes (at_least Lanes (nat_le 1 lanes) (nat_le lanes 64) e) in
     omega arith
 
-good_of : (good : Bool) → (if good then None else Some Width) ≡ None → not good ≡ false
+good_of : (good : Bool) → (if good then None else Some Width) ≡ None → good ≡ true
 good_of true e = refl
 good_of false e = cc
 
+-- each entry has a width
+abbrev AreWidths : List FieldWidth → Type 0
+AreWidths entries = list_all (λ (entry : FieldWidth). is_width entry.width) entries ≡ true
+
+one_good : (under : Bool) (one other : ℕ) → is_width one ≡ true → is_width other ≡ true → is_width (if under then one else other) ≡ true
+one_good true one other good also = good
+one_good false one other good also = also
+
+-- where the first number and all entries are widths, so is what each leaf gets
+width_good : (fields : Fields) (leaf width : ℕ) (entries : List FieldWidth) → is_width width ≡ true → AreWidths entries → is_width (width_at fields width entries leaf) ≡ true
+width_good fields leaf width [] good all = good
+width_good fields leaf width (entry ∷ entries) good all =
+    let parts = and_parts (is_width entry.width) (list_all (λ (e : FieldWidth). is_width e.width) entries) all in
+    width_good fields leaf (width_by fields leaf width entry) entries (one_good (is_under fields entry.path leaf) entry.width width parts.0 good) parts.1
+
+cells_good : (fields : Fields) (width : ℕ) (entries : List FieldWidth) (cells : List Cell) → is_width width ≡ true → AreWidths entries
+    → has_bad_width (cell_widths fields width entries cells) ≡ false
+cells_good fields width entries [] good all = refl
+cells_good fields width entries (cell ∷ cells) good all =
+    or_from (is_bad_width (width_at fields width entries cell.leaf)) (has_bad_width (cell_widths fields width entries cells))
+    (ap not (width_good fields cell.leaf width entries good all)) (cells_good fields width entries cells good all)
+
 -- widths that are accepted are good ones
-pub same_widths : (width n : ℕ) → bad_width width ≡ None → has_bad_width (replicate n width) ≡ false
-same_widths width n e = same_good width n (good_of (nat_le 1 width && nat_le width 64) e)
+pub good_widths : (fields : Fields) (width : ℕ) (entries : List FieldWidth) (cells : List Cell) → bad_widths width entries ≡ None
+    → has_bad_width (cell_widths fields width entries cells) ≡ false
+good_widths fields width entries cells e =
+    let all : Bool = list_all (λ (entry : FieldWidth). is_width entry.width) entries in
+    let parts = and_parts (is_width width) all (good_of (is_width width && all) e) in
+    cells_good fields width entries cells parts.0 parts.1
 
-within_wide : (width : ℕ) (cells : List Cell) → bad_width width ≡ None → All (λ w. 1 ≤ w) (widths_in (held_within width cells))
-within_wide width cells e = narrow_wide (replicate (length cells) width) cells (same_widths width (length cells) e)
+within_wide : (fields : Fields) (width : ℕ) (entries : List FieldWidth) (cells : List Cell) → bad_widths width entries ≡ None
+    → All (λ w. 1 ≤ w) (widths_in (held_within fields width entries cells))
+within_wide fields width entries cells e = narrow_wide (cell_widths fields width entries cells) cells (good_widths fields width entries cells e)
 
-within_low : (width : ℕ) (cells : List Cell) → All (λ w. w ≤ 64) (widths_in (held_within width cells))
-within_low width cells = narrow_low (replicate (length cells) width) cells
+within_low : (fields : Fields) (width : ℕ) (entries : List FieldWidth) (cells : List Cell) → All (λ w. w ≤ 64) (widths_in (held_within fields width entries cells))
+within_low fields width entries cells = narrow_low (cell_widths fields width entries cells) cells
 
 -- where neither holds
 pub neither_of : (one two : Bool) → (one || two) ≡ false → (one ≡ false) × (two ≡ false)
@@ -126,12 +159,14 @@ term_laws (Soa form order) extents fields cells built numbers full =
 term_laws (Aosoa lanes order) extents fields cells built numbers full =
     rows_laid order extents (map (λ (h : Hold). h.width) (full_holds cells)) (aosoa lanes (slot_count order extents) (widths_of cells))
     (aosoa_laws lanes (slot_count order extents) cells (some_lanes lanes numbers))
-term_laws (BitAos width order) extents fields cells built numbers full =
-    rows_laid order extents (widths_in (held_within width cells)) (bit_aos (slot_count order extents) (widths_in (held_within width cells)))
-    (bit_aos_laws (slot_count order extents) (widths_in (held_within width cells)) (within_low width cells) (within_wide width cells numbers))
-term_laws (BitSoa width order) extents fields cells built numbers full =
-    rows_laid order extents (widths_in (held_within width cells)) (bit_soa (slot_count order extents) (widths_in (held_within width cells)))
-    (bit_soa_laws (slot_count order extents) (widths_in (held_within width cells)) (within_low width cells) (within_wide width cells numbers))
+term_laws (BitAos width entries order) extents fields cells built numbers full =
+    let widths : List ℕ = widths_in (held_within fields width entries cells) in
+    rows_laid order extents widths (bit_aos (slot_count order extents) widths)
+    (bit_aos_laws (slot_count order extents) widths (within_low fields width entries cells) (within_wide fields width entries cells numbers))
+term_laws (BitSoa width entries order) extents fields cells built numbers full =
+    let widths : List ℕ = widths_in (held_within fields width entries cells) in
+    rows_laid order extents widths (bit_soa (slot_count order extents) widths)
+    (bit_soa_laws (slot_count order extents) widths (within_low fields width entries cells) (within_wide fields width entries cells numbers))
 term_laws (Split path first rest) extents fields cells built numbers full =
     let side : List Bool = side_of fields path cells in
     let under : List Cell = cells_under fields path cells in
@@ -168,8 +203,8 @@ pub good_numbers : (term : Term) → bad_number term ≡ None → HasNumbers ter
 good_numbers (Aos form order) e = tt
 good_numbers (Soa form order) e = tt
 good_numbers (Aosoa lanes order) e = e
-good_numbers (BitAos width order) e = e
-good_numbers (BitSoa width order) e = e
+good_numbers (BitAos width entries order) e = e
+good_numbers (BitSoa width entries order) e = e
 good_numbers (Split path first rest) e =
     (good_numbers first (first_none (bad_number first) (bad_number rest) e), good_numbers rest (then_none (bad_number first) (bad_number rest) e))
 good_numbers (Byteswap inner) e = good_numbers inner e

@@ -8,7 +8,8 @@ use crate::hold_list::HoldList;
 use crate::inner_cells::changed_cells;
 use crate::merge::merge_holds;
 use crate::sides::split_cells;
-use map_expr::MapExpr;
+use crate::widths::width_at;
+use map_expr::{MapExpr, WidthList};
 use places::{CellList, Hold};
 use record_dim::Schema;
 use std::alloc::{AllocError as NoMemory, Global};
@@ -24,13 +25,20 @@ pub fn full_holds(alloc: Global, cells: &CellList) -> Result<HoldList, NoMemory>
     Ok(holds)
 }
 
-/// Each cell in its type's sign and at most `width` bits.
-fn held_within(alloc: Global, width: u32, cells: &CellList) -> Result<HoldList, NoMemory>
-    ensures { IfOk result (λ holds. holds ≡ held_within width cells.now) }
+/// Each cell in its type's sign and at most as many bits as the last of `fields` says that it is under, or `width`.
+fn held_within(
+    alloc: Global,
+    schema: &Schema,
+    cells: &CellList,
+    width: u32,
+    fields: &WidthList,
+) -> Result<HoldList, NoMemory>
+    ensures { IfOk result (λ holds. holds ≡ held_within (schema_fields schema.now) width fields.now cells.now) }
 {
     let mut holds = HoldList::new(alloc);
     for cell in cells.as_slice() {
-        holds.push(Hold::within(width, cell.kind))?;
+        let most = width_at(schema, width, fields, cell.leaf);
+        holds.push(Hold::within(most, cell.kind))?;
     }
     Ok(holds)
 }
@@ -45,8 +53,8 @@ pub fn holds_of(
     ensures { IfOk result (λ holds. holds ≡ holds_of (term_of expr.now) (schema_fields schema.now) cells.now) }
 {
     match expr {
-        MapExpr::BitAos { width, .. } | MapExpr::BitSoa { width, .. } => {
-            held_within(alloc, *width, cells)
+        MapExpr::BitAos { width, fields, .. } | MapExpr::BitSoa { width, fields, .. } => {
+            held_within(alloc, schema, cells, *width, fields)
         }
         MapExpr::Split { path, first, rest } => {
             let sides = split_cells(alloc, schema, path, cells)?;

@@ -1,6 +1,7 @@
-//! What refuses an expression as a mapping of cells: its splits, its parts that are not full, and how its cells are stored.
+//! What refuses an expression as a mapping of cells: its splits, widths of no cell, its parts that are not full; and how its cells are stored.
 #![tactic(auto)]
 
+mod bad_field;
 mod bad_side;
 mod cells;
 mod fault;
@@ -11,7 +12,9 @@ mod inner_cells;
 mod merge;
 mod not_full;
 mod sides;
+mod widths;
 
+pub use bad_field::has_bad_field;
 pub use bad_side::has_bad_side;
 pub use cells::{cells_of, kind_at};
 pub use fault::MakeMap;
@@ -22,3 +25,4 @@ pub use inner_cells::{bytes_cells, changed_cells};
 pub use merge::merge_holds;
 pub use not_full::has_part_not_full;
 pub use sides::{SideList, Sides, split_cells};
+pub use widths::cell_widths;

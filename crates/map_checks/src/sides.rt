@@ -20,7 +20,7 @@ pub struct Sides {
 }
 
 /// Whether a leaf is under a path.
-fn is_under(schema: &Schema, path: &Path, leaf: usize) -> bool
+pub(crate) fn is_under(schema: &Schema, path: &Path, leaf: usize) -> bool
     ensures { result ≡ is_under (schema_fields schema.now) path.now leaf }
 {
     match schema.leaves_under(path) {

@@ -1,8 +1,9 @@
 -- Which expressions can be mappings, whatever their cells are.
-use Rattle.std.specs.Prelude.{ℕ, ◌^◌, Bool, true, false, not, ◌&&◌, ◌||◌, nat_eq, nat_le, nat_lt, if◌then◌else◌, ⊤, Option, Some, None, Result, Ok, Err}
-use Rattle.std.specs.List.{list_any, range_with_len}
+use Rattle.std.specs.Prelude.{ℕ, ◌^◌, Bool, true, false, not, ◌&&◌, ◌||◌, nat_eq, nat_le, nat_lt, if◌then◌else◌, ⊤, List, Option, Some, None, Result, Ok, Err}
+use Rattle.std.specs.List.{list_all, list_any, range_with_len}
 use Rattle.std.specs.Option.{option_or}
 use Rattle.map_expr.specs.declared.check.BadMapping.{BadMapping}
+use Rattle.map_expr.specs.declared.widths.FieldWidth.{FieldWidth}
 use Rattle.map_expr.specs.declared.check.BadMapping.TheVariants.{TooDeep, Counter, Lanes, Width, Granule}
 use Rattle.map_expr.specs.Terms.{Term, Aosoa, BitAos, BitSoa, Split, Byteswap, Bytesplit, Change, Count, Heat, Named, depth_of}
 
@@ -33,12 +34,20 @@ counts_once count heat (Count inner) = count && counts_once false heat inner
 counts_once count heat (Heat granule inner) = heat && counts_once count false inner
 counts_once count heat term = not (has_counter term)
 
--- a number of lanes, a width, and a granule that is out of its range
+-- a width of a cell
+abbrev pub is_width : ℕ → Bool
+is_width width = nat_le 1 width && nat_le width 64
+
+-- each entry has one
+abbrev pub are_widths : List FieldWidth → Bool
+are_widths fields = list_all (λ entry. is_width entry.width) fields
+
+-- a number of lanes, some of the widths of bits, and a granule that is out of its range
 abbrev pub bad_lanes : ℕ → Option BadMapping
 bad_lanes lanes = if nat_le 1 lanes && nat_le lanes 64 then None else Some Lanes
 
-abbrev pub bad_width : ℕ → Option BadMapping
-bad_width width = if nat_le 1 width && nat_le width 64 then None else Some Width
+abbrev pub bad_widths : ℕ → List FieldWidth → Option BadMapping
+bad_widths width fields = if is_width width && are_widths fields then None else Some Width
 
 abbrev pub bad_granule : ℕ → Option BadMapping
 bad_granule granule = if list_any (λ k. nat_eq granule (2 ^ k)) (range_with_len 0 13) then None else Some Granule
@@ -46,8 +55,8 @@ bad_granule granule = if list_any (λ k. nat_eq granule (2 ^ k)) (range_with_len
 -- the first number that is out of its range, in the order of the text
 abbrev pub bad_number : Term → Option BadMapping
 bad_number (Aosoa lanes order) = bad_lanes lanes
-bad_number (BitAos width order) = bad_width width
-bad_number (BitSoa width order) = bad_width width
+bad_number (BitAos width fields order) = bad_widths width fields
+bad_number (BitSoa width fields order) = bad_widths width fields
 bad_number (Split path first rest) = option_or (bad_number first) (bad_number rest)
 bad_number (Byteswap inner) = bad_number inner
 bad_number (Bytesplit inner) = bad_number inner

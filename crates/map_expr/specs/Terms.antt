@@ -5,6 +5,7 @@ use Rattle.places.specs.declared.forms.AosForm.{AosForm}
 use Rattle.places.specs.declared.forms.SoaForm.{SoaForm}
 use Rattle.record_dim.specs.declared.leaf_type.LeafType.{LeafType}
 use Rattle.record_dim.specs.declared.path.PathStep.{PathStep}
+use Rattle.map_expr.specs.declared.widths.FieldWidth.{FieldWidth}
 use Rattle.map_expr.specs.declared.expr.MapExpr.{MapExpr}
 use Rattle.map_expr.specs.declared.expr.MapExpr.TheVariants as expr
 
@@ -13,8 +14,8 @@ pub data Term : Type 0 where
   Aos : AosForm → Order → Term
   Soa : SoaForm → Order → Term
   Aosoa : ℕ → Order → Term
-  BitAos : ℕ → Order → Term
-  BitSoa : ℕ → Order → Term
+  BitAos : ℕ → List FieldWidth → Order → Term
+  BitSoa : ℕ → List FieldWidth → Order → Term
   Split : List PathStep → Term → Term → Term
   Byteswap : Term → Term
   Bytesplit : Term → Term
@@ -28,8 +29,8 @@ abbrev pub term_of : MapExpr → Term
 term_of (expr.Aos form order) = Aos form order
 term_of (expr.Soa form order) = Soa form order
 term_of (expr.Aosoa lanes order) = Aosoa lanes order
-term_of (expr.BitAos width order) = BitAos width order
-term_of (expr.BitSoa width order) = BitSoa width order
+term_of (expr.BitAos width fields order) = BitAos width fields order
+term_of (expr.BitSoa width fields order) = BitSoa width fields order
 term_of (expr.Split' path p first q rest) = Split path (term_of first) (term_of rest)
 term_of (expr.Byteswap' p inner) = Byteswap (term_of inner)
 term_of (expr.Bytesplit' p inner) = Bytesplit (term_of inner)

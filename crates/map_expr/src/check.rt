@@ -1,8 +1,8 @@
 ghost use Rattle.std.specs.Prelude.{◌≡◌, nat_le};
 ghost use Rattle.map_expr.specs.Terms.{term_of, depth_of};
-ghost use Rattle.map_expr.specs.Checks.{IsNameless, has_counter, counts_once, bad_number, bad_lanes, bad_width, bad_granule, checked};
+ghost use Rattle.map_expr.specs.Checks.{IsNameless, has_counter, counts_once, bad_number, bad_lanes, bad_widths, bad_granule, is_width, are_widths, checked};
 
-use crate::MapExpr;
+use crate::{FieldWidth, MapExpr};
 use places::{MAX_LANES, MAX_WIDTH};
 use thiserror::Error;
 
@@ -18,8 +18,8 @@ pub enum BadMapping {
     /// The lanes are not 1 to 64.
     #[error("the lanes are not 1 to 64")]
     Lanes,
-    /// The width is not 1 to 64.
-    #[error("the width is not 1 to 64")]
+    /// A width is not 1 to 64.
+    #[error("a width is not 1 to 64")]
     Width,
     /// The granule is no power of two from 1 to 4,096.
     #[error("the granule is no power of two from 1 to 4096")]
@@ -27,6 +27,9 @@ pub enum BadMapping {
     /// All cells or none go to the first side of a split.
     #[error("one side of a split has no cell")]
     Side,
+    /// A width is said of a path that none of the mapping's cells is under.
+    #[error("a width is said of a path that no cell is under")]
+    Field,
     /// A cell under byteswap or bytesplit is stored with another sign or width than its type has.
     #[error("a cell below byteswap or bytesplit is not stored as its type is")]
     NotFull,
@@ -122,9 +125,16 @@ fn bad_number(expr: &MapExpr) -> Option<BadMapping>
 {
     match expr {
         MapExpr::Aosoa { lanes, order: _ } => bad_lanes(*lanes),
-        MapExpr::BitAos { width, order: _ } | MapExpr::BitSoa { width, order: _ } => {
-            bad_width(*width)
+        MapExpr::BitAos {
+            width,
+            fields,
+            order: _,
         }
+        | MapExpr::BitSoa {
+            width,
+            fields,
+            order: _,
+        } => bad_widths(*width, fields.as_slice()),
         MapExpr::Split {
             path: _,
             first,
@@ -153,10 +163,23 @@ fn bad_lanes(lanes: u32) -> Option<BadMapping>
     }
 }
 
-fn bad_width(width: u32) -> Option<BadMapping>
-    ensures { result ≡ bad_width width }
+fn is_width(width: u32) -> bool
+    ensures { result ≡ is_width width }
 {
-    if (1..=MAX_WIDTH).contains(&width) {
+    (1..=MAX_WIDTH).contains(&width)
+}
+
+// Whether each entry has a width.
+fn are_widths(fields: &[FieldWidth]) -> bool
+    ensures { result ≡ are_widths fields.now }
+{
+    fields.iter().all(|entry| is_width(entry.width))
+}
+
+fn bad_widths(width: u32, fields: &[FieldWidth]) -> Option<BadMapping>
+    ensures { result ≡ bad_widths width fields.now }
+{
+    if is_width(width) && are_widths(fields) {
         None
     } else {
         Some(BadMapping::Width)

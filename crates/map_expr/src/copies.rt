@@ -2,6 +2,7 @@ ghost use Rattle.std.specs.Prelude.{◌≡◌, IfOk};
 ghost use Rattle.map_expr.specs.Terms.{term_of};
 
 use crate::MapExpr;
+use crate::widths::copy_widths;
 use std::alloc::{AllocError as NoMemory, Global};
 
 impl MapExpr {
@@ -22,12 +23,22 @@ impl MapExpr {
                 lanes: *lanes,
                 order: *order,
             }),
-            MapExpr::BitAos { width, order } => Ok(MapExpr::BitAos {
+            MapExpr::BitAos {
+                width,
+                fields,
+                order,
+            } => Ok(MapExpr::BitAos {
                 width: *width,
+                fields: copy_widths(alloc, fields)?,
                 order: *order,
             }),
-            MapExpr::BitSoa { width, order } => Ok(MapExpr::BitSoa {
+            MapExpr::BitSoa {
+                width,
+                fields,
+                order,
+            } => Ok(MapExpr::BitSoa {
                 width: *width,
+                fields: copy_widths(alloc, fields)?,
                 order: *order,
             }),
             MapExpr::Split { path, first, rest } => {

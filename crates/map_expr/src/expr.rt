@@ -1,3 +1,4 @@
+use crate::WidthList;
 use extents::Order;
 use places::{AosForm, SoaForm};
 use record_dim::{LeafType, Name, Path};
@@ -20,14 +21,17 @@ pub enum MapExpr {
         lanes: u32,
         order: Order,
     },
-    /// Slot after slot, each cell in at most `width` bits, 1 to 64.
+    /// Slot after slot, each cell in at most so many bits, 1 to 64: those of the last of `fields` that it is under, and `width` where
+    /// it is under none.
     BitAos {
         width: u32,
+        fields: WidthList,
         order: Order,
     },
-    /// A blob for each cell, each cell in at most `width` bits, 1 to 64.
+    /// A blob for each cell, each cell in at most so many bits, as in `BitAos`.
     BitSoa {
         width: u32,
+        fields: WidthList,
         order: Order,
     },
     /// The cells whose leaf is under `path` as `first` says, the others as `rest` says.

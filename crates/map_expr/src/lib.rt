@@ -5,6 +5,8 @@ mod check;
 mod copies;
 mod expr;
 mod same;
+mod widths;
 
 pub use check::BadMapping;
 pub use expr::MapExpr;
+pub use widths::{FieldWidth, WidthList};

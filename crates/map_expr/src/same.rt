@@ -2,7 +2,7 @@ ghost use Rattle.std.specs.Prelude.{◌≡◌, ◌↔◌, IsTrue};
 ghost use Rattle.map_expr.specs.Terms.{term_of, uncounted};
 
 use crate::MapExpr;
-use record_dim::PathStep;
+use crate::widths::{same_steps, same_widths};
 
 impl MapExpr {
     /// Whether two expressions are one, names and numbers included. It takes stack for each level of the expression.
@@ -19,12 +19,30 @@ impl MapExpr {
             (MapExpr::Aosoa { lanes, order }, MapExpr::Aosoa { lanes: l, order: o }) => {
                 lanes == l && order == o
             }
-            (MapExpr::BitAos { width, order }, MapExpr::BitAos { width: w, order: o }) => {
-                width == w && order == o
-            }
-            (MapExpr::BitSoa { width, order }, MapExpr::BitSoa { width: w, order: o }) => {
-                width == w && order == o
-            }
+            (
+                MapExpr::BitAos {
+                    width,
+                    fields,
+                    order,
+                },
+                MapExpr::BitAos {
+                    width: w,
+                    fields: f,
+                    order: o,
+                },
+            ) => width == w && order == o && same_widths(fields.as_slice(), f.as_slice()),
+            (
+                MapExpr::BitSoa {
+                    width,
+                    fields,
+                    order,
+                },
+                MapExpr::BitSoa {
+                    width: w,
+                    fields: f,
+                    order: o,
+                },
+            ) => width == w && order == o && same_widths(fields.as_slice(), f.as_slice()),
             (
                 MapExpr::Split { path, first, rest },
                 MapExpr::Split {
@@ -64,26 +82,5 @@ impl MapExpr {
             MapExpr::Count(inner) | MapExpr::Heat { granule: _, inner } => inner.uncounted(),
             _ => self,
         }
-    }
-}
-
-/// Whether two paths have the same steps.
-fn same_steps(steps: &[PathStep], others: &[PathStep]) -> bool
-    ensures { IsTrue result ↔ (steps.now ≡ others.now) }
-{
-    match (steps, others) {
-        ([], []) => true,
-        ([step, rest @ ..], [other, more @ ..]) => same_step(step, other) && same_steps(rest, more),
-        _ => false,
-    }
-}
-
-fn same_step(step: &PathStep, other: &PathStep) -> bool
-    ensures { IsTrue result ↔ (step.now ≡ other.now) }
-{
-    match (step, other) {
-        (PathStep::Name(name), PathStep::Name(other)) => name == other,
-        (PathStep::At(number), PathStep::At(other)) => number == other,
-        _ => false,
     }
 }

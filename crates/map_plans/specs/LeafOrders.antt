@@ -12,8 +12,8 @@ abbrev pub order_of : Term → Fields → ℕ → Order
 order_of (Aos form order) fields leaf = order
 order_of (Soa form order) fields leaf = order
 order_of (Aosoa lanes order) fields leaf = order
-order_of (BitAos width order) fields leaf = order
-order_of (BitSoa width order) fields leaf = order
+order_of (BitAos width entries order) fields leaf = order
+order_of (BitSoa width entries order) fields leaf = order
 order_of (Split path first rest) fields leaf = if is_under fields path leaf then order_of first fields leaf else order_of rest fields leaf
 order_of (Byteswap inner) fields leaf = order_of inner fields leaf
 order_of (Bytesplit inner) fields leaf = order_of inner fields leaf

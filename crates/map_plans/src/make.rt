@@ -60,8 +60,16 @@ pub fn make_plan(
             let plan = base_plan(alloc, &mapping, *order, extents)?;
             Ok(plan)
         }
-        MapExpr::BitAos { width, order } => bit_aos_plan(alloc, cells, extents, *order, *width),
-        MapExpr::BitSoa { width, order } => bit_soa_plan(alloc, cells, extents, *order, *width),
+        MapExpr::BitAos {
+            width,
+            fields,
+            order,
+        } => bit_aos_plan(alloc, schema, cells, extents, *order, *width, fields),
+        MapExpr::BitSoa {
+            width,
+            fields,
+            order,
+        } => bit_soa_plan(alloc, schema, cells, extents, *order, *width, fields),
         MapExpr::Split { path, first, rest } => {
             let sides = split_cells(alloc, schema, path, cells)?;
             let left = make_plan(alloc, schema, &sides.first, extents, first)?;

@@ -98,6 +98,15 @@ impl Schema {
         Ok(Schema { fields, tables })
     }
 
+    /// A tree equal to the schema's.
+    pub fn tree(&self, alloc: Global) -> Result<Dim, NoMemory>
+        ensures tree { IfOk result (λ dim. tree_of dim ≡ Record (schema_fields self.now)) }
+        ensures kind { IfOk result IsRecord }
+    {
+        let fields = self.fields.copy(alloc)?;
+        Ok(Dim::Fields(fields))
+    }
+
     /// Whether both are one tree, names included.
     pub fn same(&self, other: &Schema) -> bool
         ensures { IsTrue result ↔ (schema_fields self.now ≡ schema_fields other.now) }

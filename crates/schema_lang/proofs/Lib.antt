@@ -5,3 +5,4 @@ pub mod SpellingLaws
 pub mod LineLaws
 pub mod LineOfLaws
 pub mod Whole
+pub mod VersionLaws

@@ -9,9 +9,11 @@ use Rattle.std.specs.List.{list_all}
 use Rattle.std.specs.Str.{byte}
 use Rattle.record_dim.specs.Names.{begins_name, continues_name, is_name}
 use Rattle.line_tokens.specs.Bytes.{is_letter, is_word_byte, is_text_byte}
+use Rattle.line_tokens.specs.Next.{next_of}
 use Rattle.line_tokens.specs.Spelled.{Spells}
 use Rattle.line_tokens.specs.Spots.{brackets_after, Spots}
 use Rattle.line_tokens.specs.declared.spots.Spot.{Spot}
+use Rattle.line_tokens.specs.declared.token.Next.TheVariants.{Token}
 use Rattle.line_tokens.specs.declared.token.TokenKind.{TokenKind}
 use Rattle.line_tokens.specs.declared.token.TokenKind.TheVariants.{Word, Number, Text, Sign as SignKind}
 use Rattle.line_tokens.specs.NextTokenLaws.{next_inside}
@@ -75,6 +77,14 @@ kind_spelled text from end Text ordered within h = text_file text from end order
 kind_spelled text from end (Number value) ordered within h = tt
 kind_spelled text from end (SignKind sign) ordered within h = tt
 
+-- a token that stands next is of its kind
+pub token_spelled : (text : List ℕ) (at brackets from end : ℕ) (kind : TokenKind) → at ≤ length text → next_of text at brackets ≡ Token from end kind →
+    IsSpelled text (record { from = from; end = end; kind = Some kind })
+token_spelled text at brackets from end kind l e =
+    let inside = rw e at (next_inside text at brackets l) in
+    let ordered : from ≤ end = omega arith in let within : end ≤ length text = omega arith in
+    (ordered, within, kind_spelled text from end kind ordered within (next_spells text at brackets from end kind e).0)
+
 none_spelled : (text : List ℕ) → All (IsSpelled text) []
 none_spelled text k d l = absurd (omega arith)
 
@@ -85,10 +95,8 @@ spelled_step text at brackets f e None rest l behind h =
     let inside = rw h.0 at (next_inside text at brackets l) in let place = h.1 in
     All-cons (IsSpelled text) (record { from = f; end = e; kind = None }) rest (omega arith, omega arith, tt) (rw h.2 (none_spelled text))
 spelled_step text at brackets f e (Some kind) rest l behind h =
-    let inside = rw h.0 at (next_inside text at brackets l) in
-    let ordered : f ≤ e = omega arith in let within : e ≤ length text = omega arith in
-    All-cons (IsSpelled text) (record { from = f; end = e; kind = Some kind }) rest
-    (ordered, within, kind_spelled text f e kind ordered within (next_spells text at brackets f e kind h.0).0) (behind e (brackets_after kind brackets) within h.1)
+    let spelled = token_spelled text at brackets f e kind l h.0 in
+    All-cons (IsSpelled text) (record { from = f; end = e; kind = Some kind }) rest spelled (behind e (brackets_after kind brackets) spelled.1 h.1)
 
 pub spots_spelled : (text : List ℕ) (at brackets : ℕ) (spots : List Spot) → at ≤ length text → Spots text at brackets spots → All (IsSpelled text) spots
 spots_spelled text at brackets [] l h = none_spelled text

@@ -4,3 +4,5 @@ pub mod Bodies
 pub mod Spelled
 pub mod Parsing
 pub mod LineOf
+pub mod NextTokens
+pub mod VersionOf

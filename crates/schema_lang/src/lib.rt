@@ -1,4 +1,5 @@
-//! The lines of the script language, read from their texts and written as them.
+//! The lines of the script language in both of its versions, read from their texts and written as them, and the line that says
+//! a script's version.
 #![tactic(auto)]
 
 mod bodies;
@@ -8,10 +9,12 @@ mod kernels;
 mod line;
 mod token_list;
 mod updates;
+mod version;
 
 pub use fault::LineFault;
-pub use line::{MAX_LINE_BYTES, line_law, one_line_law, parse_line, parse_line_in};
+pub use line::{MAX_LINE_BYTES, line_law, one_line_law, parse_line};
 pub use line_grammar::{
     ExtentWords, FileName, IndexWords, KernelText, Line, ReduceKind, SetList, SetText, Version,
 };
 pub use line_writer::write_line;
+pub use version::{is_blank, version_of};

@@ -1,6 +1,5 @@
 ghost use Rattle.std.specs.Prelude.{ℕ, List, ◌≡◌, ◌≤◌, [], length, IfOk, IfErr, MatchResult};
 ghost use Rattle.line_grammar.specs.declared.version.Version.{Version};
-ghost use Rattle.line_grammar.specs.declared.version.Version.TheVariants.{One};
 ghost use Rattle.line_grammar.specs.Reads.{Reads, StopsAt};
 ghost use Rattle.line_grammar.specs.Sentences.{Sentence, deepest, sentence_of};
 ghost use Rattle.line_phrases.specs.Gives.{Gives};
@@ -20,28 +19,9 @@ use std::alloc::Global;
 /// The most bytes of a line.
 pub const MAX_LINE_BYTES: usize = 4096;
 
-/// The line that the text is in the first version of the language. A fault is `Syntax` where it is none, and `TooDeep` where it
-/// is one with an expression more than 32 deep. The depth of a mapping is not looked at here.
-pub fn parse_line(alloc: Global, text: &[u8]) -> Result<Line, LineFault>
-    requires { length text.now ≤ 4096 }
-    // What is read is the line that the text is.
-    ensures found { IfOk result (λ line. Reads One text.now (sentence_of line)) }
-    ensures whole { IfOk result IsWhole }
-    ensures shallow { IfOk result (λ line. deepest (sentence_of line) ≤ 32) }
-    // Which fault it is, and where it stands.
-    ensures fault { IfErr result (IsFault One text.now) }
-    // A text that is a line is read as that line, unless it is too deep.
-    ensures only { (sentence : Sentence) → Reads One text.now sentence → IsAnswer sentence result }
-    // It is what a function of the text tells, which is the grammar's answer (`line_law`).
-    ensures told { IsTold (line_of One text.now) result }
-    // No text is two lines.
-    ensures one { (a b : Sentence) → Reads One text.now a → Reads One text.now b → a ≡ b }
-{
-    parse_line_in(alloc, Version::One, text)
-}
-
-/// The line that the text is in this version of the language, with the faults of `parse_line`.
-pub fn parse_line_in(alloc: Global, version: Version, text: &[u8]) -> Result<Line, LineFault>
+/// The line that the text is in this version of the language. A fault is `Syntax` where it is none, and `TooDeep` where it is one
+/// with an expression more than 32 deep. The depth of a mapping is not looked at here.
+pub fn parse_line(alloc: Global, text: &[u8], version: Version) -> Result<Line, LineFault>
     requires { length text.now ≤ 4096 }
     // What is read is the line that the text is.
     ensures found { IfOk result (λ line. Reads version text.now (sentence_of line)) }
@@ -90,8 +70,8 @@ fn read_line(alloc: Global, version: Version, tokens: &[Token<'_>]) -> Result<Li
 }
 
 /// What `line_of` tells of a text is what the grammar says. It does nothing: its contract is the law.
-pub fn line_law(_version: Version, _text: &[u8])
-    ensures { MatchResult (line_of _version _text.now) (Reads _version _text.now) (StopsAt _version _text.now) }
+pub fn line_law()
+    ensures { (version : Version) (text : List ℕ) → MatchResult (line_of version text) (Reads version text) (StopsAt version text) }
 {}
 
 /// No text is two lines. It does nothing: its contract is the law.

@@ -28,7 +28,7 @@ pub(crate) fn tokens_of<'a>(
     Ok(tokens)
 }
 
-fn token_of<'a>(text: &'a [u8], spot: &Spot) -> Token<'a>
+pub(crate) fn token_of<'a>(text: &'a [u8], spot: &Spot) -> Token<'a>
     requires { IsSpelled text.now spot.now }
     ensures { result ≡ token_of text.now spot.now }
 {

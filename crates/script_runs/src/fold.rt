@@ -1,4 +1,4 @@
-ghost use Rattle.std.specs.Prelude.{◌≡◌, ◌<◌, ◌^◌, ℕ, List, Some, Bool, IfOk, length};
+ghost use Rattle.std.specs.Prelude.{◌≡◌, ◌+◌, ◌<◌, ◌^◌, ℕ, List, Some, Bool, IfOk, length};
 ghost use Rattle.layout_io.specs.Faults.{Rose};
 ghost use Rattle.layout_io.specs.Files.{File};
 ghost use Rattle.worlds.specs.Worlds.{World};
@@ -56,24 +56,25 @@ pub trait Stepper: Drop {
             (K.faults sink.old) (K.faults sink.new) result };
 }
 
-/// Does the lines of a script in order, up to its end or to the first that ends the run.
+/// Does the lines of a script in order, up to its end or to the first that ends the run. The number of its first line is one above `before`.
 pub fn run_lines<S: Stepper, H: Shelf, K: Sink, L: Ledger>(
     first: S,
+    before: u64,
     script: &[u8],
     shelf: &mut H,
     sink: &mut K,
     steps: &mut Steps<L>,
 ) -> Status
-    requires { length (lines_in script.now) < 2 ^ 64 }
+    requires { before + length (lines_in script.now) < 2 ^ 64 }
     ensures run { (files : List File) (world : World) → H.files shelf.old ≡ Some files → S.stands first world
-        → IsRun K.taken sink.old sink.new (run_from (S.outcome first files) 1 world (lines_in script.now))
+        → IsRun K.taken sink.old sink.new (run_from (S.outcome first files) (before + 1) world (lines_in script.now))
         (Rose (H.faults shelf.old) (H.faults shelf.new)) result }
     ensures cause { HasCause ⊥ (H.files shelf.old) (H.faults shelf.old) (H.faults shelf.new)
         (K.faults sink.old) (K.faults sink.new) result }
 {
     let mut session = first;
     let mut rest = script;
-    let mut number = 0u64;
+    let mut number = before;
     while let Some((line, behind)) = next_line(rest) {
         number += 1;
         rest = behind;

@@ -6,5 +6,5 @@ mod lines;
 mod status;
 
 pub use fold::{LineEnd, Stepper, ended, run_lines};
-pub use lines::line_count;
+pub use lines::{line_count, next_line};
 pub use status::Status;

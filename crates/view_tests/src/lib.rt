@@ -2,6 +2,8 @@
 #![tactic(auto)]
 
 #[cfg(test)]
+mod blob_files;
+#[cfg(test)]
 mod cell_maps;
 #[cfg(test)]
 mod copies;

@@ -297,8 +297,8 @@ slots_are : (term : Term) (extents : List ℕ) → IfSome (array_of term) (λ ar
 slots_are (Aos form by) extents = tt
 slots_are (Soa form by) extents = refl
 slots_are (Aosoa lanes by) extents = refl
-slots_are (BitAos most by) extents = tt
-slots_are (BitSoa most by) extents = tt
+slots_are (BitAos most entries by) extents = tt
+slots_are (BitSoa most entries by) extents = tt
 slots_are (Split path first rest) extents = tt
 slots_are (Byteswap inner) extents = tt
 slots_are (Bytesplit inner) extents = tt

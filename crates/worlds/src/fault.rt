@@ -11,6 +11,8 @@ pub enum CommandFault {
     TooDeep,
     /// The line has more than 4,096 bytes.
     LineTooLong,
+    /// The first line that is not blank has the tokens `version` and a number that is neither 1 nor 2.
+    BadVersion,
     /// The script has more than 2^20 bytes or 65,536 lines.
     ScriptTooLong,
     /// A dataset, a view or all views together are over a limit.

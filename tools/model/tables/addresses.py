@@ -1,7 +1,8 @@
 """Where the bits of an entry lie, by strides and offsets: a second account of the layouts, which the table of nested ones goes by.
 
 The model puts lists of owners side by side. Here each bit has an address, a blob and a bit of it, that is worked out from the index, and
-nothing is shared with the model but the form of a mapping: a tuple, its form first.
+nothing is shared with the model but the form of a mapping: a tuple, its form first. A bit mapping has a number of bits behind its form, or
+a pair: the number, and pairs of a path and a number for what is under that path.
 """
 from collections import namedtuple
 
@@ -78,19 +79,34 @@ def aosoa(lanes, widths):
     return laid
 
 
-def bitaos(most, widths):
-    narrow = [min(most, width) for width in widths]
-    offsets, stride = offsets_in(range(len(narrow)), narrow, False)
-    return structs(narrow, offsets, stride, 64)
+def bitaos(_, widths):
+    offsets, stride = offsets_in(range(len(widths)), widths, False)
+    return structs(widths, offsets, stride, 64)
 
 
-def bitsoa(most, widths):
+def bitsoa(_, widths):
     def laid(slots):
-        return [up(slots * min(most, width), 64) for width in widths], lambda slot, cell: (cell, slot * min(most, widths[cell]), min(most, widths[cell]))
+        return [up(slots * width, 64) for width in widths], lambda slot, cell: (cell, slot * widths[cell], widths[cell])
     return laid
 
 
 BASES = {'aos': aos, 'soa': soa, 'aosoa': aosoa, 'bitaos': bitaos, 'bitsoa': bitsoa}
+
+
+def stands_under(path, text):
+    return path == text or path[:len(text)] == text and path[len(text)] in '.['
+
+
+def widths_in(mapping, cells):
+    """The bits that each cell takes in a base form. Where numbers are said of paths, each takes the place of those said before it."""
+    whole = [8 * BYTES[kind] for _, kind in cells]
+    if not mapping[0].startswith('bit'):
+        return whole
+    first, entries = mapping[1] if isinstance(mapping[1], tuple) else (mapping[1], ())
+    said = [first for _ in cells]
+    for text, number in entries:
+        said = [number if stands_under(path, text) else before for (path, _), before in zip(cells, said)]
+    return [min(pair) for pair in zip(said, whole)]
 
 
 # forms over others: a mapping over the types of cells and their paths, as the lengths of its blobs and a function from index and cell
@@ -101,7 +117,7 @@ def laid(mapping, cells, extents):
     if form in ('count', 'heat'):
         return laid(mapping[-1], cells, extents)
     if form in BASES:
-        lengths, at = BASES[form](mapping[1], [8 * BYTES[kind] for _, kind in cells])(slot_count(mapping[2], extents))
+        lengths, at = BASES[form](mapping[1], widths_in(mapping, cells))(slot_count(mapping[2], extents))
 
         def place(index, cell):
             blob, bit, width = at(slot_of(mapping[2], extents, index), cell)
@@ -113,7 +129,7 @@ def laid(mapping, cells, extents):
 def split(mapping, cells, extents):
     _, path, first, rest = mapping
     text = ''.join(f'[{step}]' if isinstance(step, int) else '.' + step for step in path)[1:]
-    under = [path == text or path[:len(text)] == text and path[len(text)] in '.[' for path, _ in cells]
+    under = [stands_under(path, text) for path, _ in cells]
     lengths, at = laid(first, [cell for cell, is_first in zip(cells, under) if is_first], extents)
     more, at_rest = laid(rest, [cell for cell, is_first in zip(cells, under) if not is_first], extents)
 

@@ -1,4 +1,5 @@
 """The form of a case in these tables."""
+import re
 from collections import namedtuple
 
 Case = namedtuple('Case', 'name script due csv files make by_hand words into room memory', defaults=(None, None, None, False, None, None, None, None))
@@ -21,3 +22,9 @@ PAIR = 'record P { a:u8, b:i32 } | '
 VIEW = 'view V : P [3] as aos(packed, row) | '
 BOTH = PAIR + VIEW
 LOAD = PAIR + 'load V : P [?] as aos(packed, row) from "d.csv" | '
+
+
+def in_version_2(case):
+    """The case behind a version line, so that each line has a number that is greater by one."""
+    due = re.sub(r'(^|\| )line (\d+): ', lambda found: f'{found[1]}line {int(found[2]) + 1}: ', case.due)
+    return case._replace(script=f'version 2 | {case.script}', due=due)

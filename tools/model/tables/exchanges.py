@@ -40,6 +40,10 @@ CASES = [
           'blob,granule,accesses | 0,0,1 | 0,1,1'),
     # a line past its limit
     *pair('long_line', SET, PACKED, TABLE, PACKED.replace(', ', ',' + (LINE_ROOM + 2) * ' '), 'line 2: LineTooLong'),
+    # scripts of different versions, and of a version that is none
+    *pair('version', '{} | ' + PAIR + 'view V : P [2] as bitaos(8 { b: 12 }, row)' + TAIL, 'version 2', 'a,b | 0,0 | 0,0', 'version 1', 'line 3: Syntax column 28'),
+    *pair('version_line', '{} | ' + PAIR + 'view V : P [2] as bitaos(8 { b: 12 }, row)' + TAIL, 'version 2', 'a,b | 0,0 | 0,0', '# version 2', 'line 3: Syntax column 28'),
+    *pair('version_that_is_none', '{} | ' + PAIR + 'view V : P [2] as aos(packed, row)' + TAIL, 'version 2', 'a,b | 0,0 | 0,0', 'version 3', 'line 1: BadVersion'),
     # lines that differ in more than their mapping expressions, and scripts of other lines
     *pair('another_line', PAIR + 'view V : P [1] as aos(packed, row) | view W : P [2] as aos(packed, row) | print {}', 'V', 'a,b | 0,0', 'W', 'a,b | 0,0 | 0,0'),
     *pair('more_lines', PAIR + 'view V : P [1] as aos(packed, row){}', ' | print V', 'a,b | 0,0', '', ''),

@@ -35,6 +35,9 @@ def text_of(mapping):
         return f'split({path_text(mapping[1])}, {text_of(mapping[2])}, {text_of(mapping[3])})'
     if form == 'change':
         return f'change({mapping[1]}->{mapping[2]}, {text_of(mapping[3])})'
+    if form in ('bitaos', 'bitsoa') and isinstance(mapping[1], tuple):
+        number, entries = mapping[1]
+        return f'{form}({number} {{ {", ".join(f"{path}: {width}" for path, width in entries)} }}, {mapping[2]})'
     inner = [text_of(part) if isinstance(part, tuple) else str(part) for part in mapping[1:]]
     return f'{form}({", ".join(inner)})'
 
@@ -47,10 +50,14 @@ def steps_of(text):
     return tuple(int(number) if number else name for name, number in re.findall(r'(\w*[a-z]\w*)|\[(\d+)\]', text))
 
 
+def fronts_of(cells):
+    """The paths that some of the cells are under."""
+    return sorted({path[:end] for path, _ in cells for end in [at for at, sign in enumerate(path) if sign in '.['] + [len(path)]})
+
+
 def choices_of(cells):
     """The paths that some of the cells are under, and some are not."""
-    texts = sorted({path[:end] for path, _ in cells for end in [at for at, sign in enumerate(path) if sign in '.['] + [len(path)]})
-    return [steps_of(text) for text in texts if 0 < len(sides(text, cells)[0]) < len(cells)]
+    return [steps_of(text) for text in fronts_of(cells) if 0 < len(sides(text, cells)[0]) < len(cells)]
 
 
 def sides(text, cells):
@@ -209,11 +216,11 @@ def written(index):
     return '[' + ', '.join(map(str, index)) + ']'
 
 
-def thrown_case(number, depth):
+def thrown_case(number, depth, form_of=thrown_form):
     """A dataset under a thrown expression; the same under another one, if it holds it; and a number past what that one holds."""
     dice = Dice(1000 * depth + number)
     record, extents = dice.of(sorted(RECORDS)), dice.of(EXTENTS)
-    first, second = (thrown_form(dice, RECORDS[record], depth, False) for _ in range(2))
+    first, second = (form_of(dice, RECORDS[record], depth, False) for _ in range(2))
     table = Table(dice, record, extents, first)
     blobs = table.blobs(first)
     script = [f'record P {{ {record} }}', f'mapping M = {text_of(first)}', f'load V : P {written(extents)} as M from "d.csv"', *asked('V', blobs), 'print V',

@@ -160,9 +160,9 @@ def thrown_command(dice, views):
 
 # scripts
 
-def counted_form(dice, record, depth):
+def counted_form(dice, record, depth, form_of):
     """An expression of this depth below count and heat, in either order, or below one of them alone."""
-    inner = thrown_form(dice, RECORDS[record], depth, False)
+    inner = form_of(dice, RECORDS[record], depth, False)
     heat = ('heat', dice.of(GRANULES))
     return dice.of([('count', heat + (inner,)), heat + (('count', inner),), ('count', heat + (inner,)), heat + (inner,), ('count', inner)])
 
@@ -186,11 +186,11 @@ def shown(tally):
     return script, due
 
 
-def thrown_case(number, depth):
+def thrown_case(number, depth, form_of=thrown_form):
     """Two views under thrown expressions, thrown commands, and what was counted; then a new expression for one of them, and the same."""
     dice = Dice(77777 * depth + 31 * number)
     record, extents = dice.of(sorted(RECORDS)), dice.of(EXTENTS)
-    views = [Tally(name, record, extents, counted_form(dice, record, depth)) for name in ('V', 'W')]
+    views = [Tally(name, record, extents, counted_form(dice, record, depth, form_of)) for name in ('V', 'W')]
     script, due = [f'record P {{ {record} }}'], []
     for tally in views:
         script.append(f'view {tally.name} : P {written(extents)} as {text_of(tally.mapping)}')
@@ -202,7 +202,7 @@ def thrown_case(number, depth):
             lines, printed = shown(tally)
             script, due = script + lines, due + printed
         if turn == 0:
-            views[1] = Tally('W', record, extents, counted_form(dice, record, 1 + dice.below(depth)))
+            views[1] = Tally('W', record, extents, counted_form(dice, record, 1 + dice.below(depth), form_of))
             views[1].writes += views[1].entries
             script.append(f'relayout W as {text_of(views[1].mapping)}')
     return Case(f'tallies_thrown_of_depth_{depth}_number_{number}', ' | '.join(script), ' | '.join(line for line in due if line))

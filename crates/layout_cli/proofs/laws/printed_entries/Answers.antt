@@ -1,7 +1,6 @@
-use Rattle.line_grammar.specs.declared.version.Version.TheVariants.{One}
 use Rattle.layout_cli.specs.Steps.{step_text}
 use Rattle.layout_cli.proofs.Equals.{text_does}
 use Rattle.layout_cli.proofs.laws.printed_entries.Goals as goal
 
 pub returns : goal.returns
-returns c = λ files. c.shown_entries.ensures One files (step_text One files) (text_does files)
+returns c = λ version files. c.shown_entries.ensures version files (step_text version files) (text_does version files)

@@ -14,4 +14,4 @@ pub returns-clause-run : goal.returns-clause-run
 returns-clause-run g c = λ files told.
     let counted : c.line_count.result ≡ length (script_lines c.args.script.now) = c.line_count.ensures ∙ ap (λ (bytes : List ℕ). length (lines_in bytes)) c.without_mark-lines.ensures in
     let short : length (script_lines c.args.script.now) ≤ 65536 = omega (arith, counted, c.if-line_count-gt-SCRIPT_LINES.false) in
-    run_short g.K.Sink.taken _ _ c.args.script.now files _ _ short (rw c.without_mark-lines.ensures at (c.run_lines.ensures.run files _ told c.new.ensures))
+    run_short g.K.Sink.taken _ _ c.args.script.now files _ _ short (rw c.without_mark-lines.ensures at (c.run_headed.ensures.run files told))

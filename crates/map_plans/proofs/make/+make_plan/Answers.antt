@@ -60,6 +60,11 @@ returns-in_ok-plan-in-Aosoa-clause-plan t c =
     (base_planned (aosoa c.in-Aosoa.lanes) c.in-Aosoa.order c.args.extents.now c.args.cells.now slots.slots _ _ _ plan.plan slots.ensures.count made.ensures.layout
     made.ensures.holds made.ensures.fits plan.ensures.holds plan.ensures.lengths plan.ensures.rules)
 
+pub returns-in-BitAos-clause-too_big : goal.returns-in-BitAos-clause-too_big
+returns-in-BitAos-clause-too_big t c = λ is.
+    subst (λ (expr : MapExpr). IsTooBigFor (term_of expr) c.args.extents.now (schema_fields c.args.schema.now) c.args.cells.now) (sym c.in-BitAos.is)
+    (c.bit_aos_plan.ensures.too_big is)
+
 pub returns-in-BitSoa-clause-too_big : goal.returns-in-BitSoa-clause-too_big
 returns-in-BitSoa-clause-too_big t c = λ is.
     subst (λ (expr : MapExpr). IsTooBigFor (term_of expr) c.args.extents.now (schema_fields c.args.schema.now) c.args.cells.now) (sym c.in-BitSoa.is)

@@ -1,0 +1,197 @@
+-- Blobs are the contents of a header exactly where they are the image of rows that it may hold.
+use Rattle.std.proofs.Common.{◌≡◌, Bool, true, false, ℕ, zero, suc, ◌+◌, ◌<◌, ◌≤◌, ℤ, pos, List, [], ◌∷◌, length, get_or, map, Result, Ok, Err, is_ok, refl, sym, ap, ◌∙◌, subst, arith}
+use Rattle.std.specs.Prelude.{nat_eq, if◌then◌else◌}
+use Rattle.std.specs.Bool.{Decides}
+use Rattle.std.specs.List.{list_all}
+use Rattle.std.specs.Cmp.Lexicographic.{pointwise}
+use Rattle.std.proofs.lemmas.Bool.{and_parts, and_from}
+use Rattle.std.proofs.lemmas.Bool.Decides.{Decides-eqb}
+use Rattle.std.proofs.lemmas.List.{length-map}
+use Rattle.std.proofs.lemmas.Slice.Eq.{slice_eq-Decides}
+use Rattle.record_dim.specs.declared.leaf_type.LeafType.{LeafType}
+use Rattle.record_dim.specs.LeafTypes.{least_of, greatest_of, least_in, greatest_in, IsIn}
+use Rattle.record_dim.specs.Leaves.{Leaf, leaves, kinds_of}
+use Rattle.places.specs.declared.piece.Hold.{Hold}
+use Rattle.places.specs.Laws.{IsLaidOut}
+use Rattle.places.specs.CellWidthsLaws.{width_at}
+use Rattle.places.specs.Image.{entry, IsImage}
+use Rattle.map_checks.specs.Mappings.{holds_by}
+use Rattle.blobs.specs.Bits.{bit_in}
+use Rattle.piece_bits.specs.Tables.{HasShape, hold_at}
+use Rattle.piece_bits.specs.TableLaws.{table_shape}
+use Rattle.piece_bits.specs.EntriesLaws.{entry_in}
+use Rattle.piece_bits.specs.CellsLaws.{bit_in_lt}
+use Rattle.kept_numbers.specs.Kept.{declared, held}
+use Rattle.kept_numbers.specs.KeptLaws.{low_same, declared_same, kept_declared}
+use Rattle.kept_tables.specs.declared.mode.StoreMode.{StoreMode}
+use Rattle.kept_tables.specs.declared.mode.StoreMode.TheVariants.{Strict, Wrap}
+use Rattle.kept_tables.specs.Modes.{kind_at, Fits, Stays}
+use Rattle.kept_tables.specs.EntryLaws.{fitting_held}
+use Rattle.kept_tables.specs.TableLaws.{declared_shape, declared_entry}
+use Rattle.kept_tables.specs.ImageLaws.{image_raw, image_table}
+use Rattle.views.specs.declared.fault.StoreFault.{StoreFault}
+use Rattle.views.specs.declared.fault.StoreFault.TheVariants.{Range, Narrow}
+use Rattle.views.specs.Stores.{Answer, is_between, store_answer}
+use Rattle.views.specs.StrictLaws.{stored_fits, fitting_stored}
+use Rattle.blob_file.specs.Files.{Header, owners_by, image_bytes, AreRows}
+use Rattle.blob_file.specs.Opened.{raw_in, rows_in, answer_by, are_taken, all_taken, are_contents, leaf_count, row_count}
+use Rattle.blob_file.proofs.ImageBits.{bytes_image}
+
+-- ---- tests of rows
+
+-- the test of a row, by its leaves
+row_taken : (answer : Answer) (first leaf : ℕ) (values : List ℤ) → leaf < length values → are_taken answer first values ≡ true → is_ok (answer (first + leaf) (get_or values leaf (pos 0))) ≡ true
+row_taken answer first leaf [] inside all = absurd (omega (arith, inside))
+row_taken answer first zero (value ∷ values) inside all =
+    let here : first + 0 ≡ first = omega arith in
+    rw here (and_parts (is_ok (answer first value)) (are_taken answer (first + 1) values) all).0
+row_taken answer first (suc leaf) (value ∷ values) inside all =
+    let next : first + suc leaf ≡ first + 1 + leaf = omega arith in
+    rw next (row_taken answer (first + 1) leaf values (omega (arith, inside)) (and_parts (is_ok (answer first value)) (are_taken answer (first + 1) values) all).1)
+
+taken_row : (answer : Answer) (first : ℕ) (values : List ℤ) → ((leaf : ℕ) → leaf < length values → is_ok (answer (first + leaf) (get_or values leaf (pos 0))) ≡ true) → are_taken answer first values ≡ true
+taken_row answer first [] each = refl
+taken_row answer first (value ∷ values) each =
+    let here : first + 0 ≡ first = omega arith in
+    and_from (is_ok (answer first value)) (are_taken answer (first + 1) values)
+    (subst (λ (n : ℕ). is_ok (answer n value) ≡ true) here (each 0 (omega arith)))
+    (taken_row answer (first + 1) values (λ leaf l.
+    (let next : first + suc leaf ≡ first + 1 + leaf = omega arith in
+    subst (λ (n : ℕ). is_ok (answer n (get_or values leaf (pos 0))) ≡ true) next (each (suc leaf) (omega (arith, l))))))
+
+-- and of all rows
+pub each_taken : (answer : Answer) (rows : List (List ℤ)) → all_taken answer rows ≡ true → (row leaf : ℕ) → row < length rows → leaf < length (get_or rows row []) → is_ok (answer leaf (entry rows row leaf)) ≡ true
+each_taken answer [] all row leaf row_in leaf_in = absurd (omega (arith, row_in))
+each_taken answer (values ∷ rows) all zero leaf row_in leaf_in =
+    let here : 0 + leaf ≡ leaf = omega arith in
+    subst (λ (n : ℕ). is_ok (answer n (get_or values leaf (pos 0))) ≡ true) here
+    (row_taken answer 0 leaf values leaf_in (and_parts (are_taken answer 0 values) (list_all (are_taken answer 0) rows) all).0)
+each_taken answer (values ∷ rows) all (suc row) leaf row_in leaf_in =
+    each_taken answer rows (and_parts (are_taken answer 0 values) (list_all (are_taken answer 0) rows) all).1 row leaf (omega (arith, row_in)) leaf_in
+
+pub taken_each : (answer : Answer) (rows : List (List ℤ)) → ((row leaf : ℕ) → row < length rows → leaf < length (get_or rows row []) → is_ok (answer leaf (entry rows row leaf)) ≡ true) → all_taken answer rows ≡ true
+taken_each answer [] each = refl
+taken_each answer (values ∷ rows) each =
+    and_from (are_taken answer 0 values) (list_all (are_taken answer 0) rows)
+    (taken_row answer 0 values (λ leaf l.
+    (let here : 0 + leaf ≡ leaf = omega arith in
+    subst (λ (n : ℕ). is_ok (answer n (get_or values leaf (pos 0))) ≡ true) (sym here) (each 0 leaf (omega arith) l))))
+    (taken_each answer rows (λ row leaf l m. each (suc row) leaf (omega (arith, l)) m))
+
+-- ---- one number
+
+-- a strict view keeps what it takes as it is
+pub ok_itself : (declared held : Bool) (value : ℤ) → is_ok (if declared then (if held then Ok value else Err Narrow) else Err Range) ≡ true → (if declared then (if held then Ok value else Err Narrow) else Err Range) ≡ Ok value
+ok_itself true true value ok = refl
+ok_itself true false value ok = absurd (cc ok)
+ok_itself false held value ok = absurd (cc ok)
+
+-- a raw number in the range of its hold that is taken stands for one that stays
+pub taken_stays : (mode : StoreMode) (kind : LeafType) (hold : Hold) (raw : ℤ) → 1 ≤ hold.width → IsIn hold.signed hold.width raw → is_ok (store_answer mode kind hold raw) ≡ true →
+    Stays mode kind hold (declared kind raw)
+taken_stays Strict kind hold raw some inside taken =
+    let is : store_answer Strict kind hold raw ≡ Ok raw =
+    ok_itself (is_between (least_of kind) (greatest_of kind) raw) (is_between (least_in hold.signed hold.width) (greatest_in hold.signed hold.width) raw) raw taken in
+    let fits : Fits kind hold raw = stored_fits kind hold raw is in
+    subst (λ (v : ℤ). Fits kind hold v) (sym (declared_same kind raw fits.declared)) fits
+taken_stays Wrap kind hold raw some inside taken =
+    kept_declared kind hold raw ∙ ap (declared kind) (low_same hold.signed hold.width raw some inside)
+
+-- what the image of a number says that stays is taken
+pub stays_taken : (mode : StoreMode) (kind : LeafType) (hold : Hold) (value : ℤ) → 1 ≤ hold.width → Stays mode kind hold value → is_ok (store_answer mode kind hold (held hold value)) ≡ true
+stays_taken Strict kind hold value some stays =
+    let same : held hold value ≡ value = fitting_held hold value some stays.held in
+    ap (λ (v : ℤ). is_ok (store_answer Strict kind hold v)) same ∙ ap (λ (r : Result ℤ StoreFault). is_ok r) (fitting_stored kind hold value stays.declared stays.held)
+stays_taken Wrap kind hold value some stays = refl
+
+-- ---- the contents
+
+pub same_blobs-Decides : (blobs others : List (List ℕ)) → Decides (pointwise (pointwise nat_eq) blobs others) (blobs ≡ others)
+same_blobs-Decides blobs others =
+    slice_eq-Decides {A = List ℕ} {E = pointwise nat_eq} (λ one other. slice_eq-Decides {A = ℕ} {E = nat_eq} Decides-eqb one other (pointwise nat_eq one other) refl) blobs others
+    (pointwise (pointwise nat_eq) blobs others) refl
+
+-- a header whose layout keeps the laws of layouts, and which has a hold for each leaf
+module _ (header : Header) (laid : IsLaidOut (owners_by header) (row_count header) (map (λ (h : Hold). h.width) (holds_by header.mapping header.fields)))
+    (paired : length (holds_by header.mapping header.fields) ≡ length (kinds_of header.fields)) where
+  abbrev kinds : List LeafType
+  kinds = kinds_of header.fields
+
+  abbrev holds : List Hold
+  holds = holds_by header.mapping header.fields
+
+  pub same_count : length kinds ≡ leaf_count header
+  same_count = length-map (leaves header.fields) (λ (leaf : Leaf). leaf.kind)
+
+  pub some_bits : (leaf : ℕ) → leaf < length kinds → 1 ≤ (hold_at holds leaf).width
+  some_bits leaf l =
+      let d : Hold = record { signed = false; width = 0 } in
+      let in_holds : leaf < length holds = omega (arith, l, paired) in
+      let inside : leaf < length (map (λ (h : Hold). h.width) holds) = omega (arith, in_holds, length-map holds (λ (h : Hold). h.width)) in
+      omega (arith, laid.wide leaf 0 inside, width_at holds leaf d in_holds)
+
+  module _ (blobs : List (List ℕ)) where
+    abbrev raw : List (List ℤ)
+    raw = raw_in header blobs
+
+    pub raw_shape : HasShape (row_count header) (length kinds) raw
+    raw_shape =
+        let shape = table_shape (owners_by header) (row_count header) (holds_by header.mapping header.fields) (bit_in blobs) in
+        record { row_count = shape.row_count; leaf_count = λ row l. shape.leaf_count row l ∙ paired }
+
+    pub raw_range : (row leaf : ℕ) → row < row_count header → leaf < length kinds → IsIn (hold_at holds leaf).signed (hold_at holds leaf).width (entry raw row leaf)
+    raw_range row leaf l m =
+        entry_in (owners_by header) (row_count header) (holds_by header.mapping header.fields) laid (bit_in blobs) row leaf (record { signed = false; width = 0 }) (bit_in_lt blobs) l (omega (arith, m, paired))
+
+    -- what is opened is rows that stay, and the blobs are their image
+    module _ (all : all_taken (answer_by header) (raw_in header blobs) ≡ true) where
+      rows_stay : AreRows header (rows_in header blobs)
+      rows_stay =
+          let shape = declared_shape (row_count header) (kinds_of header.fields) (raw_in header blobs) raw_shape in
+          record {
+            shape = record { row_count = shape.row_count; leaf_count = λ row l. shape.leaf_count row l ∙ same_count };
+            stays = λ row leaf l m.
+                (let kind = kind_at (kinds_of header.fields) leaf in
+                let hold = hold_at (holds_by header.mapping header.fields) leaf in
+                let long : row < length (raw_in header blobs) = omega (arith, l, raw_shape.row_count) in
+                let wide : leaf < length (get_or (raw_in header blobs) row []) = omega (arith, m, raw_shape.leaf_count row l) in
+                subst (λ (v : ℤ). Stays header.mode kind hold v) (sym (declared_entry (row_count header) (kinds_of header.fields) (raw_in header blobs) raw_shape row leaf l m))
+                (taken_stays header.mode kind hold (entry (raw_in header blobs) row leaf) (some_bits leaf m) (raw_range row leaf l m)
+                (each_taken (answer_by header) (raw_in header blobs) all row leaf long wide)));
+          }
+
+    pub contents_rows : are_contents header blobs ≡ true → AreRows header (rows_in header blobs) × (blobs ≡ image_bytes header (rows_in header blobs))
+    unfolding are_contents
+    contents_rows are =
+        let both = and_parts (all_taken (answer_by header) (raw_in header blobs)) (pointwise (pointwise nat_eq) (image_bytes header (rows_in header blobs)) blobs) are in
+        (rows_stay both.0, sym ((same_blobs-Decides (image_bytes header (rows_in header blobs)) blobs).0 both.1))
+
+    -- the image of rows that stay is opened as these rows
+    module _ (rows : List (List ℤ)) (are : AreRows header rows) (is : blobs ≡ image_bytes header rows) where
+      image_is : IsImage (owners_by header) rows (bit_in blobs)
+      image_is = subst (λ (b : List (List ℕ)). IsImage (owners_by header) rows (bit_in b)) (sym is) (bytes_image (owners_by header) rows laid.whole_bytes)
+
+      shaped : HasShape (row_count header) (length kinds) rows
+      shaped = record { row_count = are.shape.row_count; leaf_count = λ row l. are.shape.leaf_count row l ∙ sym same_count }
+
+      pub same_rows : rows_in header blobs ≡ rows
+      same_rows =
+          image_table (owners_by header) (row_count header) (holds_by header.mapping header.fields) laid rows (bit_in blobs) image_is header.mode (kinds_of header.fields) paired shaped
+          (λ row leaf l m. (some_bits leaf m, are.stays row leaf l m))
+
+      all_are : all_taken (answer_by header) (raw_in header blobs) ≡ true
+      all_are =
+          taken_each (answer_by header) (raw_in header blobs) (λ row leaf l m.
+          (let row_in : row < row_count header = omega (arith, l, raw_shape.row_count) in
+          let leaf_in : leaf < length (kinds_of header.fields) = omega (arith, m, raw_shape.leaf_count row row_in) in
+          let kind = kind_at (kinds_of header.fields) leaf in
+          let hold = hold_at (holds_by header.mapping header.fields) leaf in
+          let number : entry (raw_in header blobs) row leaf ≡ held hold (entry rows row leaf) =
+          image_raw (owners_by header) (row_count header) (holds_by header.mapping header.fields) laid rows (bit_in blobs) image_is row leaf row_in (omega (arith, leaf_in, paired)) in
+          subst (λ (v : ℤ). is_ok (answer_by header leaf v) ≡ true) (sym number) (stays_taken header.mode kind hold (entry rows row leaf) (some_bits leaf leaf_in) (are.stays row leaf row_in leaf_in))))
+
+      pub rows_contents : are_contents header blobs ≡ true
+      unfolding are_contents
+      rows_contents =
+          and_from (all_taken (answer_by header) (raw_in header blobs)) (pointwise (pointwise nat_eq) (image_bytes header (rows_in header blobs)) blobs) all_are
+          ((same_blobs-Decides (image_bytes header (rows_in header blobs)) blobs).1 (ap (image_bytes header) same_rows ∙ sym is))

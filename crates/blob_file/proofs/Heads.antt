@@ -1,0 +1,260 @@
+-- The header in front of bytes: which there is, and that it is the only one.
+use Rattle.std.proofs.Common.{◌≡◌, ℕ, ◌≤◌, Bool, true, false, List, [], ◌∷◌, ◌++◌, length, map, take, drop, Ok, Option, Some, None, refl, sym, ap, ◌∙◌, subst, arith}
+use Rattle.std.specs.Prelude.{MatchResult, codes, option_map, not, ◌&&◌}
+use Rattle.std.specs.List.{list_any}
+use Rattle.std.proofs.lemmas.Bool.{and_parts, not-true}
+use Rattle.std.proofs.lemmas.List.{take-append-drop}
+use Rattle.std.proofs.lemmas.Slice.Eq.{bytes_eq-Decides}
+use Rattle.line_tokens.specs.Ends.{NoEnd}
+use Rattle.line_grammar.specs.Reads.{Reads, StopsAt}
+use Rattle.line_grammar.specs.Sentences.{Sentence, New, Blank, Define, Mapping, View, Load, Assign, Update, Kernel, Reduce, Count, Copy, Relayout, Show, Drop, Bytes, deepest}
+use Rattle.line_grammar.specs.declared.version.Version.{Version}
+use Rattle.line_grammar.specs.declared.version.Version.TheVariants.{Two}
+use Rattle.line_writer.specs.Texts.{canonical}
+use Rattle.schema_lang.specs.LineOf.{line_of}
+use Rattle.extents.specs.declared.words.ExtentWord.{ExtentWord}
+use Rattle.extents.specs.declared.words.ExtentWord.TheVariants.{Fixed, Rows}
+use Rattle.extents.specs.Shapes.{extent_of, is_rows}
+use Rattle.record_dim.specs.Trees.{Fields, Single, Record, Array}
+use Rattle.kept_tables.specs.declared.mode.StoreMode.{StoreMode}
+use Rattle.kept_tables.specs.declared.mode.StoreMode.TheVariants.{Strict, Wrap}
+use Rattle.blob_file.specs.Files.{Header, four_bytes, two_lines, is_wrap, record_line, view_line, record_text, view_text, header_text, IsShort}
+use Rattle.blob_file.specs.Headers.{is_nameless, HasLine, HasLines}
+use Rattle.blob_file.specs.Opened.{same_bytes, line_at, line_told, fields_told, is_plain, new_told, mode_by, with_record, header_told, behind_first, behind_size, header_at}
+use Rattle.blob_file.proofs.Told.{some_if, if_some, told_some, told_parts, line_is, reads_told}
+use Rattle.blob_file.proofs.Cuts.{line_cut, line_parts, lines_behind}
+
+-- ---- words and modes
+
+pub wrap_back : (wrap : Bool) → is_wrap (mode_by wrap) ≡ wrap
+wrap_back true = refl
+wrap_back false = refl
+
+pub mode_back : (mode : StoreMode) → mode_by (is_wrap mode) ≡ mode
+mode_back Strict = refl
+mode_back Wrap = refl
+
+pub extents_back : (extents : List ℕ) → map (extent_of 0) (map Fixed extents) ≡ extents
+extents_back [] = refl
+extents_back (extent ∷ extents) = ap (λ (ns : List ℕ). extent ∷ ns) (extents_back extents)
+
+pub no_rows : (extents : List ℕ) → list_any is_rows (map Fixed extents) ≡ false
+no_rows [] = refl
+no_rows (extent ∷ extents) = no_rows extents
+
+pub words_back : (words : List ExtentWord) → list_any is_rows words ≡ false → map Fixed (map (extent_of 0) words) ≡ words
+words_back [] none = refl
+words_back (Fixed extent ∷ words) none = ap (λ (ws : List ExtentWord). Fixed extent ∷ ws) (words_back words none)
+words_back (Rows ∷ words) none = absurd (cc none)
+
+pub same_extents : (size : ℕ) (words : List ExtentWord) → list_any is_rows words ≡ false → map (extent_of size) words ≡ map (extent_of 0) words
+same_extents size [] none = refl
+same_extents size (Fixed extent ∷ words) none = ap (λ (ns : List ℕ). extent ∷ ns) (same_extents size words none)
+same_extents size (Rows ∷ words) none = absurd (cc none)
+
+-- ---- what is told of lines
+
+fields_are : (read : Option Sentence) (fields : Fields) → fields_told read ≡ Some fields → read ≡ Some (Define (codes "R") (Record fields))
+fields_are (Some (Define name (Record held))) fields e =
+    let told = some_if (same_bytes name (codes "R")) held fields e in
+    let named : name ≡ codes "R" = (bytes_eq-Decides name (codes "R")).0 told.0 in
+    ap (λ (n : List ℕ). Some (Define n (Record held))) named ∙ ap (λ (f : Fields). Some (Define (codes "R") (Record f))) told.1
+fields_are (Some (Define name (Single kind))) fields e = absurd (cc e)
+fields_are (Some (Define name (Array len element))) fields e = absurd (cc e)
+fields_are None fields e = absurd (cc e)
+fields_are (Some Blank) fields e = absurd (cc e)
+fields_are (Some (Mapping name term)) fields e = absurd (cc e)
+fields_are (Some (View new)) fields e = absurd (cc e)
+fields_are (Some (Load new file)) fields e = absurd (cc e)
+fields_are (Some (Assign view index path value)) fields e = absurd (cc e)
+fields_are (Some (Update view filter sets)) fields e = absurd (cc e)
+fields_are (Some (Kernel view text lanes)) fields e = absurd (cc e)
+fields_are (Some (Reduce view kind path)) fields e = absurd (cc e)
+fields_are (Some (Count view filter)) fields e = absurd (cc e)
+fields_are (Some (Copy source target)) fields e = absurd (cc e)
+fields_are (Some (Relayout view term)) fields e = absurd (cc e)
+fields_are (Some (Show kind view)) fields e = absurd (cc e)
+fields_are (Some (Drop view)) fields e = absurd (cc e)
+fields_are (Some (Bytes view blob)) fields e = absurd (cc e)
+
+new_is : (read : Option Sentence) (new : New) → new_told read ≡ Some new → (read ≡ Some (View new)) × (is_plain new ≡ true)
+new_is (Some (View found)) new e =
+    let told = some_if (is_plain found) found new e in
+    (ap (λ (n : New). Some (View n)) told.1, subst (λ (n : New). is_plain n ≡ true) told.1 told.0)
+new_is None new e = absurd (cc e)
+new_is (Some Blank) new e = absurd (cc e)
+new_is (Some (Define name tree)) new e = absurd (cc e)
+new_is (Some (Mapping name term)) new e = absurd (cc e)
+new_is (Some (Load found file)) new e = absurd (cc e)
+new_is (Some (Assign view index path value)) new e = absurd (cc e)
+new_is (Some (Update view filter sets)) new e = absurd (cc e)
+new_is (Some (Kernel view text lanes)) new e = absurd (cc e)
+new_is (Some (Reduce view kind path)) new e = absurd (cc e)
+new_is (Some (Count view filter)) new e = absurd (cc e)
+new_is (Some (Copy source target)) new e = absurd (cc e)
+new_is (Some (Relayout view term)) new e = absurd (cc e)
+new_is (Some (Show kind view)) new e = absurd (cc e)
+new_is (Some (Drop view)) new e = absurd (cc e)
+new_is (Some (Bytes view blob)) new e = absurd (cc e)
+
+-- the parts of a view that is plain
+pub record IsPlain (new : New) : Type 0 where
+  pub named : new.name ≡ codes "V"
+  pub over : new.schema ≡ codes "R"
+  pub fixed : list_any is_rows new.words ≡ false
+  pub nameless : is_nameless new.term ≡ true
+
+pub plain_parts : (new : New) → is_plain new ≡ true → IsPlain new
+plain_parts new e =
+    let first = and_parts (same_bytes new.name (codes "V")) (same_bytes new.schema (codes "R") && (not (list_any is_rows new.words) && is_nameless new.term)) e in
+    let second = and_parts (same_bytes new.schema (codes "R")) (not (list_any is_rows new.words) && is_nameless new.term) first.1 in
+    let third = and_parts (not (list_any is_rows new.words)) (is_nameless new.term) second.1 in
+    record {
+      named = (bytes_eq-Decides new.name (codes "V")).0 first.0;
+      over = (bytes_eq-Decides new.schema (codes "R")).0 second.0;
+      fixed = not-true (list_any is_rows new.words) third.0;
+      nameless = third.1;
+    }
+
+-- a header of fields and of what makes a view
+abbrev pub header_with : Fields → New → Header
+header_with fields new = record { fields = fields; extents = map (extent_of 0) new.words; mode = mode_by new.wrap; mapping = new.term }
+
+-- its second line is that of the view
+pub view_back : (fields : Fields) (new : New) → IsPlain new → view_line (header_with fields new) ≡ View new
+view_back fields new plain =
+    λ i. View (record {
+      name = sym plain.named i;
+      schema = sym plain.over i;
+      words = words_back new.words plain.fixed i;
+      wrap = wrap_back new.wrap i;
+      term = new.term;
+    })
+
+both_told : (fields : Option Fields) (new : Option New) (header : Header) → with_record fields new ≡ Some header →
+    (f : Fields) × (n : New) × (fields ≡ Some f) × (new ≡ Some n) × (header_with f n ≡ header)
+both_told None new header e = absurd (cc e)
+both_told (Some fields) None header e = absurd (cc e)
+both_told (Some fields) (Some new) header e =
+    let told : Some (header_with fields new) ≡ Some header = e in
+    let same : header_with fields new ≡ header = cc in
+    (fields, new, refl, refl, same)
+
+-- ---- what stands in front of bytes
+
+-- the two texts and what stands behind them, where bytes have a header in front
+pub record HasFront (bytes : List ℕ) (header : Header) (body : List ℕ) : Type 0 where
+  pub first : List ℕ
+  pub second : List ℕ
+  pub is : bytes ≡ four_bytes (length (two_lines first second)) ++ (two_lines first second ++ body)
+  pub told : header_told first second ≡ Some header
+
+with_rest : (told : Option Header) (rest : List ℕ) (header : Header) (body : List ℕ) → option_map {U = Header × List ℕ} (λ h. (h, rest)) told ≡ Some (header, body) → (told ≡ Some header) × (rest ≡ body)
+with_rest None rest header body e = absurd (cc e)
+with_rest (Some found) rest header body e =
+    let told : Some (found, rest) ≡ Some (header, body) = e in
+    let pairs : (found, rest) ≡ (header, body) = cc in
+    (ap (λ (p : Header × List ℕ). Some p.0) pairs, ap (λ (p : Header × List ℕ). p.1) pairs)
+
+second_cut : (size first : List ℕ) (o : Option (List ℕ × List ℕ)) (header : Header) (body : List ℕ) → behind_first size first o ≡ Some (header, body) →
+    (second : List ℕ) × (o ≡ Some (second, body)) × (size ≡ four_bytes (length (two_lines first second))) × (header_told first second ≡ Some header)
+second_cut size first None header body e = absurd (cc e)
+second_cut size first (Some found) header body e =
+    let sized = if_some (same_bytes size (four_bytes (length (two_lines first found.0)))) (option_map {U = Header × List ℕ} (λ h. (h, found.1)) (header_told first found.0)) (header, body) e in
+    let told = with_rest (header_told first found.0) found.1 header body sized.1 in
+    (found.0, ap (λ (rest : List ℕ). Some (found.0, rest)) told.1, (bytes_eq-Decides size (four_bytes (length (two_lines first found.0)))).0 sized.0, told.0)
+
+first_cut : (size : List ℕ) (o : Option (List ℕ × List ℕ)) (header : Header) (body : List ℕ) → behind_size size o ≡ Some (header, body) →
+    (first : List ℕ) × (rest : List ℕ) × (o ≡ Some (first, rest)) × (behind_first size first (line_at rest) ≡ Some (header, body))
+first_cut size None header body e = absurd (cc e)
+first_cut size (Some found) header body e = (found.0, found.1, refl, e)
+
+pub front_is : (bytes : List ℕ) (header : Header) (body : List ℕ) → header_at bytes ≡ Some (header, body) → HasFront bytes header body
+unfolding header_at
+front_is bytes header body e =
+    let one = first_cut (take 4 bytes) (line_at (drop 4 bytes)) header body e in
+    let two = second_cut (take 4 bytes) one.0 (line_at one.1) header body one.3 in
+    let texts = line_parts (drop 4 bytes) one.0 one.1 one.2 in
+    let rest = line_parts one.1 two.0 body two.1 in
+    record {
+      first = one.0;
+      second = two.0;
+      is = sym (take-append-drop 4 bytes)
+          ∙ ap (λ (size : List ℕ). size ++ drop 4 bytes) two.2
+          ∙ ap (λ (more : List ℕ). four_bytes (length (two_lines one.0 two.0)) ++ more) (texts.0 ∙ ap (λ (more : List ℕ). one.0 ++ 10 ∷ more) rest.0 ∙ sym (lines_behind one.0 two.0 body));
+      told = two.3;
+    }
+
+-- the texts of which a header is told are its own
+pub record AreTexts (first second : List ℕ) (header : Header) : Type 0 where
+  pub first_is : first ≡ record_text header
+  pub second_is : second ≡ view_text header
+  pub short : IsShort header
+  pub nameless : is_nameless header.mapping ≡ true
+  pub of_record : line_of Two first ≡ Ok (record_line header)
+  pub of_view : line_of Two second ≡ Ok (view_line header)
+
+pub texts_are : (first second : List ℕ) (header : Header) → header_told first second ≡ Some header → AreTexts first second header
+texts_are first second header e =
+    let parts = both_told (fields_told (line_told first)) (new_told (line_told second)) header e in
+    let fields = parts.0 in
+    let new = parts.1 in
+    let one = told_parts first (Define (codes "R") (Record fields)) (fields_are (line_told first) fields parts.2) in
+    let view = new_is (line_told second) new parts.3 in
+    let two = told_parts second (View new) view.0 in
+    let plain = plain_parts new view.1 in
+    let back : view_line (header_with fields new) ≡ View new = view_back fields new plain in
+    let second_is : canonical (view_line (header_with fields new)) ≡ second = ap canonical back ∙ two.3 in
+    subst (λ (h : Header). AreTexts first second h) parts.4 (record {
+      first_is = sym one.3;
+      second_is = sym second_is;
+      short = record {
+        of_record = subst (λ (text : List ℕ). length text ≤ 4096) (sym one.3) one.0;
+        of_view = subst (λ (text : List ℕ). length text ≤ 4096) (sym second_is) two.0;
+      };
+      nameless = plain.nameless;
+      of_record = one.1;
+      of_view = two.1 ∙ ap (λ (s : Sentence). Ok s) (sym back);
+    })
+
+-- by what the grammar says of texts
+module _ (one_reading : (version : Version) (text : List ℕ) (a b : Sentence) → Reads version text a → Reads version text b → a ≡ b)
+    (law : (version : Version) (text : List ℕ) → MatchResult (line_of version text) (Reads version text) (StopsAt version text)) where
+  pub lines_are : (first second : List ℕ) (header : Header) → AreTexts first second header → HasLines header
+  lines_are first second header texts = record {
+    of_record = (first, reads_told one_reading law first (record_line header) texts.of_record);
+    of_view = (second, reads_told one_reading law second (view_line header) texts.of_view);
+    nameless = texts.nameless;
+  }
+
+  -- and the texts of a header tell it
+  module _ (reads_back : (version : Version) (text : List ℕ) (sentence : Sentence) → Reads version text sentence → deepest sentence ≤ 32 → Reads version (canonical sentence) sentence)
+      (one_line : (version : Version) (text : List ℕ) (sentence : Sentence) → Reads version text sentence → deepest sentence ≤ 32 → NoEnd (canonical sentence)) where
+    line_back : (sentence : Sentence) → HasLine sentence → deepest sentence ≤ 32 → length (canonical sentence) ≤ 4096 → line_told (canonical sentence) ≡ Some sentence
+    line_back sentence line low short =
+        told_some (canonical sentence) sentence short (line_is one_reading law (canonical sentence) sentence (reads_back Two line.0 sentence line.1 low)) low
+        ((bytes_eq-Decides (canonical sentence) (canonical sentence)).1 refl)
+
+    plain_view : (header : Header) → is_nameless header.mapping ≡ true → new_told (Some (view_line header)) ≡ Some (record { name = codes "V"; schema = codes "R"; words = map Fixed header.extents; wrap = is_wrap header.mode; term = header.mapping })
+    plain_view header nameless = rw (no_rows header.extents, nameless) refl
+
+    pub header_back : (header : Header) → IsShort header → HasLines header → header_told (record_text header) (view_text header) ≡ Some header
+    header_back header short lines =
+        ap (λ (read : Option Sentence). with_record (fields_told read) (new_told (line_told (view_text header)))) (line_back (record_line header) lines.of_record (omega arith) short.of_record)
+        ∙ ap (λ (read : Option Sentence). with_record (Some header.fields) (new_told read)) (line_back (view_line header) lines.of_view (omega arith) short.of_view)
+        ∙ ap (with_record (Some header.fields)) (plain_view header lines.nameless)
+        ∙ (λ i. Some (record { fields = header.fields; extents = extents_back header.extents i; mode = mode_back header.mode i; mapping = header.mapping }))
+
+    pub front_back : (header : Header) (body : List ℕ) → IsShort header → HasLines header →
+        header_at (four_bytes (length (header_text header)) ++ (header_text header ++ body)) ≡ Some (header, body)
+    unfolding header_at
+    front_back header body short lines =
+        let size = four_bytes (length (header_text header)) in
+        let of_record : NoEnd (record_text header) = one_line Two lines.of_record.0 (record_line header) lines.of_record.1 (omega arith) in
+        let of_view : NoEnd (view_text header) = one_line Two lines.of_view.0 (view_line header) lines.of_view.1 (omega arith) in
+        let cut : line_at (header_text header ++ body) ≡ Some (record_text header, view_text header ++ 10 ∷ body) =
+        ap line_at (lines_behind (record_text header) (view_text header) body) ∙ line_cut (record_text header) (view_text header ++ 10 ∷ body) of_record in
+        let same : same_bytes size size ≡ true = (bytes_eq-Decides size size).1 refl in
+        ap (behind_size size) cut
+        ∙ ap (behind_first size (record_text header)) (line_cut (view_text header) body of_view)
+        ∙ (rw (same, header_back header short lines) refl)

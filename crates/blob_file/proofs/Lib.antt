@@ -1,0 +1,11 @@
+mod Parts
+mod OneFile
+mod ImageBits
+mod Contents
+mod Told
+mod Cuts
+mod Heads
+mod Lawful
+mod Opens
+mod Puts
+mod SavedFile

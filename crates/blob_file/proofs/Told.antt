@@ -1,0 +1,72 @@
+-- The lines of a header: what is told of a text is what the grammar says.
+use Rattle.std.proofs.Common.{◌≡◌, ℕ, ◌≤◌, Bool, true, false, List, length, Result, Ok, Err, Option, Some, None, refl, ap, subst}
+use Rattle.std.specs.Prelude.{MatchResult, nat_le, ◌&&◌, if◌then◌else◌}
+use Rattle.std.proofs.lemmas.Bool.{and_parts, leb-true, le-leb}
+use Rattle.std.proofs.lemmas.Slice.Eq.{bytes_eq-Decides}
+use Rattle.line_tokens.specs.declared.spots.Spot.{Spot}
+use Rattle.line_tokens.specs.SpotLaws.{same_spots}
+use Rattle.line_grammar.specs.Grammar.{IsSentence}
+use Rattle.line_grammar.specs.Reads.{Reads, StopsAt, tokens_of}
+use Rattle.line_grammar.specs.Sentences.{Sentence, deepest}
+use Rattle.line_grammar.specs.declared.version.Version.{Version}
+use Rattle.line_grammar.specs.declared.version.Version.TheVariants.{Two}
+use Rattle.line_writer.specs.Texts.{canonical}
+use Rattle.schema_lang.specs.LineOf.{line_of}
+use Rattle.blob_file.specs.Opened.{same_bytes, canonical_by, line_told}
+
+-- a test in front of an answer
+pub some_if : {A : Type 0} (test : Bool) (x y : A) → (if test then Some x else None) ≡ Some y → (test ≡ true) × (x ≡ y)
+some_if {A} true x y e =
+    let told : Some x ≡ Some y = e in
+    let same : x ≡ y = cc in
+    (refl, same)
+some_if false x y e = absurd (cc e)
+
+pub if_some : {A : Type 0} (test : Bool) (x : Option A) (y : A) → (if test then x else None) ≡ Some y → (test ≡ true) × (x ≡ Some y)
+if_some true x y e = (refl, e)
+if_some false x y e = absurd (cc e)
+
+-- ---- the line of a text
+
+module _ (text : List ℕ) where
+  pub told_some : (sentence : Sentence) → length text ≤ 4096 → line_of Two text ≡ Ok sentence → deepest sentence ≤ 32 → same_bytes (canonical sentence) text ≡ true → line_told text ≡ Some sentence
+  unfolding line_told
+  told_some sentence short is low same =
+      let few : nat_le (length text) 4096 ≡ true = le-leb (length text) 4096 short in
+      let shallow : nat_le (deepest sentence) 32 ≡ true = le-leb (deepest sentence) 32 low in
+      rw (few, is, same, shallow) refl
+
+  by_canonical : (read : Result Sentence ℕ) (sentence : Sentence) → canonical_by text read ≡ Some sentence → (read ≡ Ok sentence) × (deepest sentence ≤ 32) × (canonical sentence ≡ text)
+  by_canonical (Err column) sentence e = absurd (cc e)
+  by_canonical (Ok found) sentence e =
+      let told = some_if (same_bytes (canonical found) text && nat_le (deepest found) 32) found sentence e in
+      let both = and_parts (same_bytes (canonical found) text) (nat_le (deepest found) 32) told.0 in (
+        ap (λ (s : Sentence). Ok s) told.1,
+        subst (λ (s : Sentence). deepest s ≤ 32) told.1 (leb-true (deepest found) 32 both.1),
+        subst (λ (s : Sentence). canonical s ≡ text) told.1 ((bytes_eq-Decides (canonical found) text).0 both.0),
+      )
+
+  pub told_parts : (sentence : Sentence) → line_told text ≡ Some sentence → (length text ≤ 4096) × (line_of Two text ≡ Ok sentence) × (deepest sentence ≤ 32) × (canonical sentence ≡ text)
+  unfolding line_told
+  told_parts sentence e =
+      let told = if_some (nat_le (length text) 4096) (canonical_by text (line_of Two text)) sentence e in
+      let parts = by_canonical (line_of Two text) sentence told.1 in
+      (leb-true (length text) 4096 told.0, parts.0, parts.1, parts.2)
+
+-- ---- against the grammar
+
+module _ (one_reading : (version : Version) (text : List ℕ) (a b : Sentence) → Reads version text a → Reads version text b → a ≡ b)
+    (law : (version : Version) (text : List ℕ) → MatchResult (line_of version text) (Reads version text) (StopsAt version text)) where
+  told_is : (text : List ℕ) (sentence : Sentence) (told : Result Sentence ℕ) → MatchResult told (Reads Two text) (StopsAt Two text) → Reads Two text sentence → told ≡ Ok sentence
+  told_is text sentence (Ok found) is reads = ap (λ (s : Sentence). Ok s) (one_reading Two text found sentence is reads)
+  told_is text sentence (Err column) stops reads =
+      let same : reads.spots ≡ stops.spots = same_spots text 0 0 reads.spots stops.spots reads.tokens stops.tokens in
+      absurd (stops.stop.none sentence (subst (λ (spots : List Spot). IsSentence Two (tokens_of text spots) sentence) same reads.line))
+
+  -- a text that is a line is told to be this line
+  pub line_is : (text : List ℕ) (sentence : Sentence) → Reads Two text sentence → line_of Two text ≡ Ok sentence
+  line_is text sentence reads = told_is text sentence (line_of Two text) (law Two text) reads
+
+  -- and one that is told to be a line is it
+  pub reads_told : (text : List ℕ) (sentence : Sentence) → line_of Two text ≡ Ok sentence → Reads Two text sentence
+  reads_told text sentence is = rw is at (law Two text)

@@ -1,0 +1,5 @@
+use Rattle.blob_file.proofs.Puts.{PutBytes}
+use Rattle.blob_file.proofs.save.put_blob.Given as goal
+
+abbrev pub invariant-loop-at : goal.invariant-loop-at
+invariant-loop-at g l = PutBytes g.K.Sink.taken g.K.Sink.faults l.initial.sink l.sink l.initial.buffer l.buffer l.blob l.at

@@ -1,0 +1,15 @@
+use Rattle.std.proofs.Common.{◌≡◌, ◌∙◌, ℕ, List, ap}
+use Rattle.std.specs.Prelude.{codes}
+use Rattle.line_grammar.specs.Sentences.{Define}
+use Rattle.line_writer.specs.Texts.{canonical}
+use Rattle.record_dim.specs.Trees.{Record, tree_of}
+use Rattle.blob_file.specs.Files.{record_line}
+use Rattle.blob_file.specs.Saving.{header_of}
+use Rattle.blob_file.proofs.texts.record_text.Goals as goal
+
+pub returns : goal.returns
+returns c =
+    let tree : tree_of c.in_ok-dim.dim ≡ Record c.args.view.now.fields = c.in_ok-dim.ensures.tree ∙ ap Record c.schema.ensures.value in
+    let line : Define c.named-name.result (tree_of c.in_ok-dim.dim) ≡ record_line (header_of c.args.view.now) =
+    ap (λ (name : List ℕ). Define name (tree_of c.in_ok-dim.dim)) c.named-name.ensures ∙ ap (Define (codes "R")) tree in
+    rw (ap canonical line) at c.write_line.ensures.text

@@ -1,0 +1,6 @@
+pub mod Files
+pub mod Saving
+pub mod Headers
+pub mod HeaderLaws
+pub mod Opened
+pub mod Statements

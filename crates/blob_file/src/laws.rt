@@ -1,0 +1,22 @@
+// Laws of blob files. The functions do nothing: their contracts are the laws.
+ghost use Rattle.blob_file.specs.Statements.{OneFile, OpensFiles};
+
+use line_writer::canonical_law;
+use schema_lang::{line_law, one_line_law};
+
+/// No bytes are the files of two headers that lines of the language say, nor of one with two lists of blobs.
+pub fn file_law()
+    ensures { OneFile }
+{
+    canonical_law();
+    one_line_law();
+}
+
+/// What is opened of bytes is that of which they are the file, where a view can be made with its header.
+pub fn opened_law()
+    ensures { OpensFiles }
+{
+    canonical_law();
+    one_line_law();
+    line_law();
+}

@@ -1,0 +1,110 @@
+// A view, written as a file.
+ghost use Rattle.std.specs.Prelude.{◌≡◌, ◌≤◌, [], ◌∷◌, ◌++◌, length};
+ghost use Rattle.layout_io.specs.Gathering.{Puts};
+ghost use Rattle.layout_io.specs.Writing.{Writes, joined};
+ghost use Rattle.blob_file.specs.Files.{four_bytes, two_lines, file_of, IsShort, IsFile};
+ghost use Rattle.blob_file.specs.Saving.{header_of, blobs_of, head_of, IsSaved};
+
+use crate::fault::SaveEnd;
+use crate::texts::{record_text, view_text};
+use blobs::Blob;
+use layout_io::{Failed, Sink, TextBuffer};
+use places::Mapping;
+use schema_lang::MAX_LINE_BYTES;
+use std::alloc::Global;
+use views::View;
+
+// The first bytes of each file.
+const MAGIC: [u8; 8] = [b'L', b'L', b'A', b'M', b'A', b'B', b'1', b'\n'];
+
+/// Writes a view as a file: a header, which says its record, its extents, how it stores and its mapping, and the bytes of its blobs. `TooBig`
+/// comes exactly where a text of the header has more than 4,096 bytes. All memory is taken before the first write, and there is one write for
+/// each 4,096 bytes.
+pub fn write_file<K: Sink>(alloc: Global, view: &View, sink: &mut K) -> Result<(), SaveEnd>
+    ensures saved { IsSaved K.taken K.faults sink.old sink.new (header_of view.now) (blobs_of view.now) result }
+    ensures file { IsShort (header_of view.now) → IsFile (file_of (header_of view.now) (blobs_of view.now)) (header_of view.now) (blobs_of view.now) }
+{
+    let _extents = view.extents();
+    let record = record_text(alloc, view)?;
+    let shown = view_text(alloc, view)?;
+    let first = record.as_str().as_bytes();
+    let second = shown.as_str().as_bytes();
+    if first.len() > MAX_LINE_BYTES {
+        return Err(SaveEnd::TooBig);
+    }
+    if second.len() > MAX_LINE_BYTES {
+        return Err(SaveEnd::TooBig);
+    }
+    put_file(view, first, second, sink)?;
+    Ok(())
+}
+
+// Writes the file whose header has these texts.
+fn put_file<K: Sink>(view: &View, first: &[u8], second: &[u8], sink: &mut K) -> Result<(), Failed>
+    requires few { length first.now ≤ 4096 }
+    requires less { length second.now ≤ 4096 }
+    ensures { Writes K.taken K.faults sink.old sink.new result
+        (head_of first.now second.now ++ joined (blobs_of view.now)) }
+{
+    let mut buffer = TextBuffer::new();
+    put_header(first, second, &mut buffer, sink)?;
+    put_blobs(view, &mut buffer, sink)?;
+    buffer.flush(sink)
+}
+
+fn put_header<K: Sink>(
+    first: &[u8],
+    second: &[u8],
+    buffer: &mut TextBuffer,
+    sink: &mut K,
+) -> Result<(), Failed>
+    requires few { length first.now ≤ 4096 }
+    requires less { length second.now ≤ 4096 }
+    ensures { Puts K.taken K.faults sink.old sink.new buffer.old buffer.new result
+        (head_of first.now second.now) }
+{
+    let size = size_of(first, second);
+    buffer.put(&MAGIC, sink)?;
+    buffer.put(&size, sink)?;
+    put_line(first, buffer, sink)?;
+    put_line(second, buffer, sink)
+}
+
+// Puts a text and LF.
+fn put_line<K: Sink>(text: &[u8], buffer: &mut TextBuffer, sink: &mut K) -> Result<(), Failed>
+    ensures { Puts K.taken K.faults sink.old sink.new buffer.old buffer.new result (text.now ++ 10 ∷ []) }
+{
+    buffer.put(text, sink)?;
+    buffer.put(b"\n", sink)
+}
+
+// The number of bytes of two texts, each with LF behind it, as a file says it.
+fn size_of(first: &[u8], second: &[u8]) -> [u8; 4]
+    requires few { length first.now ≤ 4096 }
+    requires less { length second.now ≤ 4096 }
+    ensures { result ≡ four_bytes (length (two_lines first.now second.now)) }
+{
+    let size = (first.len() + second.len() + 2) as u32;
+    size.to_le_bytes()
+}
+
+// Puts the bytes of all blobs, in order.
+fn put_blobs<K: Sink>(view: &View, buffer: &mut TextBuffer, sink: &mut K) -> Result<(), Failed>
+    ensures { Puts K.taken K.faults sink.old sink.new buffer.old buffer.new result (joined (blobs_of view.now)) }
+{
+    for b in 0..view.map().blob_count() {
+        let blob = view.blob(b);
+        blob.bytes_law();
+        put_blob(blob, buffer, sink)?;
+    }
+    Ok(())
+}
+
+fn put_blob<K: Sink>(blob: &Blob, buffer: &mut TextBuffer, sink: &mut K) -> Result<(), Failed>
+    ensures { Puts K.taken K.faults sink.old sink.new buffer.old buffer.new result blob.now }
+{
+    for at in 0..blob.len() {
+        buffer.put(&[blob.get(at)], sink)?;
+    }
+    Ok(())
+}

@@ -1,0 +1,13 @@
+-- The versions of the language.
+use Rattle.std.specs.Prelude.{ℕ, ◌==◌, Bool, true, false, Option, None, Some, if◌then◌else◌}
+use Rattle.line_grammar.specs.declared.version.Version.{Version}
+use Rattle.line_grammar.specs.declared.version.Version.TheVariants.{One, Two}
+
+-- whether a version has what came with the second
+abbrev pub is_two : Version → Bool
+is_two One = false
+is_two Two = true
+
+-- the version of a number
+abbrev pub version_numbered : ℕ → Option Version
+version_numbered n = if n == 1 then Some One else (if n == 2 then Some Two else None)

@@ -1,0 +1,55 @@
+ghost use Rattle.std.specs.Prelude.{◌≡◌, ◌<◌, ◌≤◌, length, OnOk};
+ghost use Rattle.line_phrases.specs.Gives.{Gives};
+ghost use Rattle.line_phrases.specs.Lists.{listed_at};
+ghost use Rattle.line_phrases.specs.Widths.{field_width_at, field_widths_at};
+
+use crate::{ReadError, Tokens, read_path};
+use line_grammar::{Count, Version};
+use line_tokens::Sign;
+use map_expr::{FieldWidth, WidthList};
+use std::alloc::Global;
+
+/// The widths of chosen leaves at the front, in braces. There are none in the first version of the language, nor where no brace
+/// is next.
+#[tactic(auto, unfolding(crate::specs::Widths::field_widths_at))]
+pub(crate) fn read_field_widths(
+    alloc: Global,
+    version: Version,
+    tokens: &mut Tokens,
+) -> Result<WidthList, ReadError>
+    ensures gives { Gives (λ x. (x, tokens.new)) result (field_widths_at version tokens.old) }
+    ensures no_longer { OnOk result (length tokens.new ≤ length tokens.old) }
+{
+    if !version.is_two() || !tokens.begins_sign(Sign::OpenBrace) {
+        return Ok(WidthList::new(alloc));
+    }
+    tokens.sign(Sign::OpenBrace)?;
+    let fields = read_width_list(alloc, tokens)?;
+    tokens.sign(Sign::CloseBrace)?;
+    Ok(fields)
+}
+
+#[tactic(auto, unfolding(crate::specs::Lists::listed_at), using(crate::specs::WidthLaws::width_steps))]
+fn read_width_list(alloc: Global, tokens: &mut Tokens) -> Result<WidthList, ReadError>
+    ensures gives { Gives (λ x. (x, tokens.new)) result (listed_at field_width_at tokens.old) }
+    ensures shorter { OnOk result (length tokens.new < length tokens.old) }
+{
+    let mut fields = WidthList::new(alloc);
+    fields.push(read_field_width(alloc, tokens)?)?;
+    while tokens.begins_sign(Sign::Comma) {
+        tokens.sign(Sign::Comma)?;
+        fields.push(read_field_width(alloc, tokens)?)?;
+    }
+    Ok(fields)
+}
+
+#[tactic(auto, unfolding(crate::specs::Widths::field_width_at))]
+fn read_field_width(alloc: Global, tokens: &mut Tokens) -> Result<FieldWidth, ReadError>
+    ensures gives { Gives (λ x. (x, tokens.new)) result (field_width_at tokens.old) }
+    ensures shorter { OnOk result (length tokens.new < length tokens.old) }
+{
+    let path = read_path(alloc, tokens)?;
+    tokens.sign(Sign::Colon)?;
+    let width = tokens.item::<Count>()?;
+    Ok(FieldWidth { path, width })
+}

@@ -1,0 +1,26 @@
+-- The width of each cell of a bit mapping, where some leaves have widths of their own.
+use Rattle.std.specs.Prelude.{ℕ, Bool, not, List, map, if◌then◌else◌}
+use Rattle.std.specs.List.{fold, list_any}
+use Rattle.record_dim.specs.Trees.{Fields}
+use Rattle.record_dim.specs.Nodes.{is_under}
+use Rattle.places.specs.declared.piece.Cell.{Cell}
+use Rattle.map_expr.specs.declared.widths.FieldWidth.{FieldWidth}
+
+-- an entry says the width of a leaf that is under its path
+abbrev pub width_by : Fields → ℕ → ℕ → FieldWidth → ℕ
+width_by fields leaf width entry = if is_under fields entry.path leaf then entry.width else width
+
+-- the width of a leaf: what the last entry says whose path it is under, and the first number where it is under none
+abbrev pub width_at : Fields → ℕ → List FieldWidth → ℕ → ℕ
+width_at fields width entries leaf = fold (width_by fields leaf) width entries
+
+abbrev pub cell_widths : Fields → ℕ → List FieldWidth → List Cell → List ℕ
+cell_widths fields width entries cells = map (λ cell. width_at fields width entries cell.leaf) cells
+
+-- some cell is under the path of an entry
+abbrev pub has_cell : Fields → List Cell → FieldWidth → Bool
+has_cell fields cells entry = list_any (λ cell. is_under fields entry.path cell.leaf) cells
+
+-- some entry has none of the cells under its path
+abbrev pub has_empty : Fields → List Cell → List FieldWidth → Bool
+has_empty fields cells entries = list_any (λ entry. not (has_cell fields cells entry)) entries

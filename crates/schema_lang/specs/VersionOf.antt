@@ -1,0 +1,18 @@
+-- The version line of a script, and blank lines, as functions of a text.
+use Rattle.std.specs.Prelude.{ℕ, ◌==◌, Bool, List, [], ◌∷◌, length, codes, Option, None, if◌then◌else◌}
+use Rattle.line_grammar.specs.declared.token.Token.{Token}
+use Rattle.line_grammar.specs.Reads.{tokens_of}
+use Rattle.line_grammar.specs.Tokens.{is_word, count_of}
+use Rattle.schema_lang.specs.LineOf.{spots_in}
+
+-- the number of a version line: the word `version` and a COUNT are all of its tokens
+abbrev pub version_number : List Token → Option ℕ
+version_number (word ∷ count ∷ []) = if is_word (codes "version") word then count_of count else None
+version_number tokens = None
+
+abbrev pub version_of : List ℕ → Option ℕ
+version_of text = version_number (tokens_of text (spots_in text))
+
+-- it has no token
+abbrev pub is_blank : List ℕ → Bool
+is_blank text = length (spots_in text) == 0
