@@ -1,6 +1,6 @@
 -- Blobs are the contents of a header exactly where they are the image of rows that it may hold.
 use Rattle.std.proofs.Common.{◌≡◌, Bool, true, false, ℕ, zero, suc, ◌+◌, ◌<◌, ◌≤◌, ℤ, pos, List, [], ◌∷◌, length, get_or, map, Result, Ok, Err, is_ok, refl, sym, ap, ◌∙◌, subst, arith}
-use Rattle.std.specs.Prelude.{nat_eq, if◌then◌else◌}
+use Rattle.std.specs.Prelude.{nat_eq, ◌&&◌, if◌then◌else◌}
 use Rattle.std.specs.Bool.{Decides}
 use Rattle.std.specs.List.{list_all}
 use Rattle.std.specs.Cmp.Lexicographic.{pointwise}
@@ -8,6 +8,7 @@ use Rattle.std.proofs.lemmas.Bool.{and_parts, and_from}
 use Rattle.std.proofs.lemmas.Bool.Decides.{Decides-eqb}
 use Rattle.std.proofs.lemmas.List.{length-map}
 use Rattle.std.proofs.lemmas.Slice.Eq.{slice_eq-Decides}
+use Rattle.extents.specs.Indices.{indices}
 use Rattle.record_dim.specs.declared.leaf_type.LeafType.{LeafType}
 use Rattle.record_dim.specs.LeafTypes.{least_of, greatest_of, least_in, greatest_in, IsIn}
 use Rattle.record_dim.specs.Leaves.{Leaf, leaves, kinds_of}
@@ -25,7 +26,7 @@ use Rattle.kept_numbers.specs.Kept.{declared, held}
 use Rattle.kept_numbers.specs.KeptLaws.{low_same, declared_same, kept_declared}
 use Rattle.kept_tables.specs.declared.mode.StoreMode.{StoreMode}
 use Rattle.kept_tables.specs.declared.mode.StoreMode.TheVariants.{Strict, Wrap}
-use Rattle.kept_tables.specs.Modes.{kind_at, Fits, Stays}
+use Rattle.kept_tables.specs.Modes.{kind_at, Fits, Stays, declared_table}
 use Rattle.kept_tables.specs.EntryLaws.{fitting_held}
 use Rattle.kept_tables.specs.TableLaws.{declared_shape, declared_entry}
 use Rattle.kept_tables.specs.ImageLaws.{image_raw, image_table}

@@ -1,8 +1,8 @@
 -- The header in front of bytes: which there is, and that it is the only one.
-use Rattle.std.proofs.Common.{◌≡◌, ℕ, ◌≤◌, Bool, true, false, List, [], ◌∷◌, ◌++◌, length, map, take, drop, Ok, Option, Some, None, refl, sym, ap, ◌∙◌, subst, arith}
-use Rattle.std.specs.Prelude.{MatchResult, codes, option_map, not, ◌&&◌}
+use Rattle.std.proofs.Common.{◌≡◌, ℕ, ◌≤◌, Bool, true, false, List, [], ◌∷◌, ◌++◌, length, map, take, drop, Result, Ok, Option, Some, None, refl, sym, ap, ◌∙◌, subst, arith}
+use Rattle.std.specs.Prelude.{MatchResult, codes, option_map, not, ◌&&◌, if◌then◌else◌}
 use Rattle.std.specs.List.{list_any}
-use Rattle.std.proofs.lemmas.Bool.{and_parts, not-true}
+use Rattle.std.proofs.lemmas.Bool.{and_parts, and_from, not-true}
 use Rattle.std.proofs.lemmas.List.{take-append-drop}
 use Rattle.std.proofs.lemmas.Slice.Eq.{bytes_eq-Decides}
 use Rattle.line_tokens.specs.Ends.{NoEnd}
@@ -15,7 +15,7 @@ use Rattle.schema_lang.specs.LineOf.{line_of}
 use Rattle.extents.specs.declared.words.ExtentWord.{ExtentWord}
 use Rattle.extents.specs.declared.words.ExtentWord.TheVariants.{Fixed, Rows}
 use Rattle.extents.specs.Shapes.{extent_of, is_rows}
-use Rattle.record_dim.specs.Trees.{Fields, Single, Record, Array}
+use Rattle.record_dim.specs.Trees.{Tree, Fields, Single, Record, Array}
 use Rattle.kept_tables.specs.declared.mode.StoreMode.{StoreMode}
 use Rattle.kept_tables.specs.declared.mode.StoreMode.TheVariants.{Strict, Wrap}
 use Rattle.blob_file.specs.Files.{Header, four_bytes, two_lines, is_wrap, record_line, view_line, record_text, view_text, header_text, IsShort}

@@ -1,17 +1,19 @@
 -- The bytes of bits, and the bits of the bytes of an image.
-use Rattle.std.proofs.Common.{◌≡◌, ℕ, ◌+◌, ◌*◌, ◌/◌, ◌%◌, ◌^◌, ◌<◌, ◌≤◌, ℤ, List, [], length, get_or, map, All, sym, ap, ◌∙◌, ⊎_elim, arith}
+use Rattle.std.proofs.Common.{◌≡◌, ℕ, ◌+◌, ◌*◌, ◌/◌, ◌%◌, ◌^◌, ◌<◌, ◌≤◌, ℤ, pos, List, [], length, get_or, map, All, refl, sym, ap, ◌∙◌, ⊎_elim, arith}
 use Rattle.std.specs.Int.{bit_at}
+use Rattle.std.specs.List.{range_with_len}
 use Rattle.std.proofs.lemmas.Bool.{cases_lt}
 use Rattle.std.proofs.lemmas.List.{length-map, get_or-map, get_or_past, ext_get_or}
 use Rattle.std.proofs.lemmas.List.FromFn.{get_or-map-range_with_len, length-map-range_with_len}
 use Rattle.places.specs.Layout.{Owner, Pad, Bit, owner_at}
-use Rattle.places.specs.Image.{entry, bit_held, image, IsImage}
+use Rattle.places.specs.Image.{digit, number, entry, bit_held, image, IsImage}
 use Rattle.places.specs.NumbersLaws.{number_same, bit_number, digit_lt}
 use Rattle.blobs.specs.Bits.{bit_of, bits_of, bit_in, AreBytes}
 use Rattle.blobs.specs.BytesLaws.{number_of_byte}
 use Rattle.instrument.specs.BlobTexts.{byte_at, bytes_of}
 use Rattle.views.specs.Tables.{Table, owners_of, blob_bits_of}
-use Rattle.blob_file.specs.Saving.{blobs_of}
+use Rattle.blob_file.specs.Files.{image_bytes}
+use Rattle.blob_file.specs.Saving.{header_of, blobs_of}
 use Rattle.blob_file.proofs.OneFile.{length-bytes_of}
 
 -- ---- the bytes of the bits of bytes

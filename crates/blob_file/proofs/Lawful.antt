@@ -1,8 +1,10 @@
 -- Headers with which a view can be made: the test of them, and the laws of their layouts.
-use Rattle.std.proofs.Common.{◌≡◌, ◌*◌, ◌<◌, ◌^◌, Bool, true, false, not, List, length, map, nat_lt, Option, None, Some, Result, Ok, Err, is_ok, is_none, inl, inr, refl, ◌∙◌, ⊎_elim}
+use Rattle.std.proofs.Common.{◌≡◌, ℕ, ◌*◌, ◌<◌, ◌^◌, Bool, true, false, not, List, length, map, nat_lt, Option, None, Some, Result, Ok, Err, is_ok, is_none, inl, inr, refl, ap, ◌∙◌, ⊎_elim}
 use Rattle.std.specs.Prelude.{◌⊎◌, ◌&&◌, ◌||◌, if◌then◌else◌, sum_by}
 use Rattle.std.specs.Bool.{Decides}
 use Rattle.std.proofs.lemmas.Bool.Decides.{Decides-and, Decides-or, Decides-not, Decides-like, Decides-ltb}
+use Rattle.std.proofs.lemmas.Bool.{false_from_ne_true}
+use Rattle.extents.specs.Indices.{indices}
 use Rattle.extents.specs.Shapes.{bad_shape, bad_extents}
 use Rattle.record_dim.specs.Trees.{Fields, Record}
 use Rattle.record_dim.specs.Leaves.{kinds_of, first_fault}
@@ -12,8 +14,8 @@ use Rattle.places.specs.declared.piece.Cell.{Cell}
 use Rattle.places.specs.declared.piece.Hold.{Hold}
 use Rattle.map_expr.specs.declared.check.BadMapping.{BadMapping}
 use Rattle.map_expr.specs.declared.check.BadMapping.TheVariants.{TooDeep, Counter, Side, Field, NotFull}
-use Rattle.map_expr.specs.Terms.{Term}
-use Rattle.map_expr.specs.Checks.{checked, answered, bad_number}
+use Rattle.map_expr.specs.Terms.{Term, depth_of}
+use Rattle.map_expr.specs.Checks.{checked, answered, bad_number, counts_once}
 use Rattle.map_any.specs.AnyLaws.{length-leaf_cells}
 use Rattle.map_checks.specs.Mappings.{leaf_cells, accepted, bad_field, bad_side, else_for, holds_by, most_slots, not_full}
 use Rattle.map_checks.specs.TermLaws.{term_laws, good_numbers, length-holds}
@@ -76,6 +78,9 @@ lies header =
     (λ (parts : Parts header). record { fit = parts.0; shaped = parts.1.0; ranged = parts.1.1.0; mapped = parts.1.1.1.0; within = parts.1.1.1.1 })
     (λ (can : CanLie header). (can.fit, (can.shaped, (can.ranged, (can.mapped, can.within)))))
     five
+
+pub cannot_lie : (header : Header) → (CanLie header → ⊥) → can_lie header ≡ false
+cannot_lie header none = false_from_ne_true (can_lie header) (λ e. none ((lies header).0 e))
 
 -- ---- what being accepted says of an expression
 

@@ -1,5 +1,5 @@
 -- No bytes are the files of two headers, nor of one with two lists of blobs.
-use Rattle.std.proofs.Common.{◌≡◌, ℕ, ◌/◌, ◌<◌, ◌≤◌, ◌^◌, ℤ, List, [], ◌∷◌, ◌++◌, length, map, refl, sym, ap, ◌∙◌, arith, length-append}
+use Rattle.std.proofs.Common.{◌≡◌, ℕ, ◌+◌, ◌/◌, ◌<◌, ◌≤◌, ◌^◌, Bool, ℤ, List, [], ◌∷◌, ◌++◌, length, map, refl, sym, ap, ◌∙◌, arith, length-append}
 use Rattle.std.specs.Prelude.{codes}
 use Rattle.std.proofs.lemmas.List.{length-map}
 use Rattle.std.proofs.lemmas.List.FromFn.{length-map-range_with_len}
@@ -9,17 +9,19 @@ use Rattle.line_grammar.specs.Reads.{Reads}
 use Rattle.line_grammar.specs.declared.version.Version.{Version}
 use Rattle.line_grammar.specs.declared.version.Version.TheVariants.{Two}
 use Rattle.line_writer.specs.Texts.{canonical}
-use Rattle.extents.specs.declared.words.ExtentWord.TheVariants.{Fixed}
+use Rattle.extents.specs.declared.words.ExtentWord.{ExtentWord}
+use Rattle.extents.specs.declared.words.ExtentWord.TheVariants.{Fixed, Rows}
 use Rattle.kept_tables.specs.declared.mode.StoreMode.{StoreMode}
 use Rattle.kept_tables.specs.declared.mode.StoreMode.TheVariants.{Strict, Wrap}
+use Rattle.map_expr.specs.Terms.{Term}
 use Rattle.places.specs.Layout.{Owner}
 use Rattle.places.specs.Image.{bit_held, image}
 use Rattle.record_dim.specs.Trees.{Fields, Record}
 use Rattle.instrument.specs.BlobTexts.{byte_at, bytes_of}
 use Rattle.layout_io.specs.Writing.{joined}
 use Rattle.views.specs.Tallies.{blob_lengths}
-use Rattle.blob_file.specs.Files.{Header, magic, four_bytes, is_wrap, record_line, view_line, record_text, view_text, header_text, file_of, IsShort, owners_by, image_bytes}
-use Rattle.blob_file.specs.Headers.{HasLine}
+use Rattle.blob_file.specs.Files.{Header, magic, four_bytes, two_lines, is_wrap, record_line, view_line, record_text, view_text, header_text, file_of, IsShort, owners_by, image_bytes, IsFile}
+use Rattle.blob_file.specs.Headers.{HasLine, HasLines}
 use Rattle.blob_file.specs.Statements.{OneFile}
 use Rattle.blob_file.proofs.Parts.{same_fronts, same_lines, same_numbers, same_blobs}
 

@@ -1,5 +1,5 @@
 -- Lists told apart: fronts, lines that end at their first LF, numbers in four bytes, and blobs of the same lengths.
-use Rattle.std.proofs.Common.{◌≡◌, ℕ, ◌/◌, ◌%◌, ◌<◌, ◌^◌, List, [], ◌∷◌, ◌++◌, length, map, refl, ap, ◌∙◌, arith}
+use Rattle.std.proofs.Common.{◌≡◌, ℕ, ◌+◌, ◌*◌, ◌/◌, ◌%◌, ◌<◌, ◌^◌, List, [], ◌∷◌, ◌++◌, length, map, refl, sym, ap, ◌∙◌, arith}
 use Rattle.line_tokens.specs.Ends.{NoEnd}
 use Rattle.layout_io.specs.Writing.{joined}
 use Rattle.blob_file.specs.Files.{four_bytes}

@@ -1,5 +1,5 @@
 -- Bytes and blobs that are put one after another.
-use Rattle.std.proofs.Common.{◌≡◌, ℕ, ◌+◌, ◌<◌, ◌≤◌, List, [], ◌∷◌, length, take, get_or, refl, ap, subst, Option, Result, Ok, Err, IsErr}
+use Rattle.std.proofs.Common.{◌≡◌, ℕ, ◌+◌, ◌<◌, ◌≤◌, List, [], ◌∷◌, ◌++◌, length, take, get_or, refl, sym, ap, subst, ◌∙◌, Option, Result, Ok, Err, IsErr}
 use Rattle.std.specs.Prelude.{flat_map}
 use Rattle.layout_io.specs.Gathering.{Puts, HasPut}
 use Rattle.layout_io.specs.GatheringLaws.{Puts-nil, Puts-append, Puts-loop_err, Puts-loop_ok}

@@ -1,10 +1,11 @@
 -- What a view saves as is a file.
-use Rattle.std.proofs.Common.{◌≡◌, ℕ, ◌<◌, ◌≤◌, List, [], ◌∷◌, ◌++◌, length, refl, ap, ◌∙◌, subst, append_assoc, arith}
+use Rattle.std.proofs.Common.{◌≡◌, ℕ, ◌<◌, ◌≤◌, ℤ, List, [], ◌∷◌, ◌++◌, length, refl, sym, ap, ◌∙◌, subst, append_assoc, arith}
+use Rattle.extents.specs.Indices.{indices}
 use Rattle.piece_bits.specs.Tables.{HasShape}
 use Rattle.layout_io.specs.Writing.{joined}
 use Rattle.views.specs.Stores.{AllStay}
 use Rattle.views.specs.Tables.{Table, IsTable, leaf_count_of, leaf_types_of, table_holds}
-use Rattle.blob_file.specs.Files.{magic, four_bytes, record_text, view_text, header_text, file_of, IsShort, IsFile}
+use Rattle.blob_file.specs.Files.{magic, four_bytes, two_lines, record_text, view_text, header_text, file_of, IsShort, IsFile}
 use Rattle.blob_file.specs.Saving.{header_of, blobs_of, head_of}
 
 pub saved_file : (table : Table) → IsTable table → IsShort (header_of table) → IsFile (file_of (header_of table) (blobs_of table)) (header_of table) (blobs_of table)

@@ -14,8 +14,8 @@ use schema_lang::MAX_LINE_BYTES;
 use std::alloc::Global;
 use views::View;
 
-// The first bytes of each file.
-const MAGIC: [u8; 8] = [b'L', b'L', b'A', b'M', b'A', b'B', b'1', b'\n'];
+/// The first bytes of each file.
+pub const MAGIC: [u8; 8] = [b'L', b'L', b'A', b'M', b'A', b'B', b'1', b'\n'];
 
 /// Writes a view as a file: a header, which says its record, its extents, how it stores and its mapping, and the bytes of its blobs. `TooBig`
 /// comes exactly where a text of the header has more than 4,096 bytes. All memory is taken before the first write, and there is one write for
@@ -78,8 +78,8 @@ fn put_line<K: Sink>(text: &[u8], buffer: &mut TextBuffer, sink: &mut K) -> Resu
     buffer.put(b"\n", sink)
 }
 
-// The number of bytes of two texts, each with LF behind it, as a file says it.
-fn size_of(first: &[u8], second: &[u8]) -> [u8; 4]
+/// The number of bytes of two texts, each with LF behind it, as a file says it.
+pub fn size_of(first: &[u8], second: &[u8]) -> [u8; 4]
     requires few { length first.now ≤ 4096 }
     requires less { length second.now ≤ 4096 }
     ensures { result ≡ four_bytes (length (two_lines first.now second.now)) }

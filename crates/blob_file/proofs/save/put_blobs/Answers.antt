@@ -1,5 +1,7 @@
-use Rattle.std.proofs.Common.{rules, arith, ◌<◌, ◌≤◌, ℕ, List, [], IsErr, length, ap}
+use Rattle.std.proofs.Common.{rules, arith, ◌≡◌, ◌<◌, ◌≤◌, ◌∙◌, ℕ, List, [], IsErr, length, get_or, subst, ap, sym}
+use Rattle.layout_io.specs.Gathering.{Puts}
 use Rattle.layout_io.specs.GatheringLaws.{Puts-loop_err, Puts-loop_ok}
+use Rattle.layout_io.specs.declared.ends.Failed.{Failed}
 use Rattle.places.specs.Layout.{Owner}
 use Rattle.views.specs.Tables.{owners_of}
 use Rattle.blob_file.specs.Saving.{blobs_of}

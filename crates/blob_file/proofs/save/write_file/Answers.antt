@@ -1,4 +1,4 @@
-use Rattle.std.proofs.Common.{rules, ◌≡◌, ◌≤◌, ℕ, List, Err, length, subst}
+use Rattle.std.proofs.Common.{rules, ◌≡◌, ◌∙◌, ◌≤◌, ℕ, List, Err, length, subst}
 use Rattle.layout_io.specs.Writing.{Wrote, Stopped}
 use Rattle.blob_file.specs.Files.{record_text, view_text}
 use Rattle.blob_file.specs.Saving.{header_of}
@@ -16,10 +16,8 @@ returns-in_err-put_file-clause-saved g c =
     let few : length first ≤ 4096 = search rules in
     let less : length second ≤ 4096 = search rules in
     let is : c.from_residual-in_err-put_file.result ≡ Err Failed = search rules in
-    rw is (
-      both_short table first second one two few less,
-      subst (λ (text : List ℕ). Stopped g.K.Sink.taken g.K.Sink.faults c.args.sink.now c.put_file.new.sink text) (file_text table first second one two) c.in_err-put_file.ensures,
-    )
+    rw is (both_short table first second one two few less,
+        subst (λ (text : List ℕ). Stopped g.K.Sink.taken g.K.Sink.faults c.args.sink.now c.put_file.new.sink text) (file_text table first second one two) c.in_err-put_file.ensures)
 
 pub returns-clause-saved : goal.returns-clause-saved
 returns-clause-saved g c =
@@ -29,7 +27,6 @@ returns-clause-saved g c =
     let one : first ≡ record_text (header_of table) = search rules in
     let two : second ≡ view_text (header_of table) = search rules in
     let few : length first ≤ 4096 = search rules in
-    let less : length second ≤ 4096 = search rules in (
-      both_short table first second one two few less,
-      subst (λ (text : List ℕ). Wrote g.K.Sink.taken g.K.Sink.faults c.args.sink.now c.put_file.new.sink text) (file_text table first second one two) c.in_ok-put_file.ensures,
-    )
+    let less : length second ≤ 4096 = search rules in
+    (both_short table first second one two few less,
+        subst (λ (text : List ℕ). Wrote g.K.Sink.taken g.K.Sink.faults c.args.sink.now c.put_file.new.sink text) (file_text table first second one two) c.in_ok-put_file.ensures)

@@ -1,8 +1,11 @@
-use Rattle.std.proofs.Common.{◌≡◌, ◌∙◌, ap, map}
+use Rattle.std.proofs.Common.{◌≡◌, ◌∙◌, ℕ, Bool, List, ap, map, sym}
+use Rattle.std.specs.Prelude.{codes}
+use Rattle.extents.specs.declared.words.ExtentWord.{ExtentWord}
 use Rattle.extents.specs.declared.words.ExtentWord.TheVariants.{Fixed}
-use Rattle.line_grammar.specs.Sentences.{New, View}
+use Rattle.kept_tables.specs.declared.mode.StoreMode.{StoreMode}
+use Rattle.line_grammar.specs.Sentences.{Sentence, New, View}
 use Rattle.line_writer.specs.Texts.{canonical}
-use Rattle.map_expr.specs.Terms.{term_of}
+use Rattle.map_expr.specs.Terms.{Term, term_of}
 use Rattle.blob_file.specs.Files.{is_wrap, view_line}
 use Rattle.blob_file.specs.Saving.{header_of}
 use Rattle.blob_file.proofs.texts.view_text.Goals as goal
