@@ -1,5 +1,5 @@
 -- The width of each cell of a bit mapping, where some leaves have widths of their own.
-use Rattle.std.specs.Prelude.{ℕ, Bool, not, List, map, if◌then◌else◌}
+use Rattle.std.specs.Prelude.{ℕ, ◌≡◌, Bool, true, false, not, List, ◌∷◌, ◌++◌, map, if◌then◌else◌}
 use Rattle.std.specs.List.{fold, list_any}
 use Rattle.record_dim.specs.Trees.{Fields}
 use Rattle.record_dim.specs.Nodes.{is_under}
@@ -24,3 +24,13 @@ has_cell fields cells entry = list_any (λ cell. is_under fields entry.path cell
 -- some entry has none of the cells under its path
 abbrev pub has_empty : Fields → List Cell → List FieldWidth → Bool
 has_empty fields cells entries = list_any (λ entry. not (has_cell fields cells entry)) entries
+
+-- some entry is one whose path the leaf is under
+abbrev pub is_said : Fields → ℕ → List FieldWidth → Bool
+is_said fields leaf entries = list_any (λ (entry : FieldWidth). is_under fields entry.path leaf) entries
+
+-- of several such entries the last one counts, and with none the first number
+pub record LastCounts (fields : Fields) (width leaf : ℕ) : Type 0 where
+  pub last : (before behind : List FieldWidth) (entry : FieldWidth) → is_under fields entry.path leaf ≡ true → is_said fields leaf behind ≡ false
+      → width_at fields width (before ++ entry ∷ behind) leaf ≡ entry.width
+  pub none : (entries : List FieldWidth) → is_said fields leaf entries ≡ false → width_at fields width entries leaf ≡ width

@@ -25,4 +25,4 @@ pub use inner_cells::{bytes_cells, changed_cells};
 pub use merge::merge_holds;
 pub use not_full::has_part_not_full;
 pub use sides::{SideList, Sides, split_cells};
-pub use widths::cell_widths;
+pub use widths::{cell_widths, width_law};

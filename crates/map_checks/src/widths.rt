@@ -1,6 +1,7 @@
-ghost use Rattle.std.specs.Prelude.{◌≡◌, IfOk};
+ghost use Rattle.std.specs.Prelude.{◌≡◌, ℕ, IfOk};
 ghost use Rattle.record_dim.specs.Schemas.{schema_fields};
-ghost use Rattle.map_checks.specs.Widths.{width_at, cell_widths, has_cell, has_empty};
+ghost use Rattle.record_dim.specs.Trees.{Fields};
+ghost use Rattle.map_checks.specs.Widths.{LastCounts, width_at, cell_widths, has_cell, has_empty};
 
 use crate::sides::is_under;
 use map_expr::{FieldWidth, WidthList};
@@ -38,6 +39,11 @@ pub fn cell_widths(
     }
     Ok(widths)
 }
+
+/// Of several entries that a leaf is under the last one says its width. It does nothing: its contract is the law.
+pub fn width_law()
+    ensures { (fields : Fields) (width leaf : ℕ) → LastCounts fields width leaf }
+{}
 
 // Whether some entry has none of the cells under its path.
 pub(crate) fn has_empty(schema: &Schema, cells: &CellList, entries: &WidthList) -> bool
