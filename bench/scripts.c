@@ -1,18 +1,22 @@
 /* The work of bench/scripts in plain C: loads a dataset with the columns id, x, y, w into packed structs, each number tested for
    its range, then prints it, or prints the sum of y, at once, after `update P where x > 0 set y = x * 3 + i0 % 7`, after ADDS times
    `update P set x = x + 1` (add), ADDS times more (sums), or after the table went TURNS times from structs to arrays, to blocks of 8 rows and
-   back, in memory that is made anew each time (relayout) or once (copy).
+   back, in memory that is made anew each time (relayout) or once (copy). Or it writes its blob file, once alone (file) or SAVES times before
+   the sum (saves); or reads a blob file OPENS times, whole and into memory that is made anew, and prints the sum (open). Nothing of a file is
+   tested but its length.
 
-   usage: scripts_c print|sum|update|add|sums|relayout|copy FILE */
+   usage: scripts_c print|sum|update|add|sums|relayout|copy|file|saves|open FILE */
 #include <inttypes.h>
 #include <stdint.h>
 #include <stdio.h>
 #include <stdlib.h>
 #include <string.h>
 
-enum { MOST_DIGITS = 18, ROOM = 1 << 16, LONGEST_ROW = 64, LANES = 8, TURNS = 3, ADDS = 10 };
+enum { MOST_DIGITS = 18, ROOM = 1 << 16, LONGEST_ROW = 64, LANES = 8, TURNS = 3, ADDS = 10, SAVES = 10, OPENS = 10, FRONT = 12, MOST_TEXTS = 256 };
 
 static const char HEADER[] = "id,x,y,w\n";
+static const char MAGIC[] = "LLAMAB1\n";
+static const char TEXTS[] = "record R { id : u32 , x : i32 , y : i64 , w : u16 }\nview V : R [ %zu ] as aos ( packed , row )\n";
 
 struct __attribute__((packed)) row {
     uint32_t id;
@@ -250,15 +254,54 @@ static void copy(struct table table)
     }
 }
 
+static void save(struct table table)
+{
+    char front[FRONT + MOST_TEXTS];
+    int size = snprintf(front + FRONT, MOST_TEXTS, TEXTS, table.count);
+    memcpy(front, MAGIC, strlen(MAGIC));
+    for (int byte = 0; byte < 4; byte++)
+        front[strlen(MAGIC) + byte] = (char)(size >> 8 * byte);
+    write_out(front, front + FRONT + size);
+    write_out((const char *)table.rows, (const char *)(table.rows + table.count));
+}
+
+/* The rows of a blob file, which stand at the end of its bytes. */
+static struct table rows_in(const char *bytes, size_t length)
+{
+    size_t size = 0;
+    for (int byte = 0; byte < 4 && length > FRONT; byte++)
+        size |= (size_t)(unsigned char)bytes[strlen(MAGIC) + byte] << 8 * byte;
+    if (length < FRONT + size || (length - FRONT - size) % sizeof(struct row))
+        fail("the blob file is cut");
+    return (struct table){ (struct row *)(bytes + FRONT + size), (length - FRONT - size) / sizeof(struct row) };
+}
+
+static void open_and_sum(const char *name)
+{
+    size_t length;
+    for (int turn = 1; turn < OPENS; turn++)
+        free(read_file(name, &length));
+    const char *bytes = read_file(name, &length);
+    print_sum(rows_in(bytes, length));
+}
+
 int main(int count, char **words)
 {
     size_t length;
     if (count != 3)
-        fail("usage: scripts_c print|sum|update|add|sums|relayout|copy FILE");
+        fail("usage: scripts_c print|sum|update|add|sums|relayout|copy|file|saves|open FILE");
+    if (!strcmp(words[1], "open")) {
+        open_and_sum(words[2]);
+        return 0;
+    }
     char *bytes = read_file(words[2], &length);
     struct table table = load(bytes, length);
     if (!strcmp(words[1], "print")) {
         print(table);
+        return 0;
+    }
+    if (!strcmp(words[1], "file")) {
+        save(table);
         return 0;
     }
     if (!strcmp(words[1], "update"))
@@ -269,6 +312,9 @@ int main(int count, char **words)
     else if (!strcmp(words[1], "sums"))
         for (int turn = 0; turn < ADDS; turn++)
             print_sum(table);
+    else if (!strcmp(words[1], "saves"))
+        for (int turn = 0; turn < SAVES; turn++)
+            save(table);
     else if (!strcmp(words[1], "relayout"))
         relayout(&table);
     else if (!strcmp(words[1], "copy"))

@@ -468,12 +468,19 @@ def read_bytes(reader):
     return {'name': reader.name(), 'blob': reader.count()}
 
 
-COMMANDS = {
+def read_open(reader):
+    name = reader.name()
+    reader.word('from')
+    return {'name': name, 'file': reader.text()}
+
+
+FIRST = {
     'record': read_record, 'mapping': read_mapping, 'view': read_view, 'load': read_load, 'set': read_set,
     'update': read_update, 'kernel': read_kernel, 'reduce': read_reduce, 'copy': read_copy,
     'relayout': read_relayout, 'print': read_one, 'counts': read_one, 'heat': read_one, 'layout': read_one,
     'drop': read_one, 'bytes': read_bytes,
 }
+COMMANDS = FIRST | {'save': read_one, 'open': read_open}
 
 
 def read_line(text, version):
@@ -482,7 +489,7 @@ def read_line(text, version):
     if not tokens:
         return None
     reader = Reader(tokens, version)
-    command = reader.word(*COMMANDS)
+    command = reader.word(*(FIRST if version == 1 else COMMANDS))
     line = COMMANDS[command](reader)
     if reader.place < len(tokens):
         reader.fail()

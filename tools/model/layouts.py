@@ -28,7 +28,7 @@ def digit(value, bit):
 
 def indices_of(extents):
     """All indices, the last number fastest. A row is a place in this list."""
-    return list(itertools.product(*map(range, extents)))
+    return [] if 0 in extents else list(itertools.product(*map(range, extents)))
 
 
 def side_of(extents):

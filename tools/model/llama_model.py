@@ -3,8 +3,8 @@
 
 usage: llama_model.py run FILE, in the folder of the datasets
 
-It follows the rules of docs/LANGUAGE.md and nothing else, so that it can say what llama owes. A view is a list of rows; no
-blob is kept.
+It follows the rules of docs/LANGUAGE.md and docs/FILES.md and nothing else, so that it can say what llama owes. A view is a list of
+rows; no blob is kept.
 """
 import os
 import pathlib
@@ -13,10 +13,11 @@ import tempfile
 
 import generator
 from accesses import Log, heat_of, runs_of
+from blob_files import MOST_FILE_BYTES, MOST_TEXT_BYTES, FileFault, file_of, parts_of_file, texts_of
 from datasets import DatasetFault, records_of, table_of, without_mark
 from grammar import COMMANDS, VERSIONS, SyntaxFault, depth, expressions_of, path_text, read_line, tokens_of, version_in
 from kernels import bad_kernel, leaves_of as leaves_of_kernel, number_of, stored
-from layouts import image, product
+from layouts import digit, image, product
 from mappings import (Cell, bad_alone, bad_mapping, blobs_of, counters_of, full, granules_of, holds_of, inner_of, lengths_of, most_slots,
                       range_of)
 from values import ValueFault, value_of
@@ -81,6 +82,14 @@ class View:
     def blobs(self):
         return blobs_of(self.mapping, self.leaves, self.extents)
 
+    def bytes_of(self, blob):
+        """The bytes of one of the blobs."""
+        return image(blob, lambda row, leaf: self.row(row)[leaf])
+
+    def memory(self):
+        """The bytes of all blobs, one behind the other."""
+        return b''.join(map(self.bytes_of, self.blobs()))
+
     def touch(self, row, leaf, reads, writes):
         if self.log is not None:
             self.log.add(row, leaf, reads, writes)
@@ -103,7 +112,6 @@ class View:
         if not is_within(value, self.declared[leaf]):
             return 'Range'
         return None if is_within(value, self.held[leaf]) else 'Narrow'
-
 
     def left(self, leaf, value):
         """What a store of a value leaves: the value in a strict view, and else the number of the leaf's type that is congruent to it, where the
@@ -234,7 +242,11 @@ def names_twice(dim):
 
 def record(world, line):
     free(line['name'], world.records)
-    dim = line['record']
+    refuse_record(line['record'])
+    world.records[line['name']] = line['record']
+
+
+def refuse_record(dim):
     if record_depth(dim) > MOST_RECORD_DEPTH:
         raise Fault('BadRecord', 'TooDeep')
     if any(names_twice(node) for node in parts_of(dim)):
@@ -243,7 +255,6 @@ def record(world, line):
         raise Fault('BadRecord', 'NoElements')
     if leaf_count(dim) > MOST_LEAVES:
         raise Fault('BadRecord', 'TooManyLeaves')
-    world.records[line['name']] = dim
 
 
 # mappings and views
@@ -261,9 +272,13 @@ def names_of_a_view(world, line):
     free(line['name'], world.views)
     dim = known(line['record'], world.records)
     whole = nameless(world, line['map'])
+    refuse_many_views(world)
+    return dim, whole
+
+
+def refuse_many_views(world):
     if len(world.views) >= MOST_VIEWS:
         raise Fault('TooManyViews')
-    return dim, whole
 
 
 def refuse_words(words):
@@ -289,18 +304,27 @@ def resolved(words, rows):
     return words
 
 
-def made(world, dim, extents, whole, wrap):
-    """A view of zeros beside the live ones."""
+def zeros(dim, extents, whole, wrap):
+    """A view of zeros."""
     fault = bad_mapping(whole, leaves_of(dim))
     if fault:
         raise Fault('BadMapping', fault)
     view = View(dim, extents, whole, wrap)
-    live = sum(sum(other.lengths()) for other in world.views.values())
-    size = sum(view.lengths())
-    if most_slots(whole, extents) > MOST_SLOTS or size > MOST_VIEW_BYTES:
+    if most_slots(whole, extents) > MOST_SLOTS or sum(view.lengths()) > MOST_VIEW_BYTES or granules_of(whole, view.lengths()) > MOST_GRANULES:
         raise Fault('TooBig')
-    if granules_of(whole, view.lengths()) > MOST_GRANULES or live + size > MOST_LIVE_BYTES:
+    return view
+
+
+def refuse_live_bytes(world, view):
+    """A new view stands beside the live ones."""
+    if sum(sum(each.lengths()) for each in [*world.views.values(), view]) > MOST_LIVE_BYTES:
         raise Fault('TooBig')
+
+
+def made(world, dim, extents, whole, wrap):
+    """A view of zeros beside the live ones."""
+    view = zeros(dim, extents, whole, wrap)
+    refuse_live_bytes(world, view)
     return view
 
 
@@ -516,8 +540,7 @@ def bytes_of(world, line):
         raise Fault('BadIndex')
     if sum(lengths) > MOST_SHOWN_BYTES:
         raise Fault('TooBig')
-    blob = view.blobs()[line['blob']]
-    data = image(blob, lambda row, leaf: view.row(row)[leaf])
+    data = view.bytes_of(view.blobs()[line['blob']])
     assert len(data) == lengths[line['blob']]
     return ''.join(data[at:at + 16].hex(' ') + '\n' for at in range(0, len(data), 16)).encode()
 
@@ -527,10 +550,72 @@ def drop(world, line):
     del world.views[line['name']]
 
 
+# blob files
+
+def save(world, line):
+    view = known(line['name'], world.views)
+    texts = texts_of(view.record, view.extents, view.wrap, view.mapping)
+    if any(len(text) > MOST_TEXT_BYTES for text in texts):
+        raise Fault('TooBig')
+    return file_of(texts, view.memory())
+
+
+def open_file(world, line):
+    free(line['name'], world.views)
+    refuse_many_views(world)
+    data = read_file(world, line['file'])
+    if len(data) > MOST_FILE_BYTES:
+        raise Fault('TooBig')
+    try:
+        view = view_in(data)
+    except FileFault as fault:
+        raise Fault('BadFile', str(fault)) from None
+    refuse_live_bytes(world, view)
+    view.touch_all(0, 1)
+    world.views[line['name']] = view
+
+
+def view_in(data):
+    """The view whose file this is."""
+    record_line, view_line, rest = parts_of_file(data)
+    try:
+        refuse_record(record_line['record'])
+        refuse_words(view_line['words'])
+        view = zeros(record_line['record'], resolved(view_line['words'], None), view_line['map'], view_line['wrap'])
+    except Fault:
+        raise FileFault('Layout') from None
+    if len(rest) != sum(view.lengths()):
+        raise FileFault('Length')
+    view.kept = table_in(view, rest)
+    if any(not is_settled(view, leaf, value) for values in view.kept.values() for leaf, value in enumerate(values)) or view.memory() != rest:
+        raise FileFault('Contents')
+    return view
+
+
+def table_in(view, data):
+    """The one table that may have this memory: of each leaf the number of its type that is congruent to what its bits say."""
+    said = {}
+    for at, owner in enumerate(owner for blob in view.blobs() for owner in blob):
+        if owner is not None:
+            row, leaf, bit = owner
+            said.setdefault((row, leaf), {})[bit] = digit(data[at // 8], at % 8)
+    table = {}
+    for (row, leaf), bits in said.items():
+        low = sum(is_set << bit for bit, is_set in bits.items())
+        number = congruent(congruent(low, view.held[leaf]), view.declared[leaf])
+        table.setdefault(row, [0] * len(view.leaves))[leaf] = number
+    return table
+
+
+def is_settled(view, leaf, value):
+    """Whether a view may hold a value: a strict one takes it, and one that keeps low bits leaves it as it is."""
+    return view.refusal(leaf, value) is None and view.left(leaf, value) == value
+
+
 DOES = {
     'record': record, 'mapping': mapping, 'view': new_view, 'load': load, 'set': assign, 'update': update,
     'kernel': kernel, 'reduce': reduce, 'copy': copy, 'relayout': relayout, 'print': print_view, 'counts': counts, 'heat': heat,
-    'layout': layout, 'bytes': bytes_of, 'drop': drop,
+    'layout': layout, 'bytes': bytes_of, 'drop': drop, 'save': save, 'open': open_file,
 }
 assert set(DOES) == set(COMMANDS)
 

@@ -30,13 +30,12 @@ def lines(text):
 
 
 def status_of(printed):
-    """The status that goes with what is printed."""
-    last = printed.split(b'\n')[-2] if printed else b''
-    if re.match(rb'line \d+: cannot read ', last):
+    """The status that goes with what is printed. A file may stand right before the last line."""
+    if re.search(rb'line \d+: cannot read [^\n]*\n\Z', printed):
         return 3
-    if last.startswith(b'usage: '):
+    if re.search(rb'usage: [^\n]*\n\Z', printed):
         return 2
-    return 1 if re.match(rb'line \d+: ', last) else 0
+    return 1 if re.search(rb'line \d+: [^\n]*\n\Z', printed) else 0
 
 
 def write_inputs(case, folder):
@@ -97,7 +96,7 @@ def write_case(case, folder):
         (folder / 'status').write_text(f'{ended}\n')
     if agrees(printed, case.due) and status == status_of(printed):
         return True
-    print(f'{case.name}\n  table: {case.due}\n  model: {printed[-400:].decode()}({status})')
+    print(f'{case.name}\n  table: {case.due}\n  model: {printed[-400:].decode(errors="replace")}({status})')
     return False
 
 

@@ -1,4 +1,4 @@
-"""Thrown runs of the program: scripts of all commands, faults and limits, with datasets, damaged here and there.
+"""Thrown runs of the program: scripts of all commands, faults and limits, with datasets and blob files, damaged here and there.
 
 A run is told by a seed and a number. What is thrown knows the names, leaves and limits of its tables, so that most lines are done; it says
 nothing of what is printed: that is for the model.
@@ -6,11 +6,12 @@ nothing of what is printed: that is for the model.
 import random
 from collections import namedtuple
 
+from blob_files import file_of, texts_of
 from grammar import SyntaxFault, read_line
 from layouts import product
-from llama_model import Fault, declared_range, leaves_of, nameless, record_depth
+from llama_model import Fault, View, declared_range, leaves_of, nameless, record_depth
 from mappings import bad_mapping, holds_of, lengths_of, range_of
-from thrown_texts import TOO_GREAT, Exprs, damaged, deep_expr, one_in, respaced, thrown_dataset, thrown_number, with_comment
+from thrown_texts import TOO_GREAT, Exprs, damaged, damaged_file, deep_expr, one_in, respaced, thrown_dataset, thrown_number, with_comment
 
 Thrown = namedtuple('Thrown', 'words files')
 Table = namedtuple('Table', 'record leaves extents limits mapping wrap')
@@ -209,6 +210,34 @@ class Script:
             limits = [declared_range(leaf) for leaf in leaves]
         self.files.setdefault(file, thrown_dataset(self.dice, [leaf.path for leaf in leaves], limits, rows))
 
+    # blob files
+
+    def save(self, name, _):
+        self.add(f'save {name}')
+
+    def open(self):
+        """Opens the file of a view of a known record, which is thrown here, or rarely another file."""
+        dice, name, record = self.dice, self.new_name(self.tables, 'V'), self.known(self.records)
+        file = f'b{len(self.files)}' if dice.randrange(30) else dice.choice(['none', '.', 'script.llama', 'b' * 200, 'b' * 201, 'd0.csv', 'b0'])
+        self.add(f'open {name} from "{file}"')
+        if record not in self.records or not file.startswith('b') or len(file) > 200 or file in self.files:
+            return
+        text, whole = self.layout_for(leaves_of(self.records[record]))
+        extents, wrap = self.extents(), one_in(dice, 3)
+        if whole:
+            data = self.file(View(self.records[record], extents, whole, wrap))
+            is_damaged = one_in(dice, 4)
+            self.files[file] = damaged_file(dice, data) if is_damaged else data
+            if not is_damaged:
+                self.table(name, record, extents, whole, wrap)
+
+    def file(self, view):
+        """The file of a view of thrown numbers."""
+        limits = [ANY if view.wrap else (max(least, low), min(greatest, high)) for (least, greatest), (low, high) in zip(view.declared, view.held)]
+        for row in range(view.count()):
+            view.kept[row] = [view.left(leaf, max(least, min(greatest, thrown_number(self.dice, (least, greatest))))) for leaf, (least, greatest) in enumerate(limits)]
+        return file_of(texts_of(view.record, view.extents, view.wrap, view.mapping), view.memory())
+
     # the other commands
 
     def path(self, table):
@@ -312,11 +341,13 @@ class Script:
             return dice.choice([self.view, self.view, self.load, self.load])()
         if one_in(dice, 10):
             return self.mapping()
+        if one_in(dice, 12) if self.version == 2 else one_in(dice, 400):
+            return self.open()
         if one_in(dice, 20):
-            return self.add(dice.choice(['', '', '# note', '   ', '\t#', 'nothing', 'print', 'print V V', 'drop 5', '}', '"', 'version 2', 'version 1']) if one_in(dice, 4) else '')
+            return self.add(dice.choice(['', '', '# note', '   ', '\t#', 'nothing', 'print', 'print V V', 'drop 5', '}', '"', 'version 2', 'version 1', 'save', 'open V', 'open V from f']) if one_in(dice, 4) else '')
         name = dice.choice(sorted(self.tables))
         act = dice.choice([self.set, self.set, self.update, self.update, self.update, self.kernel, self.kernel, self.reduce, self.reduce, self.copy, self.relayout,
-                           self.show, self.show, self.show] + [self.drop] * one_in(dice, 2))
+                           self.show, self.show, self.show] + [self.save] * (self.version == 2 or one_in(dice, 20)) + [self.drop] * one_in(dice, 2))
         return act(name, self.tables[name])
 
     def rendered(self):

@@ -1,7 +1,8 @@
-"""Thrown texts: expressions, blanks between tokens, datasets, and what damages a text. All choices come from one `random.Random`."""
+"""Thrown texts: expressions, blanks between tokens, datasets, and what damages a text or a blob file. All choices come from one `random.Random`."""
 import re
 
-from grammar import tokens_of
+from blob_files import MAGIC, SIZE_BYTES
+from grammar import GREATEST_COUNT, tokens_of
 
 MARK = b'\xef\xbb\xbf'
 ODD_BYTES = b'"\r\n\t ,#\\\x00\x7f\x80\xc3\xa9\xff\xef\xbb\xbf;.+-0123456789aZ_()[]{}:=<>!*/%?'
@@ -127,6 +128,48 @@ def token_exchanged(dice, data):
         return data
     place, other = dice.choice(places), dice.choice(places)
     return data[:place.start()] + other.group() + data[place.end():]
+
+
+def bit_turned(dice, data, begin):
+    """The bytes with one bit turned round, from a place on; those of an empty rest stay."""
+    if begin == len(data):
+        return data
+    at = dice.randrange(begin, len(data))
+    return data[:at] + bytes([data[at] ^ 1 << dice.randrange(8)]) + data[at + 1:]
+
+
+def sized(header, rest, size=None):
+    """A blob file of these texts, whose header says this size, or the right one."""
+    return MAGIC + (len(header) if size is None else size).to_bytes(SIZE_BYTES, 'little') + header + rest
+
+
+def with_another_number(dice, text):
+    """The text with another number in place of one of its own."""
+    place = dice.choice(list(re.finditer(rb'(?<= )[0-9]+(?= )', text)) or [None])
+    number = dice.choice([0, 1, 2, 3, 7, 8, 64, 65, 2 ** 24, 2 ** 24 + 1, GREATEST_COUNT, GREATEST_COUNT + 1])
+    return text[:place.start()] + b'%d' % number + text[place.end():] if place else text
+
+
+def damaged_file(dice, data):
+    """A blob file with one thing changed: anywhere, in its texts, in the size of its header, or in its blobs."""
+    begin = len(MAGIC) + SIZE_BYTES
+    size = int.from_bytes(data[len(MAGIC):begin], 'little')
+    header, rest = data[begin:begin + size], data[begin + size:]
+
+    def blobs_turned():
+        return bit_turned(dice, data, begin + size)
+
+    def header_respaced():
+        return sized(b''.join(respaced(dice, line.decode()).encode() + b'\n' for line in header.split(b'\n')[:-1]), rest)
+
+    def header_with_another_number():
+        return sized(with_another_number(dice, header), rest)
+
+    ways = [blobs_turned, blobs_turned, header_respaced, header_with_another_number, header_with_another_number,
+            lambda: bit_turned(dice, data, 0), lambda: sized(damaged(dice, header), rest), lambda: damaged(dice, data),
+            lambda: sized(header, rest, dice.choice([0, size - 1, size + 1, 8194, 8195, 2 ** 32 - 1, int.from_bytes(size.to_bytes(SIZE_BYTES, 'little'), 'big'), dice.randrange(200)])),
+            lambda: dice.choice([data[:-1], data + b'\0', data[:dice.randrange(len(data))], data + data, header, b''])]
+    return dice.choice(ways)()
 
 
 # datasets

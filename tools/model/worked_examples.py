@@ -56,7 +56,10 @@ CHOSEN = ('record P { a:u16, b:u16, c:u8 } | view V : P [2] as bitaos(8 { a: 12,
 
 
 def lines(text):
-    return ''.join(line + '\n' for line in text.split(' | ')) if text else ''
+    """The bytes of lines; bytes stay as they are."""
+    if isinstance(text, bytes):
+        return text
+    return ''.join(line + '\n' for line in text.split(' | ')).encode() if text else b''
 
 
 Z = ' 00'
@@ -137,20 +140,31 @@ EXAMPLES += [
     (COPIED, b'', 'a,b | 0,300 | 1,301 | 2,302 | 3,303 | 4,304 | leaf,reads,writes | a,10,10 | b,10,10 | line 10: Mismatch', 1),
 ]
 
+# the file of two packed records, saved; opened whole, without its last byte, and with another first byte; and one that holds a bool of 2
+SAVED = b'LLAMAB1\n\x47\0\0\0record R { a : u8 , b : u16 }\nview V : R [ 2 ] as aos ( packed , row )\n\0\0\0\0\x02\x01'
+OPENED = 'version 2 | open V from "d.csv" | print V'
+EXAMPLES += [
+    ('version 2 | record P { a:u8, b:u16 } | view V : P [2] as aos(packed, row) | set V[1].b = 258 | save V', b'', SAVED, 0),
+    (OPENED, SAVED, 'a,b | 0,0 | 0,258', 0),
+    (OPENED, SAVED[:-1], 'line 2: BadFile Length', 1),
+    (OPENED, b'\0' + SAVED[1:], 'line 2: BadFile Magic', 1),
+    (OPENED, b'LLAMAB1\n\x3f\0\0\0record R { f : bool }\nview V : R [ 1 ] as aos ( packed , row )\n\x02', 'line 2: BadFile Contents', 1),
+]
+
 # words, printed, status
-WORDS = [(words, 'usage: llama run FILE | llama gen N\n', 2) for words in (
+WORDS = [(words, b'usage: llama run FILE | llama gen N\n', 2) for words in (
     ['run'], ['run', 'a', 'b'], ['gen', '0'], ['gen', '01'], ['gen', '65537'], [])] + [
-    (['run', 's'], 'line 0: cannot read s\n', 3)]
+    (['run', 's'], 'line 0: cannot read s', 3)]
 WORDS += [
-    (['gen', '65536'], lines('3221192704 | 4294934528 | 4294967295 | 16384 | leaf,reads,writes | pos.x,98304,98304 | pos.y,65536,65536 | mass,98304,98304'
-                             ' | hot,131072,65536 | h[0],65536,65536 | h[1],65536,65536 | id,65536,65536'), 0),
-    (['gen', '2'], lines('2 | 3 | 65537 | 0 | leaf,reads,writes | pos.x,3,3 | pos.y,2,2 | mass,3,3 | hot,4,2 | h[0],2,2 | h[1],2,2 | id,2,2'), 0),
+    (['gen', '65536'], '3221192704 | 4294934528 | 4294967295 | 16384 | leaf,reads,writes | pos.x,98304,98304 | pos.y,65536,65536 | mass,98304,98304'
+                       ' | hot,131072,65536 | h[0],65536,65536 | h[1],65536,65536 | id,65536,65536', 0),
+    (['gen', '2'], '2 | 3 | 65537 | 0 | leaf,reads,writes | pos.x,3,3 | pos.y,2,2 | mass,3,3 | hot,4,2 | h[0],2,2 | h[1],2,2 | id,2,2', 0),
 ]
 
 
 def run_example(script, dataset):
     with tempfile.TemporaryDirectory() as folder:
-        pathlib.Path(folder, 's').write_text(lines(script))
+        pathlib.Path(folder, 's').write_bytes(lines(script))
         if dataset is not None:
             pathlib.Path(folder, 'd.csv').write_bytes(dataset)
         return llama_model.run(['run', 's'], folder)
@@ -159,13 +173,13 @@ def run_example(script, dataset):
 def main():
     wrong = 0
     with tempfile.TemporaryDirectory() as empty:
-        found = [(words, llama_model.run(words, empty), (printed, status)) for words, printed, status in WORDS]
+        found = [(words, llama_model.run(words, empty), (lines(printed), status)) for words, printed, status in WORDS]
     found += [(script[:200], run_example(script, dataset), (lines(printed), status))
               for script, dataset, printed, status in EXAMPLES]
-    for what, (printed, status), due in found:
-        if (printed.decode(), status) != due:
+    for what, got, due in found:
+        if got != due:
             wrong += 1
-            print(f'{what}\n  due {due}\n  got {(printed, status)}')
+            print(f'{what}\n  due {due}\n  got {got}')
     print(f'model: {len(found) - wrong} of {len(found)} worked examples')
     return 1 if wrong else 0
 

@@ -1,8 +1,8 @@
 -- Bytes that are cut: into lines, and into blobs.
-use Rattle.std.proofs.Common.{◌≡◌, ℕ, zero, suc, ◌+◌, ◌*◌, ◌/◌, ◌%◌, ◌<◌, true, false, List, [], ◌∷◌, ◌++◌, length, map, take, drop, get_or, All, Option, Some, None, refl, sym, ap, ◌∙◌, ⊎_elim, arith, append_assoc, length-append}
+use Rattle.std.proofs.Common.{◌≡◌, ℕ, zero, suc, ◌+◌, ◌-◌, ◌*◌, ◌/◌, ◌%◌, ◌<◌, true, false, List, [], ◌∷◌, ◌++◌, length, map, take, drop, get_or, All, Option, Some, None, refl, sym, ap, ◌∙◌, ⊎_elim, arith, append_assoc, length-append}
 use Rattle.std.specs.Prelude.{◌==◌, option_map, sum_by}
 use Rattle.std.proofs.lemmas.Bool.{cases_eq, eq-eqb, ne_eqb}
-use Rattle.std.proofs.lemmas.List.{take_at, drop_at, take-append-drop, length-take-le, length-drop, nil_from_length}
+use Rattle.std.proofs.lemmas.List.{take_at, drop_at, take-append-drop, length-take-le, length-drop, drop_more, take_rest, nil_from_length}
 use Rattle.std.proofs.lemmas.List.Sums.{sum_by-cons}
 use Rattle.line_tokens.specs.Ends.{NoEnd}
 use Rattle.layout_io.specs.Writing.{joined}
@@ -54,6 +54,11 @@ cut_at (byte ∷ bytes) (suc end) inside is before =
     let next : suc end + 1 ≡ suc (end + 1) = omega arith in
     let rest = cut_at bytes end (omega (arith, inside)) is (λ k l. before (suc k) (omega (arith, l))) in
     rw (no, next) (ap (option_map (λ (found : List ℕ × List ℕ). (byte ∷ found.0, found.1))) rest)
+
+-- the same by the slices before and behind it
+pub cut_slices : (bytes : List ℕ) (end : ℕ) → end < length bytes → get_or bytes end 0 ≡ 10 → ((k : ℕ) → k < end → get_or bytes k 0 ≡ 10 → ⊥) →
+    line_at bytes ≡ Some (take end bytes, take (length bytes - (end + 1)) (drop (end + 1) bytes))
+cut_slices bytes end inside is before = cut_at bytes end inside is before ∙ ap (λ (rest : List ℕ). Some (take end bytes, rest)) (sym (take_rest bytes (end + 1)))
 
 pub no_cut : (bytes : List ℕ) → ((k : ℕ) → k < length bytes → get_or bytes k 0 ≡ 10 → ⊥) → line_at bytes ≡ None
 no_cut [] none = refl
@@ -111,3 +116,13 @@ cut_lengths (count ∷ counts) bytes all =
     let rest : total counts ≡ length (drop count bytes) = omega (arith, all, length-drop count bytes) in
     ap (λ (n : ℕ). n ∷ map (length {A = ℕ}) (cut counts (drop count bytes))) here
     ∙ ap (λ (ns : List ℕ). count ∷ ns) (cut_lengths counts (drop count bytes) rest)
+
+-- one blob more of a cut
+pub cut_more : (done : List (List ℕ)) (counts bytes : List ℕ) (k : ℕ) → k < length counts →
+    done ++ cut (drop k counts) bytes ≡ (done ++ take (get_or counts k 0) bytes ∷ []) ++ cut (drop (k + 1) counts) (drop (get_or counts k 0) bytes)
+cut_more done counts bytes k inside =
+    ap (λ (rest : List ℕ). done ++ cut rest bytes) (drop_more counts k 0 inside)
+    ∙ sym (append_assoc done (take (get_or counts k 0) bytes ∷ []) (cut (drop (k + 1) counts) (drop (get_or counts k 0) bytes)))
+
+pub total_more : (counts : List ℕ) (k : ℕ) → k < length counts → total (drop k counts) ≡ get_or counts k 0 + total (drop (k + 1) counts)
+total_more counts k inside = ap total (drop_more counts k 0 inside)

@@ -7,7 +7,7 @@ use Rattle.std.proofs.lemmas.List.{take-append-drop}
 use Rattle.std.proofs.lemmas.Slice.Eq.{bytes_eq-Decides}
 use Rattle.line_tokens.specs.Ends.{NoEnd}
 use Rattle.line_grammar.specs.Reads.{Reads, StopsAt}
-use Rattle.line_grammar.specs.Sentences.{Sentence, New, Blank, Define, Mapping, View, Load, Assign, Update, Kernel, Reduce, Count, Copy, Relayout, Show, Drop, Bytes, deepest}
+use Rattle.line_grammar.specs.Sentences.{Sentence, New, Blank, Define, Mapping, View, Load, Assign, Update, Kernel, Reduce, Count, Copy, Relayout, Show, Drop, Bytes, Save, Open, deepest}
 use Rattle.line_grammar.specs.declared.version.Version.{Version}
 use Rattle.line_grammar.specs.declared.version.Version.TheVariants.{Two}
 use Rattle.line_writer.specs.Texts.{canonical}
@@ -76,6 +76,8 @@ fields_are (Some (Relayout view term)) fields e = absurd (cc e)
 fields_are (Some (Show kind view)) fields e = absurd (cc e)
 fields_are (Some (Drop view)) fields e = absurd (cc e)
 fields_are (Some (Bytes view blob)) fields e = absurd (cc e)
+fields_are (Some (Save view)) fields e = absurd (cc e)
+fields_are (Some (Open name file)) fields e = absurd (cc e)
 
 new_is : (read : Option Sentence) (new : New) → new_told read ≡ Some new → (read ≡ Some (View new)) × (is_plain new ≡ true)
 new_is (Some (View found)) new e =
@@ -96,6 +98,8 @@ new_is (Some (Relayout view term)) new e = absurd (cc e)
 new_is (Some (Show kind view)) new e = absurd (cc e)
 new_is (Some (Drop view)) new e = absurd (cc e)
 new_is (Some (Bytes view blob)) new e = absurd (cc e)
+new_is (Some (Save view)) new e = absurd (cc e)
+new_is (Some (Open name file)) new e = absurd (cc e)
 
 -- the parts of a view that is plain
 pub record IsPlain (new : New) : Type 0 where

@@ -3,6 +3,7 @@ use Rattle.std.proofs.Common.{◌≡◌, ◌*◌, ◌<◌, ◌^◌, Bool, true, 
 use Rattle.std.specs.Prelude.{◌⊎◌, ◌&&◌, ◌||◌, if◌then◌else◌, sum_by}
 use Rattle.std.specs.Bool.{Decides}
 use Rattle.std.proofs.lemmas.Bool.Decides.{Decides-and, Decides-or, Decides-not, Decides-like, Decides-ltb}
+use Rattle.std.proofs.lemmas.Bool.{false_from_ne_true}
 use Rattle.extents.specs.Shapes.{bad_shape, bad_extents}
 use Rattle.record_dim.specs.Trees.{Fields, Record}
 use Rattle.record_dim.specs.Leaves.{kinds_of, first_fault}
@@ -76,6 +77,9 @@ lies header =
     (λ (parts : Parts header). record { fit = parts.0; shaped = parts.1.0; ranged = parts.1.1.0; mapped = parts.1.1.1.0; within = parts.1.1.1.1 })
     (λ (can : CanLie header). (can.fit, (can.shaped, (can.ranged, (can.mapped, can.within)))))
     five
+
+pub cannot_lie : (header : Header) → (CanLie header → ⊥) → can_lie header ≡ false
+cannot_lie header none = false_from_ne_true (can_lie header) (λ e. none ((lies header).0 e))
 
 -- ---- what being accepted says of an expression
 

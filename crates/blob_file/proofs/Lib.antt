@@ -1,5 +1,6 @@
 mod Parts
 mod OneFile
+mod Filled
 mod ImageBits
 mod Contents
 mod Told
@@ -9,3 +10,10 @@ mod Lawful
 mod Opens
 mod Puts
 mod SavedFile
+mod Fills
+mod Made
+mod Refused
+mod HeadReads
+mod Blobs
+mod HeadTold
+mod Lies

@@ -1,6 +1,6 @@
 -- What is opened of bytes is that of which they are the file.
 use Rattle.std.proofs.Common.{◌≡◌, ℕ, ◌*◌, ◌≤◌, Bool, true, false, List, ◌++◌, length, map, take, drop, Result, Ok, Err, Option, Some, None, refl, sym, ap, ◌∙◌, subst, arith}
-use Rattle.std.specs.Prelude.{MatchResult, ◌==◌, if◌then◌else◌, sum_by}
+use Rattle.std.specs.Prelude.{MatchResult, IfOk, ◌==◌, if◌then◌else◌, sum_by}
 use Rattle.std.proofs.lemmas.Bool.{eqb-true, eq-eqb}
 use Rattle.std.proofs.lemmas.List.{take-append-drop}
 use Rattle.std.proofs.lemmas.Slice.Eq.{bytes_eq-Decides}
@@ -16,9 +16,11 @@ use Rattle.views.specs.Tallies.{blob_lengths}
 use Rattle.map_checks.specs.Mappings.{holds_by}
 use Rattle.places.specs.Laws.{IsLaidOut}
 use Rattle.places.specs.declared.piece.Hold.{Hold}
-use Rattle.blob_file.specs.Files.{Header, magic, four_bytes, two_lines, record_text, header_text, file_of, owners_by, IsFile}
+use Rattle.views.specs.Tables.{Table}
+use Rattle.blob_file.specs.Saving.{header_of, blobs_of}
+use Rattle.blob_file.specs.Files.{Header, magic, four_bytes, two_lines, record_text, header_text, file_of, owners_by, image_bytes, IsFile}
 use Rattle.blob_file.specs.Headers.{HasLines, CanLie, can_lie}
-use Rattle.blob_file.specs.Opened.{Saved, same_bytes, header_at, cut, are_contents, rows_in, with_blobs, with_body, with_header, opened, row_count}
+use Rattle.blob_file.specs.Opened.{Saved, same_bytes, header_at, cut, are_contents, rows_in, with_blobs, with_body, with_header, opened, row_count, IsRead}
 use Rattle.blob_file.specs.Statements.{OpensFiles}
 use Rattle.blob_file.specs.declared.fault.FileFault.{FileFault}
 use Rattle.blob_file.proofs.OneFile.{lengths_of_image}
@@ -120,6 +122,15 @@ module _ (bytes : List ℕ) (saved : Saved) (e : opened bytes ≡ Ok saved) wher
       }
 
 -- so they are that of the table that a reader gives
+pub read_is_file : (bytes : List ℕ) (result : Result Table FileFault) → IsRead (opened bytes) result → IfOk result (λ table. IsFile bytes (header_of table) (blobs_of table))
+read_is_file bytes (Ok table) read =
+    let saved = read.0 in
+    let file = file_is bytes saved read.1 in
+    let blobs : saved.blobs ≡ image_bytes saved.header (rows_in saved.header saved.blobs) =
+    (contents_rows saved.header (lawful saved.header (opened_texts bytes saved read.1).nameless (opened_lies bytes saved read.1)) (paired saved.header) saved.blobs (found bytes saved read.1).contents).1 in
+    subst (λ (t : Table). IsFile bytes (header_of t) (blobs_of t)) (sym read.2) (subst (λ (b : List (List ℕ)). IsFile bytes saved.header b) blobs file)
+read_is_file bytes (Err why) read = tt
+
 module _ (one_reading : (version : Version) (text : List ℕ) (a b : Sentence) → Reads version text a → Reads version text b → a ≡ b)
     (law : (version : Version) (text : List ℕ) → MatchResult (line_of version text) (Reads version text) (StopsAt version text)) where
   pub file_opened : (bytes : List ℕ) (saved : Saved) → opened bytes ≡ Ok saved → IsFile bytes saved.header saved.blobs × HasLines saved.header × CanLie saved.header

@@ -1,7 +1,7 @@
 -- The lines of a header: what is told of a text is what the grammar says.
-use Rattle.std.proofs.Common.{◌≡◌, ℕ, ◌≤◌, Bool, true, false, List, length, Result, Ok, Err, Option, Some, None, refl, ap, subst}
-use Rattle.std.specs.Prelude.{MatchResult, nat_le, ◌&&◌, if◌then◌else◌}
-use Rattle.std.proofs.lemmas.Bool.{and_parts, leb-true, le-leb}
+use Rattle.std.proofs.Common.{◌≡◌, ℕ, ◌<◌, ◌≤◌, Bool, true, false, List, length, Result, Ok, Err, Option, Some, None, inl, inr, refl, ap, subst}
+use Rattle.std.specs.Prelude.{MatchResult, ◌⊎◌, nat_le, ◌&&◌, if◌then◌else◌}
+use Rattle.std.proofs.lemmas.Bool.{and_parts, and_left, and_right, leb-true, le-leb, lt-leb}
 use Rattle.std.proofs.lemmas.Slice.Eq.{bytes_eq-Decides}
 use Rattle.line_tokens.specs.declared.spots.Spot.{Spot}
 use Rattle.line_tokens.specs.SpotLaws.{same_spots}
@@ -11,7 +11,11 @@ use Rattle.line_grammar.specs.Sentences.{Sentence, deepest}
 use Rattle.line_grammar.specs.declared.version.Version.{Version}
 use Rattle.line_grammar.specs.declared.version.Version.TheVariants.{Two}
 use Rattle.line_writer.specs.Texts.{canonical}
-use Rattle.schema_lang.specs.LineOf.{line_of}
+use Rattle.schema_lang.specs.LineOf.{line_of, IsTold}
+use Rattle.schema_lang.specs.declared.fault.LineFault.{LineFault}
+use Rattle.schema_lang.specs.declared.fault.LineFault.TheVariants.{Syntax, TooDeep, NoMemory}
+use Rattle.blob_file.specs.Refusals.{refusal}
+use Rattle.blob_file.specs.declared.fault.FileFault.TheVariants as fault
 use Rattle.blob_file.specs.Opened.{same_bytes, canonical_by, line_told}
 
 -- a test in front of an answer
@@ -36,6 +40,31 @@ module _ (text : List ℕ) where
       let shallow : nat_le (deepest sentence) 32 ≡ true = le-leb (deepest sentence) 32 low in
       rw (few, is, same, shallow) refl
 
+  pub told_long : 4096 < length text → line_told text ≡ None
+  unfolding line_told
+  told_long long = let many : nat_le (length text) 4096 ≡ false = lt-leb (length text) 4096 long in rw many refl
+
+  none_by : (test : Bool) (read : Result Sentence ℕ) → canonical_by text read ≡ None → (if test then canonical_by text read else None) ≡ None
+  none_by true read e = e
+  none_by false read e = refl
+
+  pub told_no : (column : ℕ) → line_of Two text ≡ Err column → line_told text ≡ None
+  unfolding line_told
+  told_no column is = none_by (nat_le (length text) 4096) (line_of Two text) (rw is refl)
+
+  pub told_other : (sentence : Sentence) → line_of Two text ≡ Ok sentence → same_bytes (canonical sentence) text ≡ false → line_told text ≡ None
+  unfolding line_told
+  told_other sentence is other =
+      let fails : (same_bytes (canonical sentence) text && nat_le (deepest sentence) 32) ≡ false = and_left (same_bytes (canonical sentence) text) (nat_le (deepest sentence) 32) other in
+      none_by (nat_le (length text) 4096) (line_of Two text) (rw (is, fails) refl)
+
+  pub told_deep : (sentence : Sentence) → line_of Two text ≡ Ok sentence → 32 < deepest sentence → line_told text ≡ None
+  unfolding line_told
+  told_deep sentence is deep =
+      let many : nat_le (deepest sentence) 32 ≡ false = lt-leb (deepest sentence) 32 deep in
+      let fails : (same_bytes (canonical sentence) text && nat_le (deepest sentence) 32) ≡ false = and_right (same_bytes (canonical sentence) text) (nat_le (deepest sentence) 32) many in
+      none_by (nat_le (length text) 4096) (line_of Two text) (rw (is, fails) refl)
+
   by_canonical : (read : Result Sentence ℕ) (sentence : Sentence) → canonical_by text read ≡ Some sentence → (read ≡ Ok sentence) × (deepest sentence ≤ 32) × (canonical sentence ≡ text)
   by_canonical (Err column) sentence e = absurd (cc e)
   by_canonical (Ok found) sentence e =
@@ -52,6 +81,12 @@ module _ (text : List ℕ) where
       let told = if_some (nat_le (length text) 4096) (canonical_by text (line_of Two text)) sentence e in
       let parts = by_canonical (line_of Two text) sentence told.1 in
       (leb-true (length text) 4096 told.0, parts.0, parts.1, parts.2)
+
+  -- a fault of the reader of lines
+  pub refused_line : (found : LineFault) → IsTold (line_of Two text) (Err found) → (refusal found ≡ fault.NoMemory) ⊎ ((refusal found ≡ fault.Header) × (line_told text ≡ None))
+  refused_line (Syntax column) told = inr (refl, told_no column told)
+  refused_line TooDeep told = inr (refl, told_deep told.0 told.1 told.2)
+  refused_line NoMemory told = inl refl
 
 -- ---- against the grammar
 

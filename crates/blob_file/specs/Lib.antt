@@ -3,4 +3,7 @@ pub mod Saving
 pub mod Headers
 pub mod HeaderLaws
 pub mod Opened
+pub mod Parts
+pub mod Filling
+pub mod Refusals
 pub mod Statements

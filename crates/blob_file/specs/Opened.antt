@@ -1,5 +1,5 @@
 -- What is opened of a file, as a function of its bytes: a header and blobs, or the first refusal.
-use Rattle.std.specs.Prelude.{ℕ, ◌+◌, ◌*◌, ◌==◌, Bool, true, false, not, ◌&&◌, nat_eq, nat_le, if◌then◌else◌, ℤ, List, [], ◌∷◌, length, map, take, drop, sum_by, codes, Option, None, Some, option_map, Result, Ok, Err, is_ok}
+use Rattle.std.specs.Prelude.{ℕ, ◌≡◌, ◌⊎◌, ◌+◌, ◌*◌, ◌==◌, Bool, true, false, not, ◌&&◌, nat_eq, nat_le, if◌then◌else◌, ℤ, List, [], ◌∷◌, length, map, take, drop, sum_by, codes, Option, None, Some, option_map, Result, Ok, Err, is_ok}
 use Rattle.std.specs.List.{list_all, list_any}
 use Rattle.std.specs.Cmp.Lexicographic.{pointwise}
 use Rattle.extents.specs.Indices.{indices}
@@ -7,7 +7,7 @@ use Rattle.extents.specs.Shapes.{extent_of, is_rows}
 use Rattle.record_dim.specs.Trees.{Fields, Record}
 use Rattle.record_dim.specs.Leaves.{leaves, kinds_of}
 use Rattle.map_checks.specs.Mappings.{holds_by}
-use Rattle.piece_bits.specs.Tables.{hold_at}
+use Rattle.piece_bits.specs.Tables.{hold_at, zeros}
 use Rattle.kept_tables.specs.Modes.{kind_at}
 use Rattle.kept_tables.specs.declared.mode.StoreMode.{StoreMode}
 use Rattle.kept_tables.specs.declared.mode.StoreMode.TheVariants.{Strict, Wrap}
@@ -17,7 +17,8 @@ use Rattle.line_writer.specs.Texts.{canonical}
 use Rattle.schema_lang.specs.LineOf.{line_of}
 use Rattle.views.specs.Kept.{raw_under, table_under}
 use Rattle.views.specs.Stores.{Answer, store_answer}
-use Rattle.views.specs.Tallies.{blob_lengths}
+use Rattle.views.specs.Tables.{Table}
+use Rattle.views.specs.Tallies.{Write, all_accesses, tallied, no_tally, blob_lengths}
 use Rattle.blob_file.specs.Files.{Header, magic, four_bytes, two_lines, owners_by, image_bytes}
 use Rattle.blob_file.specs.Headers.{is_nameless, can_lie}
 use Rattle.blob_file.specs.declared.fault.FileFault.{FileFault}
@@ -131,10 +132,37 @@ with_header (Some found) = if can_lie found.0 then with_body found.0 found.1 els
 unfoldable pub opened : List ℕ → Result Saved FileFault
 opened bytes = if same_bytes (take 8 bytes) magic then with_header (header_at (drop 8 bytes)) else Err fault.Magic
 
--- ---- how many rows and leaves there are
+-- ---- the table of a file: its rows, and one write of each leaf of each row
 
 abbrev pub row_count : Header → ℕ
 row_count header = length (indices header.extents)
 
 abbrev pub leaf_count : Header → ℕ
 leaf_count header = length (leaves header.fields)
+
+-- a table of zeros, to which there was no access
+abbrev pub empty_table : Header → Table
+empty_table header = record {
+  fields = header.fields;
+  extents = header.extents;
+  mapping = header.mapping;
+  mode = header.mode;
+  rows = zeros (row_count header) (leaf_count header);
+  tally = no_tally header.mapping (owners_by header) (leaf_count header);
+}
+
+abbrev pub table_of : Saved → Table
+table_of saved = record {
+  fields = saved.header.fields;
+  extents = saved.header.extents;
+  mapping = saved.header.mapping;
+  mode = saved.header.mode;
+  rows = rows_in saved.header saved.blobs;
+  tally = tallied (owners_by saved.header) (no_tally saved.header.mapping (owners_by saved.header) (leaf_count saved.header))
+      (all_accesses Write (leaf_count saved.header) (row_count saved.header));
+}
+
+-- the answer of a reader: the table of what is opened, or the same refusal; memory may run out at any time
+abbrev pub IsRead : Result Saved FileFault → Result Table FileFault → Type 0
+IsRead told (Ok table) = (saved : Saved) × (told ≡ Ok saved) × (table ≡ table_of saved)
+IsRead told (Err found) = (found ≡ fault.NoMemory) ⊎ (told ≡ Err found)

@@ -1,8 +1,11 @@
 -- The laws of blob files.
-use Rattle.std.specs.Prelude.{ℕ, ◌≡◌, ◌↔◌, List, Ok}
-use Rattle.blob_file.specs.Files.{Header, IsFile}
+use Rattle.std.specs.Prelude.{ℕ, ◌≡◌, ◌<◌, ◌≤◌, ◌↔◌, ℤ, List, length, Ok}
+use Rattle.record_dim.specs.Leaves.{kinds_of}
+use Rattle.map_checks.specs.Mappings.{holds_by}
+use Rattle.piece_bits.specs.Tables.{hold_at}
+use Rattle.blob_file.specs.Files.{Header, AreRows, IsFile, image_bytes}
 use Rattle.blob_file.specs.Headers.{HasLines, CanLie}
-use Rattle.blob_file.specs.Opened.{Saved, opened}
+use Rattle.blob_file.specs.Opened.{Saved, opened, rows_in}
 
 -- no bytes are the files of two headers that lines of the language say, nor of one with two lists of blobs
 abbrev pub OneFile : Type 0
@@ -14,3 +17,12 @@ OneFile =
 abbrev pub OpensFiles : Type 0
 OpensFiles =
     (bytes : List ℕ) (saved : Saved) → (opened bytes ≡ Ok saved) ↔ (IsFile bytes saved.header saved.blobs × HasLines saved.header × CanLie saved.header)
+
+-- the blobs in which rows lie that a view of a header may hold stand for these rows
+abbrev pub HoldsRows : Type 0
+HoldsRows = (header : Header) (rows : List (List ℤ)) → HasLines header → CanLie header → AreRows header rows → rows_in header (image_bytes header rows) ≡ rows
+
+-- a view of such a header stores each leaf in a bit at least
+abbrev pub HoldsBits : Type 0
+HoldsBits =
+    (header : Header) (leaf : ℕ) → HasLines header → CanLie header → leaf < length (kinds_of header.fields) → 1 ≤ (hold_at (holds_by header.mapping header.fields) leaf).width

@@ -1,5 +1,5 @@
 // Laws of blob files. The functions do nothing: their contracts are the laws.
-ghost use Rattle.blob_file.specs.Statements.{OneFile, OpensFiles};
+ghost use Rattle.blob_file.specs.Statements.{HoldsBits, HoldsRows, OneFile, OpensFiles};
 
 use line_writer::canonical_law;
 use schema_lang::{line_law, one_line_law};
@@ -20,3 +20,13 @@ pub fn opened_law()
     one_line_law();
     line_law();
 }
+
+/// The blobs in which rows lie that a view of a header may hold stand for these rows.
+pub fn rows_law()
+    ensures { HoldsRows }
+{}
+
+/// A view of a header that a file can be opened with stores each leaf in a bit at least.
+pub fn bits_law()
+    ensures { HoldsBits }
+{}

@@ -1,11 +1,17 @@
-//! Blob files: a view as bytes that say its record, its extents, its mapping and its blobs.
+//! Blob files: a view as bytes that say its record, its extents, its mapping and its blobs, and such bytes as a view.
 #![tactic(auto)]
 
+mod blobs_in;
 mod fault;
+mod fill;
+mod header;
 mod laws;
+mod lines;
+mod open;
 mod save;
 mod texts;
 
 pub use fault::{FileFault, SaveEnd};
-pub use laws::{file_law, opened_law};
+pub use laws::{bits_law, file_law, opened_law, rows_law};
+pub use open::read_file;
 pub use save::write_file;

@@ -1,5 +1,5 @@
 // A view, written as a file.
-ghost use Rattle.std.specs.Prelude.{◌≡◌, ◌≤◌, [], ◌∷◌, ◌++◌, length};
+ghost use Rattle.std.specs.Prelude.{◌≡◌, ◌+◌, ◌≤◌, [], ◌∷◌, ◌++◌, length, take, drop};
 ghost use Rattle.layout_io.specs.Gathering.{Puts};
 ghost use Rattle.layout_io.specs.Writing.{Writes, joined};
 ghost use Rattle.blob_file.specs.Files.{four_bytes, two_lines, file_of, IsShort, IsFile};
@@ -14,8 +14,11 @@ use schema_lang::MAX_LINE_BYTES;
 use std::alloc::Global;
 use views::View;
 
-// The first bytes of each file.
-const MAGIC: [u8; 8] = [b'L', b'L', b'A', b'M', b'A', b'B', b'1', b'\n'];
+/// The first bytes of each file.
+pub const MAGIC: [u8; 8] = [b'L', b'L', b'A', b'M', b'A', b'B', b'1', b'\n'];
+
+// The most bytes of a blob that are put at once.
+const BLOCK_BYTES: usize = 512;
 
 /// Writes a view as a file: a header, which says its record, its extents, how it stores and its mapping, and the bytes of its blobs. `TooBig`
 /// comes exactly where a text of the header has more than 4,096 bytes. All memory is taken before the first write, and there is one write for
@@ -78,8 +81,8 @@ fn put_line<K: Sink>(text: &[u8], buffer: &mut TextBuffer, sink: &mut K) -> Resu
     buffer.put(b"\n", sink)
 }
 
-// The number of bytes of two texts, each with LF behind it, as a file says it.
-fn size_of(first: &[u8], second: &[u8]) -> [u8; 4]
+/// The number of bytes of two texts, each with LF behind it, as a file says it.
+pub fn size_of(first: &[u8], second: &[u8]) -> [u8; 4]
     requires few { length first.now ≤ 4096 }
     requires less { length second.now ≤ 4096 }
     ensures { result ≡ four_bytes (length (two_lines first.now second.now)) }
@@ -100,11 +103,34 @@ fn put_blobs<K: Sink>(view: &View, buffer: &mut TextBuffer, sink: &mut K) -> Res
     Ok(())
 }
 
+// Puts the bytes of a blob, block after block.
 fn put_blob<K: Sink>(blob: &Blob, buffer: &mut TextBuffer, sink: &mut K) -> Result<(), Failed>
     ensures { Puts K.taken K.faults sink.old sink.new buffer.old buffer.new result blob.now }
 {
-    for at in 0..blob.len() {
-        buffer.put(&[blob.get(at)], sink)?;
+    let blocks = blob.len() / BLOCK_BYTES;
+    for block in 0..blocks {
+        put_block(blob, BLOCK_BYTES * block, BLOCK_BYTES, buffer, sink)?;
     }
-    Ok(())
+    let done = BLOCK_BYTES * blocks;
+    put_block(blob, done, blob.len() - done, buffer, sink)
+}
+
+// Puts bytes of a blob from a place on. They go by an array, which takes them as one copy.
+fn put_block<K: Sink>(
+    blob: &Blob,
+    from: usize,
+    len: usize,
+    buffer: &mut TextBuffer,
+    sink: &mut K,
+) -> Result<(), Failed>
+    requires few { len ≤ 512 }
+    requires there { from + len ≤ length blob.now }
+    ensures { Puts K.taken K.faults sink.old sink.new buffer.old buffer.new result (take len (drop from blob.now)) }
+{
+    let _there = blob.len();
+    let mut block = [0; BLOCK_BYTES];
+    for k in 0..len {
+        block[k] = blob.get(from + k);
+    }
+    buffer.put(&block[..len], sink)
 }

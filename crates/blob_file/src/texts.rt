@@ -12,10 +12,10 @@ use schema_lang::{ExtentWords, Line, write_line};
 use std::alloc::{AllocError as NoMemory, Global};
 use views::{StoreMode, View};
 
-// The name of the record of each file, and that of its view.
-const RECORD_NAME: &str = "R";
+/// The name of the record of each file, and that of its view.
+pub const RECORD_NAME: &str = "R";
 
-const VIEW_NAME: &str = "V";
+pub const VIEW_NAME: &str = "V";
 
 /// The text of the record of a view.
 pub fn record_text(alloc: Global, view: &View) -> Result<Text, NoMemory>

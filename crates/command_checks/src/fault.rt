@@ -10,7 +10,7 @@ use worlds::CommandFault;
 pub enum StepFault {
     /// It is refused.
     Command(CommandFault),
-    /// The file of a load was not read.
+    /// The file of a load or of an open was not read.
     Source,
     /// A write failed.
     Sink,

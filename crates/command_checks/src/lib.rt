@@ -22,4 +22,4 @@ pub use mapping_entry::MappingEntry;
 pub use mappings::nameless;
 pub use named_entry::NamedEntry;
 pub use names::{free_view, known_view, schema_of};
-pub use tables::{has_room, made, resolved, shaped};
+pub use tables::{MAX_LIVE_BYTES, has_room, live_bytes, made, resolved, shaped};

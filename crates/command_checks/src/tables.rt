@@ -22,7 +22,7 @@ use worlds::CommandFault;
 const MAX_VIEWS: usize = 64;
 
 /// The most bytes of the blobs of all live views.
-const MAX_LIVE_BYTES: u128 = 1 << 30;
+pub const MAX_LIVE_BYTES: u128 = 1 << 30;
 
 /// That a view more may live.
 pub fn has_room(views: &[ViewEntry]) -> Result<(), StepFault>
@@ -125,8 +125,8 @@ fn left_beside(live: u128) -> u64
     MAX_LIVE_BYTES.saturating_sub(live) as u64
 }
 
-// The bytes of the blobs of all live views.
-fn live_bytes(views: &[ViewEntry]) -> u128
+/// The bytes of the blobs of all live views.
+pub fn live_bytes(views: &[ViewEntry]) -> u128
     ensures sum { 8 * result ≡ live_bits (map view_of views.now) }
     ensures few { result ≤ 2 ^ 92 }
 {

@@ -45,6 +45,14 @@ module _ (m o : Bool) where
   alone R (Faults e) r = fault e
   alone R (CannotRead name) r = unread name
 
+  -- by less of what they go to
+  pub weaker : {A : Type 0} (R S : A → A → Type 0) (x y : Outcome A) → Agree m o R x y → ((a b : A) → R a b → S a b) → Agree m o S x y
+  weaker R S x y (go a b r) so = go a b (so a b r)
+  weaker R S x y (fault e) so = fault e
+  weaker R S x y (unread name) so = unread name
+  weaker R S x y (first e z is) so = first e z is
+  weaker R S x y (second z e is) so = second z e is
+
   -- two things of which each is refused by such a fault, if at all
   pub both_told : {A : Type 0} (P Q : A → Type 0) (R : A → A → Type 0) (x y : Outcome A) → Told m P x → Told o Q y → ((a b : A) → P a → Q b → R a b) → Agree m o R x y
   both_told P Q R x y (told f is) other next = first f y is

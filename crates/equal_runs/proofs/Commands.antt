@@ -9,7 +9,6 @@ use Rattle.record_dim.specs.Leaves.{kinds_of, texts_of}
 use Rattle.map_expr.specs.Terms.{Term as MapTerm}
 use Rattle.map_checks.specs.Mappings.{holds_by}
 use Rattle.piece_bits.specs.Tables.{hold_at, with_entry}
-use Rattle.views.specs.AnswerLaws.{kept_alike}
 use Rattle.views.specs.Stores.{Keeping, kind_at}
 use Rattle.views.specs.Tallies.{Access, Write, Tally, all_accesses, Read}
 use Rattle.instrument.specs.Counters.{LeafCounts}
@@ -22,7 +21,7 @@ use Rattle.line_grammar.specs.declared.line.KernelText.{KernelText}
 use Rattle.line_grammar.specs.declared.line.ReduceKind.{ReduceKind}
 use Rattle.line_grammar.specs.declared.line.ShowKind.{ShowKind}
 use Rattle.line_grammar.specs.declared.line.ShowKind.TheVariants as show
-use Rattle.views.specs.Tables.{Table, IsWide, leaf_count_of, answer_of, kept_of, after_stores}
+use Rattle.views.specs.Tables.{Table, leaf_count_of, answer_of, kept_of, after_stores}
 use Rattle.row_updates.specs.Rows.{Setting, updated_rows, counted}
 use Rattle.row_updates.specs.Logs.{value_log, rows_log}
 use Rattle.row_updates.specs.declared.fault.UpdateFault.{UpdateFault}
@@ -47,13 +46,11 @@ use Rattle.worlds.specs.Show.{print, counts, showing, drop_view}
 use Rattle.worlds.specs.declared.fault.CommandFault.TheVariants.{Mismatch, NotCounted}
 use Rattle.equal_runs.specs.Endings.{is_of_layout}
 use Rattle.equal_runs.specs.Lines.{shows_layout}
-use Rattle.equal_runs.specs.Widths.{AreWide}
 use Rattle.equal_runs.proofs.Agreeing.{Agree, go, first, second, bind, before, both_told, Both}
 use Rattle.equal_runs.proofs.Answers.{Answers, is_narrow, store_answers, Given, ok_agree, by_agree}
-use Rattle.equal_runs.proofs.Each.{of_found, with_replaced}
 use Rattle.equal_runs.proofs.Entries.{At, known_agree, entries_replaced, entries_removed}
 use Rattle.equal_runs.proofs.Kernels.{is_narrow_kernel, kernel_causes}
-use Rattle.equal_runs.proofs.Tables.{AlikeTables, AlikeWorlds, AlikeLefts, of_mapping, alike_both, rewritten_alike, with_written, written_under, rows_told}
+use Rattle.equal_runs.proofs.Tables.{AlikeTables, AlikeWorlds, AlikeAlways, of_mapping, of_both, rewritten_alike, with_written, written_under, rows_told}
 use Rattle.equal_runs.proofs.TallyCounts.{SameCounts}
 use Rattle.equal_runs.proofs.Updates.{is_narrow_update, rows_answers, fit_rows, rows_are}
 
@@ -85,13 +82,18 @@ SameDone a b = b ≡ a
 abbrev pub Same : Bool → Bool → Outcome Done → Outcome Done → Type 0
 Same m o x y = Agree m o SameDone x y
 
--- a table, and that table under another mapping, where both have room for all bits
-module _ (m o : Bool) (table : Table) (mapping : MapTerm) (tally : Tally) (wide : IsWide table) (also : IsWide (under table mapping tally)) where
+-- tables that are left, and texts
+record AlikeDone (done other : LeftOf Table) : Type 0 where
+  tables : AlikeTables done.held other.held
+  text : other.text ≡ done.text
+
+-- a table, and that table under another mapping, which are alike
+module _ (m o : Bool) (table : Table) (mapping : MapTerm) (tally : Tally) (same : AlikeTables table (under table mapping tally)) where
   -- the answers to a store in them
   answers_under : (leaf : ℕ) (value : ℤ) → Answers is_narrow (Unit {0}) (answer_of table leaf value) (answer_of (under table mapping tally) leaf value)
   answers_under leaf value =
       store_answers table.mode (kind_at (kinds_of table.fields) leaf) (hold_at (holds_by table.mapping table.fields) leaf) (hold_at (holds_by mapping table.fields) leaf) value
-      (λ always. ap (λ (keep : Keeping). keep leaf value) (kept_alike (under table mapping tally) table refl refl also wide))
+      (λ always. ap (λ (keep : Keeping). keep leaf value) same.kept)
 
   pub assigned_agree : (index : List ℕ) (path : List PathStep) (value : Value) → Same m o (assigned table index path value) (assigned (under table mapping tally) index path value)
   unfolding assigned
@@ -128,7 +130,7 @@ module _ (m o : Bool) (table : Table) (mapping : MapTerm) (tally : Tally) (wide 
         bind m o (Given (Unit {0}) _ _) SameDone (ok_or (update_fault table.fields) (new_rows table)) (ok_or (update_fault table.fields) (new_rows (under table mapping tally))) _ _
         (ok_agree m o is_narrow_update (update_fault table.fields) _ _ (narrow_update table)
         (subst (λ (keep : Keeping). Answers is_narrow_update (Unit {0}) (new_rows table) (updated_rows (answer_of (under table mapping tally)) keep test settings table.extents table.rows (length table.rows)))
-        (kept_alike table (under table mapping tally) refl refl wide also)
+        (sym same.kept)
         (rows_answers (kept_of table) (answer_of table) (answer_of (under table mapping tally)) answers_under test settings table.extents table.rows (length table.rows))))
         (λ rows others given. go _ _
         (ap (λ (r : List (List ℤ)). stores r (update_log (under table mapping tally))) (given.same tt)
@@ -158,7 +160,7 @@ module _ (m o : Bool) (table : Table) (mapping : MapTerm) (tally : Tally) (wide 
         (refused_by (run_fault table.fields) (kernels.kernel_fault (answer_of (under table mapping tally)) fit table.rows)) _ _
         (by_agree m o is_narrow_kernel (run_fault table.fields) _ _ (narrow_run table)
         (kernel_causes (answer_of table) (answer_of (under table mapping tally)) answers_under fit table.rows))
-        (λ done other p. go _ _ (ap (λ (keep : Keeping). ran_by keep fit) (kept_alike (under table mapping tally) table refl refl also wide)))
+        (λ done other p. go _ _ (ap (λ (keep : Keeping). ran_by keep fit) same.kept))
 
   pub reduction_agree : (kind : ReduceKind) (path : List PathStep) → Same m o (reduction table kind path) (reduction (under table mapping tally) kind path)
   unfolding reduction
@@ -176,31 +178,23 @@ module _ (m o : Bool) (table : Table) (mapping : MapTerm) (tally : Tally) (wide 
   print_agree = go _ _ refl
 
   -- one that does not count has such a fault
-  counts_agree : SameCounts table.tally.counts tally.counts → Same m o (counts table) (counts (under table mapping tally))
+  counts_agree : Same m o (counts table) (counts (under table mapping tally))
   unfolding counts
-  counts_agree same = of_counts table.tally.counts tally.counts same where
+  counts_agree = of_counts table.tally.counts tally.counts same.counts where
     of_counts : (x y : Option LeafCounts) → SameCounts x y
         → Same m o (some_or NotCounted x >>= (λ numbers. Goes (tells table (counts_text (texts_of table.fields) numbers))))
         (some_or NotCounted y >>= (λ numbers. Goes (tells table (counts_text (texts_of table.fields) numbers))))
-    of_counts None y same = first NotCounted _ refl
-    of_counts (Some x) None same = second _ NotCounted refl
-    of_counts (Some x) (Some y) same = go _ _ (ap (λ (numbers : LeafCounts). tells table (counts_text (texts_of table.fields) numbers)) same)
+    of_counts None y is = first NotCounted _ refl
+    of_counts (Some x) None is = second _ NotCounted refl
+    of_counts (Some x) (Some y) is = go _ _ (ap (λ (numbers : LeafCounts). tells table (counts_text (texts_of table.fields) numbers)) is)
 
   -- what shows no layout
-  pub showing_agree : SameCounts table.tally.counts tally.counts → (kind : ShowKind) (name : List ℕ) → shows_layout (Show kind name) ≡ false
-      → Same m o (showing kind table) (showing kind (under table mapping tally))
-  showing_agree same show.Print name plain = print_agree
-  showing_agree same show.Counts name plain = counts_agree same
-  showing_agree same show.Heat name plain = absurd (cc)
-  showing_agree same show.Layout name plain = absurd (cc)
+  pub showing_agree : (kind : ShowKind) (name : List ℕ) → shows_layout (Show kind name) ≡ false → Same m o (showing kind table) (showing kind (under table mapping tally))
+  showing_agree show.Print name plain = print_agree
+  showing_agree show.Counts name plain = counts_agree
+  showing_agree show.Heat name plain = absurd (cc)
+  showing_agree show.Layout name plain = absurd (cc)
 
--- tables that are left, and texts
-record AlikeDone (done other : LeftOf Table) : Type 0 where
-  tables : AlikeTables done.held other.held
-  text : other.text ≡ done.text
-
--- such a table, whose tally counts the same where it counts
-module _ (m o : Bool) (table : Table) (mapping : MapTerm) (tally : Tally) (same : SameCounts table.tally.counts tally.counts) where
   -- the same is done to both
   done_agree : (command : Table → Outcome Done) → Same m o (command table) (command (under table mapping tally))
       → Agree m o AlikeDone (done_to table (command table)) (done_to (under table mapping tally) (command (under table mapping tally)))
@@ -209,15 +203,14 @@ module _ (m o : Bool) (table : Table) (mapping : MapTerm) (tally : Tally) (same 
       (λ a b is. go _ _ (subst (λ (d : Done). AlikeDone (record { held = after_stores table a.rows a.log; text = a.text }) (record { held = after_stores (under table mapping tally) d.rows d.log; text = d.text }))
       (sym is) (record { tables = rewritten_alike table mapping tally same a.rows a.log; text = refl })))
 
-  -- rows that are copied into both, where both have room for all bits
-  copied_agree : IsWide table → IsWide (under table mapping tally) → (source : Table) (from : MapTerm) (counted_from : Tally)
-      → Agree m o AlikeTables (copied source table) (copied (under source from counted_from) (under table mapping tally))
+  -- rows that are copied into both
+  copied_agree : (source : Table) (from : MapTerm) (counted_from : Tally) → Agree m o AlikeTables (copied source table) (copied (under source from counted_from) (under table mapping tally))
   unfolding copied
-  copied_agree wide also source from counted_from =
+  copied_agree source from counted_from =
       before m o AlikeTables (refused_if (not (are_alike source table)) Mismatch) _ _ (λ alike.
       both_told m o (λ (t : Table). t ≡ with_written table source.rows) (λ (t : Table). t ≡ with_written (under table mapping tally) source.rows) AlikeTables _ _
       (rows_told m table source.rows) (rows_told o (under table mapping tally) source.rows)
-      (alike_both (with_written table source.rows) (with_written (under table mapping tally) source.rows) (written_under table mapping tally same wide also source.rows)))
+      (of_both AlikeTables (with_written table source.rows) (with_written (under table mapping tally) source.rows) (written_under table mapping tally same source.rows)))
 
   -- each value is read once
   read_alike : AlikeTables (all_read table) (all_read (under table mapping tally))
@@ -231,49 +224,43 @@ with_agree world other alike name a b same = record {
   views = entries_replaced AlikeTables name a b world.views other.views same alike.views;
 }
 
--- worlds whose tables have room for all bits
-module _ (m o : Bool) (world other : World) (alike : AlikeWorlds world other) (wide : AreWide world.views) (also : AreWide other.views) where
+-- alike worlds
+module _ (m o : Bool) (world other : World) (alike : AlikeWorlds world other) where
   -- what is done to a table that a name stands for
   on_table : (name : List ℕ) (f g : Table → Outcome Left)
-      → ((table : Table) (mapping : MapTerm) (tally : Tally) → IsWide table → IsWide (under table mapping tally) → SameCounts table.tally.counts tally.counts
-      → Agree m o AlikeLefts (f table) (g (under table mapping tally)))
-      → Agree m o AlikeLefts (known name world.views >>= f) (known name other.views >>= g)
+      → ((table : Table) (mapping : MapTerm) (tally : Tally) → AlikeTables table (under table mapping tally) → Agree m o AlikeAlways (f table) (g (under table mapping tally)))
+      → Agree m o AlikeAlways (known name world.views >>= f) (known name other.views >>= g)
   on_table name f g each =
-      bind m o (At AlikeTables (found name world.views) (found name other.views)) AlikeLefts _ _ f g (known_agree m o AlikeTables name world.views other.views alike.views)
-      (λ a b at. of_mapping (λ (t : Table). IsWide t → Agree m o AlikeLefts (f a) (g t)) a b at.alike
-      (λ mapping tally same room. each a mapping tally (of_found IsWide name world.views a wide at.first) room same) (of_found IsWide name other.views b also at.second))
+      bind m o (At AlikeTables (found name world.views) (found name other.views)) AlikeAlways _ _ f g (known_agree m o AlikeTables name world.views other.views alike.views)
+      (λ a b at. of_mapping (λ (t : Table). Agree m o AlikeAlways (f a) (g t)) a b at.alike (each a))
 
   -- a command on a view agrees where it does the same to a table and to that table under another mapping
   pub view_agree : (name : List ℕ) (command : Table → Outcome Done)
-      → ((table : Table) (mapping : MapTerm) (tally : Tally) → IsWide table → IsWide (under table mapping tally) → SameCounts table.tally.counts tally.counts
-      → Same m o (command table) (command (under table mapping tally)))
-      → Agree m o AlikeLefts (on_view world name command) (on_view other name command)
+      → ((table : Table) (mapping : MapTerm) (tally : Tally) → AlikeTables table (under table mapping tally) → Same m o (command table) (command (under table mapping tally)))
+      → Agree m o AlikeAlways (on_view world name command) (on_view other name command)
   unfolding on_view
   view_agree name command each =
-      on_table name _ _ (λ table mapping tally room more same.
-      bind m o AlikeDone AlikeLefts (done_to table (command table)) (done_to (under table mapping tally) (command (under table mapping tally))) _ _
-      (done_agree m o table mapping tally same command (each table mapping tally room more same))
-      (λ a b done. go _ _ (record { worlds = λ left_wide other_wide. with_agree world other alike name a.held b.held done.tables; text = done.text })))
+      on_table name _ _ (λ table mapping tally same.
+      bind m o AlikeDone AlikeAlways (done_to table (command table)) (done_to (under table mapping tally) (command (under table mapping tally))) _ _
+      (done_agree m o table mapping tally same command (each table mapping tally same))
+      (λ a b done. go _ _ (record { worlds = λ always also. with_agree world other alike name a.held b.held done.tables; text = done.text })))
 
-  pub drop_agree : (name : List ℕ) → Agree m o AlikeLefts (drop_view world name) (drop_view other name)
+  pub drop_agree : (name : List ℕ) → Agree m o AlikeAlways (drop_view world name) (drop_view other name)
   unfolding drop_view
-  drop_agree name = on_table name _ _ (λ table mapping tally room more same. go _ _ (record {
-    worlds = λ left_wide other_wide. record { records = alike.records; mappings = alike.mappings; views = entries_removed AlikeTables name world.views other.views alike.views };
+  drop_agree name = on_table name _ _ (λ table mapping tally same. go _ _ (record {
+    worlds = λ always also. record { records = alike.records; mappings = alike.mappings; views = entries_removed AlikeTables name world.views other.views alike.views };
     text = refl;
   }))
 
 -- the target is looked up after the source was read
-pub copy_agree : (m o : Bool) (world other : World) → AlikeWorlds world other → AreWide world.views → AreWide other.views → (name target : List ℕ)
-    → Agree m o AlikeLefts (copy world name target) (copy other name target)
+pub copy_agree : (m o : Bool) (world other : World) → AlikeWorlds world other → (name target : List ℕ) → Agree m o AlikeAlways (copy world name target) (copy other name target)
 unfolding copy
-copy_agree m o world other alike wide also name target =
-    on_table m o world other alike wide also name _ _ (λ source from counted_from room more same.
+copy_agree m o world other alike name target =
+    on_table m o world other alike name _ _ (λ source from counted_from same.
     let changed : Table = under source from counted_from in
     let read = with_table world name (all_read source) in
     let read_other = with_table other name (all_read changed) in
     let alike_read : AlikeWorlds read read_other = with_agree world other alike name _ _ (read_alike m o source from counted_from same) in
-    let wide_read : AreWide read.views = with_replaced IsWide name (all_read source) world.views room wide in
-    let also_read : AreWide read_other.views = with_replaced IsWide name (all_read changed) other.views more also in
-    on_table m o read read_other alike_read wide_read also_read target _ _ (λ table to tally wide_to also_to same_to.
-    bind m o AlikeTables AlikeLefts (copied source table) (copied changed (under table to tally)) _ _ (copied_agree m o table to tally same_to wide_to also_to source from counted_from)
-    (λ a b alike_new. go _ _ (record { worlds = λ left_wide other_wide. with_agree read read_other alike_read target a b alike_new; text = refl }))))
+    on_table m o read read_other alike_read target _ _ (λ table to tally same_to.
+    bind m o AlikeTables AlikeAlways (copied source table) (copied changed (under table to tally)) _ _ (copied_agree m o table to tally same_to source from counted_from)
+    (λ a b alike_new. go _ _ (record { worlds = λ always also. with_agree read read_other alike_read target a b alike_new; text = refl }))))

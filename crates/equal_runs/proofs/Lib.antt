@@ -1,6 +1,5 @@
 pub mod Agreeing
 pub mod Entries
-pub mod Each
 pub mod Answers
 pub mod Updates
 pub mod Loads

@@ -1,7 +1,6 @@
 -- What is counted of a view are the accesses to it, line after line.
-use Rattle.std.proofs.Common.{◌≡◌, ℕ, Bool, true, false, List, [], ◌∷◌, ◌++◌, length, Option, Some, None, refl, sym, ap, subst, ◌∙◌, arith}
-use Rattle.std.specs.Prelude.{◌^◌, if◌then◌else◌, is_some, nat_eq, nat_lt, not, ℤ}
-use Rattle.std.proofs.lemmas.Bool.Decides.{nat_tests}
+use Rattle.std.proofs.Common.{◌≡◌, ℕ, Bool, false, List, [], ◌++◌, length, Option, Some, None, refl, sym, ap, subst, ◌∙◌}
+use Rattle.std.specs.Prelude.{◌+◌, ◌*◌, ◌^◌, is_some, nat_lt, not, ℤ}
 use Rattle.std.proofs.lemmas.List.{length-map}
 use Rattle.layout_io.specs.Files.{File}
 use Rattle.extents.specs.Indices.{indices}
@@ -17,26 +16,28 @@ use Rattle.views.specs.Tallies.{Access, Tally, tallied, no_tally, all_accesses, 
 use Rattle.views.specs.TallyLaws.{tallied-none, tallied-append}
 use Rattle.views.specs.Stores.{kept_row, kept_rows}
 use Rattle.views.specs.Tables.{Table, owners_of, leaf_count_of, kept_of, after_stores}
-use Rattle.worlds.specs.Worlds.{World, Entry, same_name, found, added, replaced, removed}
+use Rattle.worlds.specs.Worlds.{World, Entry, found, added, replaced, removed}
+use Rattle.blob_file.specs.Opened.{Saved, opened, rows_in, table_of}
 use Rattle.csv_rows.specs.Datasets.{records_of, rows_of}
 use Rattle.csv_rows.specs.Loads.{dataset_of}
 use Rattle.map_expr.specs.Checks.{checked}
 use Rattle.worlds.specs.Copy.{copy, copied, relayout, all_read, laid_anew, are_alike}
 use Rattle.worlds.specs.Define.{define, fit}
+use Rattle.worlds.specs.Files.{bad_file, open_view, opened_beside, opened_table}
 use Rattle.worlds.specs.Load.{load, loaded_table, loaded, filled, read, row_fault}
 use Rattle.worlds.specs.Mapping.{mapping}
 use Rattle.worlds.specs.OnView.{Done, Work, done_to, on_view, worked}
-use Rattle.worlds.specs.Outcomes.{Outcome, Goes, Faults, CannotRead, ◌>>=◌, LeftOf, Left, known, free, some_or, refused_if, ok_or}
+use Rattle.worlds.specs.Outcomes.{Outcome, Goes, Faults, CannotRead, ◌>>=◌, LeftOf, Left, quiet, known, free, some_or, refused_if, ok_or}
 use Rattle.worlds.specs.Show.{drop_view}
 use Rattle.worlds.specs.Step.{step, work_of}
-use Rattle.worlds.specs.Tables.{made, resolved, room, shaped, zeros_of}
+use Rattle.worlds.specs.Tables.{made, resolved, room, shaped, zeros_of, blob_bits, live_bits}
 use Rattle.worlds.specs.Names.{nameless}
-use Rattle.worlds.specs.View.{view, new_table, named, Named}
+use Rattle.worlds.specs.View.{view, new_table, with_view, named, Named}
 use Rattle.worlds.specs.declared.fault.CommandFault.{CommandFault}
 use Rattle.worlds.specs.declared.fault.CommandFault.TheVariants.{BadMapping, TooBig, Mismatch}
 use Rattle.equal_runs.specs.Logs.{log_in, logged, reads_of, writes_of, fills_of, done_log, work_logs, logs_after}
 use Rattle.equal_runs.proofs.Agreeing.{Told, goes, told}
-use Rattle.equal_runs.proofs.Entries.{Entries, Finds, some, nothing, finds, entries_added, entries_replaced, entries_removed}
+use Rattle.equal_runs.proofs.Entries.{Entries, Finds, some, nothing, finds, entries_added, entries_replaced, entries_removed, found_added, found_replaced}
 use Rattle.equal_runs.proofs.Tables.{with_written, anew_of, made_told, rows_told, anew_told}
 
 -- where it goes, it goes to a thing of which this holds
@@ -69,26 +70,6 @@ of_told P x (told fault of) = refused fault
 pub known_found : {A : Type 0} (fault : CommandFault) (x : Option A) (a : A) → some_or fault x ≡ Goes a → x ≡ Some a
 known_found fault (Some b) a is = let same : b ≡ a = cc in ap Some same
 known_found fault None a is = absurd (cc)
-
-found_replaced : {A : Type 0} (name : List ℕ) (new old : A) (entries : List (Entry A)) → found name entries ≡ Some old → found name (replaced name new entries) ≡ Some new
-found_replaced name new old [] is = absurd (cc)
-found_replaced {A} name new old (entry ∷ entries) is = of_test (same_name entry.name name) refl is (found_replaced name new old entries) where
-  of_test : (test : Bool) → same_name entry.name name ≡ test → (if test then Some entry.held else found name entries) ≡ Some old
-      → (found name entries ≡ Some old → found name (replaced name new entries) ≡ Some new) → found name (if test then record { name = entry.name; held = new } ∷ entries else entry ∷ replaced name new entries) ≡ Some new
-  of_test true same is below = rw same refl
-  of_test false same is below = rw same (below is)
-
-same_self : (name : List ℕ) → same_name name name ≡ true
-same_self [] = refl
-same_self (byte ∷ bytes) = let one : nat_eq byte byte ≡ true = grind (arith, nat_tests) in rw one (same_self bytes)
-
-found_added : {A : Type 0} (name : List ℕ) (new : A) (entries : List (Entry A)) → found name entries ≡ None → found name (added name new entries) ≡ Some new
-found_added name new [] is = rw (same_self name) refl
-found_added {A} name new (entry ∷ entries) is = of_test (same_name entry.name name) refl is (found_added name new entries) where
-  of_test : (test : Bool) → same_name entry.name name ≡ test → (if test then Some entry.held else found name entries) ≡ None
-      → (found name entries ≡ None → found name (added name new entries) ≡ Some new) → (if same_name entry.name name then Some entry.held else found name (added name new entries)) ≡ Some new
-  of_test true same is below = absurd (cc)
-  of_test false same is below = rw same (below is)
 
 free_found : {A : Type 0} (fault : CommandFault) (x : Option A) → refused_if (is_some x) fault ≡ Goes tt → x ≡ None
 free_found fault None is = refl
@@ -165,6 +146,17 @@ zeros_filled zeros records is =
           ∙ ap (λ (n : ℕ). after_stores (zeros_of is.mode is.fields is.extents is.term) rows (all_accesses Write (length (leaves is.fields)) n)) (length-zeros is.mode is.fields is.extents is.term);
     }))
 
+-- the table of a file is filled with its rows
+saved_filled : (saved : Saved) → IsFilled (table_of saved)
+saved_filled saved = record {
+  mode = saved.header.mode;
+  fields = saved.header.fields;
+  extents = saved.header.extents;
+  term = saved.header.mapping;
+  rows = rows_in saved.header saved.blobs;
+  is = refl;
+}
+
 counted_filled : (table : Table) → IsFilled table → IsCounted table (fills_of (Some table))
 counted_filled table is =
     subst (λ (t : Table). IsCounted t (fills_of (Some t))) (sym is.is) (counted_zeros is.mode is.fields is.extents is.term is.rows (all_accesses Write (length (leaves is.fields)) (length (indices is.extents))))
@@ -211,13 +203,21 @@ module _ (world : World) (logs : List (Entry (List Access))) (all : AreCounted w
       bind P (shaped new.words) _ (λ ranked d. to _ (free_found _ (found new.name world.views) is))))))
 
   -- a table that was filled, of a name that is that of no view
-  abbrev IsLoaded : New → Table → Type 0
-  IsLoaded new table = IsFilled table × (found new.name world.views ≡ None)
+  abbrev IsLoaded : List ℕ → Table → Type 0
+  IsLoaded name table = IsFilled table × (found name world.views ≡ None)
 
-  loaded_filled : (new : New) (file : List ℕ) (files : List File) (fails : Bool) → IfGoes (IsLoaded new) (loaded_table world new file files fails)
+  -- such a table is added
+  loaded_keeps : (name : List ℕ) (x : Outcome Table) → IfGoes (IsLoaded name) x
+      → IfGoes (Keeps (λ w. added name (fills_of (found name w.views)) logs)) (x >>= (λ table. quiet (with_view world name table)))
+  loaded_keeps name x is_loaded =
+      behind (Keeps (λ w. added name (fills_of (found name w.views)) logs)) (IsLoaded name) x _ is_loaded
+      (λ table is. to _ (subst (λ (y : Option Table). AreCounted (added name table world.views) (added name (fills_of y) logs)) (sym (found_added name table world.views is.1))
+      (entries_added IsCounted name table (fills_of (Some table)) world.views logs (counted_filled table is.0) all)))
+
+  loaded_filled : (new : New) (file : List ℕ) (files : List File) (fails : Bool) → IfGoes (IsLoaded new.name) (loaded_table world new file files fails)
   unfolding loaded_table loaded
   loaded_filled new file files fails =
-      let P : Table → Type 0 = IsLoaded new in
+      let P : Table → Type 0 = IsLoaded new.name in
       behind P (λ (whole : Named). found new.name world.views ≡ None) (named world new) _ (named_free new) (λ whole none.
       bind P (read files fails file) _ (λ bytes b.
       bind P (refused_if (nat_lt (2 ^ 28) (length bytes)) TooBig) _ (λ short c.
@@ -225,7 +225,7 @@ module _ (world : World) (logs : List (Entry (List Access))) (all : AreCounted w
       behind P IsZeros (made world.views whole.mode whole.fields extents whole.mapping) _ (made_zeros world.views whole.mode whole.fields extents whole.mapping) (λ zeros is.
       with_free new none (filled zeros (records_of bytes)) (zeros_filled zeros (records_of bytes) is))))))
     where
-      with_free : (new : New) → found new.name world.views ≡ None → (x : Outcome Table) → IfGoes IsFilled x → IfGoes (IsLoaded new) x
+      with_free : (new : New) → found new.name world.views ≡ None → (x : Outcome Table) → IfGoes IsFilled x → IfGoes (IsLoaded new.name) x
       with_free new none x (to t is) = to t (is, none)
       with_free new none x (refused fault) = refused fault
       with_free new none x (unread name) = unread name
@@ -233,10 +233,23 @@ module _ (world : World) (logs : List (Entry (List Access))) (all : AreCounted w
   load_keeps : (new : New) (file : List ℕ) (files : List File) (fails : Bool)
       → IfGoes (Keeps (λ w. added new.name (fills_of (found new.name w.views)) logs)) (load world new file files fails)
   unfolding load
-  load_keeps new file files fails =
-      behind (Keeps (λ w. added new.name (fills_of (found new.name w.views)) logs)) (IsLoaded new) (loaded_table world new file files fails) _ (loaded_filled new file files fails)
-      (λ table is. to _ (subst (λ (x : Option Table). AreCounted (added new.name table world.views) (added new.name (fills_of x) logs)) (sym (found_added new.name table world.views is.1))
-      (entries_added IsCounted new.name table (fills_of (Some table)) world.views logs (counted_filled table is.0) all)))
+  load_keeps new file files fails = loaded_keeps new.name (loaded_table world new file files fails) (loaded_filled new file files fails)
+
+  opened_filled : (name file : List ℕ) (files : List File) (fails : Bool) → IfGoes (IsLoaded name) (opened_table world name file files fails)
+  unfolding opened_table opened_beside
+  opened_filled name file files fails =
+      let P : Table → Type 0 = IsLoaded name in
+      bind P (free name world.views) _ (λ unused is.
+      bind P (room world.views) _ (λ space a.
+      bind P (read files fails file) _ (λ bytes b.
+      bind P (refused_if (nat_lt (2 ^ 28 + 8206) (length bytes)) TooBig) _ (λ short c.
+      bind P (ok_or bad_file (opened bytes)) _ (λ saved d.
+      bind P (refused_if (nat_lt (8 * 2 ^ 30) (live_bits world.views + blob_bits (table_of saved))) TooBig) _ (λ fits e.
+      to _ (saved_filled saved, free_found _ (found name world.views) is)))))))
+
+  open_keeps : (name file : List ℕ) (files : List File) (fails : Bool) → IfGoes (Keeps (λ w. added name (fills_of (found name w.views)) logs)) (open_view world name file files fails)
+  unfolding open_view
+  open_keeps name file files fails = loaded_keeps name (opened_table world name file files fails) (opened_filled name file files fails)
 
   relayout_keeps : (name : List ℕ) (term : MapTerm) → IfGoes (Keeps (λ w. replaced name (writes_of (found name w.views)) logs)) (relayout world name term)
   unfolding relayout
@@ -312,6 +325,7 @@ module _ (world : World) (logs : List (Entry (List Access))) (all : AreCounted w
   step_keeps files fails (line.Mapping name term) = mapping_keeps name term
   step_keeps files fails (line.View new) = view_keeps new
   step_keeps files fails (line.Load new file) = load_keeps new file files fails
+  step_keeps files fails (line.Open name file) = open_keeps name file files fails
   step_keeps files fails (line.Copy name target) = copy_keeps name target
   step_keeps files fails (line.Relayout name term) = relayout_keeps name term
   step_keeps files fails (line.Drop name) = drop_keeps name

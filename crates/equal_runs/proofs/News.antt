@@ -1,41 +1,41 @@
 -- The commands with names and mapping expressions, done to alike worlds.
 use Rattle.std.proofs.Common.{◌≡◌, ℕ, Bool, true, ℤ, List, length, Option, Some, None, refl, sym, ap, subst, ◌∙◌}
-use Rattle.std.specs.Prelude.{◌^◌, ◌&&◌, is_some, nat_lt, nat_le}
+use Rattle.std.specs.Prelude.{◌+◌, ◌*◌, ◌^◌, ◌&&◌, is_some, IfSome, nat_lt, nat_le}
 use Rattle.extents.specs.declared.words.ExtentWord.{ExtentWord}
 use Rattle.layout_io.specs.Files.{File}
 use Rattle.record_dim.specs.Trees.{Tree, Fields}
 use Rattle.record_dim.specs.Leaves.{kinds_of, texts_of}
-use Rattle.line_grammar.specs.Sentences.{New}
+use Rattle.line_grammar.specs.Sentences.{New, View, Relayout}
 use Rattle.map_expr.specs.Terms.{Term as MapTerm}
 use Rattle.map_expr.specs.Checks.{checked}
 use Rattle.map_checks.specs.Mappings.{holds_by}
 use Rattle.map_any.specs.AnyLaws.{holds_cells, length-leaf_cells}
+use Rattle.blob_file.specs.Opened.{opened, table_of}
 use Rattle.csv_rows.specs.Datasets.{records_of, rows_of, dataset_table}
 use Rattle.csv_rows.specs.declared.fault.RowFault.{RowFault}
 use Rattle.csv_rows.specs.declared.fault.RowFault.TheVariants as row_fault
-use Rattle.views.specs.AnswerLaws.{kept_alike}
 use Rattle.views.specs.Stores.{Keeping}
 use Rattle.views.specs.Tables.{Table, IsWide, leaf_count_of, after_stores}
 use Rattle.worlds.specs.Worlds.{World, Entry, found}
 use Rattle.views.specs.Tallies.{Tally, all_accesses, Write}
-use Rattle.worlds.specs.Outcomes.{Outcome, known, free, refused_if, ok_or}
+use Rattle.worlds.specs.Outcomes.{Outcome, Left, quiet, known, free, refused_if, ok_or}
 use Rattle.worlds.specs.Names.{nameless}
-use Rattle.worlds.specs.Tables.{room, shaped, resolved, made, zeros_of}
+use Rattle.worlds.specs.Tables.{room, shaped, resolved, made, zeros_of, blob_bits, live_bits}
 use Rattle.worlds.specs.Define.{fit, define}
 use Rattle.worlds.specs.Mapping.{mapping}
 use Rattle.worlds.specs.View.{Named, named, new_table, with_view, view}
 use Rattle.worlds.specs.Load.{read, filled, loaded, loaded_table, load, row_fault as fault_of}
 use Rattle.worlds.specs.Copy.{laid_anew, relayout}
+use Rattle.worlds.specs.Files.{bad_file, opened_beside, opened_table, open_view}
 use Rattle.worlds.specs.declared.fault.CommandFault.TheVariants.{BadMapping, TooBig, TooManyViews}
 use Rattle.equal_runs.specs.Endings.{is_refused, is_of_layout}
-use Rattle.equal_runs.proofs.Agreeing.{Agree, go, bind, before, alone, both_told, Any, Both, told_ok, told_misses}
+use Rattle.equal_runs.specs.Widths.{MakesWide}
+use Rattle.equal_runs.proofs.Agreeing.{Agree, go, bind, before, alone, weaker, both_told, Any, Both, told_if, told_ok, told_misses}
 use Rattle.equal_runs.proofs.Answers.{Given, ok_agree}
-use Rattle.equal_runs.proofs.Each.{of_added, of_replaced}
-use Rattle.equal_runs.proofs.Entries.{At, known_agree, free_agree, entries_added, entries_replaced, length-entries}
+use Rattle.equal_runs.proofs.Entries.{At, known_agree, Neither, free_agree, entries_added, entries_replaced, found_added, found_replaced, length-entries}
 use Rattle.equal_runs.proofs.Loads.{is_narrow_row, dataset_answers}
 use Rattle.equal_runs.proofs.Names.{nameless_told}
-use Rattle.equal_runs.proofs.Tables.{AlikeTables, AlikeIfWide, AlikeWorlds, AlikeLefts, of_mapping, alike_both, rewritten_alike, zeros_alike, anew_of, anew_alike, made_told, anew_told}
-use Rattle.equal_runs.proofs.TallyCounts.{SameCounts}
+use Rattle.equal_runs.proofs.Tables.{AlikeTables, AlikeIfWide, AlikeWorlds, AlikeLefts, AlikeAlways, self_alike, of_both, rewritten_alike, zeros_alike, anew_of, anew_alike, made_told, anew_told}
 
 -- as many holds as leaves
 paired : (mapping : MapTerm) (fields : Fields) → length (holds_by mapping fields) ≡ length (kinds_of fields)
@@ -62,15 +62,19 @@ module _ (m o : Bool) where
       both_told m o Any Any Both (nameless mappings term) (nameless others changed) (told_misses m Any (nameless mappings term) (nameless_told mappings term) is)
       (told_misses o Any (nameless others changed) (nameless_told others changed) also) (λ a b p q. tt)
 
-  made_agree : (views others : List (Entry Table)) (whole other : Named) (extents : List ℕ) → AlikeNamed whole other
-      → Agree m o AlikeTables (made views whole.mode whole.fields extents whole.mapping) (made others other.mode other.fields extents other.mapping)
-  made_agree views others whole other extents same =
-      both_told m o _ _ AlikeTables (made views whole.mode whole.fields extents whole.mapping) (made others other.mode other.fields extents other.mapping)
+  -- what holds of zeros under two mappings holds of the tables that are made
+  made_agree : (R : Table → Table → Type 0) (views others : List (Entry Table)) (whole other : Named) (extents : List ℕ) → AlikeNamed whole other
+      → R (zeros_of whole.mode whole.fields extents whole.mapping) (zeros_of whole.mode whole.fields extents other.mapping)
+      → Agree m o R (made views whole.mode whole.fields extents whole.mapping) (made others other.mode other.fields extents other.mapping)
+  made_agree R views others whole other extents same holds =
+      let table = zeros_of whole.mode whole.fields extents whole.mapping in
+      let changed = zeros_of whole.mode whole.fields extents other.mapping in
+      let moved : zeros_of other.mode other.fields extents other.mapping ≡ changed = λ i. zeros_of (same.mode i) (same.fields i) extents other.mapping in
+      both_told m o _ _ R (made views whole.mode whole.fields extents whole.mapping) (made others other.mode other.fields extents other.mapping)
       (made_told m views whole.mode whole.fields extents whole.mapping) (made_told o others other.mode other.fields extents other.mapping)
-      (alike_both (zeros_of whole.mode whole.fields extents whole.mapping) (zeros_of other.mode other.fields extents other.mapping)
-      (zeros_alike whole.mode other.mode whole.fields other.fields extents whole.mapping other.mapping same.mode same.fields))
+      (λ a b is also. of_both R table changed holds a b is (also ∙ moved))
 
-  filled_agree : (table : Table) (mapping : MapTerm) (tally : Tally) → SameCounts table.tally.counts tally.counts → (records : List (List (List ℕ)))
+  filled_agree : (table : Table) (mapping : MapTerm) (tally : Tally) → AlikeIfWide table (record table { mapping = mapping; tally = tally }) → (records : List (List (List ℕ)))
       → Agree m o AlikeIfWide (filled table records) (filled (record table { mapping = mapping; tally = tally }) records)
   filled_agree table mapping tally same records =
       let names = texts_of table.fields in
@@ -81,9 +85,9 @@ module _ (m o : Bool) where
       (ok_or (fault_of table.fields) (dataset_table table.mode names kinds (holds_by mapping table.fields) records)) _ _
       (ok_agree m o is_narrow_row (fault_of table.fields) _ _ (narrow_row table.fields)
       (dataset_answers table.mode names kinds (holds_by table.mapping table.fields) (holds_by mapping table.fields) records (paired table.mapping table.fields) (paired mapping table.fields)
-      (λ wide leaf value. ap (λ (keep : Keeping). keep leaf value) (kept_alike under table refl refl wide.1 wide.0))))
+      (λ wide leaf value. ap (λ (keep : Keeping). keep leaf value) (same wide.0 wide.1).kept)))
       (λ rows others given. go _ _ (λ wide also.
-      alike_both (after_stores table rows log) (after_stores under rows log) (rewritten_alike table mapping tally same rows log) _ _ refl
+      of_both AlikeTables (after_stores table rows log) (after_stores under rows log) (rewritten_alike table mapping tally (same wide also) rows log) _ _ refl
       (ap (λ (r : List (List ℤ)). after_stores under r log) (given.same (wide, also)))))
 
   loaded_agree : (views others : List (Entry Table)) (whole other : Named) (words : List ExtentWord) (bytes : List ℕ) → AlikeNamed whole other
@@ -92,22 +96,42 @@ module _ (m o : Bool) where
   loaded_agree views others whole other words bytes same =
       before m o AlikeIfWide (refused_if (nat_lt (2 ^ 28) (length bytes)) TooBig) _ _ (λ short.
       before m o AlikeIfWide (resolved words (Some (length (rows_of (records_of bytes))))) _ _ (λ extents.
-      bind m o AlikeTables AlikeIfWide (made views whole.mode whole.fields extents whole.mapping) (made others other.mode other.fields extents other.mapping) _ _
-      (made_agree views others whole other extents same)
-      (λ a b alike. of_mapping (λ (t : Table). Agree m o AlikeIfWide (filled a (records_of bytes)) (filled t (records_of bytes))) a b alike
-      (λ mapping tally counts. filled_agree a mapping tally counts (records_of bytes)))))
+      let alike = zeros_alike whole.mode whole.fields extents whole.mapping other.mapping in
+      let changed = zeros_of whole.mode whole.fields extents other.mapping in
+      bind m o (λ (a b : Table). Agree m o AlikeIfWide (filled a (records_of bytes)) (filled b (records_of bytes))) AlikeIfWide
+      (made views whole.mode whole.fields extents whole.mapping) (made others other.mode other.fields extents other.mapping) _ _
+      (made_agree _ views others whole other extents same (filled_agree (zeros_of whole.mode whole.fields extents whole.mapping) other.mapping changed.tally alike (records_of bytes)))
+      (λ a b agree. agree)))
+
+  -- the table of a file, which is the same in both, but too big beside the others of one
+  opened_agree : (views others : List (Entry Table)) (bytes : List ℕ) → Agree m o AlikeTables (opened_beside views bytes) (opened_beside others bytes)
+  unfolding opened_beside
+  opened_agree views others bytes =
+      before m o AlikeTables (refused_if (nat_lt (2 ^ 28 + 8206) (length bytes)) TooBig) _ _ (λ short.
+      before m o AlikeTables (ok_or bad_file (opened bytes)) _ _ (λ saved.
+      let table = table_of saved in
+      let many = nat_lt (8 * 2 ^ 30) (live_bits views + blob_bits table) in
+      let many_others = nat_lt (8 * 2 ^ 30) (live_bits others + blob_bits table) in
+      bind m o Both AlikeTables (refused_if many TooBig) (refused_if many_others TooBig) _ _
+      (both_told m o Any Any Both (refused_if many TooBig) (refused_if many_others TooBig) (told_if m many TooBig refl) (told_if o many_others TooBig refl) (λ a b p q. tt))
+      (λ all also p. go _ _ (self_alike table))))
 
 -- where a name was found, a mapping is missed where its expression is refused
 found_misses : {A B : Type 0} (x : Option A) (a : A) (y : Outcome B) → x ≡ Some a → is_refused y ≡ (is_some x && is_refused y)
 found_misses {A} x a y is = sym (ap (λ (f : Option A). is_some f && is_refused y) is)
 
+-- a table that is found is wide where what is found is
+found_wide : (found : Option Table) (table : Table) → found ≡ Some table → IfSome found IsWide → IsWide table
+found_wide found table is wide = subst (λ (x : Option Table). IfSome x IsWide) is wide
+
 module _ (world other : World) (alike : AlikeWorlds world other) where
-  pub define_agree : (m o : Bool) (name : List ℕ) (tree : Tree) → Agree m o AlikeLefts (define world name tree) (define other name tree)
+  pub define_agree : (m o : Bool) (name : List ℕ) (tree : Tree) → Agree m o AlikeAlways (define world name tree) (define other name tree)
   unfolding define
   define_agree m o name tree =
-      bind m o Both AlikeLefts (free name world.records) (free name other.records) _ _ (free_agree m o (λ (a b : Fields). b ≡ a) name world.records other.records alike.records) (λ new also p.
-      before m o AlikeLefts (fit tree) _ _ (λ fields. go _ _ (record {
-        worlds = λ wide also. record {
+      bind m o (Neither (found name world.records) (found name other.records)) AlikeAlways (free name world.records) (free name other.records) _ _
+      (free_agree m o (λ (a b : Fields). b ≡ a) name world.records other.records alike.records) (λ new also p.
+      before m o AlikeAlways (fit tree) _ _ (λ fields. go _ _ (record {
+        worlds = λ always also. record {
           records = entries_added (λ (a b : Fields). b ≡ a) name fields fields world.records other.records refl alike.records;
           mappings = alike.mappings;
           views = alike.views;
@@ -116,18 +140,19 @@ module _ (world other : World) (alike : AlikeWorlds world other) where
       })))
 
   pub mapping_agree : (name : List ℕ) (term changed : MapTerm)
-      → Agree (is_refused (nameless world.mappings term)) (is_refused (nameless other.mappings changed)) AlikeLefts (mapping world name term) (mapping other name changed)
+      → Agree (is_refused (nameless world.mappings term)) (is_refused (nameless other.mappings changed)) AlikeAlways (mapping world name term) (mapping other name changed)
   unfolding mapping
   mapping_agree name term changed =
       let m = is_refused (nameless world.mappings term) in
       let o = is_refused (nameless other.mappings changed) in
-      bind m o Both AlikeLefts (free name world.mappings) (free name other.mappings) _ _ (free_agree m o Both name world.mappings other.mappings alike.mappings) (λ new also p.
-      bind m o Both AlikeLefts (nameless world.mappings term) (nameless other.mappings changed) _ _ (names_agree m o world.mappings other.mappings term changed refl refl) (λ whole whole_other q.
-      bind m o Both AlikeLefts (ok_or BadMapping (checked whole)) (ok_or BadMapping (checked whole_other)) _ _
+      bind m o (Neither (found name world.mappings) (found name other.mappings)) AlikeAlways (free name world.mappings) (free name other.mappings) _ _
+      (free_agree m o Both name world.mappings other.mappings alike.mappings) (λ new also p.
+      bind m o Both AlikeAlways (nameless world.mappings term) (nameless other.mappings changed) _ _ (names_agree m o world.mappings other.mappings term changed refl refl) (λ whole whole_other q.
+      bind m o Both AlikeAlways (ok_or BadMapping (checked whole)) (ok_or BadMapping (checked whole_other)) _ _
       (both_told m o Any Any Both (ok_or BadMapping (checked whole)) (ok_or BadMapping (checked whole_other)) (told_ok m BadMapping (checked whole) (λ e. refl))
       (told_ok o BadMapping (checked whole_other) (λ e. refl)) (λ a b r s. tt))
       (λ done done_other r. go _ _ (record {
-        worlds = λ wide also. record {
+        worlds = λ always also. record {
           records = alike.records;
           mappings = entries_added Both name whole whole_other world.mappings other.mappings tt alike.mappings;
           views = alike.views;
@@ -148,6 +173,16 @@ module _ (world other : World) (alike : AlikeWorlds world other) where
     views = entries_added AlikeTables name a b world.views other.views same alike.views;
   }
 
+  pub open_agree : (m o : Bool) (name file : List ℕ) (files : List File) (unread : Bool) → Agree m o AlikeAlways (open_view world name file files unread) (open_view other name file files unread)
+  unfolding open_view opened_table
+  open_agree m o name file files unread =
+      bind m o AlikeTables AlikeAlways (opened_table world name file files unread) (opened_table other name file files unread) _ _
+      (bind m o (Neither (found name world.views) (found name other.views)) AlikeTables (free name world.views) (free name other.views) _ _
+      (free_agree m o AlikeTables name world.views other.views alike.views) (λ unused also p.
+      bind m o Both AlikeTables (room world.views) (room other.views) _ _ (room_agree m o) (λ space space_other q.
+      before m o AlikeTables (read files unread file) _ _ (λ bytes. opened_agree m o world.views other.views bytes))))
+      (λ a b same. go _ _ (record { worlds = λ always also. view_added name a b same; text = refl }))
+
   -- what makes a view, and the same under another mapping
   module _ (new : New) (changed : MapTerm) where
     abbrev under : New
@@ -159,62 +194,82 @@ module _ (world other : World) (alike : AlikeWorlds world other) where
     abbrev missed_other : Bool
     missed_other = is_some (found new.schema other.records) && is_refused (nameless other.mappings changed)
 
-    named_agree : Agree missed missed_other AlikeNamed (named world new) (named other under)
+    -- the words of both stand for the same, and the name of the view for nothing
+    abbrev AreNew : Named → Named → Type 0
+    AreNew whole whole_other = AlikeNamed whole whole_other × ((found new.name world.views ≡ None) × (found new.name other.views ≡ None))
+
+    named_agree : Agree missed missed_other AreNew (named world new) (named other under)
     named_agree =
-        bind missed missed_other Both AlikeNamed (free new.name world.views) (free new.name other.views) _ _ (free_agree missed missed_other AlikeTables new.name world.views other.views alike.views) (λ unused also p.
-        bind missed missed_other (At (λ (a b : Fields). b ≡ a) (found new.schema world.records) (found new.schema other.records)) AlikeNamed (known new.schema world.records) (known new.schema other.records) _ _
+        bind missed missed_other (Neither (found new.name world.views) (found new.name other.views)) AreNew (free new.name world.views) (free new.name other.views) _ _
+        (free_agree missed missed_other AlikeTables new.name world.views other.views alike.views) (λ p q unused.
+        bind missed missed_other (At (λ (a b : Fields). b ≡ a) (found new.schema world.records) (found new.schema other.records)) AreNew (known new.schema world.records) (known new.schema other.records) _ _
         (known_agree missed missed_other (λ (a b : Fields). b ≡ a) new.schema world.records other.records alike.records) (λ fields others at.
-        bind missed missed_other Both AlikeNamed (nameless world.mappings new.term) (nameless other.mappings changed) _ _
+        bind missed missed_other Both AreNew (nameless world.mappings new.term) (nameless other.mappings changed) _ _
         (names_agree missed missed_other world.mappings other.mappings new.term changed (found_misses (found new.schema world.records) fields (nameless world.mappings new.term) at.first)
         (found_misses (found new.schema other.records) others (nameless other.mappings changed) at.second))
-        (λ whole whole_other q.
-        bind missed missed_other Both AlikeNamed (room world.views) (room other.views) _ _ (room_agree missed missed_other) (λ space space_other r.
-        before missed missed_other AlikeNamed (shaped new.words) _ _ (λ ranked. go _ _ (record { fields = at.alike; mode = refl }))))))
+        (λ whole whole_other r.
+        bind missed missed_other Both AreNew (room world.views) (room other.views) _ _ (room_agree missed missed_other) (λ space space_other s.
+        before missed missed_other AreNew (shaped new.words) _ _ (λ ranked. go _ _ (record { fields = at.alike; mode = refl }, unused))))))
 
-    pub view_agree : Agree missed missed_other AlikeLefts (view world new) (view other under)
+    -- tables that are alike where the line that adds them makes both wide
+    abbrev AlikeAdded : Table → Table → Type 0
+    AlikeAdded a b = MakesWide (View new) (with_view world new.name a) → MakesWide (View under) (with_view other new.name b) → AlikeTables a b
+
+    added_alike : (whole whole_other : Named) → AreNew whole whole_other → (a b : Table) → AlikeIfWide a b → AlikeAdded a b
+    added_alike whole whole_other is a b same wide also =
+        same (found_wide _ a (found_added new.name a world.views is.1.0) wide) (found_wide _ b (found_added new.name b other.views is.1.1) also)
+
+    abbrev AlikeMade : Left → Left → Type 0
+    AlikeMade = AlikeLefts (MakesWide (View new)) (MakesWide (View under))
+
+    made_alike : (a b : Table) → AlikeAdded a b → Agree missed missed_other AlikeMade (quiet (with_view world new.name a)) (quiet (with_view other new.name b))
+    made_alike a b same = go _ _ (record { worlds = λ wide also. view_added new.name a b (same wide also); text = refl })
+
+    pub view_agree : Agree missed missed_other AlikeMade (view world new) (view other under)
     unfolding view new_table
     view_agree =
-        bind missed missed_other AlikeTables AlikeLefts (new_table world new) (new_table other under) _ _
-        (bind missed missed_other AlikeNamed AlikeTables (named world new) (named other under) _ _ named_agree (λ whole whole_other same.
-        before missed missed_other AlikeTables (resolved new.words None) _ _ (λ extents. made_agree missed missed_other world.views other.views whole whole_other extents same)))
-        (λ a b same. go _ _ (record { worlds = λ wide also. view_added new.name a b same; text = refl }))
+        bind missed missed_other AlikeAdded AlikeMade (new_table world new) (new_table other under) _ _
+        (bind missed missed_other AreNew AlikeAdded (named world new) (named other under) _ _ named_agree (λ whole whole_other is.
+        before missed missed_other AlikeAdded (resolved new.words None) _ _ (λ extents.
+        weaker missed missed_other AlikeIfWide AlikeAdded _ _
+        (made_agree missed missed_other AlikeIfWide world.views other.views whole whole_other extents is.0 (zeros_alike whole.mode whole.fields extents whole.mapping whole_other.mapping))
+        (added_alike whole whole_other is))))
+        made_alike
 
-    pub load_agree : (file : List ℕ) (files : List File) (unread : Bool) → Agree missed missed_other AlikeLefts (load world new file files unread) (load other under file files unread)
+    pub load_agree : (file : List ℕ) (files : List File) (unread : Bool) → Agree missed missed_other AlikeMade (load world new file files unread) (load other under file files unread)
     unfolding load loaded_table
     load_agree file files unread =
-        bind missed missed_other AlikeIfWide AlikeLefts (loaded_table world new file files unread) (loaded_table other under file files unread) _ _
-        (bind missed missed_other AlikeNamed AlikeIfWide (named world new) (named other under) _ _ named_agree (λ whole whole_other same.
-        before missed missed_other AlikeIfWide (read files unread file) _ _ (λ bytes. loaded_agree missed missed_other world.views other.views whole whole_other new.words bytes same)))
-        (λ a b same. go _ _ (record {
-          worlds = λ wide also. view_added new.name a b (same (of_added IsWide new.name a world.views wide) (of_added IsWide new.name b other.views also));
-          text = refl;
-        }))
+        bind missed missed_other AlikeAdded AlikeMade (loaded_table world new file files unread) (loaded_table other under file files unread) _ _
+        (bind missed missed_other AreNew AlikeAdded (named world new) (named other under) _ _ named_agree (λ whole whole_other is.
+        before missed missed_other AlikeAdded (read files unread file) _ _ (λ bytes.
+        weaker missed missed_other AlikeIfWide AlikeAdded _ _ (loaded_agree missed missed_other world.views other.views whole whole_other new.words bytes is.0)
+        (added_alike whole whole_other is))))
+        made_alike
 
   pub relayout_agree : (name : List ℕ) (term changed : MapTerm)
-      → Agree (is_some (found name world.views) && is_refused (nameless world.mappings term)) (is_some (found name other.views) && is_refused (nameless other.mappings changed)) AlikeLefts
-      (relayout world name term) (relayout other name changed)
+      → Agree (is_some (found name world.views) && is_refused (nameless world.mappings term)) (is_some (found name other.views) && is_refused (nameless other.mappings changed))
+      (AlikeLefts (MakesWide (Relayout name term)) (MakesWide (Relayout name changed))) (relayout world name term) (relayout other name changed)
   unfolding relayout
   relayout_agree name term changed =
+      let R : Left → Left → Type 0 = AlikeLefts (MakesWide (Relayout name term)) (MakesWide (Relayout name changed)) in
       let m = is_some (found name world.views) && is_refused (nameless world.mappings term) in
       let o = is_some (found name other.views) && is_refused (nameless other.mappings changed) in
-      bind m o (At AlikeTables (found name world.views) (found name other.views)) AlikeLefts (known name world.views) (known name other.views) _ _
+      bind m o (At AlikeTables (found name world.views) (found name other.views)) R (known name world.views) (known name other.views) _ _
       (known_agree m o AlikeTables name world.views other.views alike.views) (λ table table_other at.
-      bind m o Both AlikeLefts (nameless world.mappings term) (nameless other.mappings changed) _ _
+      bind m o Both R (nameless world.mappings term) (nameless other.mappings changed) _ _
       (names_agree m o world.mappings other.mappings term changed (found_misses (found name world.views) table (nameless world.mappings term) at.first)
       (found_misses (found name other.views) table_other (nameless other.mappings changed) at.second))
       (λ whole whole_other q.
-      bind m o AlikeIfWide AlikeLefts (laid_anew world.views table whole) (laid_anew other.views table_other whole_other) _ _
+      bind m o AlikeIfWide R (laid_anew world.views table whole) (laid_anew other.views table_other whole_other) _ _
       (both_told m o (λ (t : Table). t ≡ anew_of table whole) (λ (t : Table). t ≡ anew_of table_other whole_other) AlikeIfWide
       (laid_anew world.views table whole) (laid_anew other.views table_other whole_other) (anew_told m world.views table whole) (anew_told o other.views table_other whole_other)
-      (λ a b is also wide room.
-      alike_both (anew_of table whole) (anew_of table_other whole_other)
-      (anew_alike table table_other whole whole_other at.alike (subst (λ (t : Table). IsWide t) is wide) (subst (λ (t : Table). IsWide t) also room)) a b is also))
+      (of_both AlikeIfWide (anew_of table whole) (anew_of table_other whole_other) (anew_alike table table_other whole whole_other at.alike)))
       (λ a b same. go _ _ (record {
         worlds = λ wide also. record {
           records = alike.records;
           mappings = alike.mappings;
           views = entries_replaced AlikeTables name a b world.views other.views
-              (same (of_replaced IsWide name a table world.views at.first wide) (of_replaced IsWide name b table_other other.views at.second also)) alike.views;
+              (same (found_wide _ a (found_replaced name a table world.views at.first) wide) (found_wide _ b (found_replaced name b table_other other.views at.second) also)) alike.views;
         };
         text = refl;
       }))))

@@ -2,20 +2,18 @@
 use Rattle.std.proofs.Common.{◌≡◌, ℕ, ◌+◌, Bool, false, List, [], ◌∷◌, Option, refl, sym, ap, subst, ◌∙◌}
 use Rattle.std.specs.List.{list_any}
 use Rattle.std.proofs.lemmas.Bool.{or_parts}
-use Rattle.std.proofs.lemmas.List.Elements.{All-nil}
 use Rattle.layout_io.specs.Files.{File}
 use Rattle.map_expr.specs.Terms.{Term as MapTerm}
 use Rattle.line_grammar.specs.Sentences.{Sentence}
 use Rattle.line_grammar.specs.declared.version.Version.{Version}
-use Rattle.views.specs.Tables.{Table, IsWide}
-use Rattle.worlds.specs.Worlds.{World, Entry, empty}
+use Rattle.worlds.specs.Worlds.{World, empty}
 use Rattle.worlds.specs.Outcomes.{Outcome, Left}
 use Rattle.worlds.specs.Step.{step}
 use Rattle.script_runs.specs.Outcome.{Output}
 use Rattle.script_runs.specs.Fold.{run_from, after, fails_at, prepend}
 use Rattle.equal_runs.specs.Lines.{with_term, AgreeButTerms, shows_layout, IsLine, AreLines}
 use Rattle.equal_runs.specs.Endings.{misses_mapping, ends_after, ends_by_layout}
-use Rattle.equal_runs.specs.Widths.{AreWide, HoldsOf, StaysWide}
+use Rattle.equal_runs.specs.Widths.{MakesWide, HoldsOf, StaysWide}
 use Rattle.equal_runs.specs.EqualRuns.{DoesLines, EqualRuns}
 use Rattle.equal_runs.proofs.Agreeing.{Agree, go, fault, unread as not_read, first, second}
 use Rattle.equal_runs.proofs.Entries.{none as no_entries}
@@ -23,15 +21,15 @@ use Rattle.equal_runs.proofs.Steps.{step_agree}
 use Rattle.equal_runs.proofs.Tables.{AlikeWorlds, AlikeLefts}
 
 -- after outcomes that agree, and of which none ends by a fault of how tables lie, runs go on alike; of the worlds that are left `P` and `Q` hold
-after_alike : (m o : Bool) (number : ℕ) (x y : Outcome Left) (ends others : World → Bool) (P Q : World → Type 0) (rest later : World → Output) → Agree m o AlikeLefts x y
-    → ends_after m x ends ≡ false → ends_after o y others ≡ false → HoldsOf x P → HoldsOf y Q
-    → ((a b : Left) → AlikeLefts a b → ends a.held ≡ false → others b.held ≡ false → P a.held → Q b.held → rest a.held ≡ later b.held) → after number x rest ≡ after number y later
-after_alike m o number x y ends others P Q rest later (go a b alike) holds also p q next =
+after_alike : (m o : Bool) (M N : World → Type 0) (number : ℕ) (x y : Outcome Left) (ends others : World → Bool) (P Q : World → Type 0) (rest later : World → Output)
+    → Agree m o (AlikeLefts M N) x y → ends_after m x ends ≡ false → ends_after o y others ≡ false → HoldsOf x P → HoldsOf y Q
+    → ((a b : Left) → AlikeLefts M N a b → ends a.held ≡ false → others b.held ≡ false → P a.held → Q b.held → rest a.held ≡ later b.held) → after number x rest ≡ after number y later
+after_alike m o M N number x y ends others P Q rest later (go a b alike) holds also p q next =
     ap (λ (text : List ℕ). prepend text (rest a.held)) (sym alike.text) ∙ ap (prepend b.text) (next a b alike holds also p q)
-after_alike m o number x y ends others P Q rest later (fault f) holds also p q next = refl
-after_alike m o number x y ends others P Q rest later (not_read name) holds also p q next = refl
-after_alike m o number x y ends others P Q rest later (first f z is) holds also p q next = absurd (cc)
-after_alike m o number x y ends others P Q rest later (second z f is) holds also p q next = absurd (cc)
+after_alike m o M N number x y ends others P Q rest later (fault f) holds also p q next = refl
+after_alike m o M N number x y ends others P Q rest later (not_read name) holds also p q next = refl
+after_alike m o M N number x y ends others P Q rest later (first f z is) holds also p q next = absurd (cc)
+after_alike m o M N number x y ends others P Q rest later (second z f is) holds also p q next = absurd (cc)
 
 -- texts that are lines, and other texts that are the same lines but for their mapping expressions
 data Pairs (version : Version) : List (List ℕ) → List Sentence → List (List ℕ) → List Sentence → Type 0 where
@@ -52,25 +50,24 @@ pairs_of version texts [] lines (changed ∷ others) are also agree = absurd als
 pairs_of version texts (other ∷ other_texts) lines [] are also agree = absurd also
 
 module _ (version : Version) (files : List File) (outcome : World → List ℕ → Bool → Outcome Left) (does : DoesLines version files outcome) (unread : Option ℕ) where
-  runs_alike : (number : ℕ) (world other : World) → AlikeWorlds world other → AreWide world.views → AreWide other.views
+  runs_alike : (number : ℕ) (world other : World) → AlikeWorlds world other
       → (texts : List (List ℕ)) (lines : List Sentence) (other_texts : List (List ℕ)) (others : List Sentence) → Pairs version texts lines other_texts others
       → list_any shows_layout lines ≡ false → ends_by_layout files number world lines unread ≡ false → ends_by_layout files number other others unread ≡ false
       → StaysWide files number world lines unread → StaysWide files number other others unread → run_from outcome number world texts unread ≡ run_from outcome number other other_texts unread
-  runs_alike number world other alike wide room texts lines other_texts others none plain holds also stays stays_also = refl
-  runs_alike number world other alike wide room texts lines other_texts others (more text changed line term ts ls us os is is_also rest) plain holds also stays stays_also =
+  runs_alike number world other alike texts lines other_texts others none plain holds also stays stays_also = refl
+  runs_alike number world other alike texts lines other_texts others (more text changed line term ts ls us os is is_also rest) plain holds also stays stays_also =
       let b = fails_at unread number in
       let parts : (shows_layout line ≡ false) × (list_any shows_layout ls ≡ false) = or_parts (shows_layout line) (list_any shows_layout ls) plain in
       ap (λ (x : Outcome Left). after number x (λ next. run_from outcome (number + 1) next ts unread)) (does world text line b is)
-      ∙ after_alike (misses_mapping world line) (misses_mapping other (with_term term line)) number (step world line files b) (step other (with_term term line) files b)
+      ∙ after_alike (misses_mapping world line) (misses_mapping other (with_term term line)) (MakesWide line) (MakesWide (with_term term line)) number (step world line files b) (step other (with_term term line) files b)
       (λ next. ends_by_layout files (number + 1) next ls unread) (λ next. ends_by_layout files (number + 1) next os unread)
-      (λ next. AreWide next.views × StaysWide files (number + 1) next ls unread) (λ next. AreWide next.views × StaysWide files (number + 1) next os unread)
+      (λ next. MakesWide line next × StaysWide files (number + 1) next ls unread) (λ next. MakesWide (with_term term line) next × StaysWide files (number + 1) next os unread)
       (λ next. run_from outcome (number + 1) next ts unread) (λ next. run_from outcome (number + 1) next us unread)
-      (step_agree world other alike wide room term files b line parts.0) holds also stays stays_also
-      (λ a c same ends ends_also p q. runs_alike (number + 1) a.held c.held (same.worlds p.0 q.0) p.0 q.0 ts ls us os rest parts.1 ends ends_also p.1 q.1)
+      (step_agree world other alike term files b line parts.0) holds also stays stays_also
+      (λ a c same ends ends_also p q. runs_alike (number + 1) a.held c.held (same.worlds p.0 q.0) ts ls us os rest parts.1 ends ends_also p.1 q.1)
       ∙ sym (ap (λ (x : Outcome Left). after number x (λ next. run_from outcome (number + 1) next us unread)) (does other changed (with_term term line) b is_also))
 
 pub equal : (version : Version) (files : List File) (outcome : World → List ℕ → Bool → Outcome Left) → DoesLines version files outcome → EqualRuns version files outcome
 equal version files outcome does texts other_texts lines others unread are also differ =
-    let none : AreWide empty.views = All-nil (λ (entry : Entry Table). IsWide entry.held) in
-    runs_alike version files outcome does unread 1 empty empty (record { records = no_entries; mappings = no_entries; views = no_entries }) none none texts lines other_texts others
+    runs_alike version files outcome does unread 1 empty empty (record { records = no_entries; mappings = no_entries; views = no_entries }) texts lines other_texts others
     (pairs_of version texts other_texts lines others are also differ.agree) differ.shown differ.holds differ.other_holds differ.wide differ.other_wide

@@ -1,15 +1,13 @@
 -- Worlds of the same records and tables, under other mappings.
-use Rattle.std.proofs.Common.{◌≡◌, ℕ, Bool, List, length, refl, sym, ap, subst}
+use Rattle.std.proofs.Common.{◌≡◌, ℕ, Bool, List, length, refl, sym, subst}
 use Rattle.record_dim.specs.Trees.{Fields}
-use Rattle.extents.specs.Indices.{indices}
 use Rattle.record_dim.specs.Leaves.{leaves, kinds_of}
 use Rattle.map_expr.specs.Terms.{Term as MapTerm}
 use Rattle.map_checks.specs.Mappings.{leaf_cells, layout_by, most_slots, accepted}
-use Rattle.views.specs.Tallies.{Access, Tally, all_accesses, granules_for, no_tally, Write}
+use Rattle.views.specs.Tallies.{Access, Tally, all_accesses, granules_for, Write}
 use Rattle.layout_copy.specs.Copies.{refused_at}
-use Rattle.piece_bits.specs.Tables.{zeros}
 use Rattle.kept_tables.specs.declared.mode.StoreMode.{StoreMode}
-use Rattle.std.specs.Prelude.{ℤ, ◌+◌, ◌*◌, ◌^◌, nat_lt}
+use Rattle.std.specs.Prelude.{ℤ, ◌+◌, ◌*◌, ◌^◌, nat_lt, ⊤}
 use Rattle.views.specs.AnswerLaws.{kept_alike}
 use Rattle.views.specs.Stores.{Keeping, kept_rows}
 use Rattle.views.specs.Tables.{Table, IsWide, owners_of, leaf_count_of, answer_of, kept_of, after_stores}
@@ -18,91 +16,101 @@ use Rattle.worlds.specs.Outcomes.{Left, refused_by, refused_if, ok_or}
 use Rattle.worlds.specs.Tables.{made, zeros_of, blob_bits, live_bits}
 use Rattle.worlds.specs.Copy.{with_rows, laid_anew, narrow_fault}
 use Rattle.worlds.specs.declared.fault.CommandFault.TheVariants.{BadMapping, TooBig}
-use Rattle.equal_runs.specs.Widths.{AreWide}
 use Rattle.equal_runs.proofs.Agreeing.{Told, goes, Any, Both, told_bind, told_if, told_ok, told_by}
 use Rattle.equal_runs.proofs.Entries.{Entries}
-use Rattle.equal_runs.proofs.TallyCounts.{SameCounts, tallied_alike, no_tally_alike}
+use Rattle.equal_runs.proofs.TallyCounts.{SameCounts, own_counts, tallied_alike, no_tally_alike}
 
--- all that a table is but its mapping, and what both count by leaf
+-- all that a table is but its mapping, what both count by leaf, and what both keep of each value
 pub record AlikeTables (table other : Table) : Type 0 where
   pub fields : other.fields ≡ table.fields
   pub extents : other.extents ≡ table.extents
   pub mode : other.mode ≡ table.mode
   pub rows : other.rows ≡ table.rows
   pub counts : SameCounts table.tally.counts other.tally.counts
+  pub kept : kept_of other ≡ kept_of table
+
+-- a table beside itself
+pub self_alike : (table : Table) → AlikeTables table table
+self_alike table = record { fields = refl; extents = refl; mode = refl; rows = refl; counts = own_counts table.tally.counts; kept = refl }
 
 pub record AlikeWorlds (world other : World) : Type 0 where
   pub records : Entries (λ (a b : Fields). b ≡ a) world.records other.records
   pub mappings : Entries {A = MapTerm} Both world.mappings other.mappings
   pub views : Entries AlikeTables world.views other.views
 
--- what a command leaves: such worlds, where their tables have room for all bits, and the same text
-pub record AlikeLefts (left other : Left) : Type 0 where
-  pub worlds : AreWide left.held.views → AreWide other.held.views → AlikeWorlds left.held other.held
+-- what a command leaves: such worlds, where these hold of them, and the same text
+pub record AlikeLefts (P Q : World → Type 0) (left other : Left) : Type 0 where
+  pub worlds : P left.held → Q other.held → AlikeWorlds left.held other.held
   pub text : other.text ≡ left.text
 
--- what holds of a table under every mapping, with every tally that counts the same, holds of a table that is alike
+-- such worlds, whatever holds of them
+abbrev pub AlikeAlways : Left → Left → Type 0
+AlikeAlways = AlikeLefts (λ world. ⊤) (λ world. ⊤)
+
+-- what holds of a table under every mapping and with every tally with which it is alike holds of a table that is alike
 pub of_mapping : (P : Table → Type 0) (table other : Table) → AlikeTables table other
-    → ((mapping : MapTerm) (tally : Tally) → SameCounts table.tally.counts tally.counts → P (record table { mapping = mapping; tally = tally })) → P other
+    → ((mapping : MapTerm) (tally : Tally) → AlikeTables table (record table { mapping = mapping; tally = tally }) → P (record table { mapping = mapping; tally = tally })) → P other
 of_mapping P table other alike each =
     let is : record table { mapping = other.mapping; tally = other.tally } ≡ other =
     λ i. record { fields = sym alike.fields i; extents = sym alike.extents i; mapping = other.mapping; mode = sym alike.mode i; rows = sym alike.rows i; tally = other.tally } in
-    subst P is (each other.mapping other.tally alike.counts)
+    subst P is (each other.mapping other.tally (subst (AlikeTables table) (sym is) alike))
 
 -- tables that are alike where both have room for all bits
 abbrev pub AlikeIfWide : Table → Table → Type 0
 AlikeIfWide table other = IsWide table → IsWide other → AlikeTables table other
 
--- tables that are alike, by other words for them
-pub alike_both : (first second : Table) → AlikeTables first second → (table other : Table) → table ≡ first → other ≡ second → AlikeTables table other
-alike_both first second alike table other is also = subst (AlikeTables table) (sym also) (subst (λ (t : Table). AlikeTables t second) (sym is) alike)
+-- what holds of two tables, by other words for them
+pub of_both : (R : Table → Table → Type 0) (first second : Table) → R first second → (table other : Table) → table ≡ first → other ≡ second → R table other
+of_both R first second holds table other is also = subst (R table) (sym also) (subst (λ (t : Table). R t second) (sym is) holds)
 
 -- after the same accesses, which made both rows these
-pub rewritten_alike : (table : Table) (mapping : MapTerm) (tally : Tally) → SameCounts table.tally.counts tally.counts
+pub rewritten_alike : (table : Table) (mapping : MapTerm) (tally : Tally) → AlikeTables table (record table { mapping = mapping; tally = tally })
     → (rows : List (List ℤ)) (log : List Access) → AlikeTables (after_stores table rows log) (after_stores (record table { mapping = mapping; tally = tally }) rows log)
-rewritten_alike table mapping tally same rows log =
-    record { fields = refl; extents = refl; mode = refl; rows = refl; counts = tallied_alike (owners_of table) (owners_of (record table { mapping = mapping })) table.tally tally log same }
-
-pub zeros_alike : (mode another : StoreMode) (fields others : Fields) (extents : List ℕ) (term changed : MapTerm) → another ≡ mode → others ≡ fields
-    → AlikeTables (zeros_of mode fields extents term) (zeros_of another others extents changed)
-zeros_alike mode another fields others extents term changed same is = record {
-  fields = is;
+rewritten_alike table mapping tally same rows log = record {
+  fields = refl;
   extents = refl;
-  mode = same;
-  rows = ap (λ (f : Fields). zeros (length (indices extents)) (length (leaves f))) is;
-  counts = subst (λ (f : Fields). SameCounts (zeros_of mode fields extents term).tally.counts (no_tally changed (layout_by changed extents others) (length (leaves f))).counts) (sym is)
-      (no_tally_alike term changed (layout_by term extents fields) (layout_by changed extents others) (length (leaves fields)));
+  mode = refl;
+  rows = refl;
+  counts = tallied_alike (owners_of table) (owners_of (record table { mapping = mapping })) table.tally tally log same.counts;
+  kept = same.kept;
+}
+
+-- where two mappings have room for all bits, both keep the same
+pub zeros_alike : (mode : StoreMode) (fields : Fields) (extents : List ℕ) (term changed : MapTerm) → AlikeIfWide (zeros_of mode fields extents term) (zeros_of mode fields extents changed)
+zeros_alike mode fields extents term changed wide also = record {
+  fields = refl;
+  extents = refl;
+  mode = refl;
+  rows = refl;
+  counts = no_tally_alike term changed (layout_by term extents fields) (layout_by changed extents fields) (length (leaves fields));
+  kept = kept_alike (zeros_of mode fields extents changed) (zeros_of mode fields extents term) refl refl also wide;
 }
 
 -- with what a table keeps of other rows, each value written once
 abbrev pub with_written : Table → List (List ℤ) → Table
 with_written table rows = after_stores table (kept_rows (kept_of table) rows) (all_accesses Write (leaf_count_of table) (length rows))
 
--- where both have room for all bits, both keep the same
-pub written_under : (table : Table) (mapping : MapTerm) (tally : Tally) → SameCounts table.tally.counts tally.counts
-    → IsWide table → IsWide (record table { mapping = mapping; tally = tally }) → (rows : List (List ℤ))
+pub written_under : (table : Table) (mapping : MapTerm) (tally : Tally) → AlikeTables table (record table { mapping = mapping; tally = tally }) → (rows : List (List ℤ))
     → AlikeTables (with_written table rows) (with_written (record table { mapping = mapping; tally = tally }) rows)
-written_under table mapping tally same wide also rows =
+written_under table mapping tally same rows =
     let under : Table = record table { mapping = mapping; tally = tally } in
     let log = all_accesses Write (leaf_count_of table) (length rows) in
-    subst (λ (keep : Keeping). AlikeTables (with_written table rows) (after_stores under (kept_rows keep rows) log)) (kept_alike table under refl refl wide also)
+    subst (λ (keep : Keeping). AlikeTables (with_written table rows) (after_stores under (kept_rows keep rows) log)) (sym same.kept)
     (rewritten_alike table mapping tally same (kept_rows (kept_of table) rows) log)
 
-written_alike : (table other : Table) → AlikeTables table other → IsWide table → IsWide other → (rows : List (List ℤ)) → AlikeTables (with_written table rows) (with_written other rows)
-written_alike table other alike wide also rows =
-    of_mapping (λ (t : Table). IsWide t → AlikeTables (with_written table rows) (with_written t rows)) table other alike
-    (λ mapping tally same room. written_under table mapping tally same wide room rows) also
+written_alike : (table other : Table) → AlikeTables table other → (rows : List (List ℤ)) → AlikeTables (with_written table rows) (with_written other rows)
+written_alike table other alike rows =
+    of_mapping (λ (t : Table). AlikeTables (with_written table rows) (with_written t rows)) table other alike (λ mapping tally same. written_under table mapping tally same rows)
 
 -- what a new mapping keeps of the rows
 abbrev pub anew_of : Table → MapTerm → Table
 anew_of table mapping = with_written (zeros_of table.mode table.fields table.extents mapping) table.rows
 
-pub anew_alike : (table other : Table) (term changed : MapTerm) → AlikeTables table other → IsWide (anew_of table term) → IsWide (anew_of other changed)
-    → AlikeTables (anew_of table term) (anew_of other changed)
-anew_alike table other term changed alike wide also =
-    of_mapping (λ (t : Table). IsWide (anew_of t changed) → AlikeTables (anew_of table term) (anew_of t changed)) table other alike
-    (λ mapping tally same room. written_alike (zeros_of table.mode table.fields table.extents term) (zeros_of table.mode table.fields table.extents changed)
-    (zeros_alike table.mode table.mode table.fields table.fields table.extents term changed refl refl) wide room table.rows) also
+pub anew_alike : (table other : Table) (term changed : MapTerm) → AlikeTables table other → AlikeIfWide (anew_of table term) (anew_of other changed)
+anew_alike table other term changed alike =
+    of_mapping (λ (t : Table). AlikeIfWide (anew_of table term) (anew_of t changed)) table other alike
+    (λ mapping tally same wide also. written_alike (zeros_of table.mode table.fields table.extents term) (zeros_of table.mode table.fields table.extents changed)
+    (zeros_alike table.mode table.fields table.extents term changed wide also) table.rows)
 
 module _ (m : Bool) where
   -- a new table is refused for its mapping or its size alone

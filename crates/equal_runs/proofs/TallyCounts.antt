@@ -18,6 +18,10 @@ abbrev pub SameCounts : Option LeafCounts → Option LeafCounts → Type 0
 SameCounts (Some counts) (Some others) = others ≡ counts
 SameCounts _ _ = ⊤
 
+pub own_counts : (counts : Option LeafCounts) → SameCounts counts counts
+own_counts None = tt
+own_counts (Some counts) = refl
+
 same_after : (log : List Access) (counts others : Option LeafCounts) → SameCounts counts others → SameCounts (option_map (counts_after log) counts) (option_map (counts_after log) others)
 same_after log None others same = tt
 same_after log (Some counts) None same = tt

@@ -17,7 +17,7 @@ abbrev pub DoesLines : Version → List File → (World → List ℕ → Bool �
 DoesLines version files outcome = (world : World) (text : List ℕ) (line : Sentence) (unread : Bool) → IsLine version text line → outcome world text unread ≡ step world line files unread
 
 -- two scripts, line by line, that differ in their mapping expressions alone; neither shows how a table lies, neither run ends with a fault
--- of how tables lie, and in both each table that keeps low bits has room for all bits of the types of its leaves
+-- of how tables lie, and in both each table that keeps low bits and is laid out by a line has room for all bits of the types of its leaves
 pub record DifferInTerms (files : List File) (unread : Option ℕ) (lines others : List Sentence) : Type 0 where
   pub agree : AgreeButTerms lines others
   pub shown : list_any shows_layout lines ≡ false

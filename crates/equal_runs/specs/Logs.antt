@@ -2,7 +2,7 @@
 use Rattle.std.specs.Prelude.{ℕ, ◌+◌, ◌≡◌, List, [], ◌∷◌, ◌++◌, length, Option, Some, None}
 use Rattle.layout_io.specs.Files.{File}
 use Rattle.extents.specs.Indices.{indices}
-use Rattle.line_grammar.specs.Sentences.{Sentence, View, Load, Copy, Relayout, Drop}
+use Rattle.line_grammar.specs.Sentences.{Sentence, View, Load, Copy, Relayout, Drop, Open}
 use Rattle.views.specs.Tallies.{Access, all_accesses, Read, Write}
 use Rattle.views.specs.Tables.{Table, leaf_count_of}
 use Rattle.worlds.specs.Worlds.{World, Entry, empty, found, added, replaced, removed}
@@ -42,11 +42,12 @@ abbrev pub work_logs : World → Option Work → List (Entry (List Access)) → 
 work_logs world None logs = logs
 work_logs world (Some work) logs = logged work.view (done_log (known work.view world.views >>= work.does)) logs
 
--- the accesses to each view after a line that takes one world to the next: a new view has none, that of a dataset has one write of each
--- value, and one that is laid out anew begins with one write of each
+-- the accesses to each view after a line that takes one world to the next: a new view has none, that of a dataset and that of a blob file
+-- have one write of each value, and one that is laid out anew begins with one write of each
 abbrev pub logs_after : World → Sentence → World → List (Entry (List Access)) → List (Entry (List Access))
 logs_after world (View new) next logs = added new.name [] logs
 logs_after world (Load new file) next logs = added new.name (fills_of (found new.name next.views)) logs
+logs_after world (Open name file) next logs = added name (fills_of (found name next.views)) logs
 logs_after world (Copy name target) next logs = logged target (writes_of (found target next.views)) (logged name (reads_of (found name world.views)) logs)
 logs_after world (Relayout name term) next logs = replaced name (writes_of (found name next.views)) logs
 logs_after world (Drop name) next logs = removed name logs

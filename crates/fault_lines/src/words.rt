@@ -1,13 +1,13 @@
 // The words of each fault.
 ghost use Rattle.std.specs.Prelude.{◌≡◌, [], ◌++◌, codes};
-ghost use Rattle.worlds.specs.FaultTexts.{fault_words, unknown_words, record_words, extents_words, mapping_words, kernel_words};
+ghost use Rattle.worlds.specs.FaultTexts.{fault_words, unknown_words, record_words, extents_words, mapping_words, kernel_words, file_words};
 ghost use Rattle.fault_lines.specs.Details.{detail_text, place_text};
 
 use crate::detail::{Detail, Words};
 use extents::BadExtents;
 use map_expr::BadMapping;
 use record_dim::{BadRecord, Text};
-use worlds::{BadKernel, CommandFault, UnknownName};
+use worlds::{BadFile, BadKernel, CommandFault, UnknownName};
 
 /// The words of a fault.
 pub fn words_of(fault: &CommandFault) -> Words<'_>
@@ -36,6 +36,7 @@ pub fn words_of(fault: &CommandFault) -> Words<'_>
         CommandFault::BadExtents(bad) => words("BadExtents ", Detail::Text(extents_words(*bad))),
         CommandFault::BadMapping(bad) => words("BadMapping ", Detail::Text(mapping_words(*bad))),
         CommandFault::BadKernel(bad) => words("BadKernel ", Detail::Text(kernel_words(*bad))),
+        CommandFault::BadFile(bad) => words("BadFile ", Detail::Text(file_words(*bad))),
         CommandFault::ShortRow { row, leaf } => words("ShortRow record ", place(*row, leaf)),
         CommandFault::Number { row, leaf } => words("Number record ", place(*row, leaf)),
         CommandFault::Range { row, leaf } => words("Range record ", place(*row, leaf)),
@@ -131,5 +132,17 @@ fn kernel_words(bad: BadKernel) -> &'static str
         BadKernel::Lanes => "Lanes",
         BadKernel::Wide => "Wide",
         BadKernel::Constant => "Constant",
+    }
+}
+
+fn file_words(bad: BadFile) -> &'static str
+    ensures { result.now ≡ file_words bad }
+{
+    match bad {
+        BadFile::Magic => "Magic",
+        BadFile::Header => "Header",
+        BadFile::Layout => "Layout",
+        BadFile::Length => "Length",
+        BadFile::Contents => "Contents",
     }
 }

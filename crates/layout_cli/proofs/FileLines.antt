@@ -23,7 +23,7 @@ use Rattle.layout_io.specs.Files.{file_of}
 use Rattle.line_tokens.specs.declared.spots.Spot.{Spot}
 use Rattle.line_grammar.specs.declared.token.Token.{Token}
 use Rattle.layout_io.specs.Decimal.{digits_text}
-use Rattle.layout_cli.proofs.NoFile.{loads, ReadsNone, gives, stops, line_none}
+use Rattle.layout_cli.proofs.NoFile.{reads_file, ReadsNone, gives, stops, line_none}
 use Rattle.line_grammar.specs.Sentences.{file_of as file_in}
 
 abbrev sentence_in : Result Sentence ℕ → Sentence
@@ -52,7 +52,7 @@ told_none : (spots : List Spot) (read : Result (Sentence × List Token) ℕ) (se
 told_none spots (Ok _) sentence (gives one rest none) is = subst (λ (s : Sentence). file_in s ≡ None) (ap sentence_in is) none
 told_none spots (Err _) sentence (stops left) is = absurd (cc)
 
-no_file : (dataset text : List ℕ) → loads (tokens_of text (spots_in text)) ≡ false → ReadsDataset dataset text
+no_file : (dataset text : List ℕ) → reads_file One (tokens_of text (spots_in text)) ≡ false → ReadsDataset dataset text
 unfolding line_of
 no_file dataset text other sentence is =
     let tokens = tokens_of text (spots_in text) in
@@ -66,8 +66,8 @@ view_first dataset rest =
     let room : length text + 1 ≡ suc (length text) = omega arith in
     let some : nat_eq (length text) 0 ≡ false = grind (arith, nat_tests) in
     no_file dataset text
-    (ap (λ r. loads (tokens_of text (spots_within r text 0 0))) room
-    ∙ ap (λ (none : Bool). loads (tokens_of text (spots_behind (if none || is_hash 118 then End else placed 0 (token_at text 0)) (spots_within (length text) text) 0))) some)
+    (ap (λ r. reads_file One (tokens_of text (spots_within r text 0 0))) room
+    ∙ ap (λ (none : Bool). reads_file One (tokens_of text (spots_behind (if none || is_hash 118 then End else placed 0 (token_at text 0)) (spots_within (length text) text) 0))) some)
 
 pub lines_read : (dataset : List ℕ) (n : ℕ) → AllByRecursion (ReadsDataset dataset) (generated_lines n)
 lines_read dataset n = (

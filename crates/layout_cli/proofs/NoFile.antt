@@ -21,14 +21,15 @@ use Rattle.schema_lang.specs.Kernels.{kernel_at}
 use Rattle.schema_lang.specs.Updates.{assignment_at, filter_at}
 use Rattle.line_grammar.specs.Sentences.{file_of as file_in}
 
--- whether the first of these tokens is the word of a load
-abbrev pub is_load : Option Command → Bool
-is_load (Some command.Load) = true
-is_load other = false
+-- whether the first of these tokens is the word of a command that reads a file
+abbrev pub is_reader : Option Command → Bool
+is_reader (Some command.Load) = true
+is_reader (Some command.Open) = true
+is_reader other = false
 
-abbrev pub loads : List Token → Bool
-loads [] = false
-loads (first ∷ rest) = is_load (command_of first)
+abbrev pub reads_file : Version → List Token → Bool
+reads_file version [] = false
+reads_file version (first ∷ rest) = is_reader (command_of version first)
 
 -- what is read is a line that reads no file, if it is one
 pub data ReadsNone : Result (Sentence × List Token) ℕ → Type 0 where
@@ -60,12 +61,13 @@ either test {read} {other} one two = record { reads = λ tokens. of_test (starts
   of_test true tokens = one.reads tokens
   of_test false tokens = two.reads tokens
 
-body_none : (version : Version) (n : ℕ) (c : Command) → is_load (Some c) ≡ false → NoneRead (body_at version n c)
+body_none : (version : Version) (n : ℕ) (c : Command) → is_reader (Some c) ≡ false → NoneRead (body_at version n c)
 unfolding body_at define_at mapping_at view_at assign_at update_at kernel_line_at reduce_at copy_at relayout_at bytes_at
 body_none version n command.Record other = next (item_at name_of) (λ name. next (fields_at n) (λ fields. given _ refl))
 body_none version n command.Mapping other = next (item_at name_of) (λ name. behind (is_sign Equals) (next (map_at version n) (λ map. given _ refl)))
 body_none version n command.View other = next (new_at version fixed_at n) (λ new. given _ refl)
 body_none version n command.Load other = absurd (cc)
+body_none version n command.Open other = absurd (cc)
 body_none version n command.Set other =
     next (item_at name_of) (λ name. next (bracket_list_at (item_at count_of)) (λ index. behind (is_sign Dot) (next path_at (λ path.
     behind (is_sign Equals) (next (expr_at n) (λ value. given _ refl))))))
@@ -86,11 +88,11 @@ ended_none (Ok x) (gives sentence [] none) = gives sentence [] none
 ended_none (Ok x) (gives sentence (token ∷ rest) none) = stops _
 ended_none (Err left) (stops _) = stops left
 
-command_none : (version : Version) (n : ℕ) (c : Option Command) (left : ℕ) (rest : List Token) → is_load c ≡ false → ReadsNone (item_or c left rest >>= λ x. body_at version n x.0 x.1)
+command_none : (version : Version) (n : ℕ) (c : Option Command) (left : ℕ) (rest : List Token) → is_reader c ≡ false → ReadsNone (item_or c left rest >>= λ x. body_at version n x.0 x.1)
 command_none version n None left rest other = stops left
 command_none version n (Some c) left rest other = (body_none version n c other).reads rest
 
-pub line_none : (version : Version) (n : ℕ) (tokens : List Token) → loads tokens ≡ false → ReadsNone (line_at version n tokens)
+pub line_none : (version : Version) (n : ℕ) (tokens : List Token) → reads_file version tokens ≡ false → ReadsNone (line_at version n tokens)
 unfolding line_at command_at
 line_none version n [] other = gives line.Blank [] refl
-line_none version n (first ∷ rest) other = ended_none _ (command_none version n (command_of first) (length (first ∷ rest)) rest other)
+line_none version n (first ∷ rest) other = ended_none _ (command_none version n (command_of version first) (length (first ∷ rest)) rest other)

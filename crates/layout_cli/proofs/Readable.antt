@@ -42,6 +42,8 @@ use Rattle.worlds.specs.Update.{updated}
 use Rattle.worlds.specs.Reduce.{reduction, reduced, counting, column}
 use Rattle.worlds.specs.Copy.{copy, relayout, with_rows, copied, laid_anew, all_read}
 use Rattle.worlds.specs.Kernel.{kernel_run, fit_kernel, fits, fit_leaf, run, is_wide, is_factor, is_constant, are_bounds, are_lanes}
+use Rattle.blob_file.specs.Opened.{opened, table_of}
+use Rattle.worlds.specs.Files.{save, bad_file, opened_beside, opened_table, open_view}
 use Rattle.worlds.specs.Show.{print, counts, heat, layout, showing, bytes, drop_view, small}
 use Rattle.worlds.specs.Tables.{made, resolved, room, shaped, zeros_of, blob_bits, live_bits}
 use Rattle.worlds.specs.Names.{nameless, leaf_of, bound, bound_filter, bound_set, bound_sets, each_once, leaves_of}
@@ -159,6 +161,21 @@ unfolding load loaded_table
 load_reads world new file dataset files is =
     next (next (named_reads world new) (λ whole.
     next (read_reads files file dataset is) (λ bytes. loaded_reads world.views whole new.words bytes))) (λ table. goes _)
+
+-- the table of a blob file that is there
+beside_reads : (views : List (Entry Table)) (bytes : List ℕ) → IsReadable (opened_beside views bytes)
+unfolding opened_beside
+beside_reads views bytes =
+    next (tested (nat_lt (2 ^ 28 + 8206) (length bytes)) TooBig) (λ short.
+    next (answered bad_file (opened bytes)) (λ saved.
+    next (tested (nat_lt (8 * 2 ^ 30) (live_bits views + blob_bits (table_of saved))) TooBig) (λ all. goes (table_of saved))))
+
+open_reads : (world : World) (name file blobs : List ℕ) (files : List File) → file_of files file ≡ Some blobs → IsReadable (open_view world name file files false)
+unfolding open_view opened_table
+open_reads world name file blobs files is =
+    next (next (free_reads name world.views) (λ unused.
+    next (room_reads world.views) (λ space.
+    next (read_reads files file blobs is) (λ bytes. beside_reads world.views bytes)))) (λ table. goes _)
 
 leaf_reads : (fields : Fields) (path : List PathStep) → IsReadable (leaf_of fields path)
 leaf_reads fields path = given _ _
@@ -287,6 +304,10 @@ bytes_reads : (table : Table) (blob : ℕ) → IsReadable (bytes table blob)
 unfolding bytes
 bytes_reads table blob = next (tested _ _) (λ there. next (small_reads table) (λ few. goes _))
 
+save_reads : (table : Table) → IsReadable (save table)
+unfolding save
+save_reads table = next (tested _ _) (λ short. goes _)
+
 drop_reads : (world : World) (name : List ℕ) → IsReadable (drop_view world name)
 unfolding drop_view
 drop_reads world name = next (known_reads name world.views) (λ table. goes _)
@@ -324,3 +345,5 @@ step_reads world (line.Relayout name term) files dataset is = relayout_reads wor
 step_reads world (line.Show kind name) files dataset is = view_works world name _ (showing_reads kind)
 step_reads world (line.Bytes name blob) files dataset is = view_works world name _ (λ table. bytes_reads table blob)
 step_reads world (line.Drop name) files dataset is = drop_reads world name
+step_reads world (line.Save name) files dataset is = view_works world name _ save_reads
+step_reads world (line.Open name file) files dataset is = open_reads world name file dataset files is

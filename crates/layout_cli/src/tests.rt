@@ -8,12 +8,12 @@ use script_runs::Status;
 use std::alloc::{AllocError as NoMemory, Global};
 use std::test::Fail;
 
-// A run: its words, the script `s` and the dataset `d.csv` on its shelf, how it ends and what it writes.
+// A run: its words, the script `s` and the file `d.csv` on its shelf, how it ends and what it writes.
 #[derive(Clone, Copy)]
 struct Run {
     words: &'static str,
     script: &'static str,
-    dataset: &'static str,
+    file: &'static str,
     status: Status,
     output: &'static str,
 }
@@ -25,7 +25,7 @@ record P { a:u8, b:i32 }
 load V : P [?] as aos(packed, row) from \"d.csv\"
 print V
 ",
-    dataset: "a,b\n1,-5\n255,7\n0,2147483647\n",
+    file: "a,b\n1,-5\n255,7\n0,2147483647\n",
     status: Status::Done,
     output: "a,b\n1,-5\n255,7\n0,2147483647\n",
 };
@@ -39,7 +39,7 @@ update V set a = 2 * i0 + i1 + 1
 update V set b = -a * 10
 print V
 ",
-    dataset: "",
+    file: "",
     status: Status::Done,
     output: "a,b\n1,-10\n2,-20\n3,-30\n4,-40\n",
 };
@@ -53,15 +53,68 @@ print V
 update V set a = 10 / a
 print V
 ",
-    dataset: "a\n5\n1\n0\n4\n",
+    file: "a\n5\n1\n0\n4\n",
     status: Status::CommandFault,
     output: "a\n5\n1\n0\n4\nline 4: DivideByZero record 2\n",
+};
+
+// A blob file of two records: the first bytes, the size of the header, its two lines, and the bytes of the blob.
+const SAVED_FILE: &str =
+    "LLAMAB1\n\x47\0\0\0record R { a : u8 , b : u16 }\nview V : R [ 2 ] as aos ( packed , row )\n\0\0\0\0\x02\x01";
+
+const SAVED: Run = Run {
+    words: "run s",
+    script: "\
+version 2
+record P { a:u8, b:u16 }
+view V : P [2] as aos(packed, row)
+set V[1].b = 258
+save V
+",
+    file: "",
+    status: Status::Done,
+    output: SAVED_FILE,
+};
+
+const OPENING: &str = "version 2\nopen V from \"d.csv\"\nprint V\n";
+
+const OPENED: Run = Run {
+    words: "run s",
+    script: OPENING,
+    file: SAVED_FILE,
+    status: Status::Done,
+    output: "a,b\n0,0\n0,258\n",
+};
+
+const CUT: Run = Run {
+    words: "run s",
+    script: OPENING,
+    file: "LLAMAB1\n\x47\0\0\0record R { a : u8 , b : u16 }\nview V : R [ 2 ] as aos ( packed , row )\n\0\0\0\0\x02",
+    status: Status::CommandFault,
+    output: "line 2: BadFile Length\n",
+};
+
+const UNMARKED: Run = Run {
+    words: "run s",
+    script: OPENING,
+    file: "\0LAMAB1\n\x47\0\0\0record R { a : u8 , b : u16 }\nview V : R [ 2 ] as aos ( packed , row )\n\0\0\0\0\x02\x01",
+    status: Status::CommandFault,
+    output: "line 2: BadFile Magic\n",
+};
+
+// A truth value of 2.
+const UNTRUE: Run = Run {
+    words: "run s",
+    script: OPENING,
+    file: "LLAMAB1\n\x3f\0\0\0record R { f : bool }\nview V : R [ 1 ] as aos ( packed , row )\n\x02",
+    status: Status::CommandFault,
+    output: "line 2: BadFile Contents\n",
 };
 
 const MISUSED: Run = Run {
     words: "run",
     script: "",
-    dataset: "",
+    file: "",
     status: Status::Usage,
     output: "usage: llama run FILE | llama gen N\n",
 };
@@ -70,7 +123,7 @@ const MISUSED: Run = Run {
 fn shelf_of(alloc: Global, run: &Run) -> Result<MemoryShelf, NoMemory> {
     let mut shelf = MemoryShelf::new(alloc);
     shelf.put("s", run.script.as_bytes())?;
-    shelf.put("d.csv", run.dataset.as_bytes())?;
+    shelf.put("d.csv", run.file.as_bytes())?;
     Ok(shelf)
 }
 
@@ -121,22 +174,29 @@ fn with_a_write_failing(
     Ok((status, sink))
 }
 
-// The size of a piece; how many reads the script of 81 bytes takes, with the one that finds its end; and how many these and the
-// dataset of 28 bytes take.
-const READS: [(usize, u64, u64); 3] = [(1, 82, 111), (3, 28, 39), (4096, 2, 4)];
+// A run, the size of a piece, how many reads its script takes, with the one that finds its end, and how many these and its file take:
+// the scripts have 81 and 38 bytes, the files 28 and 89.
+const READS: [(Run, usize, u64, u64); 6] = [
+    (LOADED, 1, 82, 111),
+    (LOADED, 3, 28, 39),
+    (LOADED, 4096, 2, 4),
+    (OPENED, 1, 39, 129),
+    (OPENED, 3, 14, 45),
+    (OPENED, 4096, 2, 4),
+];
 
 #[test]
 fn each_read_that_fails_is_told_by_its_file(rt: HostRuntime) -> Result<(), Fail> {
-    for (piece, script, all) in READS {
+    for (run, piece, script, all) in READS {
         assert!(rt; piece > 0);
         for call in 0..=all {
-            let (status, sink) = with_a_read_failing(rt.alloc(), &LOADED, piece, call)?;
+            let (status, sink) = with_a_read_failing(rt.alloc(), &run, piece, call)?;
             let (due, text) = if call < script {
                 (Status::SourceFault, "line 0: cannot read s\n")
             } else if call < all {
                 (Status::SourceFault, "line 2: cannot read d.csv\n")
             } else {
-                (LOADED.status, LOADED.output)
+                (run.status, run.output)
             };
             assert!(rt;
                 status == due && sink.taken() == text.as_bytes(),
@@ -148,11 +208,16 @@ fn each_read_that_fails_is_told_by_its_file(rt: HostRuntime) -> Result<(), Fail>
 }
 
 // A run, the size of a piece, and how many writes the run takes: `DIVIDED` writes 10 bytes and then 30, the others all at once.
-const WRITES: [(Run, usize, u64); 6] = [
+const WRITES: [(Run, usize, u64); 11] = [
     (COMPUTED, 1, 28),
     (COMPUTED, 7, 4),
     (DIVIDED, 1, 40),
     (DIVIDED, 7, 7),
+    (SAVED, 1, 89),
+    (SAVED, 7, 13),
+    (CUT, 7, 4),
+    (UNMARKED, 7, 4),
+    (UNTRUE, 7, 4),
     (MISUSED, 1, 36),
     (MISUSED, 7, 6),
 ];

@@ -27,7 +27,7 @@ use Rattle.line_grammar.specs.declared.line.MapWord.TheVariants as form
 use Rattle.line_grammar.specs.declared.version.Version.{Version}
 use Rattle.line_grammar.specs.Versions.{is_two}
 use Rattle.line_grammar.specs.Tokens.{name_of, number_of, count_of, string_of, type_of, integer_type_of, order_of, aos_form_of, soa_form_of, map_word, index_of, choice_of, or_of, and_of, comparison_of, sum_of, product_of, kernel_word_of, reduction_of, command_of}
-use Rattle.line_grammar.specs.Sentences.{Assignment, New, Sentence, Value, Blank, Define, Mapping, View, Load, Assign, Update, Kernel, Reduce, Count, Copy, Relayout, Show, Drop, Bytes}
+use Rattle.line_grammar.specs.Sentences.{Assignment, New, Sentence, Value, Blank, Define, Mapping, View, Load, Assign, Update, Kernel, Reduce, Count, Copy, Relayout, Show, Drop, Bytes, Save, Open}
 
 -- what is said of phrases: a list of tokens, and the value that it has
 abbrev pub Phrase : Type 0 → Type 1
@@ -304,10 +304,14 @@ IsBody version n (command.Show kind) = Joined IsName (λ view. IsNothing (Show k
 IsBody version n command.Drop = Joined IsName (λ view. IsNothing (Drop view))
 -- "bytes" NAME COUNT
 IsBody version n command.Bytes = Joined IsName (λ view. Joined IsCount (λ blob. IsNothing (Bytes view blob)))
+-- "save" NAME, from the second version on
+IsBody version n command.Save = Joined IsName (λ view. IsNothing (Save view))
+-- "open" NAME "from" STRING, from the second version on
+IsBody version n command.Open = Joined IsName (λ name. Behind (Word (codes "from")) (Joined IsString (λ file. IsNothing (Open name file))))
 
 -- line = nothing | command
 abbrev pub IsCommand : Version → ℕ → Phrase Sentence
-IsCommand version n = Joined (IsItem command_of) (IsBody version n)
+IsCommand version n = Joined (IsItem (command_of version)) (IsBody version n)
 
 abbrev pub IsLine : Version → ℕ → Phrase Sentence
 IsLine version n = IsEither (IsNothing Blank) (IsCommand version n)

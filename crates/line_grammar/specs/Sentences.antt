@@ -47,6 +47,8 @@ pub data Sentence : Type 0 where
   Show : ShowKind → List ℕ → Sentence
   Drop : List ℕ → Sentence
   Bytes : List ℕ → ℕ → Sentence
+  Save : List ℕ → Sentence
+  Open : List ℕ → List ℕ → Sentence
 
 -- the line that a value of the code stands for
 abbrev pub assignment_of : SetText → Assignment
@@ -71,6 +73,8 @@ sentence_of (line.Heat view) = Show show.Heat view
 sentence_of (line.Layout view) = Show show.Layout view
 sentence_of (line.Drop view) = Drop view
 sentence_of (line.Bytes view blob) = Bytes view blob
+sentence_of (line.SaveView view) = Save view
+sentence_of (line.OpenFile name file) = Open name file
 
 -- the depth of the deepest expression, and 0 where there is none
 abbrev pub deepest_set : List Assignment → ℕ
@@ -95,4 +99,5 @@ show_of _ = None
 -- the name of the file that a line reads
 abbrev pub file_of : Sentence → Option (List ℕ)
 file_of (Load new file) = Some file
+file_of (Open name file) = Some file
 file_of _ = None

@@ -29,6 +29,8 @@ use Rattle.line_grammar.specs.declared.line.MapWord.{MapWord}
 use Rattle.line_grammar.specs.declared.line.MapWord.TheVariants as form
 use Rattle.line_grammar.specs.declared.line.ReduceKind.{ReduceKind}
 use Rattle.line_grammar.specs.declared.line.ReduceKind.TheVariants as reduce
+use Rattle.line_grammar.specs.declared.version.Version.{Version}
+use Rattle.line_grammar.specs.declared.version.Version.TheVariants.{One, Two}
 
 -- the token of a kind, with its bytes and the bytes between its quotes
 abbrev pub kind_token : List ℕ → List ℕ → Option TokenKind → Token
@@ -178,9 +180,17 @@ reductions = reduce.Sum ∷ reduce.Min ∷ reduce.Max ∷ []
 abbrev pub reduction_of : Token → Option ReduceKind
 reduction_of = meaning reduction_word reductions
 
-abbrev pub commands : List Command
-commands = command.Record ∷ command.Mapping ∷ command.View ∷ command.Load ∷ command.Set ∷ command.Update ∷ command.Kernel
+abbrev pub first_commands : List Command
+first_commands = command.Record ∷ command.Mapping ∷ command.View ∷ command.Load ∷ command.Set ∷ command.Update ∷ command.Kernel
     ∷ command.Reduce ∷ command.Copy ∷ command.Relayout ∷ (map command.Show show_kinds ++ command.Drop ∷ command.Bytes ∷ [])
 
-abbrev pub command_of : Token → Option Command
-command_of = meaning command_word commands
+-- those that came with the second version
+abbrev pub later_commands : Version → List Command
+later_commands One = []
+later_commands Two = command.Save ∷ command.Open ∷ []
+
+abbrev pub commands : Version → List Command
+commands version = first_commands ++ later_commands version
+
+abbrev pub command_of : Version → Token → Option Command
+command_of version = meaning command_word (commands version)

@@ -108,6 +108,8 @@ command_word command.Relayout = codes "relayout"
 command_word (command.Show kind) = show_word kind
 command_word command.Drop = codes "drop"
 command_word command.Bytes = codes "bytes"
+command_word command.Save = codes "save"
+command_word command.Open = codes "open"
 
 -- the sign or the word of an operator
 abbrev pub operator : BinOp → Token

@@ -3,8 +3,9 @@ ghost use Rattle.std.specs.Prelude.{◌≡◌, bytes_eq};
 ghost use Rattle.std.specs.List.{list_any};
 ghost use Rattle.line_grammar.specs.Tokens.{aos_form_of, and_of, choice_of, command_of, comparison_of, count_of, index_named, index_of, integer_type_of, is_same, kernel_word_of, map_word, meaning, name_of, number_of, operator_in, or_of, order_of, product_of, reduction_of, reserved, soa_form_of, string_of, sum_of, symbol_token, type_of};
 ghost use Rattle.line_grammar.specs.Words.{operator};
+ghost use Rattle.line_grammar.specs.declared.version.Version.TheVariants.{One, Two};
 
-use crate::words::{COMMANDS, Spelled, listed};
+use crate::words::{COMMANDS, FIRST_COMMANDS, Spelled, listed};
 use crate::{Command, FileName, KernelWord, MapWord, ReduceKind, Token};
 use expr_lang::BinOp;
 use extents::Order;
@@ -237,13 +238,27 @@ impl Item for ReduceKind {
     }
 }
 
+/// The word of a command of the second version.
 impl Item for Command {
     type Value = Command;
 
-    ghost value_of = { command_of };
+    ghost value_of = { command_of Two };
 
     fn of(token: &Token) -> Option<Command> {
         spelled(&COMMANDS, token)
+    }
+}
+
+/// The word of a command of the first version.
+pub struct FirstCommand;
+
+impl Item for FirstCommand {
+    type Value = Command;
+
+    ghost value_of = { command_of One };
+
+    fn of(token: &Token) -> Option<Command> {
+        spelled(&COMMANDS[..FIRST_COMMANDS], token)
     }
 }
 

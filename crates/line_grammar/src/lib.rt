@@ -11,8 +11,8 @@ mod words;
 
 pub use file_name::FileName;
 pub use items::{
-    Choice, Comparison, Conjunction, Count, Disjunction, Index, IntegerType, Item, Number, Product,
-    Sum, Symbol, map_word, operator,
+    Choice, Comparison, Conjunction, Count, Disjunction, FirstCommand, Index, IntegerType, Item,
+    Number, Product, Sum, Symbol, map_word, operator,
 };
 pub use line::{
     Command, ExtentWords, IndexWords, KernelText, KernelWord, Line, MapWord, ReduceKind, SetList,

@@ -100,15 +100,22 @@ pub enum Line {
         view: Name,
         blob: u32,
     },
+    /// The view as the bytes of a blob file.
+    SaveView(Name),
+    /// A view of the bytes of the blob file `file`.
+    OpenFile {
+        name: Name,
+        file: FileName,
+    },
 }
 
 impl Line {
-    /// The name of the file that the line reads: of its dataset, where it is a load.
+    /// The name of the file that the line reads: that of a dataset or of a blob file.
     pub fn file(&self) -> Option<&FileName>
         ensures { option_map (λ file. file.now) result ≡ file_of (sentence_of self.now) }
     {
         match self {
-            Line::Load { file, .. } => Some(file),
+            Line::Load { file, .. } | Line::OpenFile { file, .. } => Some(file),
             _ => None,
         }
     }
@@ -197,6 +204,8 @@ pub enum Command {
     Show(ShowKind),
     Drop,
     Bytes,
+    Save,
+    Open,
 }
 
 /// The word that begins a form of a mapping.

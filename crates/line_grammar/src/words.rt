@@ -144,8 +144,11 @@ impl Spelled for ShowKind {
     }
 }
 
-// The words that begin a line.
-pub(crate) const COMMANDS: [Command; 16] = [
+// How many of the words that begin a line the first version has.
+pub(crate) const FIRST_COMMANDS: usize = 16;
+
+// The words that begin a line, those of the first version in front.
+pub(crate) const COMMANDS: [Command; 18] = [
     Command::Record,
     Command::Mapping,
     Command::View,
@@ -162,6 +165,8 @@ pub(crate) const COMMANDS: [Command; 16] = [
     Command::Show(ShowKind::Layout),
     Command::Drop,
     Command::Bytes,
+    Command::Save,
+    Command::Open,
 ];
 
 impl Spelled for Command {
@@ -182,6 +187,8 @@ impl Spelled for Command {
             Command::Show(kind) => kind.word(),
             Command::Drop => "drop",
             Command::Bytes => "bytes",
+            Command::Save => "save",
+            Command::Open => "open",
         }
     }
 }

@@ -200,7 +200,7 @@ kernel_word_back word.Greatest = refl
 kernel_word_back word.CountWhere = refl
 
 -- a command with a word in front
-command_line : (version : Version) (c : Command) (text : List ℕ) (rest : List Token) (s : Sentence) → command_of (Word text) ≡ Some c → IsBody version 32 c rest s → IsLine version 32 (Word text ∷ rest) s
+command_line : (version : Version) (c : Command) (text : List ℕ) (rest : List Token) (s : Sentence) → command_of version (Word text) ≡ Some c → IsBody version 32 c rest s → IsLine version 32 (Word text ∷ rest) s
 command_line version c text rest s e h = inr (join (Word text ∷ []) rest c s (Word text, refl, e) h)
 
 name_in : (name : List ℕ) → KeptName name → IsSpelled (Word name)

@@ -10,7 +10,7 @@ use Rattle.line_grammar.specs.declared.version.Version.{Version}
 use Rattle.line_grammar.specs.declared.line.Command.{Command}
 use Rattle.line_grammar.specs.declared.line.Command.TheVariants as command
 use Rattle.line_grammar.specs.declared.line.KernelWord.{KernelWord}
-use Rattle.line_grammar.specs.Sentences.{Assignment, Sentence, Blank, Define, Mapping, View, Load, Assign, Update, Kernel, Reduce, Count, Copy, Relayout, Show, Drop, Bytes}
+use Rattle.line_grammar.specs.Sentences.{Assignment, Sentence, Blank, Define, Mapping, View, Load, Assign, Update, Kernel, Reduce, Count, Copy, Relayout, Show, Drop, Bytes, Save, Open}
 use Rattle.line_grammar.specs.Grammar.{Phrase, IsName, IsMore, IsListed, IsAssignment, IsFilter, IsKernel, IsMode, IsNew, IsBody, IsLine}
 use Rattle.line_grammar.specs.Words.{reduction_word, show_word, command_word}
 use Rattle.line_writer.specs.Canonical.{count_token, bracket_list, extent_tokens, path_tokens, mode_tokens, new_tokens, line_tokens}
@@ -65,6 +65,13 @@ bytes_body version n = joined_gives {Q = IsBehind version (codes "bytes")} name_
     joined_gives {Q = λ xs v. IsBehind version (codes "bytes") (front ++ xs) v} count_gives (λ back blob i' same' s'.
     nothing_gives {Q = λ xs v. IsBehind version (codes "bytes") (front ++ (back ++ xs)) v} (Bytes view blob)
     (inl (ap (λ k. Word (codes "bytes") ∷ Word view ∷ (k ++ [])) same' ∙ ap (λ k. Word (codes "bytes") ∷ (k ++ (back ++ []))) same))))
+
+open_body : (version : Version) (n : ℕ) → Gives (IsBody version n command.Open) (IsBehind version (codes "open"))
+open_body version n = joined_gives {Q = IsBehind version (codes "open")} name_gives (λ front name i same s. behind_gives {Q = λ xs v. IsBehind version (codes "open") (front ++ xs) v} (Word (codes "from")) sound
+    (joined_gives {Q = λ xs v. IsBehind version (codes "open") (front ++ (Word (codes "from") ∷ xs)) v} string_gives (λ back file i' same' s'.
+    nothing_gives {Q = λ xs v. IsBehind version (codes "open") (front ++ (Word (codes "from") ∷ (back ++ xs))) v} (Open name file)
+    (inl (ap (λ k. Word (codes "open") ∷ Word name ∷ Word (codes "from") ∷ k) (same' ∙ sym (append-nil back))
+    ∙ ap (λ k. Word (codes "open") ∷ (k ++ (Word (codes "from") ∷ (back ++ [])))) same)))))
 
 -- what makes a view
 mode_gives : Gives IsMode (IsWritten mode_tokens)
@@ -177,6 +184,8 @@ body_gives version n command.Relayout = relayout_body version n
 body_gives version n (command.Show kind) = named_body version (show_word kind) (Show kind) (λ view. refl)
 body_gives version n command.Drop = named_body version (codes "drop") Drop (λ view. refl)
 body_gives version n command.Bytes = bytes_body version n
+body_gives version n command.Save = named_body version (codes "save") Save (λ view. refl)
+body_gives version n command.Open = open_body version n
 
 done_along : (version : Version) (xs ys : List Token) (v : Sentence) → xs ≡ ys → IsDone version xs v → IsDone version ys v
 done_along version xs ys v e (inl h) = inl (h ∙ e)
@@ -184,4 +193,4 @@ done_along version xs ys v e (inr h) = inr h
 
 pub line_gives : (version : Version) (n : ℕ) → Gives (IsLine version n) (IsDone version)
 line_gives version n = either_gives (nothing_gives {Q = IsDone version} Blank (inl refl))
-    (joined_gives {Q = IsDone version} command_gives (λ front c i same s. gives_also (body_gives version n c) (λ xs v i s h. done_along version _ _ v (ap (λ k. k ++ xs) same) h)))
+    (joined_gives {Q = IsDone version} (command_gives version) (λ front c i same s. gives_also (body_gives version n c) (λ xs v i s h. done_along version _ _ v (ap (λ k. k ++ xs) same) h)))

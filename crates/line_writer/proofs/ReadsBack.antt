@@ -49,7 +49,7 @@ digits_begin : (ds : List ℕ) → 0 < length ds → list_all is_ascii_digit ds 
 digits_begin [] some all = absurd (omega arith)
 digits_begin (d ∷ ds) some all = (both _ _ all).0
 
-decimal_spells : (n : ℕ) → n < 2 ^ 127 → Spells (kind.Number (pos n)) (decimal n)
+pub decimal_spells : (n : ℕ) → n < 2 ^ 127 → Spells (kind.Number (pos n)) (decimal n)
 decimal_spells n small =
     let numeral = decimal_is_IsNumeral_wide n (omega arith) in
     let all = digits_pass (decimal n) numeral.0.1 in
@@ -160,22 +160,22 @@ each_spelled : (brackets : ℕ) (tokens : List Token) → AreSpelled brackets (m
 each_spelled brackets [] h = tt
 each_spelled brackets (token ∷ tokens) h = (h.0, each_spelled (brackets_after (written token).kind brackets) tokens h.2)
 
-joined_reads : (version : Version) (tokens : List Token) (sentence : Sentence) → AreSpelled 0 (map written tokens) → IsSentence version tokens sentence → Reads version (joined (map written tokens)) sentence
+pub joined_reads : (version : Version) (tokens : List Token) (sentence : Sentence) → AreSpelled 0 (map written tokens) → IsSentence version tokens sentence → Reads version (joined (map written tokens)) sentence
 joined_reads version tokens sentence spelled is =
     let read = joined_read (map written tokens) spelled in
     let same = spots_back (joined (map written tokens)) 0 0 read.spots tokens read.read read.kinds read.bytes (each_spelled 0 tokens spelled) in
     record { spots = read.spots; tokens = read.read; line = rw same is }
 
 -- the canonical tokens of a line are spelled, and are read as this line
-record IsRead (version : Version) (sentence : Sentence) : Type 0 where
-  spelled : AreSpelled 0 (map written (line_tokens sentence))
-  line : IsSentence version (line_tokens sentence) sentence
+pub record IsRead (version : Version) (sentence : Sentence) : Type 0 where
+  pub spelled : AreSpelled 0 (map written (line_tokens sentence))
+  pub line : IsSentence version (line_tokens sentence) sentence
 
 done_read : (version : Version) (n : ℕ) (tokens : List Token) (sentence : Sentence) → IsLine version n tokens sentence → AreSpelled 0 (map written tokens) → deepest sentence ≤ 32 → IsDone version tokens sentence → IsRead version sentence
 done_read version n tokens sentence is spelled small (inl same) = record { spelled = rw same spelled; line = (n, rw same is) }
 done_read version n tokens sentence is spelled small (inr kept) = let k = kept small in record { spelled = fits_alone (line_tokens sentence) k.0; line = (32, k.1) }
 
-tokens_read : (version : Version) (text : List ℕ) (sentence : Sentence) → Reads version text sentence → deepest sentence ≤ 32 → IsRead version sentence
+pub tokens_read : (version : Version) (text : List ℕ) (sentence : Sentence) → Reads version text sentence → deepest sentence ≤ 32 → IsRead version sentence
 tokens_read version text sentence h small =
     let tokens : List Token = tokens_of text h.spots in
     let done = (line_gives version h.line.0).at tokens sentence h.line.1 (spots_clean text 0 0 h.spots h.tokens) in

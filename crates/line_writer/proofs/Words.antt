@@ -4,6 +4,7 @@ use Rattle.std.proofs.lemmas.Slice.Eq.{bytes_eq-Decides}
 use Rattle.std.specs.List.{list_any}
 use Rattle.line_grammar.specs.declared.token.Token.{Token}
 use Rattle.line_grammar.specs.declared.token.Token.TheVariants.{Word, Number, Text, Sign, Bad}
+use Rattle.line_grammar.specs.declared.version.Version.{Version}
 use Rattle.line_grammar.specs.declared.line.MapWord.{MapWord}
 use Rattle.line_grammar.specs.Tokens.{listed, meaning, reserved, name_of, count_of, string_of, type_of, integer_type_of, integer_types, leaf_types, orders, order_of, aos_forms, aos_form_of, soa_forms, soa_form_of, map_words, map_word, kernel_word_of, kernel_words, reduction_of, reductions, command_of, commands}
 use Rattle.line_grammar.specs.Words.{type_word, order_word, aos_word, soa_word, form_word, kernel_word, reduction_word, command_word}
@@ -61,8 +62,8 @@ soa_form_gives = one_token soa_form_of (λ v. Word (soa_word v)) refl (meant_wor
 pub reduction_gives : IsWordPhrase reduction_of reduction_word
 reduction_gives = one_token reduction_of (λ v. Word (reduction_word v)) refl (meant_word reduction_word reductions)
 
-pub command_gives : IsWordPhrase command_of command_word
-command_gives = one_token command_of (λ v. Word (command_word v)) refl (meant_word command_word commands)
+pub command_gives : (version : Version) → IsWordPhrase (command_of version) command_word
+command_gives version = one_token (command_of version) (λ v. Word (command_word v)) refl (meant_word command_word (commands version))
 
 pub kernel_word_gives : IsWordPhrase kernel_word_of kernel_word
 kernel_word_gives = one_token kernel_word_of (λ v. Word (kernel_word v)) refl (meant_word kernel_word kernel_words)

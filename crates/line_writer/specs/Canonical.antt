@@ -22,7 +22,7 @@ use Rattle.line_grammar.specs.declared.line.KernelText.TheVariants as kernel
 use Rattle.line_grammar.specs.declared.line.KernelWord.TheVariants as worded
 use Rattle.line_grammar.specs.declared.line.MapWord.TheVariants as map_form
 use Rattle.line_grammar.specs.Words.{type_word, order_word, aos_word, soa_word, form_word, kernel_word, reduction_word, command_word, operator}
-use Rattle.line_grammar.specs.Sentences.{Assignment, New, Sentence, Value, Blank, Define, Mapping, View, Load, Assign, Update, Kernel, Reduce, Count, Copy, Relayout, Show, Drop, Bytes}
+use Rattle.line_grammar.specs.Sentences.{Assignment, New, Sentence, Value, Blank, Define, Mapping, View, Load, Assign, Update, Kernel, Reduce, Count, Copy, Relayout, Show, Drop, Bytes, Save, Open}
 
 -- a number; the minus of a negative one is a token of its own
 abbrev pub number_tokens : ℤ → List Token
@@ -196,3 +196,5 @@ line_tokens (Relayout view expr) = Word (command_word command.Relayout) ∷ Word
 line_tokens (Show kind view) = Word (command_word (command.Show kind)) ∷ Word view ∷ []
 line_tokens (Drop view) = Word (command_word command.Drop) ∷ Word view ∷ []
 line_tokens (Bytes view blob) = Word (command_word command.Bytes) ∷ Word view ∷ count_token blob ∷ []
+line_tokens (Save view) = Word (command_word command.Save) ∷ Word view ∷ []
+line_tokens (Open name file) = Word (command_word command.Open) ∷ Word name ∷ Word (codes "from") ∷ Text file ∷ []

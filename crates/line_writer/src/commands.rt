@@ -270,3 +270,10 @@ pub(crate) fn write_bytes(text: &mut Text, view: &Name, blob: u32) -> Result<(),
     write_named(text, Command::Bytes, view)?;
     push_count(text, blob)
 }
+
+pub(crate) fn write_open(text: &mut Text, name: &Name, file: &FileName) -> Result<(), NoMemory>
+    ensures { OnOk result (text.new ≡ behind (text.old ++ command_word Command.Open) (Word name.now ∷ Word (codes "from") ∷ Quoted file.now ∷ [])) }
+{
+    write_named(text, Command::Open, name)?;
+    write_file(text, file)
+}

@@ -6,7 +6,8 @@ ghost use Rattle.line_writer.specs.Texts.{canonical};
 
 use crate::commands::{
     write_assign, write_bytes, write_copy, write_count, write_define, write_kernel_line,
-    write_load, write_mapping, write_named, write_reduce, write_relayout, write_update, write_view,
+    write_load, write_mapping, write_named, write_open, write_reduce, write_relayout, write_update,
+    write_view,
 };
 use line_grammar::{Command, Line};
 use record_dim::Text;
@@ -69,6 +70,8 @@ fn write_command(text: &mut Text, line: &Line) -> Result<(), NoMemory>
         Line::Relayout { view, expr } => write_relayout(text, view, expr),
         Line::Drop(view) => write_named(text, Command::Drop, view),
         Line::Bytes { view, blob } => write_bytes(text, view, *blob),
+        Line::SaveView(view) => write_named(text, Command::Save, view),
+        Line::OpenFile { name, file } => write_open(text, name, file),
         // What is left shows something, or is blank.
         _ => match line.shown() {
             Some((kind, view)) => write_named(text, Command::Show(kind), &view),

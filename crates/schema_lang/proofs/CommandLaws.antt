@@ -22,7 +22,7 @@ use Rattle.line_grammar.specs.declared.line.ReduceKind.TheVariants as reduce
 use Rattle.line_grammar.specs.declared.token.Token.{Token}
 use Rattle.line_grammar.specs.declared.token.Token.TheVariants.{Word, Text, Sign as Signed}
 use Rattle.line_grammar.specs.declared.version.Version.{Version}
-use Rattle.line_grammar.specs.Sentences.{Blank, Define, Mapping, View, Load, Assign, Update, Kernel, Reduce, Count, Copy, Relayout, Show, Drop, Bytes}
+use Rattle.line_grammar.specs.Sentences.{Blank, Define, Mapping, View, Load, Assign, Update, Kernel, Reduce, Count, Copy, Relayout, Show, Drop, Bytes, Save, Open}
 use Rattle.line_grammar.specs.Tokens.{is_sign, is_word, number_of, string_of, comparison_of, kernel_word_of, reduction_of, command_of}
 use Rattle.line_grammar.specs.Grammar.{IsAssignment, IsBody, IsCommand, IsConst, IsFilter, IsKernel, IsKernelInside, IsLine, IsMode, IsNew}
 use Rattle.line_phrases.specs.Constants.{const_at}
@@ -36,7 +36,7 @@ use Rattle.line_phrases.specs.NestingLaws.{behind_kept, expr_alike, expr_wider, 
 use Rattle.line_phrases.specs.PathsLaws.{path_parses}
 use Rattle.schema_lang.specs.Kernels.{axpy_at, clamp_at, count_where_at, inside_at, kernel_at}
 use Rattle.schema_lang.specs.Updates.{assignment_at, filter_at}
-use Rattle.schema_lang.specs.Bodies.{any_token, assign_at, body_at, bytes_at, command_at, copy_at, define_at, kernel_line_at, line_at, load_at, mapping_at, mode_at, new_at, reduce_at, relayout_at, update_at, view_at}
+use Rattle.schema_lang.specs.Bodies.{any_token, assign_at, body_at, bytes_at, command_at, copy_at, define_at, kernel_line_at, line_at, load_at, mapping_at, mode_at, new_at, open_at, reduce_at, relayout_at, update_at, view_at}
 use Rattle.schema_lang.proofs.Assignments.{AfterFilter, assignment_parses, filter_parses}
 
 -- kernels
@@ -106,7 +106,7 @@ new_parses version p n = then_parses Always name_parses (λ name. behind_parses 
     (λ a ys v rest h after. behind_starts (is_word (codes "wrap")) (Word (codes "as")) false refl _ ys v rest h)) (anything _ _)) (anything _ _))) (anything _ _)
 
 body_parses : (version : Version) (n : ℕ) (c : Command) → Parses (IsBody version n c) (body_at version n c) AtEnd
-unfolding body_at define_at mapping_at view_at load_at assign_at update_at kernel_line_at reduce_at copy_at relayout_at bytes_at
+unfolding body_at define_at mapping_at view_at load_at assign_at update_at kernel_line_at reduce_at copy_at relayout_at bytes_at open_at
 body_parses version n command.Record = then_parses Always name_parses (λ name. then_parses Always (fields_parses n) (λ fields. give_parses AtEnd (Define name (Record fields))) (anything _ _)) (anything _ _)
 body_parses version n command.Mapping = then_parses Always name_parses (λ name. behind_parses (exact_sign Equals)
     (then_parses (Not OpenParen) (map_parses version n) (λ map. give_parses AtEnd (Mapping name map)) (ended_after (Not OpenParen) (Mapping name) refl))) (anything _ _)
@@ -132,20 +132,22 @@ body_parses version n command.Relayout = then_parses Always name_parses (λ view
 body_parses version n (command.Show kind) = then_parses Always name_parses (λ view. give_parses AtEnd (Show kind view)) (anything _ _)
 body_parses version n command.Drop = then_parses Always name_parses (λ view. give_parses AtEnd (Drop view)) (anything _ _)
 body_parses version n command.Bytes = then_parses Always name_parses (λ view. then_parses Always count_parses (λ blob. give_parses AtEnd (Bytes view blob)) (anything _ _)) (anything _ _)
+body_parses version n command.Save = then_parses Always name_parses (λ view. give_parses AtEnd (Save view)) (anything _ _)
+body_parses version n command.Open = then_parses Always name_parses (λ name. behind_parses (exact_word (codes "from")) (then_parses Always string_parses (λ file. give_parses AtEnd (Open name file)) (anything _ _))) (anything _ _)
 
-command_item : Parses (IsItem command_of) (item_at command_of) Always
-command_item = item_parses command_of (Word (codes "drop")) command.Drop refl
+command_item : (version : Version) → Parses (IsItem (command_of version)) (item_at (command_of version)) Always
+command_item version = item_parses (command_of version) (Word (codes "drop")) command.Drop refl
 
 command_parses : (version : Version) (n : ℕ) → Parses (IsCommand version n) (command_at version n) AtEnd
 unfolding command_at
-command_parses version n = then_parses Always command_item (body_parses version n) (anything _ _)
+command_parses version n = then_parses Always (command_item version) (body_parses version n) (anything _ _)
 
 pub line_parses : (version : Version) (n : ℕ) → Parses (IsLine version n) (line_at version n) AtEnd
 unfolding line_at
 line_parses version n = ended_parses
     (said_otherwise {Fewer = AtEnd}
     (either_parses any_token (command_parses version n) (give_parses AtEnd Blank)
-    (λ xs v rest h _. joined_starts any_token true _ _ (item_starts any_token command_of true (λ token c e. refl)) xs v rest h)
+    (λ xs v rest h _. joined_starts any_token true _ _ (item_starts any_token (command_of version) true (λ token c e. refl)) xs v rest h)
     (λ xs v rest h after. rw (h.0, after) refl))
     (λ xs v h. elim h [ inl c ↦ inr c | inr b ↦ inl b ]) (λ xs v h. elim h [ inl b ↦ inr b | inr c ↦ inl c ]) (λ rest h. h))
     refl
@@ -176,6 +178,8 @@ body_wider version n m le command.Relayout = joined_wider (same_wider _) (λ vie
 body_wider version n m le (command.Show kind) = same_wider _
 body_wider version n m le command.Drop = same_wider _
 body_wider version n m le command.Bytes = same_wider _
+body_wider version n m le command.Save = same_wider _
+body_wider version n m le command.Open = same_wider _
 
 line_wider : (version : Version) (n m : ℕ) → n ≤ m → Wider (IsLine version n) (IsLine version m)
 line_wider version n m le = either_wider (same_wider _) (joined_wider (same_wider _) (body_wider version n m le))
@@ -212,10 +216,12 @@ body_alike version n m le command.Relayout = then_alike n (no_longer name_parses
 body_alike version n m le (command.Show kind) = same_alike n _
 body_alike version n m le command.Drop = same_alike n _
 body_alike version n m le command.Bytes = same_alike n _
+body_alike version n m le command.Save = same_alike n _
+body_alike version n m le command.Open = same_alike n _
 
 line_alike : (version : Version) (n m : ℕ) → n ≤ m → Alike n (line_at version n) (line_at version m)
 unfolding line_at command_at
-line_alike version n m le = ended_alike n (either_alike n any_token (then_alike n (no_longer command_item) (same_alike n _) (body_alike version n m le)) (same_alike n (give_at Blank)))
+line_alike version n m le = ended_alike n (either_alike n any_token (then_alike n (no_longer (command_item version)) (same_alike n _) (body_alike version n m le)) (same_alike n (give_at Blank)))
 
 pub lines : (version : Version) → Nests (IsLine version) (line_at version) AtEnd
 lines version = record { parses = line_parses version; last = refl; wider = line_wider version; alike = line_alike version }

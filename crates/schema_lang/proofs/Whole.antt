@@ -13,7 +13,7 @@ use Rattle.line_grammar.specs.declared.line.Line.{Line}
 use Rattle.line_grammar.specs.declared.line.Line.TheVariants as line
 use Rattle.line_grammar.specs.declared.token.Token.{Token}
 use Rattle.line_grammar.specs.declared.version.Version.{Version}
-use Rattle.line_grammar.specs.Sentences.{Sentence, sentence_of, Blank, Define, Mapping, View, Load, Assign, Update, Kernel, Reduce, Count, Copy, Relayout, Show, Drop, Bytes}
+use Rattle.line_grammar.specs.Sentences.{Sentence, sentence_of, Blank, Define, Mapping, View, Load, Assign, Update, Kernel, Reduce, Count, Copy, Relayout, Show, Drop, Bytes, Save, Open}
 use Rattle.line_grammar.specs.Tokens.{is_sign, is_word, name_of, count_of, string_of, reduction_of, command_of}
 use Rattle.line_phrases.specs.Exprs.{expr_at}
 use Rattle.line_phrases.specs.Fields.{fields_at}
@@ -22,7 +22,7 @@ use Rattle.line_phrases.specs.Maps.{map_at}
 use Rattle.line_phrases.specs.Paths.{path_at}
 use Rattle.schema_lang.specs.Kernels.{kernel_at}
 use Rattle.schema_lang.specs.Updates.{assignment_at, filter_at}
-use Rattle.schema_lang.specs.Bodies.{any_token, assign_at, body_at, bytes_at, command_at, copy_at, define_at, kernel_line_at, line_at, load_at, mapping_at, new_at, reduce_at, relayout_at, update_at, view_at}
+use Rattle.schema_lang.specs.Bodies.{any_token, assign_at, body_at, bytes_at, command_at, copy_at, define_at, kernel_line_at, line_at, load_at, mapping_at, new_at, open_at, reduce_at, relayout_at, update_at, view_at}
 use Rattle.schema_lang.specs.Parsing.{IsWhole}
 
 -- the record that a line defines has fields
@@ -75,7 +75,7 @@ each_ended {read = read} each = record { all = λ tokens v rest e. of tokens v r
     of tokens v rest (Err n) is e = absurd cc
 
 body_whole : (version : Version) (n : ℕ) (word : Command) → Each (body_at version n word)
-unfolding body_at define_at mapping_at view_at load_at assign_at update_at kernel_line_at reduce_at copy_at relayout_at bytes_at
+unfolding body_at define_at mapping_at view_at load_at assign_at update_at kernel_line_at reduce_at copy_at relayout_at bytes_at open_at
 body_whole version n command.Record = each_then (item_at name_of) (λ name. each_then (fields_at n) (λ fields. each_give (Define name (Record fields)) tt))
 body_whole version n command.Mapping = each_then (item_at name_of) (λ name. each_behind (is_sign Equals) (each_then (map_at version n) (λ map. each_give (Mapping name map) tt)))
 body_whole version n command.View = each_then (new_at version fixed_at n) (λ new. each_give (View new) tt)
@@ -94,10 +94,12 @@ body_whole version n command.Relayout = each_then (item_at name_of) (λ view. ea
 body_whole version n (command.Show kind) = each_then (item_at name_of) (λ view. each_give (Show kind view) tt)
 body_whole version n command.Drop = each_then (item_at name_of) (λ view. each_give (Drop view) tt)
 body_whole version n command.Bytes = each_then (item_at name_of) (λ view. each_then (item_at count_of) (λ blob. each_give (Bytes view blob) tt))
+body_whole version n command.Save = each_then (item_at name_of) (λ view. each_give (Save view) tt)
+body_whole version n command.Open = each_then (item_at name_of) (λ name. each_behind (is_word (codes "from")) (each_then (item_at string_of) (λ file. each_give (Open name file) tt)))
 
 line_whole : (version : Version) (n : ℕ) → Each (line_at version n)
 unfolding line_at command_at
-line_whole version n = each_ended (each_either any_token (each_then (item_at command_of) (body_whole version n)) (each_give Blank tt))
+line_whole version n = each_ended (each_either any_token (each_then (item_at (command_of version)) (body_whole version n)) (each_give Blank tt))
 
 record_whole : (held : Dim) → IsTreeOfFields (tree_of held) → IsRecord held
 record_whole (dim.Leaf kind) h = h

@@ -10,7 +10,7 @@ use Rattle.line_grammar.specs.declared.line.Command.{Command}
 use Rattle.line_grammar.specs.declared.line.Command.TheVariants as command
 use Rattle.line_grammar.specs.declared.token.Token.{Token}
 use Rattle.line_grammar.specs.declared.version.Version.{Version}
-use Rattle.line_grammar.specs.Sentences.{New, Sentence, Blank, Define, Mapping, View, Load, Assign, Update, Kernel, Reduce, Count, Copy, Relayout, Show, Drop, Bytes}
+use Rattle.line_grammar.specs.Sentences.{New, Sentence, Blank, Define, Mapping, View, Load, Assign, Update, Kernel, Reduce, Count, Copy, Relayout, Show, Drop, Bytes, Save, Open}
 use Rattle.line_grammar.specs.Tokens.{is_sign, is_word, name_of, count_of, string_of, reduction_of, command_of}
 use Rattle.line_phrases.specs.Exprs.{expr_at}
 use Rattle.line_phrases.specs.Fields.{fields_at}
@@ -75,6 +75,9 @@ relayout_at version n = then_at (item_at name_of) (λ view. behind_at (is_word (
 unfoldable pub bytes_at : List Token → Result (Sentence × List Token) ℕ
 bytes_at = then_at (item_at name_of) (λ view. then_at (item_at count_of) (λ blob. give_at (Bytes view blob)))
 
+unfoldable pub open_at : List Token → Result (Sentence × List Token) ℕ
+open_at = then_at (item_at name_of) (λ name. behind_at (is_word (codes "from")) (then_at (item_at string_of) (λ file. give_at (Open name file))))
+
 -- what stands behind the word of a command
 unfoldable pub body_at : Version → ℕ → Command → List Token → Result (Sentence × List Token) ℕ
 body_at version n command.Record = define_at n
@@ -90,9 +93,11 @@ body_at version n command.Relayout = relayout_at version n
 body_at version n (command.Show kind) = then_at (item_at name_of) (λ view. give_at (Show kind view))
 body_at version n command.Drop = then_at (item_at name_of) (λ view. give_at (Drop view))
 body_at version n command.Bytes = bytes_at
+body_at version n command.Save = then_at (item_at name_of) (λ view. give_at (Save view))
+body_at version n command.Open = open_at
 
 unfoldable pub command_at : Version → ℕ → List Token → Result (Sentence × List Token) ℕ
-command_at version n = then_at (item_at command_of) (body_at version n)
+command_at version n = then_at (item_at (command_of version)) (body_at version n)
 
 -- any token
 abbrev pub any_token : Token → Bool

@@ -1,12 +1,16 @@
 ghost use Rattle.std.specs.Prelude.{◌≡◌, IfErr};
+ghost use Rattle.phrases.specs.Reading.{item_at};
 ghost use Rattle.line_grammar.specs.Sentences.{sentence_of};
+ghost use Rattle.line_grammar.specs.Tokens.{command_of};
 ghost use Rattle.line_phrases.specs.Gives.{Gives, IsSyntax};
 ghost use Rattle.line_phrases.specs.Lists.{bracket_list_at};
-ghost use Rattle.schema_lang.specs.Bodies.{assign_at, body_at, bytes_at, command_at, copy_at, define_at, kernel_line_at, load_at, mapping_at, mode_at, new_at, new_of, reduce_at, relayout_at, update_at, view_at, word_at};
+ghost use Rattle.schema_lang.specs.Bodies.{assign_at, body_at, bytes_at, command_at, copy_at, define_at, kernel_line_at, load_at, mapping_at, mode_at, new_at, new_of, open_at, reduce_at, relayout_at, update_at, view_at, word_at};
 
 use crate::kernels::read_kernel;
 use crate::updates::{read_filter, read_sets};
-use line_grammar::{Command, Count, ExtentWords, FileName, Line, ReduceKind, Version};
+use line_grammar::{
+    Command, Count, ExtentWords, FileName, FirstCommand, Line, ReduceKind, Version,
+};
 use line_phrases::{
     ReadError, Tokens, read_expr, read_extents, read_fields, read_fixed_extents, read_index,
     read_map, read_path,
@@ -26,8 +30,19 @@ pub(crate) fn read_command(
 ) -> Result<Line, ReadError>
     ensures { Gives (λ x. (sentence_of x, tokens.new)) result (command_at version room tokens.old) }
 {
-    let command = tokens.item::<Command>()?;
+    let command = read_word(version, tokens)?;
     read_body(alloc, version, room, command, tokens)
+}
+
+// The word of a command that the version has.
+fn read_word(version: Version, tokens: &mut Tokens) -> Result<Command, ReadError>
+    ensures gives { Gives (λ x. (x, tokens.new)) result (item_at (command_of version) tokens.old) }
+    ensures fault { IfErr result IsSyntax }
+{
+    match version {
+        Version::One => tokens.item::<FirstCommand>(),
+        Version::Two => tokens.item::<Command>(),
+    }
 }
 
 // What stands behind the word of a command.
@@ -55,6 +70,8 @@ fn read_body(
         Command::Show(kind) => Ok(Line::show(kind, tokens.item::<Name>()?)),
         Command::Drop => Ok(Line::Drop(tokens.item::<Name>()?)),
         Command::Bytes => read_bytes(tokens),
+        Command::Save => Ok(Line::SaveView(tokens.item::<Name>()?)),
+        Command::Open => read_open(tokens),
     }
 }
 
@@ -292,4 +309,15 @@ fn read_bytes(tokens: &mut Tokens) -> Result<Line, ReadError>
     let view = tokens.item::<Name>()?;
     let blob = tokens.item::<Count>()?;
     Ok(Line::Bytes { view, blob })
+}
+
+#[tactic(auto, unfolding(crate::specs::Bodies::open_at))]
+fn read_open(tokens: &mut Tokens) -> Result<Line, ReadError>
+    ensures gives { Gives (λ x. (sentence_of x, tokens.new)) result (open_at tokens.old) }
+    ensures fault { IfErr result IsSyntax }
+{
+    let name = tokens.item::<Name>()?;
+    tokens.word("from")?;
+    let file = tokens.item::<FileName>()?;
+    Ok(Line::OpenFile { name, file })
 }

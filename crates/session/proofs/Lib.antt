@@ -4,8 +4,10 @@ pub mod Named
 pub mod Copies
 pub mod CopySteps
 pub mod Indexing
+pub mod Opening
 pub mod Reading
 pub mod Reductions
 pub mod Runs
+pub mod Saving
 pub mod Sets
 pub mod Steps

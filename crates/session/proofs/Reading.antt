@@ -1,19 +1,15 @@
 -- A file that is read, or not, on the way to a table.
-use Rattle.std.proofs.Common.{◌≡◌, ◌⊎◌, ◌<◌, ◌≤◌, ◌^◌, ℕ, Bool, true, false, nat_lt, List, length, Option, Some, None, Result, Ok, Err, inl, inr, ⊎_elim, refl, subst, arith}
+use Rattle.std.proofs.Common.{◌≡◌, ◌∙◌, ◌⊎◌, ◌<◌, ◌≤◌, ℕ, Bool, true, false, nat_lt, List, length, Option, Some, None, Result, Ok, Err, inl, inr, ⊎_elim, refl, subst, arith}
 use Rattle.std.proofs.lemmas.Bool.Decides.{nat_tests}
 use Rattle.std.specs.Prelude.{IsSomeAnd}
-use Rattle.extents.specs.declared.words.ExtentWord.{ExtentWord}
 use Rattle.layout_io.specs.Files.{File, file_of, IsMissing, HasFile}
-use Rattle.views.specs.Tables.{Table}
-use Rattle.worlds.specs.Outcomes.{Outcome, Goes, Faults, CannotRead, ◌>>=◌}
-use Rattle.worlds.specs.Worlds.{Entry}
-use Rattle.worlds.specs.Load.{read, loaded}
-use Rattle.worlds.specs.View.{Named}
+use Rattle.worlds.specs.Outcomes.{Outcome, Goes, Faults, CannotRead, ◌>>=◌, refused_if}
 use Rattle.worlds.specs.declared.fault.CommandFault.TheVariants.{TooBig}
 use Rattle.command_checks.specs.Gives.{Gives, GivesUp}
+use Rattle.command_checks.specs.GivesLaws.{goes_then}
 use Rattle.command_checks.specs.declared.fault.StepFault.{StepFault}
 use Rattle.command_checks.specs.declared.fault.StepFault.TheVariants as step
-use Rattle.session.specs.Loads.{Loads, IsUnread, UnreadOnly, ToldFor, filled_table}
+use Rattle.session.specs.Loads.{Loads, IsUnread, UnreadOnly, ToldFor, read_within}
 
 -- a file of this name is there
 pub file_there : (told : Option (List File)) (files : List File) (name : List ℕ) (P : List ℕ → Type 0) → told ≡ Some files → HasFile told name P → (bytes : List ℕ) × (file_of files name ≡ Some bytes) × P bytes
@@ -26,86 +22,125 @@ file_there told files name P is has = there_is (file_of files name) (subst (λ (
 pub file_missing : (told : Option (List File)) (files : List File) (name : List ℕ) → told ≡ Some files → IsMissing told name → file_of files name ≡ None
 file_missing told files name is missing = subst (λ (t : Option (List File)). IsMissing t name) is missing
 
--- a test that gives up before the file is read
-pub before_reading : {A B X : Type 0} (name : List ℕ) (view : A → B) (first : Outcome X) (next : Bool → X → Outcome B) (read_failed : Type 0) (fault : StepFault) (result : Result A StepFault) →
-    result ≡ Err fault → GivesUp first fault → Loads name view (λ unread. first >>= next unread) read_failed result
-before_reading name view first next read_failed (step.Command refusal) result is gives = rw (is, gives) refl
-before_reading name view first next read_failed step.NoMemory result is gives = rw is tt
-before_reading name view first next read_failed step.Source result is gives = absurd gives
-before_reading name view first next read_failed step.Sink result is gives = absurd gives
+-- the file is read
+pub was_read : (most : ℕ) (files : List File) (name bytes : List ℕ) → file_of files name ≡ Some bytes → length bytes ≤ most → read_within most files false name ≡ Goes bytes
+was_read most files name bytes is short =
+    let within : nat_lt most (length bytes) ≡ false = grind (arith, nat_tests) in
+    rw (is, within) refl
 
--- the file was read
-pub was_read : {A B X : Type 0} (view : A → B) (first : Outcome X) (whole : X) (files : List File) (name bytes : List ℕ) (rest : X → List ℕ → Outcome B) (read_failed : Type 0) (result : Result A StepFault) →
-    first ≡ Goes whole → file_of files name ≡ Some bytes → Gives view result (rest whole bytes) → Loads name view (λ unread. first >>= (λ w. read files unread name >>= rest w)) read_failed result
-was_read view first whole files name bytes rest read_failed (Ok x) goes is gives = rw (goes, is) gives
-was_read view first whole files name bytes rest read_failed (Err (step.Command refusal)) goes is gives = rw (goes, is) gives
-was_read view first whole files name bytes rest read_failed (Err step.NoMemory) goes is gives = tt
-was_read view first whole files name bytes rest read_failed (Err step.Source) goes is gives = absurd gives
-was_read view first whole files name bytes rest read_failed (Err step.Sink) goes is gives = absurd gives
-
--- it was not
-pub was_unread : {B X : Type 0} (first : Outcome X) (whole : X) (files : List File) (name : List ℕ) (rest : X → List ℕ → Outcome B) (rose : Type 0) →
-    first ≡ Goes whole → rose ⊎ (file_of files name ≡ None) → IsUnread name (λ unread. first >>= (λ w. read files unread name >>= rest w)) rose
-was_unread first whole files name rest rose goes cause = record {
-  is = rw goes refl;
-  cause = ⊎_elim (λ (failed : rose). inl failed) (λ (none : file_of files name ≡ None). inr (rw (goes, none) refl)) cause;
+-- it is not
+pub was_unread : (most : ℕ) (files : List File) (name : List ℕ) (read_failed : Type 0) → read_failed ⊎ (file_of files name ≡ None) → IsUnread name (λ unread. read_within most files unread name) read_failed
+was_unread most files name read_failed cause = record {
+  is = refl;
+  cause = ⊎_elim (λ (failed : read_failed). inl failed) (λ (none : file_of files name ≡ None). inr (rw none refl)) cause;
 }
 
 -- it is too long
-pub was_long : (first : Outcome Named) (whole : Named) (files : List File) (name bytes : List ℕ) (views : List (Entry Table)) (words : List ExtentWord) →
-    first ≡ Goes whole → file_of files name ≡ Some bytes → 2 ^ 28 < length bytes → (first >>= (λ w. read files false name >>= loaded views w words)) ≡ Faults TooBig
-unfolding loaded
-was_long first whole files name bytes views words goes is long =
-    let over : nat_lt (2 ^ 28) (length bytes) ≡ true = grind (arith, nat_tests) in
-    rw (goes, is, over) refl
+pub was_long : (most : ℕ) (files : List File) (name bytes : List ℕ) → file_of files name ≡ Some bytes → most < length bytes → read_within most files false name ≡ Faults TooBig
+was_long most files name bytes is long =
+    let over : nat_lt most (length bytes) ≡ true = grind (arith, nat_tests) in
+    rw (is, over) refl
 
--- what comes behind a load
-pub after_load : {A B C D : Type 0} (name : List ℕ) (view : A → B) (done : C → D) (outcome : Bool → Outcome B) (rest : B → D) (read_failed : Type 0) (first : Result A StepFault) (fault : StepFault) (result : Result C StepFault) →
-    first ≡ Err fault → result ≡ Err fault → Loads name view outcome read_failed first → Loads name done (λ unread. outcome unread >>= (λ x. Goes (rest x))) read_failed result
-after_load name view done outcome rest read_failed first (step.Command refusal) result is ends loads = rw (ends, rw is at loads) refl
-after_load name view done outcome rest read_failed first step.NoMemory result is ends loads = rw ends tt
-after_load name view done outcome rest read_failed first step.Source result is ends loads =
-    let unread : IsUnread name outcome read_failed = rw is at loads in
-    rw ends (record {
+-- a test of how long bytes are comes with what gives them, or with what is made of them
+tested : {A B : Type 0} (test : Bool) (x : A) (rest : A → Outcome B) → (refused_if test TooBig >>= (λ short. rest x)) ≡ ((refused_if test TooBig >>= (λ short. Goes x)) >>= rest)
+tested true x rest = refl
+tested false x rest = refl
+
+pub within_first : {B : Type 0} (most : ℕ) (held : Outcome (List ℕ)) (rest : List ℕ → Outcome B) → (held >>= (λ bytes. refused_if (nat_lt most (length bytes)) TooBig >>= (λ short. rest bytes)))
+    ≡ ((held >>= (λ bytes. refused_if (nat_lt most (length bytes)) TooBig >>= (λ short. Goes bytes))) >>= rest)
+within_first most (Goes bytes) rest = tested (nat_lt most (length bytes)) bytes rest
+within_first most (Faults fault) rest = refl
+within_first most (CannotRead name) rest = refl
+
+-- a test that gives up before the file is read
+pub before_reading : {A B : Type 0} (name : List ℕ) (view : A → B) (outcome : Bool → Outcome B) (read_failed : Type 0) (fault : StepFault) (result : Result A StepFault) →
+    result ≡ Err fault → GivesUp (outcome false) fault → Loads name view outcome read_failed result
+before_reading name view outcome read_failed (step.Command refusal) result is gives = rw is gives
+before_reading name view outcome read_failed step.NoMemory result is gives = rw is tt
+before_reading name view outcome read_failed step.Source result is gives = absurd gives
+before_reading name view outcome read_failed step.Sink result is gives = absurd gives
+
+-- what comes behind an outcome that is not reached
+pub after_load : {A B C D : Type 0} (name : List ℕ) (view : A → B) (done : C → D) (outcome : Bool → Outcome B) (rest : B → Outcome D) (read_failed : Type 0) (fault : StepFault) (result : Result C StepFault) →
+    result ≡ Err fault → Loads {A = A} name view outcome read_failed (Err fault) → Loads name done (λ unread. outcome unread >>= rest) read_failed result
+after_load name view done outcome rest read_failed (step.Command refusal) result is loads =
+    let refused : outcome false ≡ Faults refusal = loads in
+    rw (is, refused) refl
+after_load name view done outcome rest read_failed step.NoMemory result is loads = rw is tt
+after_load name view done outcome rest read_failed step.Source result is loads =
+    let unread : IsUnread name outcome read_failed = loads in
+    rw is (record {
       is = rw unread.is refl;
       cause = ⊎_elim (λ (failed : read_failed). inl failed) (λ (always : outcome false ≡ CannotRead name). inr (rw always refl)) unread.cause;
     })
-after_load name view done outcome rest read_failed first step.Sink result is ends loads = let none : ⊥ = rw is at loads in absurd none
+after_load name view done outcome rest read_failed step.Sink result is loads = absurd loads
 
--- it is not too long
-pub not_long : (views : List (Entry Table)) (whole : Named) (words : List ExtentWord) (bytes : List ℕ) → length bytes ≤ 2 ^ 28 → loaded views whole words bytes ≡ filled_table views whole words bytes
-unfolding loaded
-not_long views whole words bytes short =
-    let within : nat_lt (2 ^ 28) (length bytes) ≡ false = grind (arith, nat_tests) in
-    rw within refl
-
--- a test that gives up tells no file as unread
-pub unread_test : (A : Type 0) {B X : Type 0} (file : Option (List ℕ)) (first : Outcome X) (outcome : List File → Bool → Outcome B) (fault : StepFault) → GivesUp first fault → UnreadOnly {A = A} file outcome (Err fault)
-unread_test A file first outcome (step.Command refusal) gives = tt
-unread_test A file first outcome step.NoMemory gives = tt
-unread_test A file first outcome step.Source gives = absurd gives
-unread_test A file first outcome step.Sink gives = tt
-
--- nor does one that is done without a file
-pub unread_gives : (A : Type 0) {B C : Type 0} (file : Option (List ℕ)) (view : A → B) (first : Outcome B) (outcome : List File → Bool → Outcome C) (result : Result A StepFault) → Gives view result first → UnreadOnly file outcome result
-unread_gives A file view first outcome (Ok x) gives = tt
-unread_gives A file view first outcome (Err fault) gives = unread_test A file first outcome fault gives
-
--- what comes behind a load
-pub unread_after : (A : Type 0) {B C D : Type 0} (name : List ℕ) (outcome : List File → Bool → Outcome B) (rest : B → D) (fault : StepFault) (result : Result C StepFault) →
-    result ≡ Err fault → UnreadOnly {A = A} (Some name) outcome (Err fault) → UnreadOnly (Some name) (λ files unread. outcome files unread >>= (λ x. Goes (rest x))) result
+pub unread_after : (A : Type 0) {B C D : Type 0} (name : List ℕ) (outcome : List File → Bool → Outcome B) (rest : B → Outcome D) (fault : StepFault) (result : Result C StepFault) →
+    result ≡ Err fault → UnreadOnly {A = A} (Some name) outcome (Err fault) → UnreadOnly (Some name) (λ files unread. outcome files unread >>= rest) result
 unread_after A name outcome rest (step.Command refusal) result is unread = rw is tt
 unread_after A name outcome rest step.NoMemory result is unread = rw is tt
 unread_after A name outcome rest step.Sink result is unread = rw is tt
 unread_after A name outcome rest step.Source result is unread = rw is (λ files. rw (unread files) refl)
 
--- what is told of a load is told of what comes before its last step
-pub told_first : {A B : Type 0} (told : Option (List File)) (files : List File) (first : Outcome A) (rest : A → B) → ToldFor told (first >>= (λ x. Goes (rest x))) files → ToldFor told first files
+-- what is told of a load is told of what comes first
+pub told_first : {A B : Type 0} (told : Option (List File)) (files : List File) (first : Outcome A) (rest : A → Outcome B) → ToldFor told (first >>= rest) files → ToldFor told first files
 told_first told files (Goes x) rest is = tt
 told_first told files (Faults fault) rest is = tt
 told_first told files (CannotRead name) rest is = is
 
--- the file is read, so the files are told
-pub told_reading : {X B : Type 0} (told : Option (List File)) (files : List File) (first : Outcome X) (whole : X) (name : List ℕ) (rest : X → List ℕ → Outcome B) →
-    first ≡ Goes whole → ToldFor told (first >>= (λ w. read files true name >>= rest w)) files → told ≡ Some files
-told_reading told files first whole name rest goes is = rw goes at is
+-- the same outcomes, said otherwise
+loads_same : {A B : Type 0} (name : List ℕ) (view : A → B) (whole outcome : Bool → Outcome B) (read_failed : Type 0) (result : Result A StepFault) →
+    ((unread : Bool) → whole unread ≡ outcome unread) → Loads name view outcome read_failed result → Loads name view whole read_failed result
+loads_same name view whole outcome read_failed (Ok x) same goes = same false ∙ goes
+loads_same name view whole outcome read_failed (Err (step.Command refusal)) same is = same false ∙ is
+loads_same name view whole outcome read_failed (Err step.NoMemory) same loads = tt
+loads_same name view whole outcome read_failed (Err step.Source) same unread = record {
+  is = same true ∙ unread.is;
+  cause = ⊎_elim (λ (failed : read_failed). inl failed) (λ (always : outcome false ≡ CannotRead name). inr (same false ∙ always)) unread.cause;
+}
+loads_same name view whole outcome read_failed (Err step.Sink) same loads = absurd loads
+
+-- the outcome is what is made of the bytes of this file, which has at most so many
+pub record IsOf {B : Type 0} (most : ℕ) (name : List ℕ) (rest : List ℕ → Outcome B) (outcome : List File → Bool → Outcome B) : Type 0 where
+  pub is : (files : List File) (unread : Bool) → outcome files unread ≡ (read_within most files unread name >>= rest)
+
+-- then it reads the file, so the files are told
+pub told_of : {B : Type 0} {most : ℕ} {name : List ℕ} {rest : List ℕ → Outcome B} {outcome : List File → Bool → Outcome B} (told : Option (List File)) (files : List File) →
+    IsOf most name rest outcome → ToldFor told (outcome files true) files → told ≡ Some files
+told_of {B} told files reads given = subst (λ (o : Outcome B). ToldFor told o files) (reads.is files true) given
+
+-- the file was read
+pub loads_of : {A B : Type 0} {most : ℕ} {name : List ℕ} {rest : List ℕ → Outcome B} {outcome : List File → Bool → Outcome B} (view : A → B) (files : List File) (bytes : List ℕ) (read_failed : Type 0) (result : Result A StepFault) →
+    IsOf most name rest outcome → read_within most files false name ≡ Goes bytes → Gives view result (rest bytes) → Loads name view (outcome files) read_failed result
+loads_of {rest} view files bytes read_failed (Ok x) reads read gives = reads.is files false ∙ goes_then _ rest bytes read ∙ gives
+loads_of {rest} view files bytes read_failed (Err (step.Command refusal)) reads read gives = reads.is files false ∙ goes_then _ rest bytes read ∙ gives
+loads_of view files bytes read_failed (Err step.NoMemory) reads read gives = tt
+loads_of view files bytes read_failed (Err step.Source) reads read gives = absurd gives
+loads_of view files bytes read_failed (Err step.Sink) reads read gives = absurd gives
+
+-- it was not
+pub unloads_of : {A B : Type 0} {most : ℕ} {name : List ℕ} {rest : List ℕ → Outcome B} {outcome : List File → Bool → Outcome B} (view : A → B) (files : List File) (read_failed : Type 0) (fault : StepFault) (result : Result A StepFault) →
+    IsOf most name rest outcome → result ≡ Err fault → Loads {A = List ℕ} name (λ bytes. bytes) (λ unread. read_within most files unread name) read_failed (Err fault) → Loads name view (outcome files) read_failed result
+unloads_of {most} {name} {rest} {outcome} view files read_failed fault result reads is loads =
+    loads_same name view (outcome files) (λ unread. read_within most files unread name >>= rest) read_failed result (reads.is files)
+    (after_load {A = List ℕ} name (λ (bytes : List ℕ). bytes) view (λ unread. read_within most files unread name) rest read_failed fault result is loads)
+
+-- and no other file is told as unread
+pub unread_of : (A : Type 0) {B : Type 0} {most : ℕ} {name : List ℕ} {rest : List ℕ → Outcome B} {outcome : List File → Bool → Outcome B} (fault : StepFault) (result : Result A StepFault) →
+    IsOf most name rest outcome → result ≡ Err fault → UnreadOnly (Some name) outcome result
+unread_of A (step.Command refusal) result reads is = rw is tt
+unread_of A step.NoMemory result reads is = rw is tt
+unread_of A step.Sink result reads is = rw is tt
+unread_of A step.Source result reads is = rw is (λ files. reads.is files true)
+
+-- a test that gives up tells no file as unread
+pub unread_test : {A B X : Type 0} (file : Option (List ℕ)) (first : Outcome X) (outcome : List File → Bool → Outcome B) (fault : StepFault) (result : Result A StepFault) → result ≡ Err fault → GivesUp first fault → UnreadOnly file outcome result
+unread_test file first outcome (step.Command refusal) result is gives = rw is tt
+unread_test file first outcome step.NoMemory result is gives = rw is tt
+unread_test file first outcome step.Source result is gives = absurd gives
+unread_test file first outcome step.Sink result is gives = rw is tt
+
+-- nor does one that is done without a file
+pub unread_gives : {A B C : Type 0} (file : Option (List ℕ)) (view : A → B) (first : Outcome B) (outcome : List File → Bool → Outcome C) (result : Result A StepFault) → Gives view result first → UnreadOnly file outcome result
+unread_gives file view first outcome (Ok x) gives = tt
+unread_gives {A} file view first outcome (Err fault) gives = unread_test {A = A} file first outcome fault (Err fault) refl gives

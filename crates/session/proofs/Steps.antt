@@ -2,17 +2,18 @@
 use Rattle.std.proofs.Common.{◌≡◌, ℕ, Bool, true, false, List, Option, Some, Result, Ok, Err, refl, sym, subst, ◌∙◌, arith}
 use Rattle.layout_io.specs.Files.{File}
 use Rattle.layout_io.specs.WritingLaws.{Wrote-nil, with_bytes-nil}
-use Rattle.line_grammar.specs.Sentences.{Sentence, sentence_of}
+use Rattle.line_grammar.specs.Sentences.{Sentence, file_of, sentence_of}
 use Rattle.line_grammar.specs.declared.line.Line.{Line}
 use Rattle.worlds.specs.Worlds.{World}
 use Rattle.worlds.specs.Answers.{text_of, StepsTo, StepCause}
+use Rattle.worlds.specs.AnswersLaws.{steps_same}
 use Rattle.worlds.specs.Outcomes.{Outcome, Left}
 use Rattle.worlds.specs.Step.{step, command}
 use Rattle.command_checks.specs.Gives.{Gives}
 use Rattle.command_checks.specs.declared.fault.StepFault.{StepFault}
 use Rattle.command_checks.specs.declared.fault.StepFault.TheVariants as fault
 use Rattle.session.specs.Answers.{Answers, TookNone, ending_of}
-use Rattle.session.specs.Loads.{Loads, UnreadOnly}
+use Rattle.session.specs.Loads.{Loads, ToldFor, UnreadOnly}
 use Rattle.session.specs.Stands.{Stands, left_of, world_of}
 use Rattle.session.specs.declared.session.Session.{Session}
 use Rattle.session.proofs.Exits.{refused, starved, answers_quiet}
@@ -31,14 +32,25 @@ steps_load taken faults old name outcome read_failed (Err fault.Source) unread =
 steps_load taken faults old name outcome read_failed (Err fault.Sink) loads = absurd loads
 steps_load taken faults old name outcome read_failed (Err fault.NoMemory) loads = starved taken faults old (text_of (outcome false))
 
--- the same outcomes of a line that reads this file, said otherwise
-pub unread_by : (file : Option (List ℕ)) (name : List ℕ) (whole outcome : List File → Bool → Outcome Left) (result : Result Session StepFault) →
-    file ≡ Some name → ((files : List File) (unread : Bool) → whole files unread ≡ outcome files unread) → UnreadOnly (Some name) outcome result → UnreadOnly file whole result
-unread_by file name whole outcome (Ok next) is same unread = tt
-unread_by file name whole outcome (Err (fault.Command refusal)) is same unread = tt
-unread_by file name whole outcome (Err fault.Source) is same unread = rw is (λ files. same files true ∙ unread files)
-unread_by file name whole outcome (Err fault.Sink) is same unread = tt
-unread_by file name whole outcome (Err fault.NoMemory) is same unread = tt
+-- a line that reads this file, by the outcome of its command
+pub steps_read : {K : Type 0} (taken : K → Option (List ℕ)) (faults : K → ℕ) (old : K) (world : World) (sentence : Sentence) (name : List ℕ) (outcome : List File → Bool → Outcome Left) (told : Option (List File)) (files : List File)
+    (read_failed : Type 0) (result : Result Session StepFault) → file_of sentence ≡ Some name → ((files : List File) (unread : Bool) → command world sentence files unread ≡ outcome files unread)
+    → (ToldFor told (outcome files true) files → Loads name left_of (outcome files) read_failed result) → ToldFor told (step world sentence files true) files
+    → StepsTo (ending_of (file_of sentence)) Stands taken faults old old (step world sentence files) read_failed result
+steps_read taken faults old world sentence name outcome told files read_failed result is same loads given =
+    let whole : (unread : Bool) → step world sentence files unread ≡ outcome files unread = λ unread. step_is world sentence files unread ∙ same files unread in
+    let first = subst (λ (o : Outcome Left). ToldFor told o files) (whole true) given in
+    steps_same (ending_of (file_of sentence)) Stands taken faults old old (step world sentence files) (outcome files) read_failed result whole
+    (subst (λ (file : Option (List ℕ)). StepsTo {F = StepFault} (ending_of file) Stands taken faults old old (outcome files) read_failed result) (sym is)
+    (steps_load taken faults old name (outcome files) read_failed result (loads first)))
+
+pub unread_read : (world : World) (sentence : Sentence) (name : List ℕ) (outcome : List File → Bool → Outcome Left) (result : Result Session StepFault) →
+    file_of sentence ≡ Some name → ((files : List File) (unread : Bool) → command world sentence files unread ≡ outcome files unread) → UnreadOnly (Some name) outcome result → UnreadOnly (file_of sentence) (step world sentence) result
+unread_read world sentence name outcome (Ok next) is same unread = tt
+unread_read world sentence name outcome (Err (fault.Command refusal)) is same unread = tt
+unread_read world sentence name outcome (Err fault.Source) is same unread = rw is (λ files. step_is world sentence files true ∙ same files true ∙ unread files)
+unread_read world sentence name outcome (Err fault.Sink) is same unread = tt
+unread_read world sentence name outcome (Err fault.NoMemory) is same unread = tt
 
 -- a line that is known, with what its command answers, and one whose command writes nothing
 pub line_shows : {K : Type 0} (taken : K → Option (List ℕ)) (faults : K → ℕ) (old new : K) (world : World) (line known : Line) (files : List File) (unread : Bool) (result : Result Session StepFault) →

@@ -5,3 +5,4 @@ pub mod Answers
 pub mod Bounds
 pub mod Columns
 pub mod LoadsLaws
+pub mod Opens

@@ -1,5 +1,5 @@
--- What the answer to a load says of its outcome, and of what was read.
-use Rattle.std.specs.Prelude.{ℕ, ◌≡◌, ◌≤◌, ◌⊎◌, Bool, true, false, List, length, Option, Some, IsSome, IsSomeAnd, Result, Ok, Err}
+-- What the answer to a line that reads a file says of its outcome, and of what was read.
+use Rattle.std.specs.Prelude.{ℕ, ◌≡◌, ◌≤◌, ◌⊎◌, Bool, true, false, nat_lt, List, length, Option, Some, IsSome, IsSomeAnd, Result, Ok, Err}
 use Rattle.layout_io.specs.Faults.{Rose}
 use Rattle.layout_io.specs.Files.{File}
 use Rattle.record_dim.specs.Schemas.{schema_fields}
@@ -9,10 +9,11 @@ use Rattle.csv_rows.specs.Datasets.{records_of, rows_of}
 use Rattle.views.specs.Tables.{Table}
 use Rattle.worlds.specs.Worlds.{Entry}
 use Rattle.line_grammar.specs.Sentences as line
-use Rattle.worlds.specs.Outcomes.{Outcome, Goes, Faults, CannotRead, ◌>>=◌}
+use Rattle.worlds.specs.Outcomes.{Outcome, Goes, Faults, CannotRead, ◌>>=◌, refused_if}
 use Rattle.worlds.specs.Tables.{resolved, made}
-use Rattle.worlds.specs.Load.{filled}
+use Rattle.worlds.specs.Load.{read, filled}
 use Rattle.worlds.specs.View.{Named}
+use Rattle.worlds.specs.declared.fault.CommandFault.TheVariants.{TooBig}
 use Rattle.command_checks.specs.declared.fault.StepFault.{StepFault}
 use Rattle.command_checks.specs.declared.fault.StepFault.TheVariants as fault
 use Rattle.session.specs.declared.view.Found.{Found}
@@ -33,12 +34,19 @@ filled_table views whole words bytes = do
   zeros ← made views whole.mode whole.fields extents whole.mapping
   filled zeros (records_of bytes)
 
+-- the bytes of a file that has at most so many; `unread`: reading fails in this command
+abbrev pub read_within : ℕ → List File → Bool → List ℕ → Outcome (List ℕ)
+read_within most files unread name = do
+  bytes ← read files unread name
+  short ← refused_if (nat_lt most (length bytes)) TooBig
+  Goes bytes
+
 -- where reading fails the outcome is that this file can't be read; a read failed, or it is the outcome in any case
 pub record IsUnread {A : Type 0} (name : List ℕ) (outcome : Bool → Outcome A) (read_failed : Type 0) : Type 0 where
   pub is : outcome true ≡ CannotRead name
   pub cause : read_failed ⊎ (outcome false ≡ CannotRead name)
 
--- what an answer, seen by `view`, says of the outcome of a load of this file, which is given by whether reading fails
+-- what an answer, seen by `view`, says of the outcome of a command that reads this file, which is given by whether reading fails
 abbrev pub Loads : {A B : Type 0} → List ℕ → (A → B) → (Bool → Outcome B) → Type 0 → Result A StepFault → Type 0
 Loads name view outcome read_failed (Ok x) = outcome false ≡ Goes (view x)
 Loads name view outcome read_failed (Err (fault.Command refusal)) = outcome false ≡ Faults refusal

@@ -16,12 +16,13 @@ ghost use Rattle.session.specs.Changes.{TellsRow};
 ghost use Rattle.session.specs.Loads.{named_of, new_of, filled_table, Loads, LoadCause, UnreadOnly, ToldFor};
 
 use crate::faults::{narrow_fault, range_fault};
+use crate::files::file_bytes;
 use crate::session::Session;
 use crate::view::{Found, New, named};
 use command_checks::{MappingList, RecordList, StepFault, ViewEntry, leaf_text, made, resolved};
 use csv_rows::{RowFault, count_rows, load_rows};
 use extents::{ExtentWord, Extents, Shape};
-use layout_io::{ReadEnd, Shelf, read_all};
+use layout_io::Shelf;
 use line_grammar::FileName;
 use std::alloc::Global;
 use std::sync::ledger::Ledger;
@@ -86,14 +87,8 @@ fn loaded_view<H: Shelf, L: Ledger>(
     ensures unread { UnreadOnly (Some file.now) (loaded_table (world_in records.now mappings.now views.now) (new_of new.now) file.now) result }
 {
     let found = named(alloc, records, mappings, views, new)?;
-    match read_all(alloc, shelf, file.as_str(), MAX_DATASET_BYTES) {
-        Ok(bytes) => filled_view(alloc, views, &found, new.words, bytes.as_slice(), steps),
-        Err(end) => match end {
-            ReadEnd::Failed => Err(StepFault::Source),
-            ReadEnd::TooLong => Err(StepFault::Command(CommandFault::TooBig)),
-            ReadEnd::NoMemory => Err(StepFault::NoMemory),
-        },
-    }
+    let bytes = file_bytes(alloc, file, MAX_DATASET_BYTES, shelf)?;
+    filled_view(alloc, views, &found, new.words, bytes.as_slice(), steps)
 }
 
 // The view of a dataset that was read.

@@ -10,6 +10,7 @@ ghost use Rattle.worlds.specs.Worlds.{empty, found};
 use crate::assign::Assign;
 use crate::kernel::RunKernel;
 use crate::reduce::{Count, Reduce};
+use crate::save::Save;
 use crate::show::{Bytes, Counts, Heat, Layout, Print};
 use crate::update::Update;
 use crate::view::New;
@@ -84,6 +85,7 @@ impl Session {
                 let new = New::of(*name, *schema, words, *wrap, expr);
                 self.load(&new, file, shelf, steps)
             }
+            Line::OpenFile { name, file } => self.open(*name, file, shelf, steps),
             _ => self.command(line, out, steps),
         }
     }
@@ -138,7 +140,8 @@ impl Session {
             Line::Heat(view) => self.on_view(*view, &Heat, out, steps),
             Line::Layout(view) => self.on_view(*view, &Layout, out, steps),
             Line::Bytes { view, blob } => self.on_view(*view, &Bytes { blob }, out, steps),
-            Line::Load { .. } => unreachable!(),
+            Line::SaveView(view) => self.on_view(*view, &Save, out, steps),
+            Line::Load { .. } | Line::OpenFile { .. } => unreachable!(),
         }
     }
 

@@ -17,5 +17,6 @@ pub mod Reduce
 pub mod Copy
 pub mod Kernel
 pub mod Show
+pub mod Files
 pub mod Step
 pub mod FaultTexts

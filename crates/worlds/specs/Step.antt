@@ -15,6 +15,7 @@ use Rattle.worlds.specs.Reduce.{reduction, counting}
 use Rattle.worlds.specs.Copy.{copy, relayout}
 use Rattle.worlds.specs.Kernel.{kernel_run}
 use Rattle.worlds.specs.Show.{showing, bytes, drop_view}
+use Rattle.worlds.specs.Files.{save, open_view}
 
 -- what a line does that works on one view
 abbrev pub work_of : line.Sentence → Option Work
@@ -25,6 +26,7 @@ work_of (line.Reduce name kind path) = Some (record { view = name; does = λ tab
 work_of (line.Count name filter) = Some (record { view = name; does = λ table. counting table filter })
 work_of (line.Show kind name) = Some (record { view = name; does = showing kind })
 work_of (line.Bytes name blob) = Some (record { view = name; does = λ table. bytes table blob })
+work_of (line.Save name) = Some (record { view = name; does = save })
 work_of _ = None
 
 -- the command of a line over these files; `unread`: reading fails in this command
@@ -36,6 +38,7 @@ command world (line.Load new file) files unread = load world new file files unre
 command world (line.Copy name target) files unread = copy world name target
 command world (line.Relayout name term) files unread = relayout world name term
 command world (line.Drop name) files unread = drop_view world name
+command world (line.Open name file) files unread = open_view world name file files unread
 command world sentence files unread = worked world (work_of sentence)
 
 -- what a line does

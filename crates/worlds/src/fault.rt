@@ -41,6 +41,7 @@ pub enum CommandFault {
     BadExtents(BadExtents),
     BadMapping(BadMapping),
     BadKernel(BadKernel),
+    BadFile(BadFile),
     /// The row of the dataset has no field in the leaf's column.
     ShortRow { row: u64, leaf: Text },
     /// The field of the dataset is no number.
@@ -52,6 +53,21 @@ pub enum CommandFault {
     /// A result lies outside 128 bits.
     Overflow { row: u64 },
     DivideByZero { row: u64 },
+}
+
+/// Why bytes are no blob file of which a view is made.
+#[derive(Clone, Copy)]
+pub enum BadFile {
+    /// The first eight bytes are not those of a blob file.
+    Magic,
+    /// Behind them there is no header.
+    Header,
+    /// No view is made of the header's record, extents and mapping.
+    Layout,
+    /// The bytes behind the header are not as many as those of the blobs.
+    Length,
+    /// They are not the image of rows that such a view may hold.
+    Contents,
 }
 
 /// A name, a path or an index that names nothing.

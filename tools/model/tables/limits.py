@@ -1,5 +1,6 @@
 """Each limit, at it and one past it. What is big is made where the case is run."""
 from .case import BOTH, Case, PAIR
+from .files import file_of
 
 BYTE = 'record P { a:u8 } | '
 HALVES = 'record P { a:u64[2] } | '
@@ -230,4 +231,19 @@ DATASETS = [
     dataset('2_to_the_28_bytes_and_one_more', '[7]', MOST_BYTES + 1, 'line 2: TooBig'),
 ]
 
-CASES = VIEWS + ROWS + SIZES + RECORDS + LANES + EXPRESSIONS + TOKENS + PIPES + LINES + SCRIPTS + DATASETS
+
+
+def blob_file(name, front, size, due):
+    """A file of so many bytes, zeros behind its front."""
+    written = ''.join(chr(byte) if 0x20 <= byte < 0x7F else f'\\{byte:03o}' for byte in front)
+    return Case(f'limit_blob_file_of_{name}', 'version 2 | open V from "f" | reduce V sum a[1]', due, make=f"printf '{written}' >f\ntruncate -s {size} f\n", by_hand=True)
+
+
+MOST_FILE = MOST_BYTES + 8206
+GREAT = file_of('a:u64[2]', f'[{MOST_ROWS}] as aos(packed, row)')
+BLOB_FILES = [
+    blob_file('2_to_the_28_and_8206_bytes', b'', MOST_FILE, 'line 2: BadFile Magic'), blob_file('2_to_the_28_and_8206_bytes_and_one_more', b'', MOST_FILE + 1, 'line 2: TooBig'),
+    blob_file('2_to_the_28_bytes_of_blobs', GREAT, len(GREAT) + MOST_BYTES, '0'), blob_file('2_to_the_28_bytes_of_blobs_and_one_more', GREAT, len(GREAT) + MOST_BYTES + 1, 'line 2: BadFile Length'),
+]
+
+CASES = VIEWS + ROWS + SIZES + RECORDS + LANES + EXPRESSIONS + TOKENS + PIPES + LINES + SCRIPTS + DATASETS + BLOB_FILES

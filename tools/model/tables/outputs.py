@@ -1,5 +1,6 @@
 """Outputs that are full, and memory that is wanting: what is taken of the output is a front of it, and the status is 4 or 5."""
 from .case import Case
+from .files import file_of
 
 FULL = '/dev/full'
 VIEW = 'record P { a:u8, b:i32 } | view V : P [3] as count(heat(64, aos(packed, row))) | update V set a = i0 + 1, b = -i0 | '
@@ -20,6 +21,8 @@ WRITING = [
     ('a_file_that_is_not_read', 'load W : P [?] as aos(packed, row) from "none.csv"', 'line 4: cannot read none.csv'),
 ]
 FULL_CASES = [Case(f'full_output_of_{name}', VIEW + line, due, into=FULL) for name, line, due in WRITING]
+SAVED = file_of('a:u8, b:i32', '[3] as count(heat(64, aos(packed, row)))', '01 00 00 00 00 02 ff ff ff ff 03 fe ff ff ff')
+FULL_CASES += [Case('full_output_of_save', 'version 2 | ' + VIEW + 'save V', SAVED, into=FULL)]
 # a later command would have a fault, or a result: the run is over at the first write that fails
 LATER = [
     Case('full_output_before_a_fault', VIEW + 'print V | print W', 'a,b | 1,0 | 2,-1 | 3,-2 | line 5: Unknown W', into=FULL),
@@ -40,12 +43,14 @@ SHOWN = ' | '.join(' '.join(BYTES[at:at + 16]) for at in range(0, len(BYTES), 16
 RUNS = 'blob,bit,bits,record,leaf,low | ' + ' | '.join(f'0,{16 * row},16,{row},a,0' for row in range(2000))
 HOT = 'record P { a:u16 } | view V : P [2000] as heat(1, soa(multi, row)) | update V set a = i0 | heat V'
 HEAT = 'blob,granule,accesses | ' + ' | '.join(f'0,{byte},1' for byte in range(4000))
+FILE = file_of('a:u16', '[2000] as count(soa(multi, row))', ' '.join(BYTES))
 # a file that takes so many KiB and no more: what was taken is the front of what is due
 ROOMS = [
     Case('output_of_print_ends_in_a_full_file', MANY + 'print V', TABLE, room=4), Case('output_of_print_ends_late_in_a_full_file', MANY + 'print V', TABLE, room=8),
     Case('output_of_bytes_ends_in_a_full_file', MANY + 'bytes V 0', SHOWN, room=4), Case('output_of_layout_ends_in_a_full_file', MANY + 'layout V', RUNS, room=4),
     Case('output_of_heat_ends_in_a_full_file', HOT, HEAT, room=4), Case('output_of_many_prints_ends_in_a_full_file', MANY + 'print V | reduce V sum a | print V',
                                                                        TABLE + f' | {sum(range(10000, 12000))} | ' + TABLE, room=16),
+    Case('output_of_saves_ends_in_a_full_file', 'version 2 | ' + MANY + 'save V | save V', FILE + FILE, room=4),
 ]
 
 # 2^28 bytes of blobs in 100,000 KiB of memory

@@ -1,5 +1,6 @@
+use Rattle.std.proofs.Common.{◌*◌}
 use Rattle.blob_file.proofs.Puts.{PutBytes}
 use Rattle.blob_file.proofs.save.put_blob.Given as goal
 
-abbrev pub invariant-loop-at : goal.invariant-loop-at
-invariant-loop-at g l = PutBytes g.K.Sink.taken g.K.Sink.faults l.initial.sink l.sink l.initial.buffer l.buffer l.blob l.at
+abbrev pub invariant-loop-block : goal.invariant-loop-block
+invariant-loop-block g l = PutBytes g.K.Sink.taken g.K.Sink.faults l.initial.sink l.sink l.initial.buffer l.buffer l.blob (512 * l.block)

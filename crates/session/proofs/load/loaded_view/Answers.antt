@@ -1,63 +1,49 @@
-use Rattle.std.proofs.Common.{rules, ◌≡◌, ◌⊎◌, ◌<◌, ◌^◌, ◌∙◌, Bool, length, map, Some, None, Err, refl, inl, inr, ⊎_elim, sym, ap}
-use Rattle.layout_io.specs.Faults.{Rose}
-use Rattle.layout_io.specs.Files.{file_of, IsMissing}
-use Rattle.worlds.specs.Load.{loaded_table, loaded, read}
-use Rattle.worlds.specs.Outcomes.{◌>>=◌}
-use Rattle.worlds.specs.View.{Named}
+use Rattle.std.proofs.Common.{rules, ◌≡◌, ◌∙◌, ◌^◌, ℕ, false, List, Some}
+use Rattle.line_grammar.specs.Sentences.{New}
 use Rattle.views.specs.Tables.{Table}
+use Rattle.worlds.specs.Load.{loaded_table, loaded, read}
+use Rattle.worlds.specs.Outcomes.{Goes, ◌>>=◌}
+use Rattle.worlds.specs.View.{Named, named}
+use Rattle.worlds.specs.Worlds.{World}
+use Rattle.command_checks.specs.GivesLaws.{GivesUp-then, goes_then}
+use Rattle.session.specs.Loads.{named_of, new_of, filled_table}
 use Rattle.session.specs.Stands.{world_in}
-use Rattle.command_checks.specs.Entries.{view_of}
-use Rattle.session.specs.Loads.{named_of, new_of}
-use Rattle.session.proofs.Reading.{file_there, file_missing, before_reading, was_read, was_unread, was_long, not_long, unread_test, unread_gives, told_reading}
+use Rattle.session.proofs.Reading.{IsOf, within_first, before_reading, told_of, loads_of, unloads_of, unread_of, unread_test, unread_gives}
 use Rattle.session.proofs.load.loaded_view.Goals as goal
+
+-- behind the tests of its words a table is that of the bytes of its file
+reads : (world : World) (new : New) (file : List ℕ) (whole : Named) → named world new ≡ Goes whole → IsOf (2 ^ 28) file (filled_table world.views whole new.words) (loaded_table world new file)
+unfolding loaded_table loaded
+reads world new file whole goes = record {
+  is = λ files unread. goes_then (named world new) (λ (w : Named). read files unread file >>= loaded world.views w new.words) whole goes
+      ∙ within_first (2 ^ 28) (read files unread file) (filled_table world.views whole new.words);
+}
 
 pub returns-in_err-found-clause-loads : goal.returns-in_err-found-clause-loads
 unfolding loaded_table
 returns-in_err-found-clause-loads g c = λ files told.
-    let next = λ (unread : Bool) (w : Named). read files unread c.args.file.now >>= loaded (map view_of c.args.views.now) w c.args.new.now.words.now in
-    before_reading c.args.file.now (λ (view : Table). view) _ next _ c.in_err-found.field-0.0 c.from_residual.result (search rules) c.in_err-found.ensures.named
+    let world = world_in c.args.records.now c.args.mappings.now c.args.views.now in
+    let next = λ (w : Named). read files false c.args.file.now >>= loaded world.views w c.args.new.now.words.now in
+    let fault = c.in_err-found.field-0.0 in
+    before_reading c.args.file.now (λ (view : Table). view) (loaded_table world (new_of c.args.new.now) c.args.file.now files) _ fault c.from_residual.result (search rules)
+    (GivesUp-then _ next fault c.in_err-found.ensures.named)
 
-pub returns-in-Ok-clause-loads : goal.returns-in-Ok-clause-loads
-unfolding loaded_table
-returns-in-Ok-clause-loads g c = λ files given.
-    let told : g.H.Shelf.files c.args.shelf.now ≡ Some files = told_reading _ files _ (named_of c.in_ok-found.found) c.args.file.now (λ w. loaded (map view_of c.args.views.now) w c.args.new.now.words.now) c.in_ok-found.ensures.named given in
-    let views = map view_of c.args.views.now in
-    let words = c.args.new.now.words.now in
-    let whole = named_of c.in_ok-found.found in
-    let bytes = c.as_slice.result.now in
-    let read_is = rw c.as_str.ensures.value at c.in-Ok.ensures.whole in
-    let there = file_there _ files c.args.file.now (λ file. c.in-Ok.bytes ≡ file) told read_is.0 in
-    let short = rw (← c.as_slice.ensures) at read_is.1 in
-    let gives = rw (← not_long views whole words bytes short) at c.filled_view.ensures in
-    was_read (λ (view : Table). view) _ whole files c.args.file.now bytes (λ w. loaded views w words) _ c.filled_view.result c.in_ok-found.ensures.named (there.1 ∙ ap Some (sym there.2 ∙ sym c.as_slice.ensures)) gives
+pub returns-in_err-bytes-clause-loads : goal.returns-in_err-bytes-clause-loads
+returns-in_err-bytes-clause-loads g c = λ files given.
+    let of_file = reads (world_in c.args.records.now c.args.mappings.now c.args.views.now) (new_of c.args.new.now) c.args.file.now (named_of c.in_ok-found.found) c.in_ok-found.ensures.named in
+    unloads_of (λ (view : Table). view) files _ c.in_err-bytes.field-0.0 _ of_file (search rules) (c.in_err-bytes.ensures.loads files (told_of _ files of_file given))
 
-pub returns-in-Failed-clause-loads : goal.returns-in-Failed-clause-loads
-unfolding loaded_table
-returns-in-Failed-clause-loads g c = λ files given.
-    let told : g.H.Shelf.files c.args.shelf.now ≡ Some files = told_reading _ files _ (named_of c.in_ok-found.found) c.args.file.now (λ w. loaded (map view_of c.args.views.now) w c.args.new.now.words.now) c.in_ok-found.ensures.named given in
-    let name = c.args.file.now in
-    let failed = rw c.as_str.ensures.value at (rw c.in-Failed.is at c.in-Err.ensures.whole) in
-    let rose = Rose (g.H.Shelf.faults c.args.shelf.now) (g.H.Shelf.faults c.read_all.new.shelf) in
-    let cause : rose ⊎ (file_of files name ≡ None) = ⊎_elim (λ (r : rose). inl r) (λ (missing : IsMissing (g.H.Shelf.files c.args.shelf.now) name). inr (file_missing _ files name told missing)) failed.1 in
-    was_unread _ (named_of c.in_ok-found.found) files name (λ w. loaded (map view_of c.args.views.now) w c.args.new.now.words.now) rose c.in_ok-found.ensures.named cause
-
-pub returns-in-TooLong-clause-loads : goal.returns-in-TooLong-clause-loads
-unfolding loaded_table
-returns-in-TooLong-clause-loads g c = λ files given.
-    let told : g.H.Shelf.files c.args.shelf.now ≡ Some files = told_reading _ files _ (named_of c.in_ok-found.found) c.args.file.now (λ w. loaded (map view_of c.args.views.now) w c.args.new.now.words.now) c.in_ok-found.ensures.named given in
-    let name = c.args.file.now in
-    let long = rw c.as_str.ensures.value at (rw c.in-TooLong.is at c.in-Err.ensures.whole) in
-    let there = file_there _ files name (λ file. 2 ^ 28 < length file) told long.0 in
-    was_long _ (named_of c.in_ok-found.found) files name there.0 (map view_of c.args.views.now) c.args.new.now.words.now c.in_ok-found.ensures.named there.1 there.2
+pub returns-clause-loads : goal.returns-clause-loads
+returns-clause-loads g c = λ files given.
+    let of_file = reads (world_in c.args.records.now c.args.mappings.now c.args.views.now) (new_of c.args.new.now) c.args.file.now (named_of c.in_ok-found.found) c.in_ok-found.ensures.named in
+    loads_of (λ (view : Table). view) files c.in_ok-bytes.bytes _ c.filled_view.result of_file (c.in_ok-bytes.ensures.loads files (told_of _ files of_file given)) (rw c.as_slice.ensures at c.filled_view.ensures)
 
 pub returns-in_err-found-clause-unread : goal.returns-in_err-found-clause-unread
-returns-in_err-found-clause-unread g c =
-    let is : c.from_residual.result ≡ Err c.in_err-found.field-0.0 = search rules in
-    rw is (unread_test Table (Some c.args.file.now) _ (λ files unread. loaded_table (world_in c.args.records.now c.args.mappings.now c.args.views.now) (new_of c.args.new.now) c.args.file.now files unread) c.in_err-found.field-0.0 c.in_err-found.ensures.named)
+returns-in_err-found-clause-unread g c = unread_test (Some c.args.file.now) _ (loaded_table (world_in c.args.records.now c.args.mappings.now c.args.views.now) (new_of c.args.new.now) c.args.file.now) c.in_err-found.field-0.0 c.from_residual.result (search rules) c.in_err-found.ensures.named
 
-pub returns-in-Ok-clause-unread : goal.returns-in-Ok-clause-unread
-returns-in-Ok-clause-unread g c = unread_gives Table (Some c.args.file.now) (λ (view : Table). view) _ (λ files unread. loaded_table (world_in c.args.records.now c.args.mappings.now c.args.views.now) (new_of c.args.new.now) c.args.file.now files unread) c.filled_view.result c.filled_view.ensures
+pub returns-in_err-bytes-clause-unread : goal.returns-in_err-bytes-clause-unread
+returns-in_err-bytes-clause-unread g c =
+    unread_of Table c.in_err-bytes.field-0.0 _ (reads (world_in c.args.records.now c.args.mappings.now c.args.views.now) (new_of c.args.new.now) c.args.file.now (named_of c.in_ok-found.found) c.in_ok-found.ensures.named) (search rules)
 
-pub returns-in-Failed-clause-unread : goal.returns-in-Failed-clause-unread
-unfolding loaded_table
-returns-in-Failed-clause-unread g c = λ files. rw c.in_ok-found.ensures.named refl
+pub returns-clause-unread : goal.returns-clause-unread
+returns-clause-unread g c = unread_gives (Some c.args.file.now) (λ (view : Table). view) _ (loaded_table (world_in c.args.records.now c.args.mappings.now c.args.views.now) (new_of c.args.new.now) c.args.file.now) c.filled_view.result c.filled_view.ensures

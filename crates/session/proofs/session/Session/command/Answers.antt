@@ -68,3 +68,7 @@ returns-in-Layout-clause-answers g c = λ files unread.
 pub returns-in-Bytes-clause-answers : goal.returns-in-Bytes-clause-answers
 returns-in-Bytes-clause-answers g c = λ files unread.
     line_shows g.K.Sink.taken g.K.Sink.faults c.args.out.now c.on_view-in-Bytes.new.out (world_of c.args.self) c.args.line.now _ files unread c.on_view-in-Bytes.result c.in-Bytes.is c.on_view-in-Bytes.ensures.answers
+
+pub returns-in-SaveView-clause-answers : goal.returns-in-SaveView-clause-answers
+returns-in-SaveView-clause-answers g c = λ files unread.
+    line_shows g.K.Sink.taken g.K.Sink.faults c.args.out.now c.on_view-in-SaveView.new.out (world_of c.args.self) c.args.line.now _ files unread c.on_view-in-SaveView.result c.in-SaveView.is c.on_view-in-SaveView.ensures.answers

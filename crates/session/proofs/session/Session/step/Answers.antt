@@ -1,39 +1,51 @@
-use Rattle.std.proofs.Common.{◌≡◌, ◌∙◌, ℕ, List, Option, Bool, true, false, [], sym, ap, subst}
-use Rattle.layout_io.specs.Faults.{Rose}
-use Rattle.command_checks.specs.declared.fault.StepFault.{StepFault}
+use Rattle.std.proofs.Common.{◌∙◌, false, [], sym, ap}
 use Rattle.line_grammar.specs.Sentences.{New, sentence_of, file_of}
 use Rattle.line_grammar.specs.declared.line.Line.{Line}
-use Rattle.worlds.specs.Answers.{StepsTo}
-use Rattle.worlds.specs.AnswersLaws.{steps_same}
+use Rattle.worlds.specs.Files.{open_view}
 use Rattle.worlds.specs.Load.{load}
-use Rattle.worlds.specs.Outcomes.{Outcome, Left}
 use Rattle.worlds.specs.Step.{step, command}
-use Rattle.session.specs.Loads.{ToldFor, new_of}
-use Rattle.session.specs.Answers.{ending_of}
-use Rattle.session.specs.Stands.{Stands, world_of}
-use Rattle.session.proofs.Steps.{step_is, steps_load, steps_shown, cause_shown, unread_by, unread_shown, untaken_quiet, untaken_shown}
+use Rattle.session.specs.Loads.{new_of}
+use Rattle.session.specs.Stands.{world_of}
+use Rattle.session.proofs.Steps.{steps_read, steps_shown, cause_shown, unread_read, unread_shown, untaken_quiet, untaken_shown}
 use Rattle.session.proofs.session.Session.step.Goals as goal
 
 pub returns-in-Load-clause-step : goal.returns-in-Load-clause-step
 returns-in-Load-clause-step g c = λ files told.
-    let load_of = λ (unread : Bool). load (world_of c.args.self) (new_of c.of-new.result) c.in-Load.file files unread in
-    let same : (unread : Bool) → step (world_of c.args.self) (sentence_of c.args.line.now) files unread ≡ load_of unread =
-    λ unread. step_is (world_of c.args.self) (sentence_of c.args.line.now) files unread ∙ ap (λ (line : Line). command (world_of c.args.self) (sentence_of line) files unread) c.in-Load.is ∙ ap (λ (new : New). load (world_of c.args.self) new c.in-Load.file files unread) (sym c.of-new.ensures) in
-    let rose = Rose (g.H.Shelf.faults c.args.shelf.now) (g.H.Shelf.faults c.load.new.shelf) in
-    let given = subst (λ (outcome : Outcome Left). ToldFor (g.H.Shelf.files c.args.shelf.now) outcome files) (same true) told in
-    steps_same (ending_of (file_of (sentence_of c.args.line.now))) Stands g.K.Sink.taken g.K.Sink.faults c.args.out.now c.args.out.now (step (world_of c.args.self) (sentence_of c.args.line.now) files) load_of rose c.load.result same
-    (subst (λ (file : Option (List ℕ)). StepsTo {F = StepFault} (ending_of file) Stands g.K.Sink.taken g.K.Sink.faults c.args.out.now c.args.out.now load_of rose c.load.result) (sym (ap (λ (line : Line). file_of (sentence_of line)) c.in-Load.is))
-    (steps_load g.K.Sink.taken g.K.Sink.faults c.args.out.now c.in-Load.file load_of rose c.load.result (c.load.ensures.loads files given)))
+    let world = world_of c.args.self in
+    steps_read g.K.Sink.taken g.K.Sink.faults c.args.out.now world (sentence_of c.args.line.now) c.in-Load.file (load world (new_of c.of-new.result) c.in-Load.file) _ files _ c.load.result
+    (ap (λ (line : Line). file_of (sentence_of line)) c.in-Load.is)
+    (λ files unread. ap (λ (line : Line). command world (sentence_of line) files unread) c.in-Load.is ∙ ap (λ (new : New). load world new c.in-Load.file files unread) (sym c.of-new.ensures))
+    (c.load.ensures.loads files) told
 
 pub returns-in-Load-clause-unread : goal.returns-in-Load-clause-unread
 returns-in-Load-clause-unread g c =
-    unread_by _ c.in-Load.file (step (world_of c.args.self) (sentence_of c.args.line.now)) (load (world_of c.args.self) (new_of c.of-new.result) c.in-Load.file) c.load.result
+    let world = world_of c.args.self in
+    unread_read world (sentence_of c.args.line.now) c.in-Load.file (load world (new_of c.of-new.result) c.in-Load.file) c.load.result
     (ap (λ (line : Line). file_of (sentence_of line)) c.in-Load.is)
-    (λ files unread. step_is (world_of c.args.self) (sentence_of c.args.line.now) files unread ∙ ap (λ (line : Line). command (world_of c.args.self) (sentence_of line) files unread) c.in-Load.is ∙ ap (λ (new : New). load (world_of c.args.self) new c.in-Load.file files unread) (sym c.of-new.ensures))
+    (λ files unread. ap (λ (line : Line). command world (sentence_of line) files unread) c.in-Load.is ∙ ap (λ (new : New). load world new c.in-Load.file files unread) (sym c.of-new.ensures))
     c.load.ensures.unread
 
 pub returns-in-Load-clause-untaken : goal.returns-in-Load-clause-untaken
 returns-in-Load-clause-untaken g c = untaken_quiet g.K.Sink.taken c.args.out.now c.load.result
+
+pub returns-in-OpenFile-clause-step : goal.returns-in-OpenFile-clause-step
+returns-in-OpenFile-clause-step g c = λ files told.
+    let world = world_of c.args.self in
+    steps_read g.K.Sink.taken g.K.Sink.faults c.args.out.now world (sentence_of c.args.line.now) c.in-OpenFile.file (open_view world c.in-OpenFile.name c.in-OpenFile.file) _ files _ c.open.result
+    (ap (λ (line : Line). file_of (sentence_of line)) c.in-OpenFile.is)
+    (λ files unread. ap (λ (line : Line). command world (sentence_of line) files unread) c.in-OpenFile.is)
+    (c.open.ensures.loads files) told
+
+pub returns-in-OpenFile-clause-unread : goal.returns-in-OpenFile-clause-unread
+returns-in-OpenFile-clause-unread g c =
+    let world = world_of c.args.self in
+    unread_read world (sentence_of c.args.line.now) c.in-OpenFile.file (open_view world c.in-OpenFile.name c.in-OpenFile.file) c.open.result
+    (ap (λ (line : Line). file_of (sentence_of line)) c.in-OpenFile.is)
+    (λ files unread. ap (λ (line : Line). command world (sentence_of line) files unread) c.in-OpenFile.is)
+    c.open.ensures.unread
+
+pub returns-in-OpenFile-clause-untaken : goal.returns-in-OpenFile-clause-untaken
+returns-in-OpenFile-clause-untaken g c = untaken_quiet g.K.Sink.taken c.args.out.now c.open.result
 
 pub returns-in_default-clause-step : goal.returns-in_default-clause-step
 returns-in_default-clause-step g c = λ files told.

@@ -1,0 +1,165 @@
+-- A view of zeros that was filled by what blobs hold: what is opened of the bytes behind a header.
+use Rattle.std.proofs.Common.{◌≡◌, true, false, ℕ, ◌+◌, ◌*◌, ◌<◌, ◌≤◌, ℤ, pos, List, [], length, get_or, map, Result, Ok, Err, is_ok, inr, refl, sym, ap, ◌∙◌, subst, arith}
+use Rattle.std.specs.Prelude.{◌==◌, nat_eq, sum_by, IfOk, IfErr}
+use Rattle.std.specs.List.{enumerate_from}
+use Rattle.std.specs.Cmp.Lexicographic.{pointwise}
+use Rattle.std.proofs.lemmas.Bool.{eq-eqb, and_parts, and_from, false_from_ne_true}
+use Rattle.std.proofs.lemmas.List.{length-map, get_or-map, length-replicate}
+use Rattle.std.proofs.lemmas.List.FromFn.{length-enumerate_from, get_or-enumerate_from}
+use Rattle.record_dim.specs.declared.leaf_type.LeafType.{LeafType}
+use Rattle.record_dim.specs.LeafTypes.{least_of, greatest_of, least_in, greatest_in, IsIn}
+use Rattle.record_dim.specs.Leaves.{kinds_of}
+use Rattle.places.specs.declared.piece.Hold.{Hold}
+use Rattle.places.specs.Layout.{Owner}
+use Rattle.places.specs.Laws.{IsLaidOut}
+use Rattle.places.specs.Image.{entry}
+use Rattle.extents.specs.Indices.{indices}
+use Rattle.piece_bits.specs.Tables.{HasShape, hold_at}
+use Rattle.piece_bits.specs.TableLaws.{tables_same}
+use Rattle.kept_numbers.specs.Kept.{declared}
+use Rattle.kept_numbers.specs.KeptLaws.{low_same, declared_same}
+use Rattle.kept_tables.specs.declared.mode.StoreMode.{StoreMode}
+use Rattle.kept_tables.specs.declared.mode.StoreMode.TheVariants.{Strict, Wrap}
+use Rattle.kept_tables.specs.Modes.{kind_at, Fits}
+use Rattle.kept_tables.specs.TableLaws.{declared_shape, declared_entry}
+use Rattle.views.specs.StrictLaws.{stored_fits}
+use Rattle.views.specs.Stores.{Keeping, is_between, store_answer, kept_or, kept_row, kept_rows}
+use Rattle.views.specs.Tables.{Table, owners_of, table_holds, leaf_count_of, kept_of, after_stores}
+use Rattle.views.specs.Tallies.{Tally, Write, all_accesses, tallied, no_tally, blob_lengths}
+use Rattle.blob_file.specs.Files.{Header, image_bytes}
+use Rattle.blob_file.specs.Filling.{IsTaken}
+use Rattle.blob_file.specs.Opened.{raw_in, rows_in, answer_by, all_taken, are_contents, cut, with_blobs, with_body, empty_table, table_of, leaf_count, row_count, IsRead}
+use Rattle.blob_file.specs.Saving.{header_of, blobs_of}
+use Rattle.blob_file.specs.declared.fault.FileFault.{FileFault}
+use Rattle.blob_file.specs.declared.fault.FileFault.TheVariants as fault
+use Rattle.blob_file.proofs.Contents.{ok_itself, each_taken, taken_each, raw_shape, raw_range, some_bits, same_count, same_blobs-Decides}
+
+-- ---- what is kept of a number that is taken
+
+kept_declared : (mode : StoreMode) (kind : LeafType) (hold : Hold) (raw : ℤ) → 1 ≤ hold.width → IsIn hold.signed hold.width raw → is_ok (store_answer mode kind hold raw) ≡ true →
+    kept_or raw (store_answer mode kind hold raw) ≡ declared kind raw
+kept_declared Strict kind hold raw some inside taken =
+    let is : store_answer Strict kind hold raw ≡ Ok raw =
+    ok_itself (is_between (least_of kind) (greatest_of kind) raw) (is_between (least_in hold.signed hold.width) (greatest_in hold.signed hold.width) raw) raw taken in
+    let fits : Fits kind hold raw = stored_fits kind hold raw is in
+    ap (kept_or raw) is ∙ sym (declared_same kind raw fits.declared)
+kept_declared Wrap kind hold raw some inside taken = ap (declared kind) (low_same hold.signed hold.width raw some inside)
+
+-- an entry of rows that are kept
+kept_entry : (keep : Keeping) (rows : List (List ℤ)) (row leaf : ℕ) → row < length rows → leaf < length (get_or rows row []) → entry (kept_rows keep rows) row leaf ≡ keep leaf (entry rows row leaf)
+kept_entry keep rows row leaf row_in leaf_in =
+    let values = get_or rows row [] in
+    let pairs : leaf < length (enumerate_from 0 values) = omega (arith, leaf_in, length-enumerate_from 0 values) in
+    let number : 0 + leaf ≡ leaf = omega arith in
+    ap (λ (w : List ℤ). get_or w leaf (pos 0)) (get_or-map (kept_row keep) rows row [] [] row_in)
+    ∙ get_or-map (λ (v : ℕ × ℤ). keep v.0 v.1) (enumerate_from 0 values) leaf (0, pos 0) (pos 0) pairs
+    ∙ ap (λ (v : ℕ × ℤ). keep v.0 v.1) (get_or-enumerate_from 0 values leaf (0, pos 0) leaf_in)
+    ∙ ap (λ (n : ℕ). keep n (get_or values leaf (pos 0))) number
+
+kept_shape : (keep : Keeping) (rows : List (List ℤ)) (count leaves : ℕ) → HasShape count leaves rows → HasShape count leaves (kept_rows keep rows)
+kept_shape keep rows count leaves shape = record {
+  row_count = length-map rows (kept_row keep) ∙ shape.row_count;
+  leaf_count = λ row l.
+      ap (length {A = ℤ}) (get_or-map (kept_row keep) rows row [] [] (omega (arith, l, shape.row_count)))
+      ∙ length-map (enumerate_from 0 (get_or rows row [])) (λ (v : ℕ × ℤ). keep v.0 v.1)
+      ∙ length-enumerate_from 0 (get_or rows row []) ∙ shape.leaf_count row l;
+}
+
+-- a view of zeros, its laws, and the bytes that are cut into its blobs
+module _ (table : Table) (laid : IsLaidOut (owners_of table) (length (indices table.extents)) (map (λ (h : Hold). h.width) (table_holds table)))
+    (paired : length (table_holds table) ≡ length (kinds_of table.fields)) (empty : table ≡ empty_table (header_of table))
+    (body : List ℕ) (blobs : List (List ℕ)) (sized : 8 * length body ≡ sum_by (length {A = Owner}) (owners_of table)) (is : blobs ≡ cut (blob_lengths (owners_of table)) body) where
+  abbrev header : Header
+  header = header_of table
+
+  abbrev raw : List (List ℤ)
+  raw = raw_in header blobs
+
+  rows_long : length table.rows ≡ row_count header
+  rows_long = ap (λ (t : Table). length t.rows) empty ∙ length-replicate (row_count header) _
+
+  shape : HasShape (row_count header) (length (kinds_of table.fields)) raw
+  shape = raw_shape header laid paired blobs
+
+  all_of : IsTaken table raw → all_taken (answer_by header) raw ≡ true
+  all_of taken =
+      taken_each (answer_by header) raw (λ row leaf l m.
+      (let row_in : row < row_count header = omega (arith, l, shape.row_count) in
+      taken row leaf (omega (arith, row_in, rows_long)) (omega (arith, m, shape.leaf_count row row_in, same_count header laid paired))))
+
+  taken_of : all_taken (answer_by header) raw ≡ true → IsTaken table raw
+  taken_of all row leaf l m =
+      let row_in : row < row_count header = omega (arith, l, rows_long) in
+      each_taken (answer_by header) raw all row leaf (omega (arith, row_in, shape.row_count)) (omega (arith, m, shape.leaf_count row row_in, same_count header laid paired))
+
+  -- what is kept are the rows that the blobs stand for
+  rows_kept : IsTaken table raw → kept_rows (kept_of table) raw ≡ rows_in header blobs
+  rows_kept taken =
+      tables_same (row_count header) (length (kinds_of table.fields)) (kept_rows (kept_of table) raw) (rows_in header blobs)
+      (kept_shape (kept_of table) raw (row_count header) (length (kinds_of table.fields)) shape)
+      (declared_shape (row_count header) (kinds_of table.fields) raw shape)
+      (λ row leaf l m.
+      (let row_in : row < length raw = omega (arith, l, shape.row_count) in
+      let leaf_in : leaf < length (get_or raw row []) = omega (arith, m, shape.leaf_count row l) in
+      kept_entry (kept_of table) raw row leaf row_in leaf_in
+      ∙ kept_declared table.mode (kind_at (kinds_of table.fields) leaf) (hold_at (table_holds table) leaf) (entry raw row leaf) (some_bits header laid paired leaf m) (raw_range header laid paired blobs row leaf l m)
+      (taken row leaf (omega (arith, l, rows_long)) (omega (arith, m, same_count header laid paired)))
+      ∙ sym (declared_entry (row_count header) (kinds_of table.fields) raw shape row leaf l m)))
+
+  -- what stands behind the test of the length
+  body_is : with_body header body ≡ with_blobs header blobs
+  body_is =
+      let yes : (8 * length body == sum_by (length {A = Owner}) (owners_of table)) ≡ true = eq-eqb _ _ sized in
+      (rw yes refl) ∙ ap (with_blobs header) (sym is)
+
+  contents_refused : (are_contents header blobs ≡ true → ⊥) → with_body header body ≡ Err fault.Contents
+  contents_refused none =
+      let no : are_contents header blobs ≡ false = false_from_ne_true (are_contents header blobs) none in
+      body_is ∙ (rw no refl)
+
+  -- a leaf refuses its number
+  pub refused_number : (IsTaken table raw → ⊥) → with_body header body ≡ Err fault.Contents
+  unfolding are_contents
+  refused_number none =
+      contents_refused (λ e. none (taken_of (and_parts (all_taken (answer_by header) raw) (pointwise (pointwise nat_eq) (image_bytes header (rows_in header blobs)) blobs) e).0))
+
+  module _ (new : Table) (taken : IsTaken table raw) (stored : new ≡ after_stores table (kept_rows (kept_of table) raw) (all_accesses Write (leaf_count_of table) (length table.rows))) where
+    own_blobs : blobs_of new ≡ image_bytes header (rows_in header blobs)
+    own_blobs = ap blobs_of stored ∙ ap (image_bytes header) (rows_kept taken)
+
+    new_is : new ≡ table_of (record { header = header; blobs = blobs })
+    new_is =
+        let tally : table.tally ≡ no_tally table.mapping (owners_of table) (leaf_count header) = ap (λ (t : Table). t.tally) empty in
+        stored
+        ∙ ap (λ (rows : List (List ℤ)). after_stores table rows (all_accesses Write (leaf_count header) (length table.rows))) (rows_kept taken)
+        ∙ ap (λ (n : ℕ). after_stores table (rows_in header blobs) (all_accesses Write (leaf_count header) n)) rows_long
+        ∙ ap (λ (w : Tally). record table { rows = rows_in header blobs; tally = tallied (owners_of table) w (all_accesses Write (leaf_count header) (row_count header)) }) tally
+
+    -- the blobs of the view are those of the file
+    opened_view : blobs_of new ≡ blobs → IsRead (with_body header body) (Ok new)
+    unfolding are_contents
+    opened_view same =
+        let both = and_from (all_taken (answer_by header) raw) (pointwise (pointwise nat_eq) (image_bytes header (rows_in header blobs)) blobs) (all_of taken)
+        ((same_blobs-Decides (image_bytes header (rows_in header blobs)) blobs).1 (sym own_blobs ∙ same)) in
+        (record { header = header; blobs = blobs }, body_is ∙ (rw both refl), new_is)
+
+    -- or are not
+    other_view : (blobs_of new ≡ blobs → ⊥) → with_body header body ≡ Err fault.Contents
+    unfolding are_contents
+    other_view other =
+        contents_refused (λ e.
+        other (own_blobs ∙ (same_blobs-Decides (image_bytes header (rows_in header blobs)) blobs).0
+        (and_parts (all_taken (answer_by header) raw) (pointwise (pointwise nat_eq) (image_bytes header (rows_in header blobs)) blobs) e).1))
+
+    -- the answer to which it is
+    pub kept_view : (result : Result Table FileFault) → IfOk result (λ same. (same ≡ new) × (blobs_of new ≡ blobs)) → IfErr result (λ found. (found ≡ fault.Contents) × (blobs_of new ≡ blobs → ⊥)) → IsRead (with_body header body) result
+    kept_view (Ok same) own other = subst (λ (t : Table). IsRead (with_body header body) (Ok t)) (sym own.0) (opened_view own.1)
+    kept_view (Err found) own other = inr (other_view other.1 ∙ ap (λ (f : FileFault). Err f) (sym other.0))
+
+    -- and the steps that it took
+    pub kept_steps : (result : Result Table FileFault) (before now : ℕ) → now ≡ before + length table.rows * leaf_count_of table → IfOk result (λ same. (same ≡ new) × (blobs_of new ≡ blobs))
+        → IfOk result (λ same. now ≡ before + row_count (header_of same) * leaf_count (header_of same))
+    kept_steps (Ok same) before now steps own =
+        steps ∙ ap (λ (n : ℕ). before + n * leaf_count_of table) rows_long
+        ∙ ap (λ (t : Table). before + row_count (header_of t) * leaf_count (header_of t)) (sym (own.0 ∙ stored))
+    kept_steps (Err found) before now steps own = tt

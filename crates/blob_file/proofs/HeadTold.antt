@@ -1,0 +1,89 @@
+-- What is told of a text, by the line that it is.
+use Rattle.std.proofs.Common.{◌≡◌, ℕ, Bool, true, false, List, Some, None, refl, ap, ◌∙◌}
+use Rattle.std.specs.Prelude.{codes}
+use Rattle.extents.specs.declared.words.ExtentWord.{ExtentWord}
+use Rattle.record_dim.specs.declared.dim.Dim.{Dim}
+use Rattle.record_dim.specs.declared.dim.Dim.TheVariants as dims
+use Rattle.record_dim.specs.Trees.{Tree, Single, Record, Array, tree_of, IsRecord}
+use Rattle.map_expr.specs.declared.expr.MapExpr.{MapExpr}
+use Rattle.line_grammar.specs.declared.line.Line.{Line}
+use Rattle.line_grammar.specs.declared.line.Line.TheVariants as lines
+use Rattle.line_grammar.specs.Sentences.{New, Define, View, sentence_of}
+use Rattle.blob_file.specs.Opened.{same_bytes, line_told, fields_told, is_plain, new_told}
+use Rattle.blob_file.specs.Parts.{fields_in, new_in}
+use Rattle.blob_file.specs.declared.header.ShownView.{ShownView}
+use Rattle.blob_file.proofs.Heads.{plain_parts}
+
+module _ (text : List ℕ) where
+  -- a record, and the name of another one
+  pub record_told : (name : List ℕ) (dim : Dim) → IsRecord dim → line_told text ≡ Some (Define name (tree_of dim)) → same_bytes name (codes "R") ≡ true → fields_told (line_told text) ≡ Some (fields_in (tree_of dim))
+  record_told name (dims.Fields fields) kind is named = ap fields_told is ∙ (rw named refl)
+  record_told name (dims.Leaf kind) none is named = absurd none
+  record_told name (dims.Array' len p element) none is named = absurd none
+
+  other_tree : (name : List ℕ) (tree : Tree) → same_bytes name (codes "R") ≡ false → fields_told (Some (Define name tree)) ≡ None
+  other_tree name (Record fields) other = rw other refl
+  other_tree name (Single kind) other = refl
+  other_tree name (Array len element) other = refl
+
+  pub other_name : (name : List ℕ) (dim : Dim) → line_told text ≡ Some (Define name (tree_of dim)) → same_bytes name (codes "R") ≡ false → fields_told (line_told text) ≡ None
+  other_name name dim is other = ap fields_told is ∙ other_tree name (tree_of dim) other
+
+  -- a view, and one that is not plain
+  pub view_told : (new : New) → line_told text ≡ Some (View new) → is_plain new ≡ true → new_told (line_told text) ≡ Some new
+  view_told new is plain = ap new_told is ∙ (rw plain refl)
+
+  pub other_view : (new : New) → line_told text ≡ Some (View new) → is_plain new ≡ false → new_told (line_told text) ≡ None
+  other_view new is other = ap new_told is ∙ (rw other refl)
+
+-- a plain view is one of the two names
+pub plain_is : (new : New) (shown : ShownView) → is_plain new ≡ true → new.words ≡ shown.words → new.wrap ≡ shown.wrap → new.term ≡ (new_in shown).term → new ≡ new_in shown
+plain_is new shown e words wrap term =
+    let plain = plain_parts new e in
+    λ i. record { name = plain.named i; schema = plain.over i; words = words i; wrap = wrap i; term = term i }
+
+-- lines that define no record
+pub no_define : (line : Line) → ((name : List ℕ) (dim : Dim) → line ≡ lines.Define name dim → ⊥) → fields_told (Some (sentence_of line)) ≡ None
+no_define (lines.Define name dim) other = absurd (other name dim refl)
+no_define lines.Blank other = refl
+no_define (lines.Mapping name expr) other = refl
+no_define (lines.View name schema words wrap expr) other = refl
+no_define (lines.Load name schema words wrap expr file) other = refl
+no_define (lines.Assign view index path value) other = refl
+no_define (lines.Update view filter sets) other = refl
+no_define (lines.Kernel view kernel lanes) other = refl
+no_define (lines.Reduce view kind path) other = refl
+no_define (lines.Count view filter) other = refl
+no_define (lines.Copy source target) other = refl
+no_define (lines.Relayout view expr) other = refl
+no_define (lines.Print view) other = refl
+no_define (lines.Counts view) other = refl
+no_define (lines.Heat view) other = refl
+no_define (lines.Layout view) other = refl
+no_define (lines.Drop view) other = refl
+no_define (lines.Bytes view blob) other = refl
+no_define (lines.SaveView view) other = refl
+no_define (lines.OpenFile name file) other = refl
+
+-- and lines that make no view
+pub no_shown : (line : Line) → ((name schema : List ℕ) (words : List ExtentWord) (wrap : Bool) (expr : MapExpr) → line ≡ lines.View name schema words wrap expr → ⊥) → new_told (Some (sentence_of line)) ≡ None
+no_shown (lines.View name schema words wrap expr) other = absurd (other name schema words wrap expr refl)
+no_shown lines.Blank other = refl
+no_shown (lines.Define name dim) other = refl
+no_shown (lines.Mapping name expr) other = refl
+no_shown (lines.Load name schema words wrap expr file) other = refl
+no_shown (lines.Assign view index path value) other = refl
+no_shown (lines.Update view filter sets) other = refl
+no_shown (lines.Kernel view kernel lanes) other = refl
+no_shown (lines.Reduce view kind path) other = refl
+no_shown (lines.Count view filter) other = refl
+no_shown (lines.Copy source target) other = refl
+no_shown (lines.Relayout view expr) other = refl
+no_shown (lines.Print view) other = refl
+no_shown (lines.Counts view) other = refl
+no_shown (lines.Heat view) other = refl
+no_shown (lines.Layout view) other = refl
+no_shown (lines.Drop view) other = refl
+no_shown (lines.Bytes view blob) other = refl
+no_shown (lines.SaveView view) other = refl
+no_shown (lines.OpenFile name file) other = refl

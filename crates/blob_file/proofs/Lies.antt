@@ -1,0 +1,55 @@
+-- A header with which a view was made, and one with which none was.
+use Rattle.std.proofs.Common.{◌≡◌, ℕ, false, List, map, None, Result, Ok, Err, sym, ap, ◌∙◌, subst}
+use Rattle.std.specs.Prelude.{OnOk}
+use Rattle.std.specs.List.{list_any}
+use Rattle.extents.specs.declared.words.ExtentWord.{ExtentWord}
+use Rattle.extents.specs.Shapes.{bad_shape, bad_extents, extent_of, is_rows}
+use Rattle.map_expr.specs.Terms.{term_of}
+use Rattle.map_checks.specs.Mappings.{accepted, leaf_cells}
+use Rattle.record_dim.specs.Leaves.{first_fault, kinds_of}
+use Rattle.record_dim.specs.Trees.{Fields, Record, tree_of}
+use Rattle.views.specs.Refusals.{IsOver}
+use Rattle.blob_file.specs.Headers.{CanLie}
+use Rattle.blob_file.specs.Parts.{fields_in, header_in}
+use Rattle.blob_file.specs.declared.header.FileHeader.{FileHeader}
+use Rattle.blob_file.proofs.Heads.{words_back}
+
+-- two facts of an answer
+pub on_both : {A E : Type 0} {P Q R : Type 0} (answer : Result A E) → (P → Q → R) → OnOk answer P → OnOk answer Q → OnOk answer R
+on_both (Ok x) gives p q = gives p q
+on_both (Err why) gives p q = tt
+
+module _ (header : FileHeader) (plain : list_any is_rows header.words ≡ false) where
+  pub shaped_by : CanLie (header_in header) → bad_shape header.words ≡ None
+  shaped_by can = sym (ap bad_shape (words_back header.words plain)) ∙ can.shaped
+
+  pub ranged_by : CanLie (header_in header) → bad_extents header.words None ≡ None
+  ranged_by can = sym (ap (λ (words : List ExtentWord). bad_extents words None) (words_back header.words plain)) ∙ can.ranged
+
+  module _ (fields : Fields) (extents : List ℕ) (made : Record fields ≡ tree_of header.dim) (are : extents ≡ map (extent_of 0) header.words) where
+    same : fields ≡ fields_in (tree_of header.dim)
+    same = ap fields_in made
+
+    over_by : IsOver (term_of header.expr) (map (extent_of 0) header.words) (fields_in (tree_of header.dim)) → IsOver (term_of header.expr) extents fields
+    over_by over =
+        subst (λ (f : Fields). IsOver (term_of header.expr) extents f) (sym same)
+        (subst (λ (e : List ℕ). IsOver (term_of header.expr) e (fields_in (tree_of header.dim))) (sym are) over)
+
+    over_of : IsOver (term_of header.expr) extents fields → IsOver (term_of header.expr) (map (extent_of 0) header.words) (fields_in (tree_of header.dim))
+    over_of over =
+        subst (λ (e : List ℕ). IsOver (term_of header.expr) e (fields_in (tree_of header.dim))) are
+        (subst (λ (f : Fields). IsOver (term_of header.expr) extents f) same over)
+
+    pub can_by : first_fault (tree_of header.dim) ≡ None → bad_shape header.words ≡ None → bad_extents header.words None ≡ None
+        → accepted (term_of header.expr) fields (leaf_cells (kinds_of fields)) ≡ Ok tt → (IsOver (term_of header.expr) extents fields → ⊥) → CanLie (header_in header)
+    can_by fit shaped ranged mapped within = record {
+      fit = ap (λ (f : Fields). first_fault (Record f)) (sym same) ∙ ap first_fault made ∙ fit;
+      shaped = ap bad_shape (words_back header.words plain) ∙ shaped;
+      ranged = ap (λ (words : List ExtentWord). bad_extents words None) (words_back header.words plain) ∙ ranged;
+      mapped = subst (λ (f : Fields). accepted (term_of header.expr) f (leaf_cells (kinds_of f)) ≡ Ok tt) same mapped;
+      within = λ over. within (over_by over);
+    }
+
+    pub none_by : (accepted (term_of header.expr) fields (leaf_cells (kinds_of fields)) ≡ Ok tt → (IsOver (term_of header.expr) extents fields → ⊥) → ⊥) → CanLie (header_in header) → ⊥
+    none_by none can =
+        none (subst (λ (f : Fields). accepted (term_of header.expr) f (leaf_cells (kinds_of f)) ≡ Ok tt) (sym same) can.mapped) (λ over. can.within (over_of over))

@@ -1,0 +1,63 @@
+-- Views of zeros, and the words of their extents.
+use Rattle.std.proofs.Common.{◌≡◌, ℕ, ◌+◌, false, List, [], ◌∷◌, length, map, None, Some, Result, Ok, Err, refl, sym, ap, ◌∙◌, arith}
+use Rattle.std.specs.Prelude.{IfOk, count_by, cond, sum_by}
+use Rattle.std.specs.List.{list_any}
+use Rattle.std.proofs.lemmas.List.Sums.{sum_by-cons}
+use Rattle.extents.specs.declared.words.BadExtents.{BadExtents as Bad}
+use Rattle.extents.specs.declared.words.ExtentWord.{ExtentWord}
+use Rattle.extents.specs.declared.words.ExtentWord.TheVariants.{Fixed, Rows}
+use Rattle.extents.specs.Indices.{indices}
+use Rattle.extents.specs.Shapes.{is_rows, extent_of, extents_for, bad_shape, bad_extents, HasRows}
+use Rattle.record_dim.specs.Trees.{Fields}
+use Rattle.record_dim.specs.Leaves.{leaves}
+use Rattle.map_expr.specs.Terms.{Term}
+use Rattle.map_checks.specs.Mappings.{layout_by}
+use Rattle.piece_bits.specs.Tables.{zeros}
+use Rattle.kept_tables.specs.declared.mode.StoreMode.{StoreMode}
+use Rattle.views.specs.declared.fault.MakeView.{MakeView}
+use Rattle.views.specs.Tables.{Table, owners_of, leaf_count_of}
+use Rattle.views.specs.Tallies.{no_tally}
+use Rattle.blob_file.specs.Opened.{empty_table}
+use Rattle.blob_file.specs.Parts.{header_by}
+use Rattle.blob_file.proofs.Heads.{same_extents}
+
+-- the table that a new view is
+pub table_new : (seen : Table) (mode : StoreMode) (fields : Fields) (extents : List ℕ) (term : Term) → seen.mode ≡ mode → seen.fields ≡ fields → seen.extents ≡ extents → seen.mapping ≡ term
+    → seen.rows ≡ zeros (length (indices extents)) (length (leaves fields)) → seen.tally ≡ no_tally (seen.mapping) (owners_of seen) (leaf_count_of seen)
+    → seen ≡ empty_table (header_by fields extents mode term)
+table_new seen mode fields extents term m f e t z n =
+    let tally : seen.tally ≡ no_tally term (layout_by term extents fields) (length (leaves fields)) =
+    n ∙ ap (λ (w : Term). no_tally w (layout_by w seen.extents seen.fields) (leaf_count_of seen)) t
+    ∙ ap (λ (w : List ℕ). no_tally term (layout_by term w seen.fields) (leaf_count_of seen)) e
+    ∙ ap (λ (w : Fields). no_tally term (layout_by term extents w) (length (leaves w))) f in
+    λ i. record { fields = f i; extents = e i; mapping = t i; mode = m i; rows = z i; tally = tally i }
+
+-- the answer of a new view
+pub made_table : (result : Result Table MakeView) (mode : StoreMode) (fields : Fields) (extents : List ℕ) (term : Term) → IfOk result (λ v. v.mode ≡ mode) → IfOk result (λ v. v.fields ≡ fields)
+    → IfOk result (λ v. v.extents ≡ extents) → IfOk result (λ v. v.mapping ≡ term)
+    → IfOk result (λ v. v.rows ≡ zeros (length (indices extents)) (length (leaves fields))) → IfOk result (λ v. v.tally ≡ no_tally v.mapping (owners_of v) (leaf_count_of v))
+    → IfOk result (λ v. v ≡ empty_table (header_by fields extents mode term))
+made_table (Ok seen) mode fields extents term m f e t z n = table_new seen mode fields extents term m f e t z n
+made_table (Err why) mode fields extents term m f e t z n = tt
+
+-- words of which none is open
+pub none_open : (words : List ExtentWord) → list_any is_rows words ≡ false → count_by is_rows words ≡ 0
+none_open [] none = refl
+none_open (Fixed extent ∷ words) none =
+    let rest : sum_by (λ (word : ExtentWord). cond (is_rows word) 1 0) words ≡ 0 = none_open words none in
+    let zero_on : 0 + sum_by (λ (word : ExtentWord). cond (is_rows word) 1 0) words ≡ 0 = omega (arith, rest) in
+    sum_by-cons (λ (word : ExtentWord). cond (is_rows word) 1 0) (Fixed extent) words ∙ zero_on
+none_open (Rows ∷ words) none = absurd (cc none)
+
+pub no_open : (words : List ExtentWord) → list_any is_rows words ≡ false → HasRows words → ⊥
+no_open words none some = omega (arith, none_open words none, some)
+
+pub plain_extents : (words : List ExtentWord) (extents : List ℕ) → list_any is_rows words ≡ false → extents ≡ extents_for words None → extents ≡ map (extent_of 0) words
+plain_extents words extents none is = is ∙ same_extents _ words none
+
+-- the answer of the first test that words fail
+pub refused_shape : (words : List ExtentWord) (bad : Bad) → bad_shape words ≡ Some bad → bad_shape words ≡ None → ⊥
+refused_shape words bad some none = let clash : Some bad ≡ None = sym some ∙ none in absurd (cc)
+
+pub refused_extents : (shape words : List ExtentWord) (bad : Bad) → shape ≡ words → bad_extents shape None ≡ Some bad → bad_extents words None ≡ None → ⊥
+refused_extents shape words bad same some none = let clash : Some bad ≡ None = sym some ∙ ap (λ (w : List ExtentWord). bad_extents w None) same ∙ none in absurd (cc)

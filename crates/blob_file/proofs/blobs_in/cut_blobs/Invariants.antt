@@ -1,0 +1,6 @@
+use Rattle.views.specs.Tallies.{blob_lengths}
+use Rattle.blob_file.proofs.Blobs.{AreCut}
+use Rattle.blob_file.proofs.blobs_in.cut_blobs.Given as goal
+
+abbrev pub invariant-loop-b : goal.invariant-loop-b
+invariant-loop-b g l = AreCut (blob_lengths (g.M.Mapping.layout l.map)) l.body l.b l.blobs.items l.rest

@@ -1,0 +1,8 @@
+use Rattle.std.proofs.Common.{refl}
+use Rattle.blob_file.specs.Files.{image_bytes}
+use Rattle.blob_file.proofs.Contents.{same_rows}
+use Rattle.blob_file.proofs.Lawful.{lawful, paired}
+use Rattle.blob_file.proofs.laws.rows_law.Goals as goal
+
+pub returns : goal.returns
+returns c = λ header rows lines can are. same_rows header (lawful header lines.nameless can) (paired header) (image_bytes header rows) rows are refl

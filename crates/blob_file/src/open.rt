@@ -1,0 +1,193 @@
+// A file, opened as a view.
+ghost use Rattle.std.specs.Prelude.{◌≡◌, ◌≤◌, ◌+◌, ◌*◌, ◌⊎◌, false, true, IfOk, IfErr, OnOk, Ok, Err, length, map};
+ghost use Rattle.std.specs.List.{list_any};
+ghost use Rattle.extents.specs.Shapes.{bad_shape, bad_extents, extent_of, is_rows};
+ghost use Rattle.map_expr.specs.Terms.{term_of};
+ghost use Rattle.map_checks.specs.Mappings.{accepted, leaf_cells};
+ghost use Rattle.record_dim.specs.Leaves.{first_fault, kinds_of};
+ghost use Rattle.record_dim.specs.Schemas.{schema_fields};
+ghost use Rattle.record_dim.specs.Trees.{tree_of, Record, IsRecord};
+ghost use Rattle.blob_file.specs.Files.{Header, IsFile};
+ghost use Rattle.blob_file.specs.Headers.{is_nameless, CanLie};
+ghost use Rattle.blob_file.specs.Opened.{empty_table, leaf_count, mode_by, opened, row_count, with_body, IsRead};
+ghost use Rattle.views.specs.Refusals.{IsOver, IsNoView};
+ghost use Rattle.views.specs.Tables.{owners_of};
+ghost use Rattle.blob_file.specs.Parts.{header_by, header_in};
+ghost use Rattle.blob_file.specs.Saving.{header_of, blobs_of};
+ghost use Rattle.blob_file.specs.declared.fault.FileFault.TheVariants as fault;
+
+use crate::blobs_in::{cut_blobs, has_blobs};
+use crate::fault::FileFault;
+use crate::fill::fill_rows;
+use crate::header::{FileHeader, behind_magic, read_header};
+use blobs::Blob;
+use extents::{ExtentWord, Extents, Shape};
+use map_expr::MapExpr;
+use places::laws_of;
+use record_dim::{Dim, MakeSchema, Schema};
+use std::alloc::Global;
+use std::sync::ledger::Ledger;
+use steps::Steps;
+use views::{MakeView, StoreMode, View, laws_of_table};
+
+/// The view of which bytes are the file. It has counted one write of each leaf of each row, and nothing else. The refusals come in the order
+/// of `FileFault`, each exactly where `opened` says so; memory may run out at any time, and is asked for the blobs behind the other tests of
+/// lengths. A step is taken for each leaf of each row that is stored.
+pub fn read_file<L: Ledger>(
+    alloc: Global,
+    bytes: &[u8],
+    steps: &mut Steps<L>,
+) -> Result<View, FileFault>
+    ensures read { IsRead (opened bytes.now) result }
+    ensures file { IfOk result (λ view. IsFile bytes.now (header_of view) (blobs_of view)) }
+    ensures steps { IfOk result (λ view. steps.new ≡ steps.old + row_count (header_of view) * leaf_count (header_of view)) }
+{
+    let Some(rest) = behind_magic(bytes) else {
+        return Err(FileFault::Magic);
+    };
+    let (header, body) = read_header(alloc, rest)?;
+    let view = empty_view(alloc, header)?;
+    filled_view(alloc, view, body, steps)
+}
+
+// A view of zeros that the header says, in which nothing was counted.
+fn empty_view(alloc: Global, header: FileHeader) -> Result<View, FileFault>
+    requires kind { IsRecord header.dim }
+    requires plain { list_any is_rows header.words ≡ false }
+    requires nameless { is_nameless (term_of header.expr) ≡ true }
+    ensures made { IfOk result (λ view. view ≡ empty_table (header_in header)) }
+    ensures lies { OnOk result (CanLie (header_in header)) }
+    ensures refused { IfErr result (λ found. (found ≡ fault.NoMemory) ⊎ ((found ≡ fault.Layout) × (CanLie (header_in header) → ⊥))) }
+{
+    let FileHeader {
+        dim,
+        words,
+        wrap,
+        expr,
+    } = header;
+    let schema = schema_of(alloc, dim)?;
+    let extents = extents_of(words.as_slice())?;
+    made(alloc, mode_by(wrap), &schema, extents, &expr)
+}
+
+// The schema of a record.
+fn schema_of(alloc: Global, dim: Dim) -> Result<Schema, FileFault>
+    requires { IsRecord dim }
+    ensures made { IfOk result (λ schema. Record (schema_fields schema) ≡ tree_of dim) }
+    ensures fit { OnOk result (first_fault (tree_of dim) ≡ None) }
+    ensures refused { IfErr result (λ found. (found ≡ fault.NoMemory) ⊎ ((found ≡ fault.Layout) × (first_fault (tree_of dim) ≡ None → ⊥))) }
+{
+    match Schema::new(alloc, dim) {
+        Ok(schema) => Ok(schema),
+        Err(MakeSchema::Bad(_)) => Err(FileFault::Layout),
+        Err(MakeSchema::NoMemory) => Err(FileFault::NoMemory),
+    }
+}
+
+// The extents of words that are all numbers.
+fn extents_of(words: &[ExtentWord]) -> Result<Extents, FileFault>
+    requires { list_any is_rows words.now ≡ false }
+    ensures extents { IfOk result (λ extents. extents ≡ map (extent_of 0) words.now) }
+    ensures shaped { OnOk result (bad_shape words.now ≡ None) }
+    ensures ranged { OnOk result (bad_extents words.now None ≡ None) }
+    ensures refused { IfErr result (λ found. (found ≡ fault.Layout) × (bad_shape words.now ≡ None → bad_extents words.now None ≡ None → ⊥)) }
+{
+    let Ok(shape) = Shape::new(words) else {
+        return Err(FileFault::Layout);
+    };
+    match shape.resolve(None) {
+        Ok(extents) => Ok(extents),
+        Err(_) => Err(FileFault::Layout),
+    }
+}
+
+fn mode_by(wrap: bool) -> StoreMode
+    ensures { result ≡ mode_by wrap }
+{
+    if wrap {
+        StoreMode::Wrap
+    } else {
+        StoreMode::Strict
+    }
+}
+
+// A view of zeros in a mode.
+fn made(
+    alloc: Global,
+    mode: StoreMode,
+    schema: &Schema,
+    extents: Extents,
+    expr: &MapExpr,
+) -> Result<View, FileFault>
+    requires { is_nameless (term_of expr.now) ≡ true }
+    ensures made { IfOk result (λ view. view ≡ empty_table (header_by (schema_fields schema.now) extents mode (term_of expr.now))) }
+    ensures mapped { OnOk result (accepted (term_of expr.now) (schema_fields schema.now) (leaf_cells (kinds_of (schema_fields schema.now))) ≡ Ok tt) }
+    ensures within { OnOk result (IsOver (term_of expr.now) extents (schema_fields schema.now) → ⊥) }
+    ensures refused { IfErr result (λ found. (found ≡ fault.NoMemory) ⊎ ((found ≡ fault.Layout)
+        × (accepted (term_of expr.now) (schema_fields schema.now) (leaf_cells (kinds_of (schema_fields schema.now))) ≡ Ok tt
+        → (IsOver (term_of expr.now) extents (schema_fields schema.now) → ⊥) → ⊥))) }
+{
+    match zeros(alloc, mode, schema, extents, expr) {
+        Ok(view) => Ok(view),
+        Err(MakeView::NoMemory) => Err(FileFault::NoMemory),
+        Err(MakeView::Bad(_)) => Err(FileFault::Layout),
+        Err(MakeView::TooBig) => Err(FileFault::Layout),
+    }
+}
+
+// The same, with the answer of `View`.
+#[tactic(auto, using(crate::specs::HeaderLaws::nameless_built))]
+fn zeros(
+    alloc: Global,
+    mode: StoreMode,
+    schema: &Schema,
+    extents: Extents,
+    expr: &MapExpr,
+) -> Result<View, MakeView>
+    requires { is_nameless (term_of expr.now) ≡ true }
+    ensures made { IfOk result (λ view. view ≡ empty_table (header_by (schema_fields schema.now) extents mode (term_of expr.now))) }
+    ensures mapped { OnOk result (accepted (term_of expr.now) (schema_fields schema.now) (leaf_cells (kinds_of (schema_fields schema.now))) ≡ Ok tt) }
+    ensures within { OnOk result (IsOver (term_of expr.now) extents (schema_fields schema.now) → ⊥) }
+    ensures refused { IfErr result (IsNoView (term_of expr.now) extents (schema_fields schema.now)) }
+{
+    match mode {
+        StoreMode::Strict => View::new(alloc, schema, extents, expr),
+        StoreMode::Wrap => View::wrapping(alloc, schema, extents, expr),
+    }
+}
+
+// The view with the rows of a file, whose header it was made of, behind which these bytes stand.
+fn filled_view<L: Ledger>(
+    alloc: Global,
+    view: View,
+    body: &[u8],
+    steps: &mut Steps<L>,
+) -> Result<View, FileFault>
+    requires empty { view ≡ empty_table (header_of view) }
+    ensures read { IsRead (with_body (header_of view) body.now) result }
+    ensures steps { IfOk result (λ made. steps.new ≡ steps.old + row_count (header_of made) * leaf_count (header_of made)) }
+{
+    let mut view = view;
+    laws_of(view.map());
+    laws_of_table(&view);
+    if body.len() as u64 != view.blob_bytes() {
+        return Err(FileFault::Length);
+    }
+    let list = cut_blobs(alloc, view.map(), body)?;
+    let blobs = list.as_slice();
+    fill_rows(blobs, &mut view, steps)?;
+    kept(view, blobs)
+}
+
+// The view, where its blobs are these.
+fn kept(view: View, blobs: &[Blob]) -> Result<View, FileFault>
+    requires { length blobs.now ≡ length (owners_of view) }
+    ensures own { IfOk result (λ same. (same ≡ view) × (blobs_of view ≡ blobs.now)) }
+    ensures other { IfErr result (λ found. (found ≡ fault.Contents) × (blobs_of view ≡ blobs.now → ⊥)) }
+{
+    if has_blobs(&view, blobs) {
+        Ok(view)
+    } else {
+        Err(FileFault::Contents)
+    }
+}

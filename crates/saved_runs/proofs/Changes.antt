@@ -1,0 +1,126 @@
+-- The rows that updates, kernels and datasets leave.
+use Rattle.std.proofs.Common.{◌≡◌, ℕ, zero, suc, ◌+◌, ◌<◌, ◌≤◌, Bool, true, false, ℤ, List, [], ◌∷◌, ◌++◌, length, map, get_or, drop, Option, Some, None, Result, Ok, Err, is_ok, if◌then◌else◌, refl, sym, ap, ◌∙◌, subst, arith, append-nil}
+use Rattle.std.specs.List.{range_with_len}
+use Rattle.std.specs.Option.{option_or}
+use Rattle.std.proofs.lemmas.List.{length-map, drop_all}
+use Rattle.std.proofs.Math.Seq.{take-length}
+use Rattle.expr_lang.specs.Terms.{Term}
+use Rattle.linearize.specs.Slots.{index_at}
+use Rattle.record_dim.specs.Leaves.{kinds_of}
+use Rattle.map_checks.specs.Mappings.{holds_by}
+use Rattle.piece_bits.specs.Tables.{hold_at}
+use Rattle.views.specs.Stores.{kept_by}
+use Rattle.views.specs.declared.fault.StoreFault.{StoreFault}
+use Rattle.row_updates.specs.Rows.{Setting, ◌>>=◌, each, in_row, store_kind, value_of, passes, new_value, updated_row, with_values}
+use Rattle.row_updates.specs.declared.fault.UpdateFault.{UpdateFault}
+use Rattle.row_updates.specs.declared.fault.UpdateKind.{UpdateKind}
+use Rattle.lane_kernels.specs.Kernels.{Store, stored, with_store, run_rows, answer_fault, store_fault, first_fault, empty_fault, kernel_fault}
+use Rattle.lane_kernels.specs.declared.fault.KernelFault.{KernelFault}
+use Rattle.lane_kernels.specs.declared.kernel.Kernel.{Kernel}
+use Rattle.line_writer.proofs.Gives.{Each}
+use Rattle.blob_file.specs.Files.{Header, AreRows}
+use Rattle.blob_file.specs.Opened.{answer_by}
+use Rattle.saved_runs.proofs.Rows.{IsRow, each_at, each_row, are_rows, set_row, taken_stays}
+
+-- an answer that is given was given at each of its steps
+record Ran {A B : Type 0} (x : Result A UpdateFault) (f : A → Result B UpdateFault) (b : B) : Type 0 where
+  thing : A
+  first : x ≡ Ok thing
+  next : f thing ≡ Ok b
+
+ran : {A B : Type 0} (x : Result A UpdateFault) (f : A → Result B UpdateFault) (b : B) → (x >>= f) ≡ Ok b → Ran x f b
+ran (Ok a) f b is = record { thing = a; first = refl; next = is }
+ran (Err fault) f b is = absurd (cc is)
+
+abbrev given : {A : Type 0} → A → Result A UpdateFault
+given x = Ok x
+
+same_answers : {A : Type 0} (x y : A) → given x ≡ given y → x ≡ y
+same_answers x y is = cc
+
+taken_in : (number : ℕ) (kind : StoreFault → UpdateKind) (answer : Result ℤ StoreFault) (kept : ℤ) → in_row number kind answer ≡ Ok kept → is_ok answer ≡ true
+taken_in number kind (Ok left) kept is = refl
+taken_in number kind (Err fault) kept is = absurd (cc is)
+
+-- a header whose holds have a bit at least
+module _ (header : Header) (wide : (leaf : ℕ) → leaf < length (kinds_of header.fields) → 1 ≤ (hold_at (holds_by header.mapping header.fields) leaf).width) where
+  -- ---- updates
+
+  values_set : (number : ℕ) (row : List ℤ) (index : List ℕ) (sets : List Setting) (values now : List ℤ) → each (new_value (answer_by header) number row index) sets ≡ Ok values → IsRow header now
+      → IsRow header (with_values (kept_by (answer_by header)) sets values now)
+  values_set number row index [] values now is one = one
+  values_set number row index (set ∷ sets) values now is one =
+      let a = ran (new_value (answer_by header) number row index set) _ values is in
+      let b = ran (each (new_value (answer_by header) number row index) sets) _ values a.next in
+      let c = ran (value_of number row index set.value) _ a.thing a.first in
+      let d = ran (in_row number (store_kind set.leaf) (answer_by header set.leaf c.thing)) _ a.thing c.next in
+      let value : c.thing ≡ a.thing = same_answers c.thing a.thing d.next in
+      let taken : is_ok (answer_by header set.leaf a.thing) ≡ true =
+      subst (λ (v : ℤ). is_ok (answer_by header set.leaf v) ≡ true) value (taken_in number (store_kind set.leaf) (answer_by header set.leaf c.thing) d.thing d.first) in
+      let stored_now = set_row header now set.leaf (kept_by (answer_by header) set.leaf a.thing) one (λ l. taken_stays header wide set.leaf a.thing l taken) in
+      subst (λ (vs : List ℤ). IsRow header (with_values (kept_by (answer_by header)) (set ∷ sets) vs now)) (same_answers (a.thing ∷ b.thing) values b.next)
+      (values_set number row index sets b.thing _ b.first stored_now)
+
+  row_updated : (filter : Option (Term ℕ)) (sets : List Setting) (number : ℕ) (row : List ℤ) (index : List ℕ) (new : List ℤ)
+      → updated_row (answer_by header) (kept_by (answer_by header)) filter sets number row index ≡ Ok new → IsRow header row → IsRow header new
+  row_updated filter sets number row index new is one =
+      let a = ran (passes number row index filter) _ new is in
+      of_test a.thing a.next
+    where
+      of_test : (test : Bool) → (if test then (each (new_value (answer_by header) number row index) sets >>= (λ values. Ok (with_values (kept_by (answer_by header)) sets values row))) else Ok row) ≡ Ok new → IsRow header new
+      of_test true is =
+          let b = ran (each (new_value (answer_by header) number row index) sets) _ new is in
+          subst (IsRow header) (same_answers (with_values (kept_by (answer_by header)) sets b.thing row) new b.next) (values_set number row index sets b.thing row b.first one)
+      of_test false is = subst (IsRow header) (same_answers row new is) one
+
+  -- the first rows of a table
+  rows_updated : (filter : Option (Term ℕ)) (sets : List Setting) (extents : List ℕ) (rows : List (List ℤ)) → Each (IsRow header) rows → (first count : ℕ) (new : List (List ℤ)) → first + count ≤ length rows
+      → each (λ number. updated_row (answer_by header) (kept_by (answer_by header)) filter sets number (get_or rows number []) (index_at extents number)) (range_with_len first count) ≡ Ok new
+      → (length new ≡ count) × Each (IsRow header) new
+  rows_updated filter sets extents rows all first zero new inside is =
+      subst (λ (ys : List (List ℤ)). (length ys ≡ 0) × Each (IsRow header) ys) (same_answers [] new is) (refl, tt)
+  rows_updated filter sets extents rows all first (suc count) new inside is =
+      let a = ran (updated_row (answer_by header) (kept_by (answer_by header)) filter sets first (get_or rows first []) (index_at extents first)) _ new is in
+      let b = ran (each (λ number. updated_row (answer_by header) (kept_by (answer_by header)) filter sets number (get_or rows number []) (index_at extents number)) (range_with_len (first + 1) count)) _ new a.next in
+      let here = row_updated filter sets first (get_or rows first []) (index_at extents first) a.thing a.first (each_at (IsRow header) [] rows first (omega (arith, inside)) all) in
+      let later = rows_updated filter sets extents rows all (first + 1) count b.thing (omega (arith, inside)) b.first in
+      subst (λ (ys : List (List ℤ)). (length ys ≡ suc count) × Each (IsRow header) ys) (same_answers (a.thing ∷ b.thing) new b.next) (ap suc later.0, (here, later.1))
+
+  pub update_stays : (filter : Option (Term ℕ)) (sets : List Setting) (extents : List ℕ) (rows new : List (List ℤ)) → AreRows header rows
+      → each (λ number. updated_row (answer_by header) (kept_by (answer_by header)) filter sets number (get_or rows number []) (index_at extents number)) (range_with_len 0 (length rows)) ≡ Ok new → AreRows header new
+  update_stays filter sets extents rows new are is =
+      let now = rows_updated filter sets extents rows (each_row header rows are) 0 (length rows) new (omega arith) is in
+      are_rows header new (now.0 ∙ are.shape.row_count) now.1
+
+  -- ---- kernels
+
+  not_refused : (row leaf : ℕ) (answer : Result ℤ StoreFault) → answer_fault row leaf answer ≡ None → is_ok answer ≡ true
+  not_refused row leaf (Ok kept) is = refl
+  not_refused row leaf (Err fault) is = absurd (cc is)
+
+  store_stays : (row : ℕ) (values : List ℤ) (store : Option Store) → store_fault (answer_by header) row store ≡ None → IsRow header values → IsRow header (with_store (kept_by (answer_by header)) values store)
+  store_stays row values None is one = one
+  store_stays row values (Some store) is one =
+      set_row header values store.leaf (kept_by (answer_by header) store.leaf store.value) one
+      (λ l. taken_stays header wide store.leaf store.value l (not_refused row store.leaf (answer_by header store.leaf store.value) is))
+
+  neither : (one other : Option KernelFault) → option_or one other ≡ None → (one ≡ None) × (other ≡ None)
+  neither None other is = (refl, is)
+  neither (Some fault) other is = absurd (cc is)
+
+  rows_run : (kernel : Kernel) (row : ℕ) (rows : List (List ℤ)) → first_fault (answer_by header) kernel row rows ≡ None → Each (IsRow header) rows
+      → Each (IsRow header) (map (λ values. with_store (kept_by (answer_by header)) values (stored kernel values)) rows)
+  rows_run kernel row [] is all = tt
+  rows_run kernel row (values ∷ rows) is all =
+      let parts = neither (store_fault (answer_by header) row (stored kernel values)) (first_fault (answer_by header) kernel (row + 1) rows) is in
+      (store_stays row values (stored kernel values) parts.0 all.0, rows_run kernel (row + 1) rows parts.1 all.1)
+
+  pub kernel_stays : (kernel : Kernel) (rows : List (List ℤ)) → AreRows header rows → kernel_fault (answer_by header) kernel rows ≡ None
+      → AreRows header (run_rows (kept_by (answer_by header)) kernel (length rows) rows)
+  kernel_stays kernel rows are is =
+      let done : List ℤ → List ℤ = λ values. with_store (kept_by (answer_by header)) values (stored kernel values) in
+      let parts = neither (empty_fault kernel rows) (first_fault (answer_by header) kernel 0 rows) is in
+      let all : run_rows (kept_by (answer_by header)) kernel (length rows) rows ≡ map done rows =
+      ap (λ (front : List (List ℤ)). map done front ++ drop (length rows) rows) (take-length rows)
+      ∙ ap (λ (back : List (List ℤ)). map done rows ++ back) (drop_all (length rows) rows (omega arith)) ∙ append-nil (map done rows) in
+      subst (AreRows header) (sym all) (are_rows header (map done rows) (length-map rows done ∙ are.shape.row_count) (rows_run kernel 0 rows parts.1 (each_row header rows are)))

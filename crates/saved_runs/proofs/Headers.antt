@@ -1,0 +1,202 @@
+-- Lines that say the header of a table.
+use Rattle.std.proofs.Common.{◌≡◌, ℕ, zero, suc, ◌+◌, ◌^◌, ◌<◌, ◌≤◌, Bool, true, false, not, ◌&&◌, List, [], ◌∷◌, ◌++◌, length, map, codes, nat_lt, Some, Result, Ok, Err, inr, refl, sym, ap, subst, append-nil, append_assoc, arith}
+use Rattle.std.specs.Prelude.{if◌then◌else◌, ◌||◌}
+use Rattle.std.proofs.lemmas.Bool.{lt-ltb, ltb-false}
+use Rattle.phrases.specs.Phrases.{Behind, IsNothing, Chain, Repeats}
+use Rattle.line_tokens.specs.Spelled.{AreSpelled, joined}
+use Rattle.line_tokens.specs.declared.sign.Sign.TheVariants.{OpenBracket, CloseBracket, Colon, Comma}
+use Rattle.record_dim.specs.Trees.{Fields, Record}
+use Rattle.extents.specs.declared.words.ExtentWord.TheVariants.{Fixed}
+use Rattle.map_expr.specs.Terms.{Term as MapTerm, Aos, Soa, Aosoa, BitAos, BitSoa, Split, Byteswap, Bytesplit, Change, Count as Counted, Heat as Heated, Named, depth_of}
+use Rattle.map_expr.specs.Checks.{checked, has_counter, counts_once, bad_number, answered}
+use Rattle.map_expr.specs.declared.check.BadMapping.{BadMapping}
+use Rattle.map_expr.specs.declared.check.BadMapping.TheVariants as bad
+use Rattle.map_checks.specs.Mappings.{accepted, else_for, bad_side, bad_field, not_full}
+use Rattle.places.specs.declared.piece.Cell.{Cell}
+use Rattle.line_grammar.specs.declared.token.Token.{Token}
+use Rattle.line_grammar.specs.declared.token.Token.TheVariants.{Word, Sign}
+use Rattle.line_grammar.specs.declared.version.Version.TheVariants.{Two}
+use Rattle.line_grammar.specs.declared.line.Command.TheVariants as command
+use Rattle.line_grammar.specs.Tokens.{name_of, count_of, command_of}
+use Rattle.line_grammar.specs.Sentences.{Sentence, New, Define, View}
+use Rattle.line_grammar.specs.Grammar.{Phrase, IsName, IsCount, IsMore, IsListed, IsFixed, IsMode, IsNew, IsBody, IsCommand, IsLine, IsBracketList}
+use Rattle.line_writer.specs.Canonical.{count_token}
+use Rattle.line_writer.specs.Texts.{written}
+use Rattle.line_writer.proofs.Gives.{IsSpelled, Each}
+use Rattle.line_writer.proofs.Rooms.{fits_more, fits_flat, one_fits, word_spelled, fits_alone}
+use Rattle.line_writer.proofs.ReadsBack.{decimal_spells, joined_reads}
+use Rattle.blob_file.specs.Files.{Header, is_wrap, view_line}
+use Rattle.blob_file.specs.Headers.{HasLine}
+use Rattle.saved_runs.proofs.Told.{Told, told_nothing, told_item, told_behind, told_joined, told_first, told_second, told_inside}
+use Rattle.saved_runs.proofs.Maps.{HasTokens, height, told_map}
+use Rattle.saved_runs.proofs.Lines.{AreFields}
+
+-- ---- a mapping that is accepted is low
+
+abbrev one_if : Bool → ℕ
+one_if true = 1
+one_if false = 0
+
+or_false : (a b : Bool) → (a || b) ≡ false → (a ≡ false) × (b ≡ false)
+or_false false b is = (refl, is)
+or_false true b is = absurd (cc is)
+
+and_true : (a b : Bool) → (a && b) ≡ true → (a ≡ true) × (b ≡ true)
+and_true true b is = (refl, is)
+and_true false b is = absurd (cc is)
+
+not_true : (a : Bool) → not a ≡ true → a ≡ false
+not_true false is = refl
+not_true true is = absurd (cc is)
+
+uncounted_low : (term : MapTerm) → has_counter term ≡ false → height term ≤ depth_of term
+uncounted_low (Split path first rest) none =
+    let parts = or_false (has_counter first) (has_counter rest) none in
+    omega (arith, uncounted_low first parts.0, uncounted_low rest parts.1)
+uncounted_low (Byteswap inner) none = omega (arith, uncounted_low inner none)
+uncounted_low (Bytesplit inner) none = omega (arith, uncounted_low inner none)
+uncounted_low (Change from to inner) none = omega (arith, uncounted_low inner none)
+uncounted_low (Counted inner) none = absurd (cc none)
+uncounted_low (Heated granule inner) none = absurd (cc none)
+uncounted_low (Aos form order) none = omega arith
+uncounted_low (Soa form order) none = omega arith
+uncounted_low (Aosoa lanes order) none = omega arith
+uncounted_low (BitAos width fields order) none = omega arith
+uncounted_low (BitSoa width fields order) none = omega arith
+uncounted_low (Named name) none = omega arith
+
+-- with at most one counter of each kind, at the top
+counted_low : (count heat : Bool) (term : MapTerm) → counts_once count heat term ≡ true → height term ≤ depth_of term + (one_if count + one_if heat)
+counted_low count heat (Counted inner) once =
+    let parts = and_true count (counts_once false heat inner) once in
+    let below = counted_low false heat inner parts.1 in
+    let one : one_if count ≡ 1 = ap one_if parts.0 in
+    omega (arith, below, one)
+counted_low count heat (Heated granule inner) once =
+    let parts = and_true heat (counts_once count false inner) once in
+    let below = counted_low count false inner parts.1 in
+    let one : one_if heat ≡ 1 = ap one_if parts.0 in
+    omega (arith, below, one)
+counted_low count heat (Split path first rest) once = omega (arith, uncounted_low (Split path first rest) (not_true _ once))
+counted_low count heat (Byteswap inner) once = omega (arith, uncounted_low (Byteswap inner) (not_true _ once))
+counted_low count heat (Bytesplit inner) once = omega (arith, uncounted_low (Bytesplit inner) (not_true _ once))
+counted_low count heat (Change from to inner) once = omega (arith, uncounted_low (Change from to inner) (not_true _ once))
+counted_low count heat (Aos form order) once = omega arith
+counted_low count heat (Soa form order) once = omega arith
+counted_low count heat (Aosoa lanes order) once = omega arith
+counted_low count heat (BitAos width fields order) once = omega arith
+counted_low count heat (BitSoa width fields order) once = omega arith
+counted_low count heat (Named name) once = omega arith
+
+checked_low : (term : MapTerm) → checked term ≡ Ok tt → height term ≤ 10
+checked_low term is = of_tests (nat_lt 8 (depth_of term)) (counts_once true true term) refl refl is
+  where
+    of_tests : (deep once : Bool) → nat_lt 8 (depth_of term) ≡ deep → counts_once true true term ≡ once
+        → (if deep then Err bad.TooDeep else (if not once then Err bad.Counter else answered (bad_number term))) ≡ Ok tt → height term ≤ 10
+    of_tests true once deep counts is = absurd (cc is)
+    of_tests false false deep counts is = absurd (cc is)
+    of_tests false true deep counts is = omega (arith, ltb-false 8 (depth_of term) deep, counted_low true true term counts)
+
+earlier : (why : BadMapping) (holds : Bool) (answer : Result Unit BadMapping) → else_for why holds answer ≡ Ok tt → answer ≡ Ok tt
+earlier why true (Ok done) is = absurd (cc is)
+earlier why false (Ok done) is = refl
+earlier why holds (Err found) is = absurd (cc is)
+
+pub accepted_low : (term : MapTerm) (fields : Fields) (cells : List Cell) → accepted term fields cells ≡ Ok tt → height term ≤ 10
+accepted_low term fields cells is =
+    let sides = else_for bad.Side (bad_side term fields cells) (checked term) in
+    let named = else_for bad.Field (bad_field term fields cells) sides in
+    checked_low term (earlier bad.Side (bad_side term fields cells) (checked term)
+    (earlier bad.Field (bad_field term fields cells) sides (earlier bad.NotFull (not_full term fields cells) named is)))
+
+-- ---- tokens of numbers, words and lists
+
+told_count : (k n : ℕ) → n < 2 ^ 32 → Told k IsCount n
+told_count k n low = told_item k count_of (count_token n) n (rw (lt-ltb n (2 ^ 32) low) refl) (one_fits (count_token n) refl (decimal_spells n (omega (arith, low))))
+
+-- more phrases behind those found
+told_steps : {A : Type 0} {Is : Phrase A} (k : ℕ) (found rest : List A) → Each (Told k Is) rest → (n : ℕ) × Told k (Chain (IsMore (Behind (Sign Comma) Is)) n found) (found ++ rest)
+told_steps {Is = Is} k found [] all = (zero, subst (Told k (IsNothing found)) (sym (append-nil found)) (told_nothing k found))
+told_steps {A = A} {Is = Is} k found (next ∷ rest) all =
+    let more = told_steps {Is = Is} k (found ++ next ∷ []) rest all.1 in
+    let one : Told k (IsMore (Behind (Sign Comma) Is) found) (found ++ next ∷ []) =
+    told_joined k (told_behind k (Sign Comma) (λ xs f. fits_flat k (Sign Comma) xs refl refl f) all.0) (told_nothing k (found ++ next ∷ [])) in
+    (suc more.0, subst (Told k (Chain (IsMore (Behind (Sign Comma) Is)) (suc more.0) found)) (append_assoc found (next ∷ []) rest) (told_joined k one more.1))
+
+told_list : {A : Type 0} {Is : Phrase A} (k : ℕ) (first : A) (rest : List A) → Told k Is first → Each (Told k Is) rest → Told k (IsListed Is) (first ∷ rest)
+told_list {Is = Is} k first rest one all =
+    let steps = told_steps {Is = Is} k (first ∷ []) rest all in
+    let repeats : Told k (Repeats (IsMore (Behind (Sign Comma) Is)) (first ∷ [])) (first ∷ rest) =
+    record { tokens = steps.1.tokens; is = (steps.0, steps.1.is); fits = steps.1.fits } in
+    told_joined k one repeats
+
+told_fixed : (k n : ℕ) → n < 2 ^ 32 → Told k IsFixed (Fixed n)
+told_fixed k n low = told_joined k (told_count k n low) (told_nothing k (Fixed n))
+
+each_fixed : (k : ℕ) (extents : List ℕ) → Each (λ n. n < 2 ^ 32) extents → Each (Told k IsFixed) (map Fixed extents)
+each_fixed k [] all = tt
+each_fixed k (n ∷ extents) all = (told_fixed k n all.0, each_fixed k extents all.1)
+
+told_extents : (k : ℕ) (extents : List ℕ) → 1 ≤ length extents → Each (λ n. n < 2 ^ 32) extents → Told (k + 1) (IsBracketList IsFixed) (map Fixed extents)
+told_extents k [] some all = absurd (omega (arith, some))
+told_extents k (n ∷ extents) some all =
+    told_inside k OpenBracket CloseBracket refl refl refl (told_list k (Fixed n) (map Fixed extents) (told_fixed k n all.0) (each_fixed k extents all.1))
+
+told_mode : (k : ℕ) (wrap : Bool) → Told k IsMode wrap
+told_mode k true = told_first k (told_behind k (Word (codes "wrap")) (λ xs f. fits_flat k (Word (codes "wrap")) xs refl (word_spelled (codes "wrap") refl refl (omega arith)) f) (told_nothing k true))
+told_mode k false = told_second k (told_nothing k false)
+
+-- ---- the lines
+
+module _ (header : Header) (has : HasTokens header.mapping) (low : height header.mapping ≤ 10) (some : 1 ≤ length header.extents) (small : Each (λ n. n < 2 ^ 32) header.extents) where
+  abbrev new : New
+  new = record { name = codes "V"; schema = codes "R"; words = map Fixed header.extents; wrap = is_wrap header.mode; term = header.mapping }
+
+  told_name : (text : List ℕ) → name_of (Word text) ≡ Some text → IsSpelled (Word text) → Told 12 IsName text
+  told_name text is spelled = told_item 12 name_of (Word text) text is (one_fits (Word text) refl spelled)
+
+  told_new : Told 12 (IsNew Two IsFixed 10) new
+  told_new =
+      told_joined 12 (told_name (codes "V") refl (word_spelled (codes "V") refl refl (omega arith)))
+      (told_behind 12 (Sign Colon) (λ xs f. fits_flat 12 (Sign Colon) xs refl refl f)
+      (told_joined 12 (told_name (codes "R") refl (word_spelled (codes "R") refl refl (omega arith)))
+      (told_joined 12 (told_extents 11 header.extents some small)
+      (told_joined 12 (told_mode 12 (is_wrap header.mode))
+      (told_behind 12 (Word (codes "as")) (λ xs f. fits_flat 12 (Word (codes "as")) xs refl (word_spelled (codes "as") refl refl (omega arith)) f)
+      (told_joined 12 (told_map 10 header.mapping has low) (told_nothing 12 new)))))))
+
+  told_view : Told 12 (IsLine Two 10) (view_line header)
+  told_view =
+      told_second 12 (told_joined 12 (told_item 12 (command_of Two) (Word (codes "view")) command.View refl (one_fits (Word (codes "view")) refl (word_spelled (codes "view") refl refl (omega arith))))
+      (told_joined 12 told_new (told_nothing 12 (View new))))
+
+  pub view_has_line : HasLine (view_line header)
+  view_has_line =
+      let spelled = fits_alone told_view.tokens (fits_more 12 64 told_view.tokens (omega arith) told_view.fits) in
+      (joined (map written told_view.tokens), joined_reads Two told_view.tokens (view_line header) spelled (10, told_view.is))
+
+-- the record of fields that a line says, under any name
+pub record_has_line : (fields : Fields) → AreFields fields → HasLine (Define (codes "R") (Record fields))
+record_has_line fields are =
+    let sentence : Sentence = Define (codes "R") (Record fields) in
+    let named : List Token = Word (codes "R") ∷ are.tokens in
+    let tokens : List Token = Word (codes "record") ∷ named in
+    let spelled : AreSpelled 0 (map written tokens) =
+    (word_spelled (codes "record") refl refl (omega arith), tt, (word_spelled (codes "R") refl refl (omega arith), tt, are.spelled)) in
+    let body : IsBody Two are.depth command.Record named sentence = record {
+      first = codes "R";
+      front = Word (codes "R") ∷ [];
+      back = are.tokens;
+      whole = refl;
+      begins = (Word (codes "R"), refl, refl);
+      ends = record { first = fields; front = are.tokens; back = []; whole = sym (append-nil are.tokens); begins = are.are; ends = (refl, refl) };
+    } in
+    let line : IsCommand Two are.depth tokens sentence = record {
+      first = command.Record;
+      front = Word (codes "record") ∷ [];
+      back = named;
+      whole = refl;
+      begins = (Word (codes "record"), refl, refl);
+      ends = body;
+    } in
+    (joined (map written tokens), joined_reads Two tokens sentence spelled (are.depth, inr line))

@@ -1,0 +1,150 @@
+-- What a savable table saves is opened as the table.
+use Rattle.std.proofs.Common.{◌≡◌, ℕ, ◌+◌, ◌*◌, ◌/◌, ◌^◌, ◌<◌, ◌≤◌, Bool, true, false, ℤ, List, [], ◌∷◌, ◌++◌, length, map, nat_lt, Option, Some, Result, Ok, inl, inr, refl, sym, ap, ◌∙◌, subst, length-append, arith}
+use Rattle.std.specs.Prelude.{◌||◌, is_some, sum_by}
+use Rattle.std.proofs.lemmas.Bool.{le-ltb, lt-leb, ltb-false}
+use Rattle.std.proofs.lemmas.List.{length-map}
+use Rattle.std.proofs.lemmas.List.FromFn.{length-map-range_with_len}
+use Rattle.std.proofs.lemmas.List.Sums.{sum_by-cons}
+use Rattle.layout_io.specs.Files.{File, file_of}
+use Rattle.layout_io.specs.Writing.{joined}
+use Rattle.places.specs.Layout.{Owner}
+use Rattle.places.specs.Image.{bit_held, image}
+use Rattle.instrument.specs.BlobTexts.{byte_at, bytes_of}
+use Rattle.extents.specs.Indices.{indices}
+use Rattle.line_grammar.specs.Sentences.{Open}
+use Rattle.views.specs.Tables.{Table, owners_of, leaf_count_of}
+use Rattle.views.specs.Tallies.{Tally, Write, all_accesses, no_tally, tallied}
+use Rattle.blob_file.specs.Files.{Header, magic, four_bytes, record_text, view_text, header_text, IsShort, IsFile}
+use Rattle.blob_file.specs.Files as saved_file
+use Rattle.blob_file.specs.Headers.{CanLie}
+use Rattle.blob_file.specs.Opened.{Saved, opened, table_of, rows_in}
+use Rattle.blob_file.specs.Saving.{header_of, blobs_of}
+use Rattle.blob_file.specs.Statements.{OpensFiles, HoldsRows}
+use Rattle.blob_file.specs.declared.fault.FileFault.{FileFault}
+use Rattle.worlds.specs.Worlds.{World, found}
+use Rattle.worlds.specs.Outcomes.{Goes, free, quiet, refused_if, ok_or}
+use Rattle.worlds.specs.OnView.{Done, tells}
+use Rattle.worlds.specs.Tables.{room, live_bits, blob_bits}
+use Rattle.worlds.specs.View.{with_view}
+use Rattle.worlds.specs.Load.{there, read}
+use Rattle.worlds.specs.Files.{is_long, save, open_view, opened_table, opened_beside, bad_file}
+use Rattle.worlds.specs.Step.{step}
+use Rattle.worlds.specs.declared.fault.CommandFault.{CommandFault}
+use Rattle.worlds.specs.declared.fault.CommandFault.TheVariants.{Taken, TooBig, TooManyViews}
+use Rattle.saved_runs.specs.SavedRuns.{IsSavable, HasRoom, once_written, OpensAs}
+use Rattle.saved_runs.proofs.Went.{went, leads, same_things, unrefused}
+
+-- ---- the file of a table
+
+-- neither text of what is not long is
+both_short : (first second : ℕ) → (nat_lt 4096 first || nat_lt 4096 second) ≡ false → (first ≤ 4096) × (second ≤ 4096)
+both_short first second is = of_test (nat_lt 4096 first) refl is
+  where
+    of_test : (test : Bool) → nat_lt 4096 first ≡ test → (test || nat_lt 4096 second) ≡ false → (first ≤ 4096) × (second ≤ 4096)
+    of_test true long is = absurd (cc is)
+    of_test false short is = (ltb-false 4096 first short, ltb-false 4096 second is)
+
+-- a table that saves has short texts, and what it saves is its file
+record WasSaved (table : Table) (text : List ℕ) : Type 0 where
+  short : IsShort (header_of table)
+  is : text ≡ saved_file.file_of (header_of table) (blobs_of table)
+
+was_saved : (table : Table) (done : Done) → save table ≡ Goes done → WasSaved table done.text
+unfolding save
+was_saved table done goes =
+    let file : List ℕ = saved_file.file_of (header_of table) (blobs_of table) in
+    let a = went (refused_if (is_long table) TooBig) _ done goes in
+    let few = both_short (length (record_text (header_of table))) (length (view_text (header_of table))) (unrefused (is_long table) TooBig a.thing a.first) in
+    record {
+      short = record { of_record = few.0; of_view = few.1 };
+      is = ap (λ (d : Done). d.text) (sym (same_things (tells table file) done a.next));
+    }
+
+-- ---- a file is not too long to be opened
+
+length-bytes_of : (bits : List ℕ) → length (bytes_of bits) ≡ length bits / 8
+length-bytes_of bits = length-map-range_with_len (byte_at bits) 0 (length bits / 8)
+
+image_length : (layout : List (List Owner)) (rows : List (List ℤ)) → 8 * length (joined (map bytes_of (image layout rows))) ≤ sum_by (length {A = Owner}) layout
+image_length [] rows = omega arith
+image_length (owners ∷ layout) rows =
+    let blob : List ℕ = bytes_of (map (bit_held rows) owners) in
+    let rest : List ℕ = joined (map bytes_of (image layout rows)) in
+    let here : length blob ≡ length owners / 8 =
+    length-bytes_of (map (bit_held rows) owners) ∙ ap (λ (n : ℕ). n / 8) (length-map owners (bit_held rows)) in
+    let below : 8 * length rest ≤ sum_by (length {A = Owner}) layout = image_length layout rows in
+    let all : length (blob ++ rest) ≡ length blob + length rest = length-append blob rest in
+    let step : 8 * length (blob ++ rest) ≤ length owners + sum_by (length {A = Owner}) layout = omega (arith, here, below, all) in
+    subst (λ (n : ℕ). 8 * length (blob ++ rest) ≤ n) (sym (sum_by-cons (length {A = Owner}) owners layout)) step
+
+header_length : (header : Header) → IsShort header → length (header_text header) ≤ 8194
+header_length header short =
+    omega (arith, short.of_record, short.of_view, length-append (record_text header) (10 ∷ (view_text header ++ 10 ∷ [])), length-append (view_text header) (10 ∷ []))
+
+file_length : (header : Header) (blobs : List (List ℕ)) → length (saved_file.file_of header blobs) ≡ 12 + (length (header_text header) + length (joined blobs))
+unfolding saved_file.file_of
+file_length header blobs =
+    let size : List ℕ = four_bytes (length (header_text header)) in
+    omega (arith, length-append magic (size ++ (header_text header ++ joined blobs)), length-append size (header_text header ++ joined blobs), length-append (header_text header) (joined blobs))
+
+saved_length : (table : Table) → IsShort (header_of table) → CanLie (header_of table) → length (saved_file.file_of (header_of table) (blobs_of table)) ≤ 2 ^ 28 + 8206
+saved_length table short lies =
+    let bits : blob_bits table ≤ 8 * 2 ^ 28 = bits_within (blob_bits table) (8 * 2 ^ 28) (λ over. lies.within (inl (inr over))) in
+    omega (arith, file_length (header_of table) (blobs_of table), header_length (header_of table) short, image_length (owners_of table) table.rows, bits)
+  where
+    bits_within : (a b : ℕ) → (b < a → ⊥) → a ≤ b
+    bits_within a b within = omega arith
+
+-- ---- what is opened where there is room
+
+passes : (test : Bool) (fault : CommandFault) → test ≡ false → refused_if test fault ≡ Goes tt
+passes test fault is = ap (λ (t : Bool). refused_if t fault) is
+
+opens_there : (world : World) (name file : List ℕ) (files : List File) (bytes : List ℕ) (saved : Saved) → opened bytes ≡ Ok saved → length bytes ≤ 2 ^ 28 + 8206
+    → HasRoom world name (table_of saved) → file_of files file ≡ Some bytes → step world (Open name file) files false ≡ quiet (with_view world name (table_of saved))
+unfolding step open_view opened_table opened_beside
+opens_there world name file files bytes saved opens short has is =
+    let table = table_of saved in
+    leads (opened_table world name file files false) _ table _
+    (leads (free name world.views) _ tt _ (passes (is_some (found name world.views)) (Taken name) (ap (λ (o : Option Table). is_some o) has.unused))
+    (leads (room world.views) _ tt _ (passes _ TooManyViews (lt-leb 64 (length world.views) has.few))
+    (leads (read files false file) _ bytes _ (ap (there file) is)
+    (leads (refused_if (nat_lt (2 ^ 28 + 8206) (length bytes)) TooBig) _ tt _ (passes _ TooBig (le-ltb (2 ^ 28 + 8206) (length bytes) short))
+    (leads (ok_or bad_file (opened bytes)) _ saved _ (ap (λ (r : Result Saved FileFault). ok_or bad_file r) opens)
+    (leads (refused_if (nat_lt (8 * 2 ^ 30) (live_bits world.views + blob_bits table)) TooBig) _ tt _
+    (passes _ TooBig (le-ltb (8 * 2 ^ 30) (live_bits world.views + blob_bits table) has.small)) refl))))))
+    refl
+
+module _ (opens_files : OpensFiles) (holds_rows : HoldsRows) (table : Table) (done : Done) (can : IsSavable table) (goes : save table ≡ Goes done) where
+  abbrev header : Header
+  header = header_of table
+
+  abbrev saved : Saved
+  saved = record { header = header; blobs = blobs_of table }
+
+  was : WasSaved table done.text
+  was = was_saved table done goes
+
+  saved_opened : opened done.text ≡ Ok saved
+  saved_opened = (opens_files done.text saved).1 (record { is = was.is; short = was.short; rows = table.rows; are_rows = can.rows; image_is = refl }, can.lines, can.lies)
+
+  -- the rows are the same, and each value is written once
+  same_rows : rows_in header (blobs_of table) ≡ table.rows
+  same_rows = holds_rows header table.rows can.lines can.lies can.rows
+
+  same_table : table_of saved ≡ once_written table
+  same_table =
+      let tally : ℕ → Tally = λ rows. tallied (owners_of table) (no_tally table.mapping (owners_of table) (leaf_count_of table)) (all_accesses Write (leaf_count_of table) rows) in
+      ap (λ (rows : List (List ℤ)). record table { rows = rows; tally = tally (length (indices table.extents)) }) same_rows
+      ∙ ap (λ (n : ℕ). record table { tally = tally n }) (sym can.rows.shape.row_count)
+
+  pub saved_opens : OpensAs done.text (once_written table)
+  saved_opens = record {
+    saved = saved;
+    opens = saved_opened;
+    is = same_table;
+    goes = λ world name file files has is.
+        let short : length done.text ≤ 2 ^ 28 + 8206 = subst (λ (text : List ℕ). length text ≤ 2 ^ 28 + 8206) (sym was.is) (saved_length table was.short can.lies) in
+        subst (λ (t : Table). step world (Open name file) files false ≡ quiet (with_view world name t)) same_table
+        (opens_there world name file files done.text saved saved_opened short (subst (HasRoom world name) (sym same_table) has) is);
+  }

@@ -1,0 +1,47 @@
+-- What a save writes is opened as the table that it saves.
+use Rattle.std.proofs.Common.{◌≡◌, ℕ, List, Some, sym, ap, ◌∙◌, subst}
+use Rattle.views.specs.Tables.{Table, after_stores}
+use Rattle.worlds.specs.Worlds.{World, found}
+use Rattle.worlds.specs.Files.{save}
+use Rattle.worlds.specs.OnView.{Done, done_to, on_view, with_table}
+use Rattle.worlds.specs.Outcomes.{Goes, LeftOf, Left, known}
+use Rattle.worlds.specs.Step.{step}
+use Rattle.equal_runs.proofs.Logs.{known_found}
+use Rattle.saved_runs.specs.Runs.{RunsSavable, RunsReopen}
+use Rattle.saved_runs.specs.SavedRuns.{once_written, OpensAs, SavedOpens}
+use Rattle.saved_runs.proofs.Went.{went, same_things}
+
+-- the table that was saved, and what was done to it
+record WasShown (world : World) (name text : List ℕ) : Type 0 where
+  table : Table
+  is : found name world.views ≡ Some table
+  done : Done
+  goes : save table ≡ Goes done
+  shown : text ≡ done.text
+
+was_shown : (world : World) (name : List ℕ) (left : Left) → on_view world name save ≡ Goes left → WasShown world name left.text
+unfolding on_view
+was_shown world name left goes =
+    let a = went (known name world.views) _ left goes in
+    let b = went (done_to a.thing (save a.thing)) _ left a.next in
+    let c = went (save a.thing) _ b.thing b.first in
+    let of_left : left.text ≡ b.thing.text = ap (λ (l : Left). l.text) (sym (same_things (record { held = with_table world name b.thing.held; text = b.thing.text }) left b.next)) in
+    let of_done : b.thing.text ≡ c.thing.text = ap (λ (l : LeftOf Table). l.text) (sym (same_things (record { held = after_stores a.thing c.thing.rows c.thing.log; text = c.thing.text }) b.thing c.next)) in
+    record {
+      table = a.thing;
+      is = known_found _ (found name world.views) a.thing a.first;
+      done = c.thing;
+      goes = c.first;
+      shown = of_left ∙ of_done;
+    }
+
+pub runs_reopen : SavedOpens → RunsSavable → RunsReopen
+unfolding step
+runs_reopen opens savable texts lines files unread now name fails left are comes goes =
+    let was = was_shown now.world name left goes in
+    let can = savable texts lines files unread now name was.table are comes was.is in
+    record {
+      table = was.table;
+      is = was.is;
+      opens = subst (λ (text : List ℕ). OpensAs text (once_written was.table)) (sym was.shown) (opens was.table was.done can was.goes);
+    }

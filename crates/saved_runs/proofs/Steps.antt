@@ -1,0 +1,228 @@
+-- Each line of a run leaves a world whose tables files can say.
+use Rattle.std.proofs.Common.{◌≡◌, ℕ, ◌^◌, ◌<◌, ◌≤◌, Bool, true, false, ℤ, nat_lt, not, List, length, Option, Some, None, ⊎_elim, refl, sym, ap, ◌∙◌, subst, arith}
+use Rattle.std.proofs.lemmas.Bool.{false≢true, cases_eq}
+use Rattle.extents.specs.Indices.{indices}
+use Rattle.extents.specs.IndicesLaws.{length-indices}
+use Rattle.layout_io.specs.Files.{File}
+use Rattle.line_grammar.specs.Sentences.{Sentence, New}
+use Rattle.line_grammar.specs.Sentences as line
+use Rattle.line_grammar.specs.declared.version.Version.TheVariants.{Two}
+use Rattle.map_expr.specs.Terms.{Term as MapTerm}
+use Rattle.map_checks.specs.Mappings.{holds_by}
+use Rattle.piece_bits.specs.Tables.{HasShape, hold_at}
+use Rattle.record_dim.specs.Leaves.{leaves, kinds_of}
+use Rattle.record_dim.specs.Trees.{Fields}
+use Rattle.csv_rows.specs.Datasets.{records_of, rows_of}
+use Rattle.csv_rows.specs.Loads.{dataset_of}
+use Rattle.layout_copy.specs.Copies.{AreAlike, refused_at}
+use Rattle.views.specs.Stores.{kept_rows}
+use Rattle.views.specs.Tables.{Table, answer_of, kept_of, leaf_count_of, after_stores}
+use Rattle.views.specs.Tallies.{Access, Read, all_accesses}
+use Rattle.line_writer.specs.Canonical.{line_tokens}
+use Rattle.line_writer.proofs.ReadsBack.{tokens_read}
+use Rattle.blob_file.specs.Files.{AreRows, view_line}
+use Rattle.blob_file.specs.Saving.{header_of}
+use Rattle.blob_file.specs.Statements.{OpensFiles, HoldsBits, HoldsRows}
+use Rattle.worlds.specs.Worlds.{World, Entry, found, replaced}
+use Rattle.worlds.specs.Copy.{copy, copied, with_rows, all_read, laid_anew, relayout, are_alike, narrow_fault}
+use Rattle.worlds.specs.Files.{open_view, opened_table}
+use Rattle.worlds.specs.Load.{load, loaded_table, loaded, filled, read, row_fault}
+use Rattle.worlds.specs.Names.{nameless}
+use Rattle.worlds.specs.OnView.{Done, Work, done_to, on_view, worked}
+use Rattle.worlds.specs.Outcomes.{Outcome, Goes, LeftOf, Left, known, refused_if, refused_by, ok_or}
+use Rattle.worlds.specs.Show.{drop_view}
+use Rattle.worlds.specs.Step.{step, work_of}
+use Rattle.worlds.specs.Tables.{resolved, made, zeros_of}
+use Rattle.worlds.specs.View.{named, new_table, view, with_view}
+use Rattle.worlds.specs.declared.fault.CommandFault.TheVariants.{Mismatch, TooBig}
+use Rattle.command_checks.specs.AlikeLaws.{not_alike}
+use Rattle.equal_runs.proofs.Logs.{IfGoes, to, refused, unread, bind, behind, known_found}
+use Rattle.saved_runs.specs.SavedRuns.{IsSavable}
+use Rattle.saved_runs.proofs.Went.{unrefused, answered}
+use Rattle.saved_runs.proofs.Saves.{table_opened, table_savable}
+use Rattle.saved_runs.proofs.Maps.{HasTokens}
+use Rattle.saved_runs.proofs.Lines.{IsSaid, IsNewSaid, sentence_said}
+use Rattle.saved_runs.proofs.Extents.{AreExtents, said_extents}
+use Rattle.saved_runs.proofs.Rows.{kept_rows_stay}
+use Rattle.saved_runs.proofs.Loads.{dataset_stays}
+use Rattle.saved_runs.proofs.Worlds.{AreAll, IsGoodRecord, IsGoodMapping, IsGoodWorld, of_found, with_added, with_replaced, with_removed, uncaused, define_good, nameless_good, mapping_good}
+use Rattle.saved_runs.proofs.Tables.{IsGoodNamed, IsMade, AreExtentsFor, made_good, resolved_good, named_good}
+use Rattle.saved_runs.proofs.Works.{WorkKeeps, work_keeps}
+
+-- ---- what is known of a table
+
+record_of : (table : Table) → IsSavable table → IsGoodRecord table.fields
+record_of table good = record { line = good.lines.of_record; fit = good.lies.fit }
+
+extents_of : (table : Table) → IsSavable table → AreExtents table.extents
+extents_of table good =
+    let read = tokens_read Two good.lines.of_view.0 (view_line (header_of table)) good.lines.of_view.1 (omega arith) in
+    let new : IsSaid (view_line (header_of table)) = sentence_said (line_tokens (view_line (header_of table))) (view_line (header_of table)) read.line read.spelled in
+    said_extents table.extents good.lies.shaped good.lies.ranged new.words
+
+-- with other rows that it may hold
+stored : (table : Table) (rows : List (List ℤ)) (log : List Access) → IsSavable table → AreRows (header_of table) rows → IsSavable (after_stores table rows log)
+stored table rows log good are = record { lines = good.lines; lies = good.lies; rows = are }
+
+-- tables that are alike have as many rows and leaves
+same_number : (source target : Table) (n m : ℕ) → are_alike source target ≡ true → (AreAlike source target → n ≡ m) → n ≡ m
+same_number source target n m alike same =
+    ⊎_elim (λ (e : n ≡ m). e) (λ (apart : n ≡ m → ⊥). absurd (false≢true (sym (not_alike source target (λ are. apart (same are))) ∙ alike))) (cases_eq n m)
+
+shape_for : (source target : Table) → are_alike source target ≡ true → IsSavable source → HasShape (length (indices target.extents)) (length (leaves target.fields)) source.rows
+shape_for source target alike good =
+    let rows : length (indices source.extents) ≡ length (indices target.extents) = same_number source target _ _ alike (λ are. ap (λ (e : List ℕ). length (indices e)) are.1) in
+    let numbers : length (leaves source.fields) ≡ length (leaves target.fields) = same_number source target _ _ alike (λ are. ap (λ (f : Fields). length (leaves f)) are.0) in
+    subst (λ (n : ℕ). HasShape n (length (leaves target.fields)) source.rows) rows (subst (λ (n : ℕ). HasShape (length (indices source.extents)) n source.rows) numbers good.rows.shape)
+
+-- what a command did to a table
+record WasDone (table : Table) (new : LeftOf Table) : Type 0 where
+  done : Done
+  held : new.held ≡ after_stores table done.rows done.log
+  rows : AreRows (header_of table) done.rows
+
+was_done : (table : Table) (outcome : Outcome Done) → IfGoes (λ (done : Done). AreRows (header_of table) done.rows) outcome → IfGoes (WasDone table) (done_to table outcome)
+was_done table outcome keeps =
+    behind (WasDone table) (λ (done : Done). AreRows (header_of table) done.rows) outcome _ keeps (λ done are. to _ (record { done = done; held = refl; rows = are }))
+
+made_savable : (zeros : Table) (x : Outcome Table) → IfGoes (IsMade zeros) x → IfGoes IsSavable x
+made_savable zeros x (to table made) = to table made.savable
+made_savable zeros x (refused fault) = refused fault
+made_savable zeros x (unread name) = unread name
+
+unnegated : (test : Bool) → not test ≡ false → test ≡ true
+unnegated true is = refl
+unnegated false is = absurd (cc is)
+
+module _ (holds_bits : HoldsBits) where
+  wide : (table : Table) → IsSavable table → (leaf : ℕ) → leaf < length (kinds_of table.fields) → 1 ≤ (hold_at (holds_by table.mapping table.fields) leaf).width
+  wide table good leaf l = holds_bits (header_of table) leaf good.lines good.lies l
+
+  -- what is kept of rows
+  rows_good : (table : Table) (rows : List (List ℤ)) → IsSavable table → HasShape (length (indices table.extents)) (length (leaves table.fields)) rows → IfGoes IsSavable (with_rows table rows)
+  unfolding with_rows
+  rows_good table rows good shape =
+      bind IsSavable (refused_by (narrow_fault table.fields) (refused_at (answer_of table) 0 rows)) _ (λ held h.
+      to _ (stored table (kept_rows (kept_of table) rows) _ good
+      (kept_rows_stay (header_of table) (wide table good) rows shape (uncaused (narrow_fault table.fields) (refused_at (answer_of table) 0 rows) held h))))
+
+  -- what is kept of a dataset
+  filled_good : (table : Table) (records : List (List (List ℕ))) → IsSavable table → length (rows_of records) ≡ length (indices table.extents) → IfGoes IsSavable (filled table records)
+  filled_good table records good many =
+      bind IsSavable (ok_or (row_fault table.fields) (dataset_of table records)) _ (λ rows r.
+      to _ (stored table rows _ good (dataset_stays (header_of table) (wide table good) records rows many (answered (row_fault table.fields) (dataset_of table records) rows r))))
+
+  -- ---- a line
+
+  module _ (world : World) (good : IsGoodWorld world) where
+    abbrev Keeps : Left → Type 0
+    Keeps left = IsGoodWorld left.held
+
+    -- with another table in place of one, and with one more
+    kept : (name : List ℕ) (table : Table) → IsSavable table → IsGoodWorld (record world { views = replaced name table world.views })
+    kept name table one = record { records = good.records; mappings = good.mappings; views = with_replaced IsSavable name table world.views one good.views }
+
+    more : (name : List ℕ) (table : Table) → IsSavable table → IsGoodWorld (with_view world name table)
+    more name table one = record { records = good.records; mappings = good.mappings; views = with_added IsSavable name table world.views one good.views }
+
+    named_table : (name : List ℕ) (table : Table) → known name world.views ≡ Goes table → IsSavable table
+    named_table name table is = of_found IsSavable name world.views table good.views (known_found _ (found name world.views) table is)
+
+    new_good : (new : New) → IsNewSaid new → IfGoes IsSavable (new_table world new)
+    unfolding new_table
+    new_good new said =
+        behind IsSavable (IsGoodNamed new.words) (named world new) _ (named_good world good new said.term) (λ whole one.
+        behind IsSavable (AreExtentsFor None) (resolved new.words None) _ (resolved_good new.words None one.shaped said.words) (λ extents are.
+        made_savable (zeros_of whole.mode whole.fields extents whole.mapping) (made world.views whole.mode whole.fields extents whole.mapping)
+        (made_good holds_bits world.views whole.mode whole.fields extents whole.mapping one.fields are.are one.term)))
+
+    view_good : (new : New) → IsNewSaid new → IfGoes Keeps (view world new)
+    unfolding view
+    view_good new said = behind Keeps IsSavable (new_table world new) _ (new_good new said) (λ table one. to _ (more new.name table one))
+
+    loaded_good : (new : New) (file : List ℕ) (files : List File) (fails : Bool) → IsNewSaid new → IfGoes IsSavable (loaded_table world new file files fails)
+    unfolding loaded_table loaded
+    loaded_good new file files fails said =
+        behind IsSavable (IsGoodNamed new.words) (named world new) _ (named_good world good new said.term) (λ whole one.
+        bind IsSavable (read files fails file) _ (λ bytes b.
+        bind IsSavable (refused_if (nat_lt (2 ^ 28) (length bytes)) TooBig) _ (λ short c.
+        behind IsSavable (AreExtentsFor (Some (length (rows_of (records_of bytes))))) (resolved new.words (Some (length (rows_of (records_of bytes))))) _
+        (resolved_good new.words (Some (length (rows_of (records_of bytes)))) one.shaped said.words) (λ extents are.
+        behind IsSavable (IsMade (zeros_of whole.mode whole.fields extents whole.mapping)) (made world.views whole.mode whole.fields extents whole.mapping) _
+        (made_good holds_bits world.views whole.mode whole.fields extents whole.mapping one.fields are.are one.term) (λ table zeros.
+        (let many : length (rows_of (records_of bytes)) ≡ length (indices table.extents) =
+        sym are.counts ∙ sym (length-indices extents) ∙ ap (λ (t : Table). length (indices t.extents)) (sym zeros.is) in
+        filled_good table (records_of bytes) zeros.savable many))))))
+
+    load_good : (new : New) (file : List ℕ) (files : List File) (fails : Bool) → IsNewSaid new → IfGoes Keeps (load world new file files fails)
+    unfolding load
+    load_good new file files fails said =
+        behind Keeps IsSavable (loaded_table world new file files fails) _ (loaded_good new file files fails said) (λ table one. to _ (more new.name table one))
+
+    -- the table of a file
+    open_good : OpensFiles → HoldsRows → (name file : List ℕ) (files : List File) (fails : Bool) → IfGoes Keeps (open_view world name file files fails)
+    unfolding open_view
+    open_good opens_files holds_rows name file files fails =
+        bind Keeps (opened_table world name file files fails) _ (λ table t.
+        (let was = table_opened world name file files fails table t in
+        to _ (more name table (subst IsSavable (sym was.is) (table_savable opens_files holds_rows was.bytes was.saved was.opens)))))
+
+    copied_good : (source target : Table) → IsSavable source → IsSavable target → IfGoes IsSavable (copied source target)
+    unfolding copied
+    copied_good source target from one =
+        bind IsSavable (refused_if (not (are_alike source target)) Mismatch) _ (λ alike a.
+        rows_good target source.rows one (shape_for source target (unnegated (are_alike source target) (unrefused (not (are_alike source target)) Mismatch alike a)) from))
+
+    copy_good : (name target : List ℕ) → IfGoes Keeps (copy world name target)
+    unfolding copy
+    copy_good name target =
+        bind Keeps (known name world.views) _ (λ source s.
+        (let of_source : IsSavable source = named_table name source s in
+        let read : IsSavable (all_read source) = stored source source.rows (all_accesses Read (leaf_count_of source) (length source.rows)) of_source of_source.rows in
+        let views : List (Entry Table) = replaced name (all_read source) world.views in
+        let all : AreAll IsSavable views = with_replaced IsSavable name (all_read source) world.views read good.views in
+        bind Keeps (known target views) _ (λ old t.
+        behind Keeps IsSavable (copied source old) _ (copied_good source old of_source (of_found IsSavable target views old all (known_found _ (found target views) old t))) (λ new one.
+        to _ (record { records = good.records; mappings = good.mappings; views = with_replaced IsSavable target new views one all })))))
+
+    laid_good : (table : Table) (term : MapTerm) → IsSavable table → IsGoodMapping term → IfGoes IsSavable (laid_anew world.views table term)
+    unfolding laid_anew
+    laid_good table term one fit =
+        behind IsSavable (IsMade (zeros_of table.mode table.fields table.extents term)) (made world.views table.mode table.fields table.extents term) _
+        (made_good holds_bits world.views table.mode table.fields table.extents term (record_of table one) (extents_of table one) fit) (λ zeros new.
+        rows_good zeros table.rows new.savable
+        (subst (λ (t : Table). HasShape (length (indices t.extents)) (length (leaves t.fields)) table.rows) (sym new.is) one.rows.shape))
+
+    relayout_good : (name : List ℕ) (term : MapTerm) → HasTokens term → IfGoes Keeps (relayout world name term)
+    unfolding relayout
+    relayout_good name term has =
+        bind Keeps (known name world.views) _ (λ table t.
+        behind Keeps IsGoodMapping (nameless world.mappings term) _ (nameless_good world good term has) (λ whole fit.
+        behind Keeps IsSavable (laid_anew world.views table whole) _ (laid_good table whole (named_table name table t) fit) (λ new one. to _ (kept name new one))))
+
+    drop_good : (name : List ℕ) → IfGoes Keeps (drop_view world name)
+    unfolding drop_view
+    drop_good name =
+        bind Keeps (known name world.views) _ (λ table t.
+        to _ (record { records = good.records; mappings = good.mappings; views = with_removed IsSavable name world.views good.views }))
+
+    work_good : (work : Option Work) → ((table : Table) → IsSavable table → WorkKeeps table work) → IfGoes Keeps (worked world work)
+    unfolding on_view
+    work_good None keeps = to _ good
+    work_good (Some work) keeps =
+        bind Keeps (known work.view world.views) _ (λ table t.
+        (let one : IsSavable table = named_table work.view table t in
+        behind Keeps (WasDone table) (done_to table (work.does table)) _ (was_done table (work.does table) (keeps table one)) (λ new was.
+        to _ (kept work.view new.held (subst IsSavable (sym was.held) (stored table was.done.rows was.done.log one was.rows))))))
+
+    pub step_good : OpensFiles → HoldsRows → (files : List File) (fails : Bool) (sentence : Sentence) → IsSaid sentence → IfGoes Keeps (step world sentence files fails)
+    unfolding step
+    step_good opens_files holds_rows files fails (line.Define name tree) said = define_good world good name tree said
+    step_good opens_files holds_rows files fails (line.Mapping name term) said = mapping_good world good name term said
+    step_good opens_files holds_rows files fails (line.View new) said = view_good new said
+    step_good opens_files holds_rows files fails (line.Load new file) said = load_good new file files fails said
+    step_good opens_files holds_rows files fails (line.Copy name target) said = copy_good name target
+    step_good opens_files holds_rows files fails (line.Relayout name term) said = relayout_good name term said
+    step_good opens_files holds_rows files fails (line.Drop name) said = drop_good name
+    step_good opens_files holds_rows files fails (line.Open name file) said = open_good opens_files holds_rows name file files fails
+    step_good opens_files holds_rows files fails sentence said = work_good (work_of sentence) (λ table one. work_keeps holds_bits table one sentence)

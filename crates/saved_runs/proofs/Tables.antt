@@ -1,0 +1,118 @@
+-- New tables of a run can be said by a file.
+use Rattle.std.proofs.Common.{◌≡◌, ◌⊎◌, ℕ, ◌+◌, ◌*◌, ◌^◌, ◌<◌, false, nat_lt, List, length, Option, Some, None, Ok, ⊎_elim, refl, arith}
+use Rattle.std.specs.Prelude.{sum_by, IfSome}
+use Rattle.std.proofs.lemmas.Bool.{ltb-false}
+use Rattle.extents.specs.Indices.{product}
+use Rattle.extents.specs.Shapes.{bad_shape, bad_extents, extents_for}
+use Rattle.extents.specs.declared.words.ExtentWord.{ExtentWord}
+use Rattle.record_dim.specs.Leaves.{kinds_of}
+use Rattle.record_dim.specs.Trees.{Fields}
+use Rattle.places.specs.Layout.{Owner}
+use Rattle.map_expr.specs.Terms.{Term as MapTerm}
+use Rattle.map_checks.specs.Mappings.{accepted, leaf_cells, layout_by, most_slots}
+use Rattle.kept_tables.specs.declared.mode.StoreMode.{StoreMode}
+use Rattle.line_grammar.specs.Sentences.{New}
+use Rattle.views.specs.Refusals.{IsOver}
+use Rattle.views.specs.Tallies.{granules_for}
+use Rattle.views.specs.Tables.{Table, owners_of}
+use Rattle.line_writer.proofs.Gives.{Each}
+use Rattle.blob_file.specs.Headers.{HasLines, CanLie}
+use Rattle.blob_file.specs.Saving.{header_of}
+use Rattle.blob_file.specs.Statements.{HoldsBits}
+use Rattle.worlds.specs.Worlds.{World, Entry, found}
+use Rattle.worlds.specs.Names.{nameless}
+use Rattle.worlds.specs.Outcomes.{free, known, refused_if, refused_by, ok_or}
+use Rattle.worlds.specs.Tables.{room, shaped, resolved, made, zeros_of, blob_bits, live_bits}
+use Rattle.worlds.specs.View.{Named, named}
+use Rattle.worlds.specs.declared.fault.CommandFault.TheVariants.{BadExtents, BadMapping, TooBig}
+use Rattle.equal_runs.proofs.Logs.{IfGoes, to, bind, behind, known_found}
+use Rattle.saved_runs.specs.SavedRuns.{IsSavable}
+use Rattle.saved_runs.proofs.Went.{unrefused, answered}
+use Rattle.saved_runs.proofs.Maps.{HasTokens}
+use Rattle.saved_runs.proofs.Lines.{IsLow}
+use Rattle.saved_runs.proofs.Extents.{AreExtents, are_extents, rows_are}
+use Rattle.saved_runs.proofs.Headers.{accepted_low, view_has_line}
+use Rattle.saved_runs.proofs.Rows.{zeros_stay}
+use Rattle.saved_runs.proofs.Worlds.{IsGoodRecord, IsGoodMapping, IsGoodWorld, of_found, uncaused, nameless_good}
+
+-- the limits of a view
+not_over : (term : MapTerm) (extents : List ℕ) (fields : Fields) → nat_lt (2 ^ 24) (most_slots term extents) ≡ false
+    → nat_lt (8 * 2 ^ 28) (sum_by (length {A = Owner}) (layout_by term extents fields)) ≡ false → nat_lt (2 ^ 24) (granules_for term (layout_by term extents fields)) ≡ false → IsOver term extents fields → ⊥
+not_over term extents fields slots bits granules over =
+    ⊎_elim (λ (big : (2 ^ 24 < most_slots term extents) ⊎ (8 * 2 ^ 28 < sum_by (length {A = Owner}) (layout_by term extents fields))).
+    ⊎_elim (λ (many : 2 ^ 24 < most_slots term extents). both (2 ^ 24) (most_slots term extents) slots many)
+    (λ (many : 8 * 2 ^ 28 < sum_by (length {A = Owner}) (layout_by term extents fields)). both (8 * 2 ^ 28) (sum_by (length {A = Owner}) (layout_by term extents fields)) bits many) big)
+    (λ (many : 2 ^ 24 < granules_for term (layout_by term extents fields)). both (2 ^ 24) (granules_for term (layout_by term extents fields)) granules many) over
+  where
+    both : (a b : ℕ) → nat_lt a b ≡ false → a < b → ⊥
+    both a b test less = omega (arith, ltb-false a b test, less)
+
+-- a table of zeros that a file can say
+pub record IsMade (zeros table : Table) : Type 0 where
+  pub is : table ≡ zeros
+  pub savable : IsSavable table
+
+-- a table that is made of a record, extents and a mapping of lines
+module _ (holds_bits : HoldsBits) (views : List (Entry Table)) (mode : StoreMode) (fields : Fields) (extents : List ℕ) (term : MapTerm)
+    (of_record : IsGoodRecord fields) (are : AreExtents extents) (of_term : IsGoodMapping term) where
+  abbrev zero_table : Table
+  zero_table = zeros_of mode fields extents term
+
+  zeros_savable : HasLines (header_of zero_table) → CanLie (header_of zero_table) → IsSavable zero_table
+  zeros_savable lines lies = record { lines = lines; lies = lies; rows = zeros_stay (header_of zero_table) (λ leaf l. holds_bits (header_of zero_table) leaf lines lies l) }
+
+  zeros_good : accepted term fields (leaf_cells (kinds_of fields)) ≡ Ok tt → (IsOver term extents fields → ⊥) → IsSavable zero_table
+  zeros_good mapped within =
+      zeros_savable
+      (record {
+        of_record = of_record.line;
+        of_view = view_has_line (header_of zero_table) of_term.has (accepted_low term fields (leaf_cells (kinds_of fields)) mapped) are.some are.low;
+        nameless = of_term.nameless;
+      })
+      (record { fit = of_record.fit; shaped = are.shaped; ranged = are.ranged; mapped = mapped; within = within })
+
+  pub made_good : IfGoes (IsMade (zeros_of mode fields extents term)) (made views mode fields extents term)
+  made_good =
+      let P : Table → Type 0 = IsMade (zeros_of mode fields extents term) in
+      bind P (ok_or BadMapping (accepted term fields (leaf_cells (kinds_of fields)))) _ (λ fit a.
+      bind P (refused_if (nat_lt (2 ^ 24) (most_slots term extents)) TooBig) _ (λ slots b.
+      bind P (refused_if (nat_lt (8 * 2 ^ 28) (blob_bits zero_table)) TooBig) _ (λ bytes c.
+      bind P (refused_if (nat_lt (2 ^ 24) (granules_for term (owners_of zero_table))) TooBig) _ (λ granules d.
+      bind P (refused_if (nat_lt (8 * 2 ^ 30) (live_bits views + blob_bits zero_table)) TooBig) _ (λ all e.
+      (let within = not_over term extents fields (unrefused _ TooBig slots b) (unrefused _ TooBig bytes c) (unrefused _ TooBig granules d) in
+      to zero_table (record { is = refl; savable = zeros_good (answered BadMapping (accepted term fields (leaf_cells (kinds_of fields))) fit a) within })))))))
+
+-- extents for the words of a line; those for a dataset have its number of rows
+pub record AreExtentsFor (rows : Option ℕ) (extents : List ℕ) : Type 0 where
+  pub are : AreExtents extents
+  pub counts : IfSome rows (λ n. product extents ≡ n)
+
+pub resolved_good : (words : List ExtentWord) (rows : Option ℕ) → bad_shape words ≡ None → Each IsLow words → IfGoes (AreExtentsFor rows) (resolved words rows)
+resolved_good words rows shaped low =
+    bind (AreExtentsFor rows) (refused_by BadExtents (bad_extents words rows)) _ (λ fit r.
+    (let ranged = uncaused BadExtents (bad_extents words rows) fit r in
+    to _ (record { are = are_extents words rows shaped ranged low; counts = counted rows ranged })))
+  where
+    counted : (rows : Option ℕ) → bad_extents words rows ≡ None → IfSome rows (λ n. product (extents_for words rows) ≡ n)
+    counted None ranged = tt
+    counted (Some n) ranged = rows_are words n shaped ranged
+
+-- what the words of a new view stand for
+pub record IsGoodNamed (words : List ExtentWord) (whole : Named) : Type 0 where
+  pub fields : IsGoodRecord whole.fields
+  pub term : IsGoodMapping whole.mapping
+  pub shaped : bad_shape words ≡ None
+
+pub named_good : (world : World) → IsGoodWorld world → (new : New) → HasTokens new.term → IfGoes (IsGoodNamed new.words) (named world new)
+named_good world good new has =
+    let P : Named → Type 0 = IsGoodNamed new.words in
+    bind P (free new.name world.views) _ (λ unused a.
+    bind P (known new.schema world.records) _ (λ fields k.
+    behind P IsGoodMapping (nameless world.mappings new.term) _ (nameless_good world good new.term has) (λ whole one.
+    bind P (room world.views) _ (λ space b.
+    bind P (shaped new.words) _ (λ ranked s.
+    to _ (record {
+      fields = of_found IsGoodRecord new.schema world.records fields good.records (known_found _ (found new.schema world.records) fields k);
+      term = one;
+      shaped = uncaused BadExtents (bad_shape new.words) ranked s;
+    }))))))

@@ -1,0 +1,72 @@
+-- What goes went at each of its steps, and a step that goes leads to the next.
+use Rattle.std.proofs.Common.{◌≡◌, ℕ, Bool, true, false, List, [], ◌∷◌, Option, Some, None, Result, Ok, Err, refl, ap, ◌∙◌}
+use Rattle.std.specs.Prelude.{if◌then◌else◌, is_some}
+use Rattle.std.proofs.lemmas.Bool.{eq-eqb}
+use Rattle.layout_io.specs.Files.{File, file_of}
+use Rattle.worlds.specs.Worlds.{Entry, same_name, found, added, replaced}
+use Rattle.worlds.specs.Outcomes.{Outcome, Goes, Faults, CannotRead, ◌>>=◌, refused_if, ok_or}
+use Rattle.worlds.specs.Load.{there, read}
+use Rattle.worlds.specs.declared.fault.CommandFault.{CommandFault}
+
+-- a step that went, and what it led to
+pub record Went {A B : Type 0} (x : Outcome A) (f : A → Outcome B) (b : B) : Type 0 where
+  pub thing : A
+  pub first : x ≡ Goes thing
+  pub next : f thing ≡ Goes b
+
+pub went : {A B : Type 0} (x : Outcome A) (f : A → Outcome B) (b : B) → (x >>= f) ≡ Goes b → Went x f b
+went (Goes a) f b is = record { thing = a; first = refl; next = is }
+went (Faults fault) f b is = absurd (cc is)
+went (CannotRead name) f b is = absurd (cc is)
+
+pub leads : {A B : Type 0} (x : Outcome A) (f : A → Outcome B) (a : A) (y : Outcome B) → x ≡ Goes a → f a ≡ y → (x >>= f) ≡ y
+leads {A} x f a y is next = ap (λ (o : Outcome A). o >>= f) is ∙ next
+
+pub same_things : {A : Type 0} (x y : A) → Goes x ≡ Goes y → x ≡ y
+same_things x y is = cc
+
+-- answers that went
+pub unrefused : (test : Bool) (fault : CommandFault) (done : Unit {0}) → refused_if test fault ≡ Goes done → test ≡ false
+unrefused false fault done is = refl
+unrefused true fault done is = absurd (cc is)
+
+pub answered : {A E : Type 0} (fault : E → CommandFault) (x : Result A E) (a : A) → ok_or fault x ≡ Goes a → x ≡ Ok a
+answered fault (Ok b) a is = let same : b ≡ a = cc in ap Ok same
+answered fault (Err e) a is = absurd (cc is)
+
+pub unused : {A : Type 0} (x : Option A) → is_some x ≡ false → x ≡ None
+unused None is = refl
+unused (Some a) is = absurd (cc is)
+
+pub was_read : (files : List File) (fails : Bool) (file bytes : List ℕ) → read files fails file ≡ Goes bytes → file_of files file ≡ Some bytes
+was_read files true file bytes is = absurd (cc is)
+was_read files false file bytes is = of_option (file_of files file) is
+  where
+    of_option : (o : Option (List ℕ)) → there file o ≡ Goes bytes → o ≡ Some bytes
+    of_option None is = absurd (cc is)
+    of_option (Some found) is = let same : found ≡ bytes = cc in ap Some same
+
+-- entries
+same_self : (name : List ℕ) → same_name name name ≡ true
+same_self [] = refl
+same_self (byte ∷ bytes) = rw (eq-eqb byte byte refl) (same_self bytes)
+
+pub found_added : {A : Type 0} (name : List ℕ) (new : A) (entries : List (Entry A)) → found name entries ≡ None → found name (added name new entries) ≡ Some new
+found_added name new [] is = rw (same_self name) refl
+found_added {A} name new (entry ∷ entries) is = of_test (same_name entry.name name) is (found_added name new entries)
+  where
+    of_test : (test : Bool) → (if test then Some entry.held else found name entries) ≡ None → (found name entries ≡ None → found name (added name new entries) ≡ Some new)
+        → (if test then Some entry.held else found name (added name new entries)) ≡ Some new
+    of_test true is below = absurd (cc is)
+    of_test false is below = below is
+
+pub replaced_same : {A : Type 0} (name : List ℕ) (held : A) (entries : List (Entry A)) → found name entries ≡ Some held → replaced name held entries ≡ entries
+replaced_same name held [] is = absurd (cc is)
+replaced_same {A} name held (entry ∷ entries) is = of_test (same_name entry.name name) is (replaced_same name held entries)
+  where
+    of_test : (test : Bool) → (if test then Some entry.held else found name entries) ≡ Some held → (found name entries ≡ Some held → replaced name held entries ≡ entries)
+        → (if test then record { name = entry.name; held = held } ∷ entries else entry ∷ replaced name held entries) ≡ entry ∷ entries
+    of_test true is below =
+        let same : held ≡ entry.held = cc in
+        ap (λ (h : A). record { name = entry.name; held = h } ∷ entries) same
+    of_test false is below = ap (λ (rest : List (Entry A)). entry ∷ rest) (below is)

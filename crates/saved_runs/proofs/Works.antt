@@ -1,0 +1,119 @@
+-- A command on one view leaves rows that the view may hold.
+use Rattle.std.proofs.Common.{ℕ, ◌<◌, ◌≤◌, List, [], length, get_or, Option, Some, None}
+use Rattle.std.specs.Prelude.{nat_le}
+use Rattle.extents.specs.Indices.{indices}
+use Rattle.record_dim.specs.declared.path.PathStep.{PathStep}
+use Rattle.record_dim.specs.Leaves.{kinds_of}
+use Rattle.map_checks.specs.Mappings.{holds_by}
+use Rattle.piece_bits.specs.Tables.{hold_at}
+use Rattle.linearize.specs.Slots.{place_in}
+use Rattle.line_grammar.specs.Sentences.{Sentence, Value, Assignment}
+use Rattle.line_grammar.specs.Sentences as line
+use Rattle.line_grammar.specs.declared.line.KernelText.{KernelText}
+use Rattle.line_grammar.specs.declared.line.ReduceKind.{ReduceKind}
+use Rattle.line_grammar.specs.declared.line.ShowKind.{ShowKind}
+use Rattle.line_grammar.specs.declared.line.ShowKind.TheVariants as show
+use Rattle.lane_kernels.specs.Kernels.{kernel_fault}
+use Rattle.row_updates.specs.Rows.{updated_rows, counted}
+use Rattle.views.specs.Tables.{Table, answer_of, kept_of}
+use Rattle.blob_file.specs.Files.{AreRows}
+use Rattle.blob_file.specs.Saving.{header_of}
+use Rattle.blob_file.specs.Statements.{HoldsBits}
+use Rattle.worlds.specs.Assign.{assigned, inside}
+use Rattle.worlds.specs.Files.{save, is_long}
+use Rattle.worlds.specs.Kernel.{kernel_run, fit_kernel, run_fault}
+use Rattle.worlds.specs.Names.{leaf_of, bound, bound_filter, bound_sets, each_once, leaves_of, text_of_leaf}
+use Rattle.worlds.specs.OnView.{Done, Work}
+use Rattle.worlds.specs.Outcomes.{some_or, refused_if, refused_by, ok_or}
+use Rattle.worlds.specs.Reduce.{reduction, reduced, column, counting}
+use Rattle.worlds.specs.Show.{print, counts, heat, layout, bytes, showing, small, image_of}
+use Rattle.worlds.specs.Step.{work_of}
+use Rattle.worlds.specs.Update.{updated, update_fault}
+use Rattle.worlds.specs.Values.{value_on, storable, store_fault}
+use Rattle.worlds.specs.declared.fault.CommandFault.TheVariants.{BadIndex, NotCounted, TooBig}
+use Rattle.equal_runs.proofs.Logs.{IfGoes, to, bind}
+use Rattle.saved_runs.specs.SavedRuns.{IsSavable}
+use Rattle.saved_runs.proofs.Went.{answered}
+use Rattle.saved_runs.proofs.Rows.{entry_rows, answered_stays}
+use Rattle.saved_runs.proofs.Changes.{update_stays, kernel_stays}
+use Rattle.saved_runs.proofs.Worlds.{uncaused}
+
+-- what a line does to the view that it works on
+abbrev pub WorkKeeps : Table → Option Work → Type 0
+WorkKeeps table None = Unit {0}
+WorkKeeps table (Some work) = IfGoes (λ (done : Done). AreRows (header_of table) done.rows) (work.does table)
+
+module _ (holds_bits : HoldsBits) (table : Table) (good : IsSavable table) where
+  -- the rows that a command leaves are such
+  abbrev Keeps : Done → Type 0
+  Keeps done = AreRows (header_of table) done.rows
+
+  wide : (leaf : ℕ) → leaf < length (kinds_of table.fields) → 1 ≤ (hold_at (holds_by table.mapping table.fields) leaf).width
+  wide leaf l = holds_bits (header_of table) leaf good.lines good.lies l
+
+  assigned_keeps : (index : List ℕ) (path : List PathStep) (value : Value) → IfGoes Keeps (assigned table index path value)
+  unfolding assigned
+  assigned_keeps index path value =
+      bind Keeps (leaf_of table.fields path) _ (λ leaf a.
+      bind Keeps (bound table.fields (length table.extents) value) _ (λ term b.
+      bind Keeps (inside table.extents index) _ (λ is_inside c.
+      (let row : ℕ = place_in (indices table.extents) index in
+      bind Keeps (value_on row (get_or table.rows row []) index term) _ (λ number d.
+      bind Keeps (storable table row leaf number) _ (λ kept e.
+      to _ (entry_rows (header_of table) table.rows row leaf kept good.rows
+      (λ l. answered_stays (header_of table) wide leaf number kept l (answered (store_fault row (text_of_leaf table.fields leaf)) (answer_of table leaf number) kept e)))))))))
+
+  updated_keeps : (filter : Option Value) (sets : List Assignment) → IfGoes Keeps (updated table filter sets)
+  unfolding updated
+  updated_keeps filter sets =
+      bind Keeps (bound_filter table.fields (length table.extents) filter) _ (λ test a.
+      bind Keeps (bound_sets table.fields (length table.extents) sets) _ (λ settings b.
+      bind Keeps (each_once table.fields [] (leaves_of settings)) _ (λ once c.
+      bind Keeps (ok_or (update_fault table.fields) (updated_rows (answer_of table) (kept_of table) test settings table.extents table.rows (length table.rows))) _ (λ rows d.
+      to _ (update_stays (header_of table) wide test settings table.extents table.rows rows good.rows (answered (update_fault table.fields) _ rows d))))))
+
+  kernel_keeps : (text : KernelText) (lanes : ℕ) → IfGoes Keeps (kernel_run table text lanes)
+  unfolding kernel_run
+  kernel_keeps text lanes =
+      bind Keeps (fit_kernel table.fields text lanes) _ (λ kernel a.
+      bind Keeps (refused_by (run_fault table.fields) (kernel_fault (answer_of table) kernel table.rows)) _ (λ done b.
+      to _ (kernel_stays (header_of table) wide kernel table.rows good.rows (uncaused (run_fault table.fields) (kernel_fault (answer_of table) kernel table.rows) done b))))
+
+  -- these leave the rows as they are
+  reduction_keeps : (kind : ReduceKind) (path : List PathStep) → IfGoes Keeps (reduction table kind path)
+  unfolding reduction
+  reduction_keeps kind path =
+      bind Keeps (leaf_of table.fields path) _ (λ leaf a. bind Keeps (reduced kind (column leaf table.rows)) _ (λ number b. to _ good.rows))
+
+  counting_keeps : (filter : Value) → IfGoes Keeps (counting table filter)
+  unfolding counting
+  counting_keeps filter =
+      bind Keeps (bound table.fields (length table.extents) filter) _ (λ term a.
+      bind Keeps (ok_or (update_fault table.fields) (counted term table.extents table.rows)) _ (λ rows b. to _ good.rows))
+
+  showing_keeps : (kind : ShowKind) → IfGoes Keeps (showing kind table)
+  unfolding print counts heat layout
+  showing_keeps show.Print = to _ good.rows
+  showing_keeps show.Counts = bind Keeps (some_or NotCounted table.tally.counts) _ (λ numbers a. to _ good.rows)
+  showing_keeps show.Heat = bind Keeps (some_or NotCounted table.tally.heat) _ (λ numbers a. to _ good.rows)
+  showing_keeps show.Layout = bind Keeps (small table) _ (λ few a. to _ good.rows)
+
+  bytes_keep : (blob : ℕ) → IfGoes Keeps (bytes table blob)
+  unfolding bytes
+  bytes_keep blob =
+      bind Keeps (refused_if (nat_le (length (image_of table)) blob) BadIndex) _ (λ there a. bind Keeps (small table) _ (λ few b. to _ good.rows))
+
+  save_keeps : IfGoes Keeps (save table)
+  unfolding save
+  save_keeps = bind Keeps (refused_if (is_long table) TooBig) _ (λ short a. to _ good.rows)
+
+  pub work_keeps : (sentence : Sentence) → WorkKeeps table (work_of sentence)
+  work_keeps (line.Assign name index path value) = assigned_keeps index path value
+  work_keeps (line.Update name filter sets) = updated_keeps filter sets
+  work_keeps (line.Kernel name text lanes) = kernel_keeps text lanes
+  work_keeps (line.Reduce name kind path) = reduction_keeps kind path
+  work_keeps (line.Count name filter) = counting_keeps filter
+  work_keeps (line.Show kind name) = showing_keeps kind
+  work_keeps (line.Bytes name blob) = bytes_keep blob
+  work_keeps (line.Save name) = save_keeps
+  work_keeps sentence = tt

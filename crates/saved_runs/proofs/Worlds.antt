@@ -1,0 +1,133 @@
+-- What a run over lines of the language has in its world, line after line.
+use Rattle.std.proofs.Common.{◌≡◌, ℕ, Bool, true, false, List, [], ◌∷◌, codes, Option, Some, None, refl, sym, subst}
+use Rattle.std.specs.Prelude.{if◌then◌else◌}
+use Rattle.std.proofs.lemmas.Bool.{and_from}
+use Rattle.record_dim.specs.Leaves.{first_fault}
+use Rattle.record_dim.specs.Trees.{Tree, Fields, Record}
+use Rattle.map_expr.specs.Terms.{Term as MapTerm, Aos, Soa, Aosoa, BitAos, BitSoa, Split, Byteswap, Bytesplit, Change, Count as Counted, Heat as Heated, Named as NamedTerm}
+use Rattle.map_expr.specs.Checks.{checked}
+use Rattle.line_grammar.specs.Sentences as line
+use Rattle.line_writer.proofs.Gives.{Each}
+use Rattle.blob_file.specs.Headers.{is_nameless, HasLine}
+use Rattle.worlds.specs.Worlds.{World, Entry, same_name, found, added, replaced, removed}
+use Rattle.worlds.specs.Define.{define, fit, fields_in}
+use Rattle.worlds.specs.Mapping.{mapping}
+use Rattle.worlds.specs.Names.{nameless}
+use Rattle.worlds.specs.Outcomes.{Outcome, Goes, Faults, CannotRead, ◌>>=◌, Left, known, free, refused_by, ok_or}
+use Rattle.worlds.specs.declared.fault.CommandFault.{CommandFault}
+use Rattle.worlds.specs.declared.fault.CommandFault.TheVariants.{BadRecord, BadMapping}
+use Rattle.equal_runs.proofs.Logs.{IfGoes, to, refused, unread, bind, behind, known_found}
+use Rattle.saved_runs.specs.SavedRuns.{IsSavable}
+use Rattle.saved_runs.proofs.Maps.{HasTokens}
+use Rattle.saved_runs.proofs.Lines.{IsRecord}
+use Rattle.saved_runs.proofs.Headers.{record_has_line}
+
+-- ---- what is kept
+
+-- a line is that of the record `R` of these fields, and they are fit for a table
+pub record IsGoodRecord (fields : Fields) : Type 0 where
+  pub line : HasLine (line.Define (codes "R") (Record fields))
+  pub fit : first_fault (Record fields) ≡ None
+
+-- the parts of a mapping expression are those of lines, and no name is among them
+pub record IsGoodMapping (term : MapTerm) : Type 0 where
+  pub has : HasTokens term
+  pub nameless : is_nameless term ≡ true
+
+-- what holds of each thing that has a name
+module _ {A : Type 0} (P : A → Type 0) where
+  abbrev pub AreAll : List (Entry A) → Type 0
+  AreAll entries = Each (λ (entry : Entry A). P entry.held) entries
+
+  pub of_found : (name : List ℕ) (entries : List (Entry A)) (held : A) → AreAll entries → found name entries ≡ Some held → P held
+  of_found name [] held all is = absurd (cc is)
+  of_found name (entry ∷ entries) held all is = of_test (same_name entry.name name) is (of_found name entries held all.1)
+    where
+      of_test : (test : Bool) → (if test then Some entry.held else found name entries) ≡ Some held → (found name entries ≡ Some held → P held) → P held
+      of_test true is later = let same : entry.held ≡ held = cc in subst P same all.0
+      of_test false is later = later is
+
+  pub with_added : (name : List ℕ) (held : A) (entries : List (Entry A)) → P held → AreAll entries → AreAll (added name held entries)
+  with_added name held [] p all = (p, tt)
+  with_added name held (entry ∷ entries) p all = (all.0, with_added name held entries p all.1)
+
+  pub with_replaced : (name : List ℕ) (held : A) (entries : List (Entry A)) → P held → AreAll entries → AreAll (replaced name held entries)
+  with_replaced name held [] p all = tt
+  with_replaced name held (entry ∷ entries) p all = of_test (same_name entry.name name) (with_replaced name held entries p all.1)
+    where
+      of_test : (test : Bool) → AreAll (replaced name held entries) → AreAll (if test then record { name = entry.name; held = held } ∷ entries else entry ∷ replaced name held entries)
+      of_test true later = (p, all.1)
+      of_test false later = (all.0, later)
+
+  pub with_removed : (name : List ℕ) (entries : List (Entry A)) → AreAll entries → AreAll (removed name entries)
+  with_removed name [] all = tt
+  with_removed name (entry ∷ entries) all = of_test (same_name entry.name name) (with_removed name entries all.1)
+    where
+      of_test : (test : Bool) → AreAll (removed name entries) → AreAll (if test then entries else entry ∷ removed name entries)
+      of_test true later = all.1
+      of_test false later = (all.0, later)
+
+pub record IsGoodWorld (world : World) : Type 0 where
+  pub records : AreAll IsGoodRecord world.records
+  pub mappings : AreAll IsGoodMapping world.mappings
+  pub views : AreAll IsSavable world.views
+
+-- a test that was passed
+pub uncaused : {E : Type 0} (fault : E → CommandFault) (cause : Option E) (done : Unit {0}) → refused_by fault cause ≡ Goes done → cause ≡ None
+uncaused fault None done is = refl
+uncaused fault (Some cause) done is = absurd (cc is)
+
+-- ---- records and mappings
+
+module _ (world : World) (good : IsGoodWorld world) where
+  abbrev Keeps : Left → Type 0
+  Keeps left = IsGoodWorld left.held
+
+  record_fit : (tree : Tree) → IsRecord tree → IfGoes IsGoodRecord (fit tree)
+  record_fit tree is =
+      bind IsGoodRecord (refused_by BadRecord (first_fault tree)) _ (λ passed p.
+      to _ (subst (λ (t : Tree). first_fault t ≡ None → IsGoodRecord (fields_in t)) (sym is.is)
+      (λ fit. record { line = record_has_line is.fields is.are; fit = fit }) (uncaused BadRecord (first_fault tree) passed p)))
+
+  pub define_good : (name : List ℕ) (tree : Tree) → IsRecord tree → IfGoes Keeps (define world name tree)
+  unfolding define
+  define_good name tree is =
+      bind Keeps (free name world.records) _ (λ unused a.
+      behind Keeps IsGoodRecord (fit tree) _ (record_fit tree is) (λ fields one.
+      to _ (record { records = with_added IsGoodRecord name fields world.records one good.records; mappings = good.mappings; views = good.views })))
+
+  wrapped : (wrap : MapTerm → MapTerm) (inner : MapTerm) → ((a : MapTerm) → IsGoodMapping a → IsGoodMapping (wrap a)) → IfGoes IsGoodMapping (nameless world.mappings inner)
+      → IfGoes IsGoodMapping (nameless world.mappings inner >>= (λ a. Goes (wrap a)))
+  wrapped wrap inner keeps one = behind IsGoodMapping IsGoodMapping (nameless world.mappings inner) _ one (λ a g. to _ (keeps a g))
+
+  -- names replaced by what they stand for
+  pub nameless_good : (term : MapTerm) → HasTokens term → IfGoes IsGoodMapping (nameless world.mappings term)
+  nameless_good (Split path first rest) has =
+      behind IsGoodMapping IsGoodMapping (nameless world.mappings first) _ (nameless_good first has.1.0) (λ a g.
+      behind IsGoodMapping IsGoodMapping (nameless world.mappings rest) _ (nameless_good rest has.1.1) (λ b h.
+      to _ (record { has = (has.0, (g.has, h.has)); nameless = and_from (is_nameless a) (is_nameless b) g.nameless h.nameless })))
+  nameless_good (Byteswap inner) has = wrapped Byteswap inner (λ a g. record { has = g.has; nameless = g.nameless }) (nameless_good inner has)
+  nameless_good (Bytesplit inner) has = wrapped Bytesplit inner (λ a g. record { has = g.has; nameless = g.nameless }) (nameless_good inner has)
+  nameless_good (Change from target inner) has =
+      wrapped (Change from target) inner (λ a g. record { has = (has.0, (has.1.0, g.has)); nameless = g.nameless }) (nameless_good inner has.1.1)
+  nameless_good (Counted inner) has = wrapped Counted inner (λ a g. record { has = g.has; nameless = g.nameless }) (nameless_good inner has)
+  nameless_good (Heated granule inner) has = wrapped (Heated granule) inner (λ a g. record { has = (has.0, g.has); nameless = g.nameless }) (nameless_good inner has.1)
+  nameless_good (NamedTerm name) has = named_good (known name world.mappings) refl
+    where
+      named_good : (outcome : Outcome MapTerm) → known name world.mappings ≡ outcome → IfGoes IsGoodMapping outcome
+      named_good (Goes term) is = to term (of_found IsGoodMapping name world.mappings term good.mappings (known_found _ (found name world.mappings) term is))
+      named_good (Faults fault) is = refused fault
+      named_good (CannotRead file) is = unread file
+  nameless_good (Aos form order) has = to _ (record { has = has; nameless = refl })
+  nameless_good (Soa form order) has = to _ (record { has = has; nameless = refl })
+  nameless_good (Aosoa lanes order) has = to _ (record { has = has; nameless = refl })
+  nameless_good (BitAos width fields order) has = to _ (record { has = has; nameless = refl })
+  nameless_good (BitSoa width fields order) has = to _ (record { has = has; nameless = refl })
+
+  pub mapping_good : (name : List ℕ) (term : MapTerm) → HasTokens term → IfGoes Keeps (mapping world name term)
+  unfolding mapping
+  mapping_good name term has =
+      bind Keeps (free name world.mappings) _ (λ unused a.
+      behind Keeps IsGoodMapping (nameless world.mappings term) _ (nameless_good term has) (λ whole one.
+      bind Keeps (ok_or BadMapping (checked whole)) _ (λ passed b.
+      to _ (record { records = good.records; mappings = with_added IsGoodMapping name whole world.mappings one good.mappings; views = good.views }))))

@@ -1,0 +1,2 @@
+pub mod SavedRuns
+pub mod Runs

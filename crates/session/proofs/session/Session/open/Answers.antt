@@ -1,0 +1,34 @@
+use Rattle.std.proofs.Common.{rules, ◌∙◌, true, sym, ap}
+use Rattle.layout_io.specs.Faults.{Rose}
+use Rattle.views.specs.Tables.{Table}
+use Rattle.worlds.specs.Files.{open_view, opened_table}
+use Rattle.worlds.specs.Outcomes.{quiet}
+use Rattle.worlds.specs.View.{with_view}
+use Rattle.command_checks.specs.GivesLaws.{goes_then}
+use Rattle.session.specs.Stands.{left_of, world_of}
+use Rattle.session.proofs.Reading.{after_load, unread_after, told_first}
+use Rattle.session.proofs.session.Session.open.Goals as goal
+
+pub returns-in_err-view-clause-loads : goal.returns-in_err-view-clause-loads
+unfolding open_view
+returns-in_err-view-clause-loads g c = λ files given.
+    let world = world_of c.args.self in
+    let rose = Rose (g.H.Shelf.faults c.args.shelf.now) (g.H.Shelf.faults c.opened_view.new.shelf) in
+    let table = opened_table world c.args.name c.args.file.now files in
+    let next = λ (opened : Table). quiet (with_view world c.args.name opened) in
+    after_load {A = Table} c.args.file.now (λ (view : Table). view) left_of table next rose c.in_err-view.field-0.0 c.from_residual.result (search rules)
+    (c.in_err-view.ensures.loads files (told_first _ files (table true) next given))
+
+pub returns-clause-loads : goal.returns-clause-loads
+unfolding open_view
+returns-clause-loads g c = λ files given.
+    let world = world_of c.args.self in
+    let next = λ (opened : Table). quiet (with_view world c.args.name opened) in
+    goes_then _ next _ (c.in_ok-view.ensures.loads files (told_first _ files (opened_table world c.args.name c.args.file.now files true) next given)) ∙ ap quiet (sym c.in_ok-next.ensures.added)
+
+pub returns-in_err-view-clause-unread : goal.returns-in_err-view-clause-unread
+unfolding open_view
+returns-in_err-view-clause-unread g c =
+    let world = world_of c.args.self in
+    let next = λ (opened : Table). quiet (with_view world c.args.name opened) in
+    unread_after Table c.args.file.now (opened_table world c.args.name c.args.file.now) next c.in_err-view.field-0.0 c.from_residual.result (search rules) c.in_err-view.ensures.unread
