@@ -31,8 +31,8 @@ use steps::Steps;
 use views::{MakeView, StoreMode, View, laws_of_table};
 
 /// The view of which bytes are the file. It has counted one write of each leaf of each row, and nothing else. The refusals come in the order
-/// of `FileFault`, each exactly where `opened` says so; memory may run out at any time, and is asked for the blobs behind the other tests of
-/// lengths. A step is taken for each leaf of each row that is stored.
+/// of `FileFault`, each exactly where `opened` says so; memory may run out at any time, and that of the view, whose size is within the limits
+/// by then, is taken before the number of bytes behind the header is looked at. A step is taken for each leaf of each row that is stored.
 pub fn read_file<L: Ledger>(
     alloc: Global,
     bytes: &[u8],
