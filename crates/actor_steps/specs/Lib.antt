@@ -1,6 +1,14 @@
 pub mod Confluence
+pub mod ConfluenceLaws
 pub mod Micro
+pub mod BytesOfLaws
+pub mod SweepLaws
+pub mod AmongLaws
+pub mod OutcomeLaws
 pub mod Cuts
 pub mod Shared
 pub mod Schedules
+pub mod CutsLaws
+pub mod SharedLaws
+pub mod ScanLaws
 pub mod Jobs
