@@ -5,6 +5,8 @@ pub mod BytesOfLaws
 pub mod SweepLaws
 pub mod AmongLaws
 pub mod OutcomeLaws
+pub mod HeldLaws
+pub mod RowLaws
 pub mod Cuts
 pub mod Shared
 pub mod Schedules
