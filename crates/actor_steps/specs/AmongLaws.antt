@@ -9,7 +9,7 @@ use Rattle.places.specs.Layout.{Owner, Pad, Bit, owner_at}
 use Rattle.places.specs.ExactLaws.{within}
 use Rattle.actor_steps.specs.Micro.{Place, bytes_in, all_bytes, is_bit_of, owners_of_byte, places_of}
 use Rattle.actor_steps.specs.BytesOfLaws.{IsByte}
-use Rattle.actor_steps.specs.SweepLaws.{is_place, is_among, AreBytes}
+use Rattle.actor_steps.specs.SweepLaws.{is_place, is_among, AreBytesOf}
 use Rattle.actor_steps.specs.ConfluenceLaws.{Each}
 
 pub true_or_false : {A : Type 0} (test : Bool) → test ≡ true → test ≡ false → A
@@ -151,7 +151,7 @@ pub each-map : {X Y : Type 0} (P : Y → Type 0) (f : X → Y) (xs : List X) →
 each-map P f [] all = all
 each-map P f (x ∷ xs) all = (all.0, each-map P f xs all.1)
 
-pub all_are_bytes : (layout : List (List Owner)) → AreBytes layout (all_bytes layout)
+pub all_are_bytes : (layout : List (List Owner)) → AreBytesOf layout (all_bytes layout)
 all_are_bytes layout =
     each-flat (IsByte layout) (bytes_in layout) (range_with_len 0 (length layout))
     (each-range (λ b. Each (IsByte layout) (bytes_in layout b)) 0 (length layout)
@@ -164,7 +164,7 @@ pub places-are : (layout : List (List Owner)) (row leaf : ℕ)
     → Each (λ place. IsByte layout place × (list_any (is_bit_of row leaf) (owners_of_byte layout place) ≡ true)) (places_of layout row leaf)
 places-are layout row leaf = each-filter (IsByte layout) (λ place. list_any (is_bit_of row leaf) (owners_of_byte layout place)) (all_bytes layout) (all_are_bytes layout)
 
-pub places-are_bytes : (layout : List (List Owner)) (row leaf : ℕ) → AreBytes layout (places_of layout row leaf)
+pub places-are_bytes : (layout : List (List Owner)) (row leaf : ℕ) → AreBytesOf layout (places_of layout row leaf)
 places-are_bytes layout row leaf =
     each-weaker (λ place. IsByte layout place × (list_any (is_bit_of row leaf) (owners_of_byte layout place) ≡ true)) (IsByte layout) (places_of layout row leaf)
     (λ place both. both.0) (places-are layout row leaf)

@@ -13,4 +13,5 @@ pub mod Schedules
 pub mod CutsLaws
 pub mod SharedLaws
 pub mod ScanLaws
+pub mod ActorLaws
 pub mod Jobs

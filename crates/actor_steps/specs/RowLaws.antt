@@ -18,7 +18,7 @@ use Rattle.row_updates.specs.Rows.{Setting}
 use Rattle.actor_steps.specs.ConfluenceLaws.{Each, made_all, loaded_all, made_all-append, loaded_all-append}
 use Rattle.actor_steps.specs.Micro.{Place, Job, Micro, Fetch, Registers, row_in, row_of, value_on, number_in, stored, loaded, places_of, lets_through, filter_reads, set_reads, reads_of, is_in, read_leaves, fetches, stores_of, row_steps}
 use Rattle.actor_steps.specs.BytesOfLaws.{IsByte}
-use Rattle.actor_steps.specs.SweepLaws.{is_among, AreBytes, sweep, sweep_sized, sweep_loaded, fetch, fetch_memory, fetch_sized}
+use Rattle.actor_steps.specs.SweepLaws.{is_among, AreBytesOf, sweep, sweep_sized, sweep_loaded, fetch, fetch_memory, fetch_sized}
 use Rattle.actor_steps.specs.AmongLaws.{true_or_false, among-lists, among-places, in_range, each-all, each-flat, each-weaker, places-are_bytes}
 use Rattle.actor_steps.specs.OutcomeLaws.{outcome_same}
 use Rattle.actor_steps.specs.HeldLaws.{digit_held, IsHeld, with_value, widths_of, reading-held, row_in-at, length-row_in, held-written}
@@ -90,11 +90,11 @@ module _ (job : Job) (sound : IsSound job) where
   places_read : ℕ → List Place
   places_read row = flat_map (places_of job.layout row) (read_leaves job row)
 
-  read_are_bytes : (row : ℕ) → AreBytes job.layout (places_read row)
+  read_are_bytes : (row : ℕ) → AreBytesOf job.layout (places_read row)
   unfolding places_read
   read_are_bytes row =
       each-flat (IsByte job.layout) (places_of job.layout row) (read_leaves job row)
-      (each-all (λ leaf. AreBytes job.layout (places_of job.layout row leaf)) (read_leaves job row) (λ leaf. places-are_bytes job.layout row leaf))
+      (each-all (λ leaf. AreBytesOf job.layout (places_of job.layout row leaf)) (read_leaves job row) (λ leaf. places-are_bytes job.layout row leaf))
 
   -- the registers after the bytes of a row are loaded
   fetched : ℕ → List (List ℕ) → Registers → Registers

@@ -8,7 +8,7 @@ use Rattle.std.proofs.lemmas.Nat.Bits.{bit_at-lt}
 use Rattle.places.specs.Layout.{Owner, Pad, Bit, owner_at}
 use Rattle.places.specs.Image.{digit}
 use Rattle.places.specs.Writes.{written}
-use Rattle.places.specs.NumbersLaws.{bit_number, digit_lt}
+use Rattle.places.specs.NumbersLaws.{number_lt, bit_number, digit_lt}
 use Rattle.blobs.specs.Bits.{bit_in}
 use Rattle.piece_bits.specs.Tables.{AreSized}
 use Rattle.actor_steps.specs.ConfluenceLaws.{Each, made_all, loaded_all}
@@ -24,8 +24,8 @@ abbrev pub is_among : List Place → ℕ → ℕ → Bool
 is_among places blob byte = list_any (is_place blob byte) places
 
 -- all these places are bytes of the layout
-abbrev pub AreBytes : List (List Owner) → List Place → Type 0
-AreBytes layout places = Each (IsByte layout) places
+abbrev pub AreBytesOf : List (List Owner) → List Place → Type 0
+AreBytesOf layout places = Each (IsByte layout) places
 
 -- the bits of memory with another byte at a place
 pub bit_in-with_byte : (layout : List (List Owner)) (memory : List (List ℕ)) (place : Place) (byte : ℕ) (b p : ℕ) → AreSized layout memory → IsByte layout place
@@ -46,18 +46,25 @@ bit_in-with_byte layout memory place byte b p sized is = by_test (is_place b (p 
         no_test : is_place b (p / 8) place ≡ true → is_place b (p / 8) place ≡ false → ⊥
         no_test holds fails = (let bad : true ≡ false = sym holds ∙ fails in cc)
 
--- a bit of a byte in which only the bits of a leaf in a row are changed
+-- a bit that is written is a bit
+written_lt : (owner : Owner) (row leaf : ℕ) (value : ℤ) (old : ℕ) → old < 2 → written owner row leaf value old < 2
+written_lt Pad row leaf value old low = low
+written_lt (Bit s c k) row leaf value old low = by_test ((s == row) && (c == leaf)) where
+  by_test : (test : Bool) → (if test then digit value k else old) < 2
+  by_test true = digit_lt value k
+  by_test false = low
+
+-- a byte in which only the bits of a leaf in a row are changed is a byte, and its bits
+pub with_bits_of-lt : (layout : List (List Owner)) (place : Place) (row leaf : ℕ) (value : ℤ) (byte : ℕ) → with_bits_of layout place row leaf value byte < 256
+with_bits_of-lt layout place row leaf value byte =
+    number_lt (λ bit. written (owner_at layout place.blob (8 * place.byte + bit)) row leaf value (bit_at byte bit)) 8
+    (λ j l. written_lt (owner_at layout place.blob (8 * place.byte + j)) row leaf value (bit_at byte j) (bit_at-lt byte j))
+
 pub bit_at-with_bits_of : (layout : List (List Owner)) (place : Place) (row leaf : ℕ) (value : ℤ) (byte k : ℕ) → k < 8
     → bit_at (with_bits_of layout place row leaf value byte) k ≡ written (owner_at layout place.blob (8 * place.byte + k)) row leaf value (bit_at byte k)
 bit_at-with_bits_of layout place row leaf value byte k inside =
     bit_number (λ bit. written (owner_at layout place.blob (8 * place.byte + bit)) row leaf value (bit_at byte bit)) 8 k
-    (λ j l. small (owner_at layout place.blob (8 * place.byte + j)) (bit_at byte j) (bit_at-lt byte j)) inside where
-      small : (owner : Owner) (old : ℕ) → old < 2 → written owner row leaf value old < 2
-      small Pad old low = low
-      small (Bit s c k) old low = by_test ((s == row) && (c == leaf)) where
-        by_test : (test : Bool) → (if test then digit value k else old) < 2
-        by_test true = digit_lt value k
-        by_test false = low
+    (λ j l. written_lt (owner_at layout place.blob (8 * place.byte + j)) row leaf value (bit_at byte j) (bit_at-lt byte j)) inside
 
 -- written twice is written once
 pub written-twice : (owner : Owner) (row leaf : ℕ) (value : ℤ) (old : ℕ) → written owner row leaf value (written owner row leaf value old) ≡ written owner row leaf value old
@@ -104,7 +111,7 @@ module _ (job : Job) (row : ℕ) (set : Setting) where
       with_byte-sized job.layout memory place (with_bits_of job.layout place row set.leaf (value_on job (row_in job registers.loaded row) row set) (byte_at memory place)) sized
 
   -- memory after all bytes of a leaf are loaded and stored
-  pub sweep : (places : List Place) (memory : List (List ℕ)) (registers : Registers) (b p : ℕ) → AreSized job.layout memory → AreBytes job.layout places
+  pub sweep : (places : List Place) (memory : List (List ℕ)) (registers : Registers) (b p : ℕ) → AreSized job.layout memory → AreBytesOf job.layout places
       → bit_in (made_all (stored job) (loaded job) (flat_map (changes row set) places) memory registers) b p
       ≡ (if is_among places b (p / 8) then written (owner_at job.layout b p) row set.leaf (value_on job (row_in job registers.loaded row) row set) (bit_in memory b p) else bit_in memory b p)
   unfolding one_byte
@@ -147,7 +154,7 @@ module _ (job : Job) where
   fetch_memory (place ∷ places) memory registers = fetch_memory places memory (record registers { loaded = with_byte registers.loaded place (byte_at memory place) })
 
   -- the bits of what was loaded
-  pub fetch : (places : List Place) (memory : List (List ℕ)) (registers : Registers) (b p : ℕ) → AreSized job.layout registers.loaded → AreBytes job.layout places
+  pub fetch : (places : List Place) (memory : List (List ℕ)) (registers : Registers) (b p : ℕ) → AreSized job.layout registers.loaded → AreBytesOf job.layout places
       → bit_in (loaded_all (stored job) (loaded job) (map Fetch places) memory registers).loaded b p
       ≡ (if is_among places b (p / 8) then bit_in memory b p else bit_in registers.loaded b p)
   fetch [] memory registers b p sized are = refl
