@@ -14,4 +14,7 @@ pub mod CutsLaws
 pub mod SharedLaws
 pub mod ScanLaws
 pub mod ActorLaws
+pub mod MemoryLaws
+pub mod UpdateLaws
 pub mod Jobs
+pub mod Agree
