@@ -16,5 +16,7 @@ pub mod ScanLaws
 pub mod ActorLaws
 pub mod MemoryLaws
 pub mod UpdateLaws
+pub mod ScheduleLaws
 pub mod Jobs
 pub mod Agree
+pub mod AgreeLaws
