@@ -1,14 +1,16 @@
 -- No schedule of the actors of an update matters.
-use Rattle.std.specs.Prelude.{ℕ, ◌≡◌, ℤ, List, length, map, Option, None, Ok}
+use Rattle.std.specs.Prelude.{ℕ, ◌≡◌, ℤ, List, [], length, map, slice_index_or, Option, None, Ok}
 use Rattle.expr_lang.specs.Terms.{Term}
 use Rattle.places.specs.Laws.{IsLaidOut}
 use Rattle.piece_bits.specs.Tables.{table_in}
 use Rattle.kept_tables.specs.Modes.{declared_table}
 use Rattle.views.specs.Tables.{Table, IsTable, owners_of, leaf_types_of, table_holds}
 use Rattle.row_updates.specs.Rows.{Setting, updated_of}
+use Rattle.actor_steps.specs.Confluence.{State}
+use Rattle.actor_steps.specs.Micro.{Job, Micro, Registers}
 use Rattle.actor_steps.specs.Cuts.{AreCuts, actor_of}
 use Rattle.actor_steps.specs.Shared.{shared_byte}
-use Rattle.actor_steps.specs.Schedules.{run_by, finished}
+use Rattle.actor_steps.specs.Schedules.{idle_with, run_by, finished}
 use Rattle.actor_steps.specs.Jobs.{job_of, memory_of, fresh_of, start_of}
 
 -- a table under a layout with its laws
@@ -35,6 +37,11 @@ memory_by table filter sets cuts schedule =
 abbrev pub SchedulesAgree : Type 0
 SchedulesAgree = (table : Table) (filter : Option (Term ℕ)) (sets : List Setting) (cuts : List ℕ) (rows : List (List ℤ))
     → IsParted table filter sets cuts rows → (schedule : List ℕ) → memory_by table filter sets cuts schedule ≡ memory_of (record table { rows = rows })
+
+-- then no actor has a micro-step left
+abbrev pub NothingIsLeft : Type 0
+NothingIsLeft = (job : Job) (fresh : Registers) (state : State (List (List ℕ)) Micro Registers) (a : ℕ)
+    → (slice_index_or (finished job fresh state).actors a (idle_with fresh)).rest ≡ []
 
 -- with these rows the table is lawful
 abbrev pub UpdatesAreLawful : Type 0

@@ -22,9 +22,9 @@ use Rattle.actor_steps.specs.HeldLaws.{digit_held, IsHeld}
 use Rattle.actor_steps.specs.RowLaws.{IsSound, IsWork, row_entries}
 use Rattle.actor_steps.specs.MemoryLaws.{zeros-sized, image-memory, image-bits, memory-is, image-held}
 use Rattle.actor_steps.specs.UpdateLaws.{row_same, row_keeps, updated_at, updated_length}
-use Rattle.actor_steps.specs.ScheduleLaws.{held_after, memory_by-end}
+use Rattle.actor_steps.specs.ScheduleLaws.{none_left, held_after, memory_by-end}
 use Rattle.actor_steps.specs.Jobs.{job_of, memory_of, fresh_of}
-use Rattle.actor_steps.specs.Agree.{IsLawful, IsParted, memory_by, SchedulesAgree, UpdatesAreLawful, BytesAreRead}
+use Rattle.actor_steps.specs.Agree.{IsLawful, IsParted, memory_by, SchedulesAgree, NothingIsLeft, UpdatesAreLawful, BytesAreRead}
 
 module _ (table : Table) (lawful : IsLawful table) where
   leaf_count : leaf_count_of table ≡ length (leaf_types_of table)
@@ -129,6 +129,9 @@ schedules_agree table filter sets cuts rows parted schedule =
     let memory = memory_by table filter sets cuts schedule in
     memory-is (owners_of table) parted.lawful.laid.whole_bytes rows memory (memory_by-end job sound cuts (memory_of table) fresh parted.parts parted.apart good work schedule)
     (held_image table parted.lawful filter sets rows parted.plain memory (held_after job sound cuts (memory_of table) fresh parted.parts parted.apart good work schedule))
+
+pub nothing_is_left : NothingIsLeft
+nothing_is_left job fresh state a = none_left job fresh state a
 
 pub updates_are_lawful : UpdatesAreLawful
 updates_are_lawful table filter sets rows lawful plain = updated_lawful table lawful filter sets rows plain

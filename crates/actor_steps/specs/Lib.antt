@@ -4,6 +4,7 @@ pub mod Micro
 pub mod BytesOfLaws
 pub mod SweepLaws
 pub mod AmongLaws
+pub mod LaidLaws
 pub mod OutcomeLaws
 pub mod HeldLaws
 pub mod RowLaws
