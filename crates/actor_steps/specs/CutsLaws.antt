@@ -1,11 +1,22 @@
 -- Cuts of the rows among actors, and the micro-steps that are left of a run.
 use Rattle.std.proofs.Common.{◌≡◌, ℕ, zero, suc, ◌+◌, ◌-◌, ◌<◌, ◌≤◌, Bool, true, false, List, [], ◌∷◌, ◌++◌, length, get_or, set, replicate, refl, sym, ap, ◌∙◌, subst, ⊎_elim, arith}
 use Rattle.std.specs.Prelude.{nat_le, ◌==◌, if◌then◌else◌, slice_index_or}
-use Rattle.std.proofs.lemmas.Bool.{cases_lt, cases_eq, le-leb, lt-leb, eq-eqb, eqb-true}
+use Rattle.std.proofs.lemmas.Bool.{and_from, and_parts, leb-true, cases_lt, cases_eq, le-leb, lt-leb, eq-eqb, eqb-true}
 use Rattle.std.proofs.lemmas.List.{get_or-set_same, get_or-set_other, get_or_past}
 use Rattle.actor_steps.specs.Confluence.{Actor, State, moved, turned, scheduled}
 use Rattle.actor_steps.specs.Cuts.{actor_of, AreCuts, are_cuts, parts_from}
 use Rattle.actor_steps.specs.Schedules.{turns_from, turns_left}
+
+-- the test of cuts
+pub are_cuts-are : (from : ℕ) (cuts : List ℕ) (count : ℕ) → are_cuts from cuts count ≡ true → AreCuts from cuts count
+are_cuts-are from [] count e = leb-true from count e
+are_cuts-are from (cut ∷ cuts) count e =
+    let both = and_parts (nat_le from cut) (are_cuts cut cuts count) e in
+    (leb-true from cut both.0, are_cuts-are cut cuts count both.1)
+
+pub are-are_cuts : (from : ℕ) (cuts : List ℕ) (count : ℕ) → AreCuts from cuts count → are_cuts from cuts count ≡ true
+are-are_cuts from [] count are = le-leb from count are
+are-are_cuts from (cut ∷ cuts) count are = and_from (nat_le from cut) (are_cuts cut cuts count) (le-leb from cut are.0) (are-are_cuts cut cuts count are.1)
 
 -- a row lies in the part of an actor
 pub record IsPart (parts : List (ℕ × ℕ)) (a row : ℕ) : Type 0 where
