@@ -58,16 +58,11 @@ fn write_command(text: &mut Text, line: &Line) -> Result<(), NoMemory>
         Line::Bytes { view, blob } => write_bytes(text, view, *blob),
         Line::SaveView(view) => write_named(text, Command::Save, view),
         Line::OpenFile { name, file } => write_open(text, name, file),
-        Line::Assign { .. }
-        | Line::Update { .. }
-        | Line::Actors { .. }
-        | Line::Kernel { .. }
-        | Line::Reduce { .. }
-        | Line::Count { .. } => write_on_rows(text, line),
-        // What is left shows something, or is blank.
+        Line::Blank => Ok(()),
+        // What is left shows something, or is on rows.
         _ => match line.shown() {
             Some((kind, view)) => write_named(text, Command::Show(kind), &view),
-            None => Ok(()),
+            None => write_on_rows(text, line),
         },
     }
 }
