@@ -9,7 +9,7 @@ use Rattle.std.proofs.lemmas.List.FromFn.{length-map-range_with_len, get_or-map-
 use Rattle.places.specs.Layout.{Owner}
 use Rattle.row_updates.specs.Rows.{Setting}
 use Rattle.actor_steps.specs.declared.place.Place.{Place}
-use Rattle.actor_steps.specs.Micro.{Job}
+use Rattle.actor_steps.specs.Micro.{Job, Micro}
 use Rattle.actor_tasks.specs.Places.{origin, places_from, behind, IsHead}
 use Rattle.actor_tasks.specs.Tasks.{Task, Reads, Sets, all_tasks, is_asked, leaf_of, place_steps, task_steps, tasks_steps}
 use Rattle.actor_tasks.specs.TasksLaws.{next_place, next_task}
@@ -76,19 +76,27 @@ at_task (t ∷ tasks) zero d low = (let one : 0 + 1 ≡ suc 0 = omega arith in a
 at_task (t ∷ tasks) (suc n) d low =
     (let one : suc n + 1 ≡ suc (n + 1) = omega arith in at_task tasks n d (omega (arith, low)) ∙ ap (λ (w : ℕ). get_or tasks n d ∷ drop w (t ∷ tasks)) (sym one))
 
--- a task with a place
-pub task_found : (job : Job) (row : ℕ) (from place : Place) (task : ℕ) → task < length (all_tasks job) → IsTaskNext job row from (task_at job task) (Some place)
-    → tasks_steps job row from (drop task (all_tasks job)) ≡ place_steps row (task_at job task) place ++ tasks_steps job row (behind place) (drop task (all_tasks job))
-task_found job row from place task low next =
+-- a task with a next byte: its micro-steps there are the next ones
+pub task_found : (job : Job) (row : ℕ) (from place : Place) (task : ℕ) (before : List Micro) (result : Option Place) → task < length (all_tasks job)
+    → before ≡ tasks_steps job row from (drop task (all_tasks job)) → IsTaskNext job row from (task_at job task) result → result ≡ Some place
+    → before ≡ place_steps row (task_at job task) place ++ tasks_steps job row (behind place) (drop task (all_tasks job))
+task_found job row from place task before result low so_far found is =
     let cut = at_task (all_tasks job) task (Reads 0) low in
-    ap (tasks_steps job row from) cut ∙ next_place job row from place (task_at job task) (drop (task + 1) (all_tasks job)) next.0 next.1
+    let next : IsTaskNext job row from (task_at job task) (Some place) = subst (IsTaskNext job row from (task_at job task)) is found in
+    so_far ∙ ap (tasks_steps job row from) cut ∙ next_place job row from place (task_at job task) (drop (task + 1) (all_tasks job)) next.0 next.1
     ∙ ap (λ (ts : List Task). place_steps row (task_at job task) place ++ tasks_steps job row (behind place) ts) (sym cut)
 
--- and one without
-pub task_done : (job : Job) (row : ℕ) (from : Place) (task : ℕ) → task < length (all_tasks job) → IsTaskNext job row from (task_at job task) None
-    → tasks_steps job row from (drop task (all_tasks job)) ≡ tasks_steps job row origin (drop (task + 1) (all_tasks job))
-task_done job row from task low none =
-    ap (tasks_steps job row from) (at_task (all_tasks job) task (Reads 0) low) ∙ next_task job row from (task_at job task) (drop (task + 1) (all_tasks job)) none
+-- and one without: what is left is that of the next task
+pub task_done : (job : Job) (row : ℕ) (from : Place) (task : ℕ) (before : List Micro) (result : Option Place) → task < length (all_tasks job)
+    → before ≡ tasks_steps job row from (drop task (all_tasks job)) → IsTaskNext job row from (task_at job task) result → result ≡ None
+    → before ≡ tasks_steps job row origin (drop (task + 1) (all_tasks job))
+task_done job row from task before result low so_far none is =
+    so_far ∙ ap (tasks_steps job row from) (at_task (all_tasks job) task (Reads 0) low)
+    ∙ next_task job row from (task_at job task) (drop (task + 1) (all_tasks job)) (subst (IsTaskNext job row from (task_at job task)) is none)
+
+-- behind the last task nothing is left
+pub none_left : (job : Job) (row : ℕ) (from : Place) (n : ℕ) (before : List Micro) → length (all_tasks job) ≤ n → before ≡ tasks_steps job row from (drop n (all_tasks job)) → before ≡ []
+none_left job row from n before past so_far = so_far ∙ ap (tasks_steps job row from) (drop_all n (all_tasks job) past)
 
 -- how many tasks there are
 pub task_count : (job : Job) (layout : List (List Owner)) (leaves : ℕ) (sets : List ℕ) (marks : List Bool) (through : Bool) (row : ℕ) → IsRowOf job layout leaves sets marks through row
@@ -98,7 +106,3 @@ task_count job layout leaves sets marks through row is =
     let more : length (map Sets job.sets) ≡ length job.sets = length-map job.sets Sets in
     let many : length job.sets ≡ length sets = sym (length-map job.sets (λ (s : Setting). s.leaf)) ∙ ap length is.sets_are in
     omega (arith, length-append (map Reads (range_with_len 0 (length job.holds))) (map Sets job.sets), reads, more, many, is.leaves_are)
-
--- behind the last task nothing is left
-pub none_left : (job : Job) (row : ℕ) (from : Place) (n : ℕ) → length (all_tasks job) ≤ n → tasks_steps job row from (drop n (all_tasks job)) ≡ []
-none_left job row from n past = ap (tasks_steps job row from) (drop_all n (all_tasks job) past)

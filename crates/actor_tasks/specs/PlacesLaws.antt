@@ -7,6 +7,7 @@ use Rattle.std.proofs.lemmas.Bool.Decides.{nat_tests}
 use Rattle.std.proofs.lemmas.List.Elements.{All-nil, All-cons, All-append, All-map}
 use Rattle.places.specs.Layout.{Owner}
 use Rattle.actor_steps.specs.declared.place.Place.{Place}
+use Rattle.actor_steps.specs.BytesOfLaws.{IsByte}
 use Rattle.actor_steps.specs.Micro.{bytes_in, all_bytes, places_of}
 use Rattle.actor_tasks.specs.Places.{is_before, origin, behind, holds_bit, places_from}
 use Rattle.actor_tasks.specs.OrderedLaws.{same_filter, IsOrdered, ordered-append, Occurs, split_first}
@@ -89,8 +90,8 @@ occurs-blob layout a (suc n) place low high inside =
     (subst (λ (b : ℕ). Occurs is_before place (bytes_in layout b)) same (occurs-byte place.blob 0 (length (get_or layout place.blob []) / 8) place.byte (omega arith) (omega arith))))
     (cases_lt a place.blob)
 
-pub occurs-all : (layout : List (List Owner)) (place : Place) → place.blob < length layout → place.byte < length (get_or layout place.blob []) / 8 → Occurs is_before place (all_bytes layout)
-occurs-all layout place blob_in byte_in = occurs-blob layout 0 (length layout) place (omega arith) (omega arith) byte_in
+pub occurs-all : (layout : List (List Owner)) (place : Place) → IsByte layout place → Occurs is_before place (all_bytes layout)
+occurs-all layout place byte = occurs-blob layout 0 (length layout) place (omega arith) (omega (arith, byte.blob_in)) (omega (arith, byte.byte_in))
 
 -- the tests of a byte behind one that is found, and from the next byte on
 rest_test : (holds : Bool) (first from y : Place) → is_before first from ≡ false → ((holds && not (is_before y from)) && is_before first y) ≡ (holds && not (is_before y (behind first)))
