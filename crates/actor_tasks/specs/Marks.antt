@@ -33,8 +33,8 @@ IsRowNext job row done from (Some next) =
     tasks_steps job row from (drop done (all_tasks job)) ≡ place_steps row (task_at job next.0) next.1 ++ tasks_steps job row (behind next.1) (drop next.0 (all_tasks job))
 
 -- what so many rows ask for is what the job says
-abbrev pub AreRowsOf : Job → List (List Owner) → ℕ → List ℕ → (ℕ → Asks) → ℕ → Type 0
-AreRowsOf job layout leaves sets asks rows = (row : ℕ) → row < rows → IsRowOf job layout leaves sets (asks row).reads (asks row).through row
+pub record AreRowsOf (job : Job) (layout : List (List Owner)) (leaves : ℕ) (sets : List ℕ) (asks : ℕ → Asks) (rows : ℕ) : Type 0 where
+  pub each : (row : ℕ) → row < rows → IsRowOf job layout leaves sets (asks row).reads (asks row).through row
 
 -- the next byte of the rows from one up to an end, of which so many tasks are done: in its row the tasks before its own are done as well
 abbrev pub IsRowsNext : Job → ℕ → ℕ → ℕ → Place → Option NextByte → Type 0

@@ -12,12 +12,14 @@ use Rattle.actor_steps.specs.Micro.{bytes_in, all_bytes, places_of}
 use Rattle.actor_tasks.specs.Places.{is_before, origin, behind, holds_bit, places_from}
 use Rattle.actor_tasks.specs.OrderedLaws.{same_filter, IsOrdered, ordered-append, Occurs, split_first}
 
+-- bytes stand in one order
 irreflexive : (a : Place) → is_before a a ≡ true → ⊥
 irreflexive a e = grind (arith, nat_tests)
 
 asymmetric : (a b : Place) → is_before a b ≡ true → is_before b a ≡ true → ⊥
 asymmetric a b e f = grind (arith, nat_tests)
 
+-- what stands behind a byte stands from the next one on, and the other way round
 apart : (first y : Place) → is_before first y ≡ true → is_before y (behind first) ≡ false
 apart first y e = grind (arith, nat_tests)
 
@@ -83,7 +85,8 @@ occurs-blob : (layout : List (List Owner)) (a n : ℕ) (place : Place) → a ≤
     → Occurs is_before place (flat_map (bytes_in layout) (range_with_len a n))
 occurs-blob layout a zero place low high inside = absurd (omega arith)
 occurs-blob layout a (suc n) place low high inside =
-    ⊎_elim (λ (l : a < place.blob). occurs-back place (bytes_in layout a) (flat_map (bytes_in layout) (range_with_len (a + 1) n)) (occurs-blob layout (a + 1) n place (omega arith) (omega arith) inside))
+    ⊎_elim (λ (l : a < place.blob).
+    occurs-back place (bytes_in layout a) (flat_map (bytes_in layout) (range_with_len (a + 1) n)) (occurs-blob layout (a + 1) n place (omega arith) (omega arith) inside))
     (λ (l : place.blob ≤ a).
     let same : place.blob ≡ a = omega arith in
     occurs-front place (bytes_in layout a) (flat_map (bytes_in layout) (range_with_len (a + 1) n))
@@ -109,7 +112,8 @@ rest_test holds first from y low = by_test (is_before first y) refl where
     other h a b c p q = grind arith
 
 -- a byte of the leaf that no other such byte from a place on stands before is the first of them, and the others are those behind it
-pub places_from-first : (layout : List (List Owner)) (row leaf : ℕ) (from first : Place) → Occurs is_before first (all_bytes layout) → holds_bit layout row leaf first ≡ true → is_before first from ≡ false
+pub places_from-first : (layout : List (List Owner)) (row leaf : ℕ) (from first : Place) → Occurs is_before first (all_bytes layout) → holds_bit layout row leaf first ≡ true
+    → is_before first from ≡ false
     → ((y : Place) → (holds_bit layout row leaf y && not (is_before y from)) ≡ true → (y ≡ first) ⊎ (is_before first y ≡ true))
     → places_from layout row leaf from ≡ first ∷ places_from layout row leaf (behind first)
 places_from-first layout row leaf from first there holds low least =

@@ -1,10 +1,10 @@
 -- How an actor goes from one row to the next.
-use Rattle.std.proofs.Common.{◌≡◌, ℕ, zero, suc, ◌+◌, ◌-◌, ◌<◌, ◌≤◌, List, [], ◌++◌, drop, Option, Some, None, sym, ap, ◌∙◌, subst, append_assoc, arith}
+use Rattle.std.proofs.Common.{◌≡◌, ℕ, zero, suc, ◌+◌, ◌-◌, ◌<◌, ◌≤◌, List, [], ◌++◌, drop, Option, Some, None, ap, ◌∙◌, subst, append_assoc, arith}
 use Rattle.actor_steps.specs.declared.place.Place.{Place}
 use Rattle.actor_steps.specs.Micro.{Job, Micro, steps_of}
 use Rattle.actor_tasks.specs.Places.{origin, behind}
 use Rattle.actor_tasks.specs.Tasks.{all_tasks, place_steps, tasks_steps, left_in}
-use Rattle.actor_tasks.specs.TasksLaws.{rows_left}
+use Rattle.actor_tasks.specs.TasksLaws.{next_row}
 use Rattle.actor_tasks.specs.Marks.{task_at, IsRowNext}
 
 -- the micro-steps of a row's next byte are the next ones
@@ -18,7 +18,7 @@ row_found job row (suc more) done from next some found =
 -- behind a row without a next byte come all micro-steps of the rows behind it
 pub row_over : (job : Job) (row more done : ℕ) (from : Place) → IsRowNext job row done from None → left_in job row (suc more) done from ≡ left_in job (row + 1) more 0 origin
 row_over job row zero done from none = ap (λ (steps : List Micro). steps ++ steps_of job (row + 1) 0) none
-row_over job row (suc more) done from none = ap (λ (steps : List Micro). steps ++ steps_of job (row + 1) (suc more)) none ∙ sym (rows_left job (row + 1) more)
+row_over job row (suc more) done from none = ap (λ (steps : List Micro). steps ++ steps_of job (row + 1) (suc more)) none ∙ next_row job row more from
 
 -- the same of the rows up to an end, behind all that came before
 pub rows_found : (job : Job) (row end done : ℕ) (from : Place) (before : List Micro) (result : Option (ℕ × Place)) (next : ℕ × Place) → row < end
