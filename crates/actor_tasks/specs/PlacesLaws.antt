@@ -1,8 +1,8 @@
 -- The bytes of a leaf in a row from a place on: the first of them, and those behind it.
-use Rattle.std.proofs.Common.{◌≡◌, ℕ, zero, suc, ◌+◌, ◌/◌, ◌<◌, Bool, true, false, List, [], ◌∷◌, ◌++◌, length, map, get_or, All, refl, sym, ap, ◌∙◌, subst, ⊎_elim, inl, inr, arith}
+use Rattle.std.proofs.Common.{◌≡◌, ℕ, zero, suc, ◌+◌, ◌/◌, ◌<◌, Bool, true, false, List, [], ◌∷◌, ◌++◌, length, map, get_or, All, ap, ◌∙◌, subst, ⊎_elim, inl, inr, arith}
 use Rattle.std.specs.Prelude.{◌≤◌, ◌⊎◌, ◌&&◌, not}
 use Rattle.std.specs.List.{flat_map, range_with_len}
-use Rattle.std.proofs.lemmas.Bool.{true≢false, cases_lt, and_from}
+use Rattle.std.proofs.lemmas.Bool.{cases_lt, and_from}
 use Rattle.std.proofs.lemmas.Bool.Decides.{nat_tests}
 use Rattle.std.proofs.lemmas.List.Elements.{All-nil, All-cons, All-append, All-map}
 use Rattle.places.specs.Layout.{Owner}
@@ -18,16 +18,6 @@ irreflexive a e = grind (arith, nat_tests)
 
 asymmetric : (a b : Place) → is_before a b ≡ true → is_before b a ≡ true → ⊥
 asymmetric a b e f = grind (arith, nat_tests)
-
--- what stands behind a byte stands from the next one on, and the other way round
-apart : (first y : Place) → is_before first y ≡ true → is_before y (behind first) ≡ false
-apart first y e = grind (arith, nat_tests)
-
-later : (first y : Place) → is_before y (behind first) ≡ false → is_before first y ≡ true
-later first y e = grind (arith, nat_tests)
-
-through : (first y from : Place) → is_before first from ≡ false → is_before first y ≡ true → is_before y from ≡ false
-through first y from low e = grind (arith, nat_tests)
 
 -- the bytes of a blob are ordered
 bytes-above : (blob a n least : ℕ) → least < a → All (λ y. is_before (record { blob = blob; byte = least }) y ≡ true) (map (λ byte. record { blob = blob; byte = byte }) (range_with_len a n))
@@ -98,18 +88,7 @@ occurs-all layout place byte = occurs-blob layout 0 (length layout) place (omega
 
 -- the tests of a byte behind one that is found, and from the next byte on
 rest_test : (holds : Bool) (first from y : Place) → is_before first from ≡ false → ((holds && not (is_before y from)) && is_before first y) ≡ (holds && not (is_before y (behind first)))
-rest_test holds first from y low = by_test (is_before first y) refl where
-  by_test : (t : Bool) → is_before first y ≡ t → ((holds && not (is_before y from)) && is_before first y) ≡ (holds && not (is_before y (behind first)))
-  by_test true e = tests holds (is_before y from) (is_before first y) (is_before y (behind first)) (through first y from low e) e (apart first y e) where
-    tests : (h a b c : Bool) → a ≡ false → b ≡ true → c ≡ false → ((h && not a) && b) ≡ (h && not c)
-    tests h a b c p q r = grind arith
-  by_test false e = other holds (is_before y from) (is_before first y) (is_before y (behind first)) e (behind_is (is_before y (behind first)) refl) where
-    behind_is : (t : Bool) → is_before y (behind first) ≡ t → t ≡ true
-    behind_is true f = refl
-    behind_is false f = absurd (true≢false (sym (later first y f) ∙ e))
-
-    other : (h a b c : Bool) → b ≡ false → c ≡ true → ((h && not a) && b) ≡ (h && not c)
-    other h a b c p q = grind arith
+rest_test holds first from y low = grind (arith, nat_tests)
 
 -- a byte of the leaf that no other such byte from a place on stands before is the first of them, and the others are those behind it
 pub places_from-first : (layout : List (List Owner)) (row leaf : ℕ) (from first : Place) → Occurs is_before first (all_bytes layout) → holds_bit layout row leaf first ≡ true
