@@ -1,5 +1,5 @@
 -- The first of a list that meets a test, and the first of a range.
-use Rattle.std.proofs.Common.{◌≡◌, ℕ, suc, ◌+◌, ◌-◌, ◌<◌, ◌≤◌, Bool, true, false, List, [], ◌∷◌, ◌++◌, map, Option, Some, None, refl, ap, ◌∙◌, arith}
+use Rattle.std.proofs.Common.{◌≡◌, ℕ, suc, ◌+◌, ◌-◌, ◌<◌, Bool, true, false, List, [], ◌∷◌, ◌++◌, map, Option, Some, None, refl, ap, ◌∙◌, arith}
 use Rattle.std.specs.Prelude.{option_map, if◌then◌else◌}
 use Rattle.std.specs.List.{range_with_len}
 use Rattle.std.proofs.lemmas.Bool.{cond-true, cond-false}
@@ -39,6 +39,3 @@ first_here test k n low holds = ap (first_of_all test) (range_at k n low) ∙ co
 
 pub first_later : (test : ℕ → Bool) (k n : ℕ) → k < n → test k ≡ false → first_of_all test (range_with_len k (n - k)) ≡ first_of_all test (range_with_len (k + 1) (n - (k + 1)))
 first_later test k n low fails = ap (first_of_all test) (range_at k n low) ∙ cond-false (test k) (Some k) (first_of_all test (range_with_len (k + 1) (n - (k + 1)))) fails
-
-pub first_none : (test : ℕ → Bool) (k n : ℕ) → n ≤ k → first_of_all test (range_with_len k (n - k)) ≡ None
-first_none test k n high = (let none : n - k ≡ 0 = omega arith in ap (λ (w : ℕ). first_of_all test (range_with_len k w)) none)

@@ -19,6 +19,7 @@ shown_back [] = refl
 shown_back (Pad ∷ owners) = ap (λ (os : List Owner). Pad ∷ os) (shown_back owners)
 shown_back (Bit row leaf bit ∷ owners) = ap (λ (os : List Owner). Bit row leaf bit ∷ os) (shown_back owners)
 
+-- and so are those of a byte
 byte_back : (owners : List Owner) (byte : ℕ) → shown_in_byte (map run_owner owners) byte ≡ take 8 (drop (8 * byte) owners)
 byte_back owners byte =
     sym (take-map owner_shown 8 (drop (8 * byte) (map run_owner owners)))
@@ -48,15 +49,13 @@ module _ (layout : List (List Owner)) (actor : ℕ → ℕ) where
       ∙ ap (λ (n : ℕ). first_of_all (λ byte. is_shared actor (take 8 (drop (8 * byte) bits))) (range_with_len 0 (n / 8))) long))
 
   -- where it has none, the first is that of the blobs behind it
-  pub blob_later : (blob : ℕ) → blob < length layout → first_of_all shares (bytes_in layout blob) ≡ None
-      → first_from blob
-      ≡ first_from (blob + 1)
+  pub blob_later : (blob : ℕ) → blob < length layout → first_of_all shares (bytes_in layout blob) ≡ None → first_from blob ≡ first_from (blob + 1)
   blob_later blob low none =
       ap (λ (bs : List ℕ). first_of_all shares (flat_map (bytes_in layout) bs)) (range_at blob (length layout) low)
       ∙ first-back shares (bytes_in layout blob) (flat_map (bytes_in layout) (range_with_len (blob + 1) (length layout - (blob + 1)))) none
 
-  pub blob_here : (blob : ℕ) (place : Place) → blob < length layout → first_of_all shares (bytes_in layout blob) ≡ Some place
-      → first_from blob ≡ Some place
+  -- where it has one, this is the first
+  pub blob_here : (blob : ℕ) (place : Place) → blob < length layout → first_of_all shares (bytes_in layout blob) ≡ Some place → first_from blob ≡ Some place
   blob_here blob place low here =
       ap (λ (bs : List ℕ). first_of_all shares (flat_map (bytes_in layout) bs)) (range_at blob (length layout) low)
       ∙ first-front shares (bytes_in layout blob) (flat_map (bytes_in layout) (range_with_len (blob + 1) (length layout - (blob + 1)))) place here

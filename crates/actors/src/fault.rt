@@ -8,7 +8,7 @@ use thiserror::Error;
 #[derive(Clone, Copy, Debug, PartialEq, Eq, Error)]
 pub enum CutFault {
     /// A byte holds bits of rows of two actors. It is the first such byte, by blob, then byte.
-    #[error("blob {blob} byte {byte}")]
+    #[error("SharedByte blob {blob} byte {byte}")]
     SharedByte { blob: usize, byte: u64 },
     /// Memory ran out.
     #[error("memory ran out")]
