@@ -291,7 +291,7 @@ class Script:
         if dice.randrange(2 if self.version == 2 else 300):
             return ''
         seed = dice.choice([0, 1, 2 ** 31, 2 ** 32 - 1]) if one_in(dice, 4) else dice.randrange(2 ** 32)
-        turns = dice.choice([0, 1, 2, 3, 5, 8, 13, 20, 30, 50, 100, 300, 2000] if dice.randrange(60) else [2 ** 20, 2 ** 20 + 1, 2 ** 32 - 1, 2 ** 32])
+        turns = dice.choice([0, 2, 5, 10, 20, 40, 60, 100, 150, 200, 300, 500, 2000] if dice.randrange(60) else [2 ** 20, 2 ** 20 + 1, 2 ** 32 - 1, 2 ** 32])
         return f' actors [{", ".join(map(str, self.cuts(table)))}] schedule {seed} turns {turns}'
 
     def cuts(self, table):
@@ -374,7 +374,7 @@ class Script:
             return self.add(dice.choice(['', '', '# note', '   ', '\t#', 'nothing', 'print', 'print V V', 'drop 5', '}', '"', 'version 2', 'version 1', 'save', 'open V', 'open V from f']) if one_in(dice, 4) else '')
         name = dice.choice(sorted(self.tables))
         act = dice.choice([self.set, self.set, self.update, self.update, self.update, self.kernel, self.kernel, self.reduce, self.reduce, self.copy, self.relayout,
-                           self.show, self.show, self.show] + [self.save] * (self.version == 2 or one_in(dice, 20)) + [self.drop] * one_in(dice, 2))
+                           self.show, self.show, self.show] + [self.save] * (self.version == 2 or one_in(dice, 20)) + [self.update] * 2 * (self.version == 2) + [self.drop] * one_in(dice, 2))
         return act(name, self.tables[name])
 
     def rendered(self):
