@@ -148,6 +148,8 @@ SHARED = [case(f'share_{name}', script, due) for name, script, due in [
     ('no_byte_by_columns', P + 'view V : P [2, 2] as bitaos(8, col) | update V set a = 1 + 2 * i0 + i1 actors [1, 2, 3] schedule 0 turns 12', '01 03 02 00 00 00 00 00'),
     ('a_byte_with_padding_between', P + 'view V : P [3, 1] as bitaos(2, morton) | update V set a = i0 actors [2] schedule 0 turns 8 | update V set a = i0 actors [1] schedule 0 turns 6',
      '10 00 02 00 00 00 00 00 | line 5: SharedByte blob 0 byte 0'),
+    ('a_byte_with_more_padding_between', P + 'view V : P [1, 3] as bitaos(1, morton) | update V set a = 1 actors [2] schedule 0 turns 6', 'line 4: SharedByte blob 0 byte 0'),
+    ('a_byte_of_the_second_blob_with_padding_between', PAIR + 'view V : P [1, 3] as bitsoa(8 { b: 1 }, morton) | update V set a = 1 actors [2] schedule 0 turns 6', 'line 4: SharedByte blob 1 byte 0'),
     ('eight_flags', NINE_FLAGS + 'update V set f = 1 actors [8] schedule 0 turns 16 | update V set f = 0 actors [7] schedule 0 turns 0', f'0f 01{Z6} | line 5: SharedByte blob 0 byte 0'),
     ('seven_flags_of_no_second_actor', SEVEN_FLAGS + 'update V set f = 1 actors [0, 7] schedule 0 turns 0 | bytes V 0 | update V set f = 0 actors [6] schedule 0 turns 0',
      f'00 00{Z6} | 7f 00{Z6} | line 6: SharedByte blob 0 byte 0'),
