@@ -4,10 +4,11 @@ import sys
 
 import llama_model
 from tables.case import in_version_2
-from tables.tallies import thrown_case
+from tables.tallies import ALONE, thrown_actors, thrown_case
 from tables.widths import thrown_widths
 
-DEPTHS, EACH, EACH_OF_VERSION_2 = range(1, 9), range(100, 125), range(100, 110)
+DEPTHS, EACH, EACH_OF_VERSION_2 = range(1, 9), range(100, 125), range(100, 115)
+ALONE_IN_VERSION_2 = ALONE + [thrown_actors] * 4
 
 
 def printed(script):
@@ -18,7 +19,7 @@ def printed(script):
 
 def main():
     cases = [thrown_case(number, depth) for depth in DEPTHS for number in EACH]
-    cases += [in_version_2(thrown_case(number, depth, thrown_widths)) for depth in DEPTHS for number in EACH_OF_VERSION_2]
+    cases += [in_version_2(thrown_case(number, depth, thrown_widths, ALONE_IN_VERSION_2)) for depth in DEPTHS for number in EACH_OF_VERSION_2]
     wrong = 0
     for case in cases:
         due = case.due.replace(' | ', '\n') + '\n'

@@ -411,7 +411,20 @@ def read_update(reader):
         reader.take()
         where = read_expr(reader)
     reader.word('set')
-    return {'name': name, 'where': where, 'sets': listed(reader, read_one_set)}
+    sets = listed(reader, read_one_set)
+    by_actors = reader.version >= 2 and reader.stands('word', ['actors'])
+    return {'name': name, 'where': where, 'sets': sets, 'actors': read_actors(reader) if by_actors else None}
+
+
+def read_actors(reader):
+    reader.word('actors')
+    reader.sign('[')
+    cuts = [] if reader.stands('sign', [']']) else listed(reader, Reader.count)
+    reader.sign(']')
+    reader.word('schedule')
+    seed = reader.count()
+    reader.word('turns')
+    return {'cuts': cuts, 'seed': seed, 'turns': reader.count()}
 
 
 def read_const(reader):

@@ -13,6 +13,7 @@ import tempfile
 
 import generator
 from accesses import Log, heat_of, runs_of
+from actors import Run, bad_actors, entries_of, shared_byte
 from blob_files import MOST_FILE_BYTES, MOST_TEXT_BYTES, FileFault, file_of, parts_of_file, texts_of
 from datasets import DatasetFault, records_of, table_of, without_mark
 from grammar import COMMANDS, VERSIONS, SyntaxFault, depth, expressions_of, path_text, read_line, tokens_of, version_in
@@ -124,6 +125,10 @@ class View:
             return number
         return congruent(congruent(number, held), own)
 
+    def number_of(self, leaf, low):
+        """The number that the bits of a leaf say, read as the mapping holds it, and that as one of the leaf's type."""
+        return congruent(congruent(low, self.held[leaf]), self.declared[leaf])
+
 
 def count_of(limits):
     return limits[1] - limits[0] + 1
@@ -185,10 +190,12 @@ def bound(view, expr):
     return tuple(bound(view, part) if isinstance(part, tuple) else part for part in expr)
 
 
-def value_on(view, row, values, expr):
-    """The value of an expression on a row that stands so."""
+def value_on(view, row, values, expr, seen=None):
+    """The value of an expression on a row that stands so. The leaves that are read are told in `seen`."""
     def read(leaf):
         view.touch(row, leaf, 1, 0)
+        if seen is not None:
+            seen.add(leaf)
         return values[leaf]
     try:
         return value_of(expr, read, view.index(row))
@@ -404,22 +411,57 @@ def update(world, line):
     for place, leaf in enumerate(leaves):
         if leaf in leaves[:place]:
             raise Fault('Twice', view.leaves[leaf].path)
+    if line['actors']:
+        return update_by_actors(view, where, sets, **line['actors'])
     for row in range(view.count()):
-        update_row(view, row, where, sets)
+        _, new = tried_row(view, row, where, sets)
+        if new is not None:
+            keep_row(view, row, sets, new)
 
 
-def update_row(view, row, where, sets):
-    old = view.row(row)
-    if where is not None and value_on(view, row, old, where) == 0:
-        return
+def tried_row(view, row, where, sets):
+    """The leaves that an update reads on a row, and what it makes of the row, None where the filter leaves it."""
+    old, seen = view.row(row), set()
+    if where is not None and value_on(view, row, old, where, seen) == 0:
+        return seen, None
     new = old
     for leaf, expr in sets:
-        value = value_on(view, row, old, expr)
+        value = value_on(view, row, old, expr, seen)
         storable(view, row, leaf, value)
         new = replaced(new, leaf, view.left(leaf, value))
+    return seen, new
+
+
+def keep_row(view, row, sets, new):
     for leaf, _ in sets:
         view.touch(row, leaf, 0, 1)
     view.kept[row] = new
+
+
+def update_by_actors(view, where, sets, cuts, seed, turns):
+    """Prints the memory behind the schedule. What each actor leaves is read off the memory behind all micro-steps."""
+    fault = bad_actors(cuts, view.count(), turns)
+    if fault:
+        raise Fault('BadActors', fault)
+    refuse_much_memory(view)
+    place = shared_byte(view.blobs(), cuts, view.count())
+    if place:
+        raise Fault('SharedByte', 'blob {} byte {}'.format(*place))
+    tried = [tried_row(view, row, where, sets) for row in range(view.count())]
+    passed = {row: new for row, (_, new) in enumerate(tried) if new is not None}
+    run = Run(view, sets, cuts, [seen for seen, _ in tried], passed)
+    for actor in entries_of(seed, turns, len(cuts) + 1):
+        run.turn(actor)
+    text = b''.join(map(shown_bytes, run.memory))
+    run.finish()
+    for row, due in passed.items():
+        new = view.row(row)
+        for leaf, _ in sets:
+            new = replaced(new, leaf, run.entry(row, leaf))
+        assert new == due, 'actors leave what the plain update leaves'
+        keep_row(view, row, sets, new)
+    assert b''.join(run.memory) == view.memory(), 'and so does the memory'
+    return text
 
 
 def bound_kernel(view, kernel):
@@ -518,10 +560,14 @@ def heat(world, line):
         for granule, times in enumerate(heat_of(blob, size, view.log)) if times != 0])
 
 
-def layout(world, line):
-    view = known(line['name'], world.views)
+def refuse_much_memory(view):
     if sum(view.lengths()) > MOST_SHOWN_BYTES:
         raise Fault('TooBig')
+
+
+def layout(world, line):
+    view = known(line['name'], world.views)
+    refuse_much_memory(view)
     return text_of([('blob', 'bit', 'bits', 'record', 'leaf', 'low')] + [
         (number, begin, bits, *shown_owner(view, owner)) for number, blob in enumerate(view.blobs()) for begin, bits, owner in runs_of(blob)])
 
@@ -538,10 +584,13 @@ def bytes_of(world, line):
     lengths = view.lengths()
     if line['blob'] >= len(lengths):
         raise Fault('BadIndex')
-    if sum(lengths) > MOST_SHOWN_BYTES:
-        raise Fault('TooBig')
+    refuse_much_memory(view)
     data = view.bytes_of(view.blobs()[line['blob']])
     assert len(data) == lengths[line['blob']]
+    return shown_bytes(data)
+
+
+def shown_bytes(data):
     return ''.join(data[at:at + 16].hex(' ') + '\n' for at in range(0, len(data), 16)).encode()
 
 
@@ -602,8 +651,7 @@ def table_in(view, data):
     table = {}
     for (row, leaf), bits in said.items():
         low = sum(is_set << bit for bit, is_set in bits.items())
-        number = congruent(congruent(low, view.held[leaf]), view.declared[leaf])
-        table.setdefault(row, [0] * len(view.leaves))[leaf] = number
+        table.setdefault(row, [0] * len(view.leaves))[leaf] = view.number_of(leaf, low)
     return table
 
 

@@ -10,7 +10,7 @@ from blob_files import file_of, texts_of
 from grammar import SyntaxFault, read_line
 from layouts import product
 from llama_model import Fault, View, declared_range, leaves_of, nameless, record_depth
-from mappings import bad_mapping, holds_of, lengths_of, range_of
+from mappings import bad_mapping, blobs_of, holds_of, lengths_of, range_of
 from thrown_texts import TOO_GREAT, Exprs, damaged, damaged_file, deep_expr, one_in, respaced, thrown_dataset, thrown_number, with_comment
 
 Thrown = namedtuple('Thrown', 'words files')
@@ -20,6 +20,16 @@ TYPES = ['bool', 'u8', 'u16', 'u32', 'u64', 'i8', 'i16', 'i32', 'i64']
 ORDERS = ['row', 'row', 'col', 'morton']
 FIELDS = ['a', 'b', 'c', 'x', 'y', 'pos', 'h', 'row', 'where', 'aos', 'set', 'i4', '_', 'n' * 32]
 MOST_ROWS = 40
+
+
+def good_cuts(table, rows):
+    """The numbers of rows before and behind which no byte has bits of rows."""
+    parted = set()
+    for owners in blobs_of(table.mapping, table.leaves, table.extents):
+        for begin in range(0, len(owners), 8):
+            within = [owner[0] for owner in owners[begin:begin + 8] if owner is not None]
+            parted |= set(range(min(within) + 1, max(within) + 1)) if within else set()
+    return [cut for cut in range(rows + 1) if cut not in parted]
 
 
 class Script:
@@ -273,7 +283,24 @@ class Script:
         where = f'where {self.expr(table, self.dice.choice([2, 6, 12]))} ' if one_in(self.dice, 2) else ''
         paths = list(dict.fromkeys(self.path(table) for _ in range(self.dice.choice([1, 1, 2, 3]))))
         paths = paths + paths[:1] if one_in(self.dice, 80) else paths
-        self.add(f'update {name} {where}set ' + ', '.join(f'{path} = {self.value(table, path)}' for path in paths))
+        self.add(f'update {name} {where}set ' + ', '.join(f'{path} = {self.value(table, path)}' for path in paths) + self.actors(table))
+
+    def actors(self, table):
+        """In version 2 every second update is split among actors, mostly where no byte is of two."""
+        dice = self.dice
+        if dice.randrange(2 if self.version == 2 else 300):
+            return ''
+        seed = dice.choice([0, 1, 2 ** 31, 2 ** 32 - 1]) if one_in(dice, 4) else dice.randrange(2 ** 32)
+        turns = dice.choice([0, 2, 5, 10, 20, 40, 60, 100, 150, 200, 300, 500, 2000] if dice.randrange(60) else [2 ** 20, 2 ** 20 + 1, 2 ** 32 - 1, 2 ** 32])
+        return f' actors [{", ".join(map(str, self.cuts(table)))}] schedule {seed} turns {turns}'
+
+    def cuts(self, table):
+        """Numbers of rows that mostly do not fall and do not part the rows of a byte."""
+        dice, rows = self.dice, product(table.extents)
+        if one_in(dice, 40):
+            return dice.choice([[rows + 1], [rows, 0], [0, rows, 1], [2 ** 32 - 1], [2 ** 32], [0] * 64, [rows] * 64, list(range(64))])
+        good = list(range(rows + 1)) if one_in(dice, 5) else good_cuts(table, rows)
+        return sorted(dice.choice(good) for _ in range(dice.choice([0, 1, 1, 1, 2, 2, 3, 5, 63])))
 
     def constant(self, usual):
         if one_in(self.dice, 30):
@@ -347,7 +374,7 @@ class Script:
             return self.add(dice.choice(['', '', '# note', '   ', '\t#', 'nothing', 'print', 'print V V', 'drop 5', '}', '"', 'version 2', 'version 1', 'save', 'open V', 'open V from f']) if one_in(dice, 4) else '')
         name = dice.choice(sorted(self.tables))
         act = dice.choice([self.set, self.set, self.update, self.update, self.update, self.kernel, self.kernel, self.reduce, self.reduce, self.copy, self.relayout,
-                           self.show, self.show, self.show] + [self.save] * (self.version == 2 or one_in(dice, 20)) + [self.drop] * one_in(dice, 2))
+                           self.show, self.show, self.show] + [self.save] * (self.version == 2 or one_in(dice, 20)) + [self.update] * 2 * (self.version == 2) + [self.drop] * one_in(dice, 2))
         return act(name, self.tables[name])
 
     def rendered(self):
@@ -389,6 +416,7 @@ def limit_script(dice):
     views = 'record P { a:u8 }\n' + ''.join(f'view V{number} : P [1] as soa(multi, row)\n' for number in range(64))
     return dice.choice(['\n' * 65536, '\n' * 65537, '\n' * 65535 + 'version 3', '\n' * 65536 + 'version 3', '#' * 4096 + '\nversion 3', '#' * 4097 + '\nversion 3', '\n' * 65535 + 'print V', '#' * 4096 + '\n', '#' * 4097, ('#' * 1023 + '\n') * 1024, ('#' * 1023 + '\n') * 1024 + '\n',
                         views + 'print V63', views + 'view V64 : P [1] as soa(multi, row)', views + 'drop V3\nview V64 : P [1] as soa(multi, row)\nprint V64', '',
+                        f'version 2\nrecord P {{ a:u64 }}\nview V : P [{dice.choice([8192, 8193])}] as aos(packed, row)\nupdate V where i0 == 5 set a = 7 actors [] schedule 1 turns {dice.choice([2, 2 ** 20, 2 ** 20 + 1])}',
                         'record P { a:u8[64] }\nview V : P [1024] as aos(packed, row)\nreduce V sum a[0]\nlayout V', 'record P { a:u64 }\nview V : P [8193] as aos(packed, row)\nbytes V 0']).encode()
 
 

@@ -51,6 +51,7 @@ HEATED = ('record P { a:u8, b:u32 } | view V : P [16] as count(heat(64, aosoa(8,
           ' | heat V')
 COPIED = ('record P { a:u8, b:u16 } | view V : P [5] as aosoa(4, row) | update V set a = i0, b = 300 + i0 | view W : P [5] as count(soa(multi, row)) | copy V to W'
           ' | copy W to W | print W | counts W | view X : P [4] as aos(packed, row) | copy V to X')
+ACTED = 'version 2 | record P { a:u8 } | view V : P [4] as bitaos(4, row) | update V set a = i0 + 1 actors [2] schedule 0 turns 6 | bytes V 0'
 CHOSEN = ('record P { a:u16, b:u16, c:u8 } | view V : P [2] as bitaos(8 { a: 12, b: 4 }, row) | set V[0].a = 2748 | set V[0].b = 13 | set V[0].c = 239'
           ' | bytes V 0 | set V[0].b = 16')
 
@@ -137,6 +138,8 @@ EXAMPLES += [
     ('version 3', b'', 'line 1: BadVersion', 1),
     ('record P { a:u8 } | version 2', b'', 'line 2: Syntax column 1', 1),
     ('version 2 | ' + CHOSEN.replace('b: 4', 'z: 4'), b'', 'line 3: BadMapping Field', 1),
+    (ACTED, b'', '21 03' + 6 * Z + ' | 21 43' + 6 * Z, 0),
+    (ACTED.replace('[2]', '[1]'), b'', 'line 4: SharedByte blob 0 byte 0', 1),
     (COPIED, b'', 'a,b | 0,300 | 1,301 | 2,302 | 3,303 | 4,304 | leaf,reads,writes | a,10,10 | b,10,10 | line 10: Mismatch', 1),
 ]
 

@@ -187,7 +187,16 @@ def memory(lengths, entries):
     return [blob.to_bytes(length // 8, 'little') for blob, length in zip(blobs, lengths)]
 
 
-# runs and granules
+# cuts, runs and granules
+
+def good_cuts(places, rows):
+    """The numbers of rows before and behind which no byte has bits of rows. `places` has those of each row and cell."""
+    of_bytes = {}
+    for (row, _), place in places.items():
+        for there in touched(1, place):
+            of_bytes.setdefault(there, set()).add(row)
+    return [cut for cut in range(rows + 1) if not any(min(of) < cut <= max(of) for of in of_bytes.values())]
+
 
 def stretches(place):
     """Where a place runs through consecutive bits: the blob, the first bit, how many, and the lowest bit of the number there."""

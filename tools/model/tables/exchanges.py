@@ -38,6 +38,8 @@ CASES = [
           'blob,bit,bits,record,leaf,low | 0,0,8,0,a,0 | 1,0,32,0,b,0'),
     *pair('heat', PAIR + 'view V : P [2] as {} | update V set a = 7 | heat V', 'heat(64, aos(packed, row))', 'blob,granule,accesses | 0,0,2', 'heat(4, aos(packed, row))',
           'blob,granule,accesses | 0,0,1 | 0,1,1'),
+    *pair('actors', 'version 2 | ' + PAIR + 'view V : P [1] as {} | update V set b = 258 actors [] schedule 0 turns 2', PACKED, '00 02 00 00 00', 'byteswap(aos(packed, row))', '00 00 00 00 00'),
+    *pair('shared_byte', 'version 2 | record P { a:u8 } | view V : P [2] as {} | update V set a = 7 actors [1] schedule 0 turns 0', 'bitaos(8, row)', '00' + 7 * ' 00', 'bitaos(4, row)', 'line 4: SharedByte blob 0 byte 0'),
     # a line past its limit
     *pair('long_line', SET, PACKED, TABLE, PACKED.replace(', ', ',' + (LINE_ROOM + 2) * ' '), 'line 2: LineTooLong'),
     # scripts of different versions, and of a version that is none

@@ -22,6 +22,7 @@ WRITING = [
 ]
 FULL_CASES = [Case(f'full_output_of_{name}', VIEW + line, due, into=FULL) for name, line, due in WRITING]
 SAVED = file_of('a:u8, b:i32', '[3] as count(heat(64, aos(packed, row)))', '01 00 00 00 00 02 ff ff ff ff 03 fe ff ff ff')
+FULL_CASES += [Case('full_output_of_an_update_by_actors', 'version 2 | ' + VIEW + 'update V set a = 9 actors [1] schedule 0 turns 4', '09 00 00 00 00 02 ff ff ff ff 03 fe ff ff ff', into=FULL)]
 FULL_CASES += [Case('full_output_of_save', 'version 2 | ' + VIEW + 'save V', SAVED, into=FULL)]
 # a later command would have a fault, or a result: the run is over at the first write that fails
 LATER = [
@@ -50,6 +51,7 @@ ROOMS = [
     Case('output_of_bytes_ends_in_a_full_file', MANY + 'bytes V 0', SHOWN, room=4), Case('output_of_layout_ends_in_a_full_file', MANY + 'layout V', RUNS, room=4),
     Case('output_of_heat_ends_in_a_full_file', HOT, HEAT, room=4), Case('output_of_many_prints_ends_in_a_full_file', MANY + 'print V | reduce V sum a | print V',
                                                                        TABLE + f' | {sum(range(10000, 12000))} | ' + TABLE, room=16),
+    Case('output_of_an_update_by_actors_ends_in_a_full_file', 'version 2 | ' + MANY + 'update V set a = 0 actors [1000] schedule 0 turns 0', SHOWN, room=4),
     Case('output_of_saves_ends_in_a_full_file', 'version 2 | ' + MANY + 'save V | save V', FILE + FILE, room=4),
 ]
 

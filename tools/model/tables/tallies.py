@@ -6,8 +6,9 @@ tables stay 0, so that each mapping holds them.
 import itertools
 
 
-from .addresses import BYTES, laid, runs, touched
+from .addresses import BYTES, good_cuts, laid, runs, touched
 from .case import Case
+from .copies import shown as shown_bytes
 from .nested import cells_of, Dice, EXTENTS, RECORDS, text_of, thrown_form, written
 
 GRANULES = [1, 1, 2, 2, 4, 8, 16, 64, 4096]
@@ -90,6 +91,20 @@ def thrown_set(dice, tally):
 
 
 def thrown_update(dice, tally):
+    return f'update {tally.name} {thrown_sets(dice, tally)}', []
+
+
+def thrown_actors(dice, tally):
+    """An update by actors, at up to three cuts that leave them bytes of their own."""
+    line = f'update {tally.name} {thrown_sets(dice, tally)}'
+    lengths, places = tally.places()
+    cuts = [dice.of(good_cuts(places, len(tally.indices))) for _ in range(dice.below(4))]
+    memory = [shown_bytes(' '.join(['00'] * (length // 8))) for length in lengths]
+    return f'{line} actors {written(sorted(cuts))} schedule {dice.below(2 ** 31)} turns {dice.below(100)}', [line for line in memory if line]
+
+
+def thrown_sets(dice, tally):
+    """A filter or none, and what is set."""
     where, of_where = thrown_expr(dice, tally, 1 + dice.below(3)) if dice.below(3) else (None, lambda index: (1, []))
     first = dice.below(len(tally.cells))
     leaves = [(first + step) % len(tally.cells) for step in range(1 + dice.below(min(2, len(tally.cells))))]
@@ -101,7 +116,7 @@ def thrown_update(dice, tally):
             tally.reads += [(row, read) for _, of_value in values for read in of_value(index)[1]]
             tally.writes += [(row, leaf) for leaf in leaves]
     sets = ', '.join(f'{tally.cells[leaf][0]} = 0 * {text}' for leaf, (text, _) in zip(leaves, values))
-    return f'update {tally.name} ' + (f'where {where} ' if where else '') + f'set {sets}', []
+    return (f'where {where} ' if where else '') + f'set {sets}'
 
 
 def each_row(tally, leaf):
@@ -148,11 +163,11 @@ def thrown_bytes(dice, tally):
 ALONE = [thrown_set, thrown_set, thrown_update, thrown_update, thrown_update, thrown_reduce, thrown_reduce, thrown_kernel, thrown_kernel, thrown_print, thrown_bytes]
 
 
-def thrown_command(dice, views):
+def thrown_command(dice, views, alone):
     """A command over one of the views, or a copy between them."""
     tally, other = dice.of(views), dice.of(views)
     if dice.below(6):
-        return dice.of(ALONE)(dice, tally)
+        return dice.of(alone)(dice, tally)
     tally.reads += tally.entries
     other.writes += other.entries
     return f'copy {tally.name} to {other.name}', []
@@ -186,7 +201,7 @@ def shown(tally):
     return script, due
 
 
-def thrown_case(number, depth, form_of=thrown_form):
+def thrown_case(number, depth, form_of=thrown_form, alone=None):
     """Two views under thrown expressions, thrown commands, and what was counted; then a new expression for one of them, and the same."""
     dice = Dice(77777 * depth + 31 * number)
     record, extents = dice.of(sorted(RECORDS)), dice.of(EXTENTS)
@@ -196,7 +211,7 @@ def thrown_case(number, depth, form_of=thrown_form):
         script.append(f'view {tally.name} : P {written(extents)} as {text_of(tally.mapping)}')
     for turn in range(2):
         for _ in range(2 + dice.below(4)):
-            line, printed = thrown_command(dice, views)
+            line, printed = thrown_command(dice, views, alone or ALONE)
             script, due = script + [line], due + printed
         for tally in views[turn:]:
             lines, printed = shown(tally)
