@@ -12,10 +12,11 @@ use Rattle.worlds.specs.Step.{step}
 use Rattle.worlds.specs.declared.fault.CommandFault.TheVariants.{LineTooLong, TooDeep, ScriptTooLong}
 use Rattle.script_runs.specs.Fold.{run_from, fails_at}
 use Rattle.equal_runs.specs.EqualRuns.{DoesLines, EqualRuns}
-use Rattle.layout_cli.specs.Steps.{step_text, step_line}
-use Rattle.layout_cli.specs.Run.{run_file, run_script, run_form, run_headed, run_versioned, faulted, script_lines, version_line, version_said, without_version}
+use Rattle.session_runs.specs.Steps.{step_text, step_line}
+use Rattle.session_runs.specs.Scripts.{run_form, run_headed, run_versioned, faulted, script_lines, version_line, version_said, without_version}
+use Rattle.layout_cli.specs.Run.{run_file, run_script}
 use Rattle.layout_cli.specs.EqualScripts.{IsScript, EqualScripts}
-use Rattle.layout_cli.specs.Heads.{RunsUnversioned}
+use Rattle.session_runs.specs.Heads.{RunsUnversioned}
 
 -- a text that is a line within the limits does what the line does
 pub text_does : (version : Version) (files : List File) → DoesLines version files (step_text version files)

@@ -16,11 +16,12 @@ use Rattle.script_runs.specs.declared.status.Status.{Status}
 use Rattle.script_runs.specs.declared.status.Status.TheVariants.{Done, CommandFault, Usage, SourceFault, SinkFault, NoMemory}
 use Rattle.generator.specs.Generated.{script_text, dataset_text, generated_lines, generated_files}
 use Rattle.line_grammar.specs.declared.version.Version.TheVariants.{One}
-use Rattle.layout_cli.specs.Steps.{step_text, step_line}
-use Rattle.layout_cli.specs.Run.{run, run_file, run_words, run_form, run_headed, run_generated, script_name, gen_words, script_lines, version_line, faulted}
+use Rattle.session_runs.specs.Steps.{step_text, step_line}
+use Rattle.session_runs.specs.Scripts.{run_form, run_headed, script_lines, version_line, faulted}
+use Rattle.layout_cli.specs.Run.{run, run_file, run_words, run_generated, script_name, gen_words}
 use Rattle.layout_cli.proofs.ScriptLines.{script_lines_are}
 use Rattle.layout_cli.proofs.FileLines.{ReadsDataset, lines_read}
-use Rattle.layout_cli.proofs.Heads.{said_first}
+use Rattle.session_runs.specs.HeadLaws.{said_first}
 use Rattle.layout_cli.proofs.Readable.{IsReadable, goes, faults, refused_or, step_reads}
 
 abbrev IsUnread : End → Type 0

@@ -1,7 +1,4 @@
-pub mod Blanks
-pub mod Heads
 pub mod Runs
-pub mod Texts
 pub mod Equals
 pub mod Readable
 pub mod ScriptLines

@@ -1,26 +1,22 @@
 -- From the run of a script that was read to the run of the words that name it.
-use Rattle.std.proofs.Common.{◌≡◌, ℕ, ◌+◌, ◌≤◌, ◌<◌, ◌^◌, inl, inr, ⊎_elim, Bool, true, false, ltb, List, [], ◌∷◌, length, take, drop, Option, None, Some, Result, Ok, Err, refl, sym, ap, subst, ◌∙◌, arith, rules, tests}
+use Rattle.std.proofs.Common.{◌≡◌, ℕ, ◌+◌, ◌≤◌, ◌^◌, inl, Bool, true, false, ltb, List, [], ◌∷◌, length, Option, None, Some, refl, sym, ap, subst, ◌∙◌, arith, rules, tests}
 use Rattle.std.specs.Prelude.{if◌then◌else◌, IsSomeAnd}
 use Rattle.std.proofs.lemmas.Bool.Decides.{nat_tests}
 use Rattle.layout_io.specs.Files.{File, file_of, HasFile}
-use Rattle.layout_io.specs.Writing.{Writes}
 use Rattle.layout_io.specs.WritingLaws.{with_bytes-nil}
 use Rattle.worlds.specs.Worlds.{World, empty}
 use Rattle.worlds.specs.Outcomes.{Outcome, Goes, Faults, CannotRead, Left}
-use Rattle.worlds.specs.FaultTexts.{fault_text}
-use Rattle.worlds.specs.declared.fault.CommandFault.{CommandFault as Fault}
-use Rattle.worlds.specs.declared.fault.CommandFault.TheVariants.{ScriptTooLong, BadVersion}
-use Rattle.script_runs.specs.Outcome.{Output, End, Unread, Gives, IsText}
-use Rattle.script_runs.specs.Answers.{Answers, IsRun, HasCause, ended}
+use Rattle.worlds.specs.declared.fault.CommandFault.TheVariants.{ScriptTooLong}
+use Rattle.script_runs.specs.Outcome.{Output, End, Unread, Gives}
+use Rattle.script_runs.specs.Answers.{IsRun, HasCause}
 use Rattle.script_runs.specs.Fold.{run_from, after, fails_at}
 use Rattle.script_runs.specs.declared.status.Status.{Status}
 use Rattle.script_runs.specs.declared.status.Status.TheVariants.{Done, CommandFault, Usage, SourceFault, SinkFault, NoMemory}
-use Rattle.line_grammar.specs.Versions.{version_numbered}
 use Rattle.line_grammar.specs.declared.version.Version.{Version}
-use Rattle.line_grammar.specs.declared.version.Version.TheVariants.{One}
-use Rattle.layout_cli.specs.Steps.{step_text}
-use Rattle.layout_cli.specs.Run.{run_file, run_script, run_form, run_headed, run_versioned, faulted, script_lines, version_line, version_said, without_version}
-use Rattle.layout_cli.proofs.Heads.{skips}
+use Rattle.session_runs.specs.Steps.{step_text}
+use Rattle.session_runs.specs.Scripts.{run_form, run_headed, run_versioned, faulted, script_lines, version_line, version_said, without_version}
+use Rattle.layout_cli.specs.Run.{run_file, run_script}
+use Rattle.session_runs.specs.RunLaws.{IsSame, run_of_same}
 
 -- nothing was taken, and there was no memory
 pub run_starved : {K : Type 0} (taken : K → Option (List ℕ)) (old : K) (run : Option ℕ → Output) (read_failed : Type 0) → IsRun taken old old run read_failed NoMemory
@@ -69,33 +65,6 @@ goes_on files name script unread is small reads =
     let short : ltb (2 ^ 20) (length script) ≡ false = search (rules, tests) in
     ap (λ (b : Bool). run_script name (if b then None else file_of files name) files unread) reads ∙ ap (λ file. run_script name file files unread) is ∙ ap (λ (b : Bool). if b then faulted 0 ScriptTooLong else run_form script files unread) short
 
--- two runs that are the same where no read fails, and where one fails at a line of the first
-record IsSame (first whole : Option ℕ → Output) : Type 0 where
-  unfailed : whole None ≡ first None
-  failed : (line : ℕ) (text : List ℕ) → Gives (first (Some line)) text (Unread line) → whole (Some line) ≡ first (Some line)
-
-text_of_same : (first whole : Option ℕ → Output) (read_failed : Type 0) (text : List ℕ) → IsSame first whole → IsText first read_failed text → IsText whole read_failed text
-text_of_same first whole read_failed text same is_text = ⊎_elim
-    (λ (plain : (first None).bytes ≡ text). inl (ap (λ (o : Output). o.bytes) same.unfailed ∙ plain))
-    (λ (unread : read_failed × (line : ℕ) × Gives (first (Some line)) text (Unread line)). inr (unread.0, unread.1, same.failed unread.1 text unread.2 ∙ unread.2))
-    is_text
-
-same_answer : (first whole : Option ℕ → Output) (read_failed : Type 0) (status : Status) (out : List ℕ) → IsSame first whole → Answers first read_failed status out → Answers whole read_failed status out
-same_answer first whole read_failed Done out same answer = same.unfailed ∙ answer
-same_answer first whole read_failed CommandFault out same answer = same.unfailed ∙ answer
-same_answer first whole read_failed Usage out same answer = same.unfailed ∙ answer
-same_answer first whole read_failed SourceFault out same answer =
-    (answer.0, same.failed answer.0 out answer.1 ∙ answer.1, ⊎_elim (λ (failed : read_failed). inl failed) (λ (plain : Gives (first None) out (Unread answer.0)). inr (same.unfailed ∙ plain)) answer.2)
-same_answer first whole read_failed SinkFault out same answer = (answer.0, text_of_same first whole read_failed answer.0 same answer.1, answer.2, answer.3, answer.4)
-same_answer first whole read_failed NoMemory out same answer = (answer.0, text_of_same first whole read_failed answer.0 same answer.1, answer.2, answer.3, answer.4)
-
-run_of_same : {K : Type 0} (taken : K → Option (List ℕ)) (old new : K) (first whole : Option ℕ → Output) (read_failed : Type 0) (status : Status) → IsSame first whole → IsRun taken old new first read_failed status → IsRun taken old new whole read_failed status
-run_of_same taken old new first whole read_failed status same run = record { out = run.out; bytes = run.bytes; answer = same_answer first whole read_failed status run.out same run.answer }
-
--- two runs that are the same wherever reading fails
-same_runs : (first whole : Option ℕ → Output) → ((unread : Option ℕ) → whole unread ≡ first unread) → IsSame first whole
-same_runs first whole all = record { unfailed = all None; failed = λ line text gives. all (Some line) }
-
 -- a script that was read is run as the words say that name it
 pub run_read : {K : Type 0} (taken : K → Option (List ℕ)) (old new : K) (files : List File) (name script : List ℕ) (read_failed : Type 0) (status : Status) → file_of files name ≡ Some script → length script ≤ 2 ^ 20 → IsRun taken old new (run_form script files) read_failed status → IsRun taken old new (run_file name files) read_failed status
 run_read taken old new files name script read_failed status is small run =
@@ -107,60 +76,6 @@ run_read taken old new files name script read_failed status is small run =
   where
     later : (line : ℕ) → 1 ≤ line → fails_at (Some line) 0 ≡ false
     later line some = grind (arith, nat_tests)
-
--- a run that is a fault alone
-run_faulted : {K T E : Type 0} (taken : K → Option (List ℕ)) (faults : K → ℕ) (old new : K) (run : Option ℕ → Output) (read_failed : Type 0) (line : ℕ) (fault : Fault) (written : Result T E) → run None ≡ faulted line fault → Writes taken faults old new written (fault_text line fault) → IsRun taken old new run read_failed (ended written CommandFault)
-run_faulted taken faults old new run read_failed line fault (Ok done) is wrote = record { out = fault_text line fault; bytes = wrote.bytes; answer = is }
-run_faulted taken faults old new run read_failed line fault (Err failed) is stopped = record {
-  out = take stopped.count (fault_text line fault);
-  bytes = stopped.bytes;
-  answer = (fault_text line fault, inl (ap (λ (o : Output). o.bytes) is), stopped.count, stopped.proper, refl);
-}
-
--- a script of too many lines
-pub run_long : {K T E : Type 0} (taken : K → Option (List ℕ)) (faults : K → ℕ) (old new : K) (script : List ℕ) (files : List File) (read_failed : Type 0) (written : Result T E) → 65536 < length (script_lines script) → Writes taken faults old new written (fault_text 0 ScriptTooLong) → IsRun taken old new (run_form script files) read_failed (ended written CommandFault)
-unfolding run_form
-run_long taken faults old new script files read_failed written long writes =
-    let over : ltb 65536 (length (script_lines script)) ≡ true = grind (arith, nat_tests) in
-    let is : run_form script files None ≡ faulted 0 ScriptTooLong =
-    ap (λ (b : Bool). if b then faulted 0 ScriptTooLong else run_headed (version_line (script_lines script)) files (script_lines script) None) over in
-    run_faulted taken faults old new (run_form script files) read_failed 0 ScriptTooLong written is writes
-
--- any other script is run in the version that it says
-pub run_short : {K : Type 0} (taken : K → Option (List ℕ)) (old new : K) (script : List ℕ) (files : List File) (read_failed : Type 0) (status : Status) → length (script_lines script) ≤ 65536 → IsRun taken old new (run_headed (version_line (script_lines script)) files (script_lines script)) read_failed status → IsRun taken old new (run_form script files) read_failed status
-unfolding run_form
-run_short taken old new script files read_failed status short run =
-    let within : ltb 65536 (length (script_lines script)) ≡ false = grind (arith, nat_tests) in
-    let head = version_line (script_lines script) in
-    run_of_same taken old new (run_headed head files (script_lines script)) (run_form script files) read_failed status (same_runs (run_headed head files (script_lines script)) (run_form script files)
-    (λ unread. ap (λ (b : Bool). if b then faulted 0 ScriptTooLong else run_headed head files (script_lines script) unread) within)) run
-
--- lines without a version line
-pub run_plain : {K : Type 0} (taken : K → Option (List ℕ)) (old new : K) (lines : List (List ℕ)) (files : List File) (read_failed : Type 0) (status : Status) → version_line lines ≡ None → IsRun taken old new (run_from (step_text One files) 1 empty lines) read_failed status → IsRun taken old new (run_headed (version_line lines) files lines) read_failed status
-run_plain taken old new lines files read_failed status none run =
-    run_of_same taken old new (run_from (step_text One files) 1 empty lines) (run_headed (version_line lines) files lines) read_failed status
-    (same_runs (run_from (step_text One files) 1 empty lines) (run_headed (version_line lines) files lines) (λ unread. ap (λ (head : Option (ℕ × ℕ)). run_headed head files lines unread) none)) run
-
--- lines with a version line, of which those behind it are done
-pub run_behind_head : {K : Type 0} (taken : K → Option (List ℕ)) (old new : K) (lines : List (List ℕ)) (files : List File) (read_failed : Type 0) (status : Status) (found : ℕ × ℕ) (version : Version) → version_line lines ≡ Some found → version_numbered found.1 ≡ Some version
-    → IsRun taken old new (run_from (step_text version files) (found.0 + 1 + 1) empty (drop (found.0 + 1) lines)) read_failed status → IsRun taken old new (run_headed (version_line lines) files lines) read_failed status
-run_behind_head taken old new lines files read_failed status found version is said run =
-    let first = run_from (step_text version files) (found.0 + 1 + 1) empty (drop (found.0 + 1) lines) in
-    let place : 1 + found.0 + 1 ≡ found.0 + 1 + 1 = omega arith in
-    run_of_same taken old new first (run_headed (version_line lines) files lines) read_failed status
-    (same_runs first (run_headed (version_line lines) files lines) (λ unread.
-    ap (λ (head : Option (ℕ × ℕ)). run_headed head files lines unread) is
-    ∙ ap (λ (v : Option Version). run_versioned v (Some found) files lines unread) said
-    ∙ skips version files unread lines 1 empty found is
-    ∙ ap (λ (n : ℕ). run_from (step_text version files) n empty (drop (found.0 + 1) lines) unread) place)) run
-
--- lines with a version line of a number that is no version
-pub run_unknown : {K T E : Type 0} (taken : K → Option (List ℕ)) (faults : K → ℕ) (old new : K) (lines : List (List ℕ)) (files : List File) (read_failed : Type 0) (found : ℕ × ℕ) (written : Result T E) → version_line lines ≡ Some found → version_numbered found.1 ≡ None
-    → Writes taken faults old new written (fault_text (found.0 + 1) BadVersion) → IsRun taken old new (run_headed (version_line lines) files lines) read_failed (ended written CommandFault)
-run_unknown taken faults old new lines files read_failed found written is said writes =
-    let fault : run_headed (version_line lines) files lines None ≡ faulted (found.0 + 1) BadVersion =
-    ap (λ (head : Option (ℕ × ℕ)). run_headed head files lines None) is ∙ ap (λ (v : Option Version). run_versioned v (Some found) files lines None) said in
-    run_faulted taken faults old new (run_headed (version_line lines) files lines) read_failed (found.0 + 1) BadVersion written fault writes
 
 -- what words of a form say of the counts
 pub cause_of_form : (misused : Type 0) (files : Option (List File)) (shelf_old shelf_new sink_old sink_new : ℕ) (status : Status) →

@@ -6,7 +6,8 @@ use Rattle.line_grammar.specs.declared.version.Version.{Version}
 use Rattle.script_runs.specs.Fold.{fails_at}
 use Rattle.equal_runs.specs.Lines.{AreLines}
 use Rattle.equal_runs.specs.EqualRuns.{DifferInTerms}
-use Rattle.layout_cli.specs.Run.{script_lines, version_line, version_said, without_version, run_file}
+use Rattle.session_runs.specs.Scripts.{script_lines, version_line, version_said, without_version}
+use Rattle.layout_cli.specs.Run.{run_file}
 
 -- the file of this name is a script with this version line, or with none, and otherwise of these lines in this version, within the limits on
 -- scripts; a version line is a blank one among them

@@ -1,4 +1,2 @@
-pub mod Steps
 pub mod Run
-pub mod Heads
 pub mod EqualScripts

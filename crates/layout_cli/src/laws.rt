@@ -4,9 +4,9 @@ ghost use Rattle.std.specs.Prelude.{ℕ, List};
 ghost use Rattle.layout_io.specs.Files.{File};
 ghost use Rattle.equal_runs.specs.Entries.{ShowsEntries};
 ghost use Rattle.line_grammar.specs.declared.version.Version.{Version};
+ghost use Rattle.session_runs.specs.Heads.{PassesBlanks, RunsUnversioned};
+ghost use Rattle.session_runs.specs.Steps.{step_text};
 ghost use Rattle.layout_cli.specs.EqualScripts.{EqualScripts};
-ghost use Rattle.layout_cli.specs.Heads.{PassesBlanks, RunsUnversioned};
-ghost use Rattle.layout_cli.specs.Steps.{step_text};
 
 use equal_runs::{same_results, shown_entries};
 

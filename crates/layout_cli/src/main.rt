@@ -3,9 +3,7 @@
 #![tactic(auto)]
 
 mod laws;
-mod lines;
 mod llama;
-mod version;
 
 use layout_io::{FileShelf, OutSink};
 use script_runs::Status;

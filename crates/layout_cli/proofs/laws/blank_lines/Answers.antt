@@ -1,4 +1,4 @@
-use Rattle.layout_cli.proofs.Blanks.{passes_blanks}
+use Rattle.session_runs.specs.BlankLaws.{passes_blanks}
 use Rattle.layout_cli.proofs.laws.blank_lines.Goals as goal
 
 pub returns : goal.returns

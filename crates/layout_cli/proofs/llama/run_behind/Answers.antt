@@ -1,4 +1,0 @@
-use Rattle.layout_cli.proofs.llama.run_behind.Goals as goal
-
-pub returns-clause-run : goal.returns-clause-run
-returns-clause-run g c = λ files told. c.run_lines.ensures.run files _ told c.new.ensures

@@ -1,0 +1,43 @@
+-- Blank lines do nothing in a run.
+use Rattle.std.proofs.Common.{◌≡◌, ℕ, ◌+◌, ◌≤◌, ◌==◌, ltb, Bool, true, false, List, [], ◌∷◌, length, Result, Ok, ap, refl, ◌∙◌, arith}
+use Rattle.std.specs.Prelude.{if◌then◌else◌}
+use Rattle.std.proofs.lemmas.Bool.Decides.{nat_tests}
+use Rattle.layout_io.specs.Files.{File}
+use Rattle.line_tokens.specs.declared.spots.Spot.{Spot}
+use Rattle.line_grammar.specs.Reads.{tokens_of}
+use Rattle.line_grammar.specs.Sentences.{Sentence, Blank}
+use Rattle.line_grammar.specs.declared.version.Version.{Version}
+use Rattle.schema_lang.specs.Bodies.{line_at}
+use Rattle.schema_lang.specs.LineOf.{line_of, told, spots_in}
+use Rattle.schema_lang.specs.VersionOf.{is_blank}
+use Rattle.worlds.specs.Worlds.{World}
+use Rattle.worlds.specs.Outcomes.{Outcome, Faults, Left, quiet}
+use Rattle.worlds.specs.Step.{step}
+use Rattle.worlds.specs.declared.fault.CommandFault.TheVariants.{LineTooLong}
+use Rattle.script_runs.specs.Fold.{run_from, after, fails_at}
+use Rattle.session_runs.specs.Steps.{step_text, step_line}
+use Rattle.session_runs.specs.Heads.{PassesBlanks}
+
+none_of : (n : ℕ) → (n == 0) ≡ true → n ≡ 0
+none_of n is = grind (arith, nat_tests)
+
+no_spots : (spots : List Spot) → (length spots == 0) ≡ true → spots ≡ []
+no_spots [] none = refl
+no_spots (spot ∷ spots) none = let zero : length (spot ∷ spots) ≡ 0 = none_of (length (spot ∷ spots)) none in absurd (omega (arith, zero))
+
+-- a text without tokens is the line that does nothing
+blank_line : (version : Version) (text : List ℕ) → is_blank text ≡ true → line_of version text ≡ Ok Blank
+unfolding line_of line_at
+blank_line version text blank = ap (λ (spots : List Spot). told spots (line_at version (length (tokens_of text spots)) (tokens_of text spots))) (no_spots (spots_in text) blank)
+
+blank_text : (version : Version) (files : List File) (world : World) (text : List ℕ) (unread : Bool) → length text ≤ 4096 → is_blank text ≡ true → step_text version files world text unread ≡ quiet world
+unfolding step
+blank_text version files world text unread short blank =
+    let within : ltb 4096 (length text) ≡ false = grind (arith, nat_tests) in
+    ap (λ (b : Bool). if b then Faults LineTooLong else step_line files world (line_of version text) unread) within
+    ∙ ap (λ (read : Result Sentence ℕ). step_line files world read unread) (blank_line version text blank)
+
+-- the lines behind it are those that are done
+pub passes_blanks : (version : Version) (files : List File) → PassesBlanks version files
+passes_blanks version files number world line lines unread short blank =
+    ap (λ (o : Outcome Left). after number o (λ next. run_from (step_text version files) (number + 1) next lines unread)) (blank_text version files world line (fails_at unread number) short blank)
