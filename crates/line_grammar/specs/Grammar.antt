@@ -27,7 +27,7 @@ use Rattle.line_grammar.specs.declared.line.MapWord.TheVariants as form
 use Rattle.line_grammar.specs.declared.version.Version.{Version}
 use Rattle.line_grammar.specs.Versions.{is_two}
 use Rattle.line_grammar.specs.Tokens.{name_of, number_of, count_of, string_of, type_of, integer_type_of, order_of, aos_form_of, soa_form_of, map_word, index_of, choice_of, or_of, and_of, comparison_of, sum_of, product_of, kernel_word_of, reduction_of, command_of}
-use Rattle.line_grammar.specs.Sentences.{Assignment, New, Sentence, Value, Blank, Define, Mapping, View, Load, Assign, Update, Kernel, Reduce, Count, Copy, Relayout, Show, Drop, Bytes, Save, Open}
+use Rattle.line_grammar.specs.Sentences.{Assignment, New, Sentence, Value, Blank, Define, Mapping, View, Load, Assign, Update, Actors, Kernel, Reduce, Count, Copy, Relayout, Show, Drop, Bytes, Save, Open}
 
 -- what is said of phrases: a list of tokens, and the value that it has
 abbrev pub Phrase : Type 0 → Type 1
@@ -247,6 +247,21 @@ IsAssignment n = Joined IsPath (λ path. Behind (Sign Equals) (Joined (IsExpr n)
 abbrev pub IsFilter : ℕ → Phrase (Option Value)
 IsFilter n = IsEither (Behind (Word (codes "where")) (Joined (IsExpr n) (λ filter. IsNothing (Some filter)))) (IsNothing None)
 
+-- "[" (COUNT ("," COUNT)*)? "]"
+abbrev pub IsCuts : Phrase (List ℕ)
+IsCuts = Behind (Sign OpenBracket) (IsEither (Behind (Sign CloseBracket) (IsNothing []))
+    (Joined (IsListed IsCount) (λ cuts. Behind (Sign CloseBracket) (IsNothing cuts))))
+
+-- actors = "actors" "[" (COUNT ("," COUNT)*)? "]" "schedule" COUNT "turns" COUNT
+abbrev pub IsActors : List ℕ → Option Value → List Assignment → Phrase Sentence
+IsActors view filter sets = Behind (Word (codes "actors")) (Joined IsCuts (λ cuts. Behind (Word (codes "schedule")) (Joined IsCount
+    (λ seed. Behind (Word (codes "turns")) (Joined IsCount (λ turns. IsNothing (Actors view filter sets cuts seed turns)))))))
+
+-- nothing, or in the second version the actors of an update
+abbrev pub IsUpdateEnd : Version → List ℕ → Option Value → List Assignment → Phrase Sentence
+IsUpdateEnd version view filter sets = WhichIs (is_two version)
+    (IsEither (IsActors view filter sets) (IsNothing (Update view filter sets))) (IsNothing (Update view filter sets))
+
 -- the inside of a kernel's brackets
 abbrev pub IsKernelInside : KernelWord → Phrase KernelText
 -- const "," path "," path
@@ -286,8 +301,9 @@ IsBody version n command.Load = Joined (IsNew version IsExtent n) (λ new. Behin
 -- "set" NAME "[" COUNT ("," COUNT)* "]" "." path "=" expr
 IsBody version n command.Set = Joined IsName (λ view. Joined (IsBracketList IsCount)
     (λ index. Behind (Sign Dot) (Joined IsPath (λ path. Behind (Sign Equals) (Joined (IsExpr n) (λ value. IsNothing (Assign view index path value)))))))
--- "update" NAME ("where" expr)? "set" path "=" expr ("," path "=" expr)*
-IsBody version n command.Update = Joined IsName (λ view. Joined (IsFilter n) (λ filter. Behind (Word (codes "set")) (Joined (IsListed (IsAssignment n)) (λ sets. IsNothing (Update view filter sets)))))
+-- "update" NAME ("where" expr)? "set" path "=" expr ("," path "=" expr)* actors?
+IsBody version n command.Update = Joined IsName (λ view. Joined (IsFilter n)
+    (λ filter. Behind (Word (codes "set")) (Joined (IsListed (IsAssignment n)) (λ sets. IsUpdateEnd version view filter sets))))
 -- "kernel" NAME kern "lanes" COUNT
 IsBody version n command.Kernel = Joined IsName (λ view. Joined IsKernel (λ kernel. Behind (Word (codes "lanes")) (Joined IsCount (λ lanes. IsNothing (Kernel view kernel lanes)))))
 -- "reduce" NAME "count" "where" expr | "reduce" NAME ("sum" | "min" | "max") path

@@ -39,6 +39,7 @@ pub data Sentence : Type 0 where
   Load : New → List ℕ → Sentence
   Assign : List ℕ → List ℕ → List PathStep → Value → Sentence
   Update : List ℕ → Option Value → List Assignment → Sentence
+  Actors : List ℕ → Option Value → List Assignment → List ℕ → ℕ → ℕ → Sentence
   Kernel : List ℕ → KernelText → ℕ → Sentence
   Reduce : List ℕ → ReduceKind → List PathStep → Sentence
   Count : List ℕ → Value → Sentence
@@ -62,6 +63,7 @@ sentence_of (line.View name schema words wrap expr) = View (record { name = name
 sentence_of (line.Load name schema words wrap expr file) = Load (record { name = name; schema = schema; words = words; wrap = wrap; term = map_of expr }) file
 sentence_of (line.Assign view index path value) = Assign view index path (term_of value)
 sentence_of (line.Update view filter sets) = Update view (option_map term_of filter) (map assignment_of sets)
+sentence_of (line.Actors view filter sets cuts seed turns) = Actors view (option_map term_of filter) (map assignment_of sets) cuts seed turns
 sentence_of (line.Kernel view kernel lanes) = Kernel view kernel lanes
 sentence_of (line.Reduce view kind path) = Reduce view kind path
 sentence_of (line.Count view filter) = Count view (term_of filter)
@@ -88,6 +90,7 @@ filter_depth (Some filter) = depth_of filter
 abbrev pub deepest : Sentence → ℕ
 deepest (Assign view index path value) = depth_of value
 deepest (Update view filter sets) = max (filter_depth filter) (deepest_set sets)
+deepest (Actors view filter sets cuts seed turns) = max (filter_depth filter) (deepest_set sets)
 deepest (Count view filter) = depth_of filter
 deepest _ = 0
 

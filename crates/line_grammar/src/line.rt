@@ -11,7 +11,7 @@ use record_dim::{Dim, Name, Path};
 /// The extents of a view, in order.
 pub type ExtentWords = Sequence<ExtentWord>;
 
-/// The index of a row, in order.
+/// The index of a row, or the cuts between actors, in order.
 pub type IndexWords = Sequence<u32>;
 
 /// The assignments of an update, in order.
@@ -62,6 +62,16 @@ pub enum Line {
         view: Name,
         filter: Option<Expr>,
         sets: SetList,
+    },
+    /// The same, by actors that load and store single bytes. Between `cuts` lie the rows of one actor each, `seed` begins the
+    /// schedule of whose turn it is, and after so many turns the bytes are shown.
+    Actors {
+        view: Name,
+        filter: Option<Expr>,
+        sets: SetList,
+        cuts: IndexWords,
+        seed: u32,
+        turns: u32,
     },
     /// Runs a kernel over so many lanes.
     Kernel {
