@@ -1,0 +1,6 @@
+pub mod Confluence
+pub mod Micro
+pub mod Cuts
+pub mod Shared
+pub mod Schedules
+pub mod Jobs

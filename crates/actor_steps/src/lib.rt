@@ -1,0 +1,6 @@
+//! Actors that load and store single bytes of a view in the order of a schedule: what they do, and that no schedule matters.
+#![tactic(auto)]
+
+mod place;
+
+pub use place::Place;
