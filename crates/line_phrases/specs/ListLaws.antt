@@ -1,7 +1,7 @@
 -- How lists are read, behind commas and in brackets.
 use Rattle.std.proofs.Common.{◌≡◌, ℕ, true, false, List, [], ◌∷◌, ◌++◌, Result, Ok, Err, refl}
-use Rattle.phrases.specs.Phrases.{Behind}
-use Rattle.phrases.specs.Reading.{starts, past, item_at, behind_at}
+use Rattle.phrases.specs.Phrases.{Behind, Joined, IsNothing}
+use Rattle.phrases.specs.Reading.{starts, past, item_at, behind_at, then_at, give_at}
 use Rattle.phrases.specs.ParsesLaws.{Always, Parses, behind_parses, either_parses, give_parses, then_parses}
 use Rattle.phrases.specs.RepeatedLaws.{chain_between}
 use Rattle.phrases.specs.MoreLaws.{Listed, Takes, behind_bare, behind_starts, behind_stepped, behind_stop, item_starts, joined_starts, listed_takes, more_end, more_parses, more_steps}
@@ -11,8 +11,8 @@ use Rattle.extents.specs.declared.words.ExtentWord.TheVariants as extent
 use Rattle.line_grammar.specs.declared.token.Token.{Token}
 use Rattle.line_grammar.specs.declared.token.Token.TheVariants.{Sign as Signed}
 use Rattle.line_grammar.specs.Tokens.{is_sign, count_of}
-use Rattle.line_grammar.specs.Grammar.{IsBracketList, IsExtent, IsFixed, IsListed}
-use Rattle.line_phrases.specs.Lists.{rest_at, listed_at, bracket_list_at, fixed_at, extent_at}
+use Rattle.line_grammar.specs.Grammar.{IsBracketList, IsCuts, IsExtent, IsFixed, IsListed}
+use Rattle.line_phrases.specs.Lists.{rest_at, listed_at, bracket_list_at, cuts_at, fixed_at, extent_at}
 use Rattle.line_phrases.specs.BasicsLaws.{Not, anything, apart, behind_not, count_parses, exact_sign, sign_next}
 
 -- no comma stands next, and what may follow one of the list
@@ -35,11 +35,24 @@ unfolding listed_at rest_at
 listed_parses {Between = Between} p goes = then_parses Between p (λ first. more_parses (comma_listed p goes) (first ∷ []))
     (λ a ys v rest h after. chain_between (more_steps (comma_listed p goes)) h.0 (a ∷ []) ys v rest h.1 after)
 
+-- what is behind such a list in brackets
+list_end_parses : {A : Type 0} {Is : List Token → A → Type 0} {read : List Token → Result (A × List Token) ℕ} → Parses Is read Always
+    → Parses (Joined (IsListed Is) (λ found. Behind (Signed CloseBracket) (IsNothing found))) (then_at (listed_at read) (λ found. behind_at (is_sign CloseBracket) (give_at found))) Always
+list_end_parses p = then_parses (AfterList Always) (listed_parses p (λ us. tt)) (λ found. behind_parses (exact_sign CloseBracket) (give_parses Always found))
+    (λ a ys v rest h after. (behind_not Comma (Signed CloseBracket) refl _ ys v rest h, tt))
+
 pub bracket_list_parses : {A : Type 0} {Is : List Token → A → Type 0} {read : List Token → Result (A × List Token) ℕ} → Parses Is read Always → Parses (IsBracketList Is) (bracket_list_at read) Always
 unfolding bracket_list_at
-bracket_list_parses p = behind_parses (exact_sign OpenBracket)
-    (then_parses (AfterList Always) (listed_parses p (λ us. tt)) (λ found. behind_parses (exact_sign CloseBracket) (give_parses Always found))
-    (λ a ys v rest h after. (behind_not Comma (Signed CloseBracket) refl _ ys v rest h, tt)))
+bracket_list_parses p = behind_parses (exact_sign OpenBracket) (list_end_parses p)
+
+pub cuts_parses : Parses IsCuts cuts_at Always
+unfolding cuts_at
+cuts_parses = behind_parses (exact_sign OpenBracket) (either_parses (is_sign CloseBracket)
+    (behind_parses (exact_sign CloseBracket) (give_parses Always []))
+    (list_end_parses count_parses)
+    (λ xs v rest h _. behind_starts (is_sign CloseBracket) (Signed CloseBracket) true refl _ xs v rest h)
+    (λ xs v rest h _. joined_starts (is_sign CloseBracket) false _ _ (joined_starts (is_sign CloseBracket) false _ _
+    (item_starts (is_sign CloseBracket) count_of false (apart (exact_sign CloseBracket) count_of refl))) xs v rest h))
 
 pub fixed_parses : Parses IsFixed fixed_at Always
 unfolding fixed_at

@@ -17,6 +17,11 @@ listed_at read = then_at read (λ first. rest_at read (first ∷ []))
 unfoldable pub bracket_list_at : {A : Type 0} → (List Token → Result (A × List Token) ℕ) → List Token → Result (List A × List Token) ℕ
 bracket_list_at read = behind_at (is_sign OpenBracket) (then_at (listed_at read) (λ found. behind_at (is_sign CloseBracket) (give_at found)))
 
+-- counts in brackets, of which there may be none
+unfoldable pub cuts_at : List Token → Result (List ℕ × List Token) ℕ
+cuts_at = behind_at (is_sign OpenBracket) (either_at (is_sign CloseBracket) (behind_at (is_sign CloseBracket) (give_at []))
+    (then_at (listed_at (item_at count_of)) (λ cuts. behind_at (is_sign CloseBracket) (give_at cuts))))
+
 -- a count as an extent, and `?` too
 unfoldable pub fixed_at : List Token → Result (ExtentWord × List Token) ℕ
 fixed_at = then_at (item_at count_of) (λ count. give_at (extent.Fixed count))

@@ -2,7 +2,7 @@ ghost use Rattle.std.specs.Prelude.{◌≡◌, ◌<◌, length, OnOk, IfErr};
 ghost use Rattle.phrases.specs.Reading.{item_at};
 ghost use Rattle.line_grammar.specs.Tokens.{count_of};
 ghost use Rattle.line_phrases.specs.Gives.{Gives, IsSyntax};
-ghost use Rattle.line_phrases.specs.Lists.{listed_at, bracket_list_at, fixed_at, extent_at};
+ghost use Rattle.line_phrases.specs.Lists.{listed_at, bracket_list_at, cuts_at, fixed_at, extent_at};
 
 use crate::{ReadError, Tokens};
 use extents::ExtentWord;
@@ -20,6 +20,21 @@ pub fn read_index(alloc: Global, tokens: &mut Tokens) -> Result<IndexWords, Read
     let index = read_counts(alloc, tokens)?;
     tokens.sign(Sign::CloseBracket)?;
     Ok(index)
+}
+
+/// The cuts between actors, in brackets. There may be none.
+#[tactic(auto, unfolding(crate::specs::Lists::cuts_at))]
+pub fn read_cuts(alloc: Global, tokens: &mut Tokens) -> Result<IndexWords, ReadError>
+    ensures { Gives (λ x. (x, tokens.new)) result (cuts_at tokens.old) }
+{
+    tokens.sign(Sign::OpenBracket)?;
+    if tokens.begins_sign(Sign::CloseBracket) {
+        tokens.sign(Sign::CloseBracket)?;
+        return Ok(IndexWords::new(alloc));
+    }
+    let cuts = read_counts(alloc, tokens)?;
+    tokens.sign(Sign::CloseBracket)?;
+    Ok(cuts)
 }
 
 #[tactic(auto, unfolding(crate::specs::Lists::listed_at), using(crate::specs::ListLaws::count_steps))]

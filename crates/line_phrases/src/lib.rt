@@ -12,7 +12,7 @@ mod path;
 mod tokens;
 mod widths;
 
-pub use brackets::{read_extents, read_fixed_extents, read_index};
+pub use brackets::{read_cuts, read_extents, read_fixed_extents, read_index};
 pub use constant::read_const;
 pub use exprs::read_expr;
 pub use fault::ReadError;

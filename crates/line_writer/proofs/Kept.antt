@@ -1,6 +1,6 @@
 -- The phrases that may have other tokens than the canonical ones: lines with expressions and kernels. Their canonical tokens are
 -- read as the same line, and open few brackets at once.
-use Rattle.std.proofs.Common.{◌≡◌, ℕ, zero, suc, ◌+◌, ◌≤◌, List, [], ◌∷◌, ◌++◌, map, length, Option, Some, None, codes, ℤ, pos, negsuc, neg_ℤ, inl, inr, refl, sym, add-one, append-nil, append_assoc, arith}
+use Rattle.std.proofs.Common.{◌≡◌, ℕ, zero, suc, ◌+◌, ◌≤◌, max, List, [], ◌∷◌, ◌++◌, map, length, Option, Some, None, codes, ℤ, pos, negsuc, neg_ℤ, inl, inr, refl, sym, add-one, append-nil, append_assoc, arith}
 use Rattle.std.specs.List.{flat_map}
 use Rattle.phrases.specs.Phrases.{Behind, Joined, IsNothing, Chain}
 use Rattle.line_tokens.specs.declared.sign.Sign.TheVariants.{CloseBracket, OpenParen, CloseParen, Comma, Dot, Equals, Minus, EqualEqual, NotEqual, LessThan, LessEqual, GreaterThan, GreaterEqual}
@@ -11,6 +11,7 @@ use Rattle.expr_lang.specs.Terms.{depth_of}
 use Rattle.line_grammar.specs.declared.token.Token.{Token}
 use Rattle.line_grammar.specs.declared.token.Token.TheVariants.{Word, Number, Text, Sign, Bad}
 use Rattle.line_grammar.specs.declared.version.Version.{Version}
+use Rattle.line_grammar.specs.declared.version.Version.TheVariants.{One, Two}
 use Rattle.line_grammar.specs.declared.line.Command.{Command}
 use Rattle.line_grammar.specs.declared.line.Command.TheVariants as command
 use Rattle.line_grammar.specs.declared.line.KernelText.{KernelText}
@@ -18,10 +19,10 @@ use Rattle.line_grammar.specs.declared.line.KernelText.TheVariants as kernel
 use Rattle.line_grammar.specs.declared.line.KernelWord.{KernelWord}
 use Rattle.line_grammar.specs.declared.line.KernelWord.TheVariants as word
 use Rattle.line_grammar.specs.Tokens.{number_of, kernel_word_of, comparison_of, command_of}
-use Rattle.line_grammar.specs.Sentences.{Assignment, Sentence, Value, Assign, Update, Kernel, Count, filter_depth, deepest_set, deepest}
-use Rattle.line_grammar.specs.Grammar.{Phrase, IsName, IsCount, IsNumber, IsPath, IsMore, IsListed, IsConst, IsExpr, IsBracketList, IsAssignment, IsFilter, IsKernelInside, IsKernel, IsBody, IsLine}
+use Rattle.line_grammar.specs.Sentences.{Assignment, Sentence, Value, Assign, Update, Actors, Kernel, Count, filter_depth, deepest_set, deepest}
+use Rattle.line_grammar.specs.Grammar.{Phrase, IsName, IsCount, IsNumber, IsPath, IsMore, IsListed, IsConst, IsExpr, IsBracketList, IsAssignment, IsCuts, IsFilter, IsUpdateEnd, IsKernelInside, IsKernel, IsBody, IsLine}
 use Rattle.line_grammar.specs.Words.{operator, kernel_word}
-use Rattle.line_writer.specs.Canonical.{count_token, number_tokens, path_tokens, with_commas, bracket_list, form_tokens, value_tokens, assignment_tokens, filter_tokens, kernel_tokens, line_tokens}
+use Rattle.line_writer.specs.Canonical.{count_token, number_tokens, path_tokens, with_commas, form_tokens, value_tokens, assignment_tokens, filter_tokens, update_tokens, index_tokens, actors_tokens, kernel_tokens, line_tokens}
 use Rattle.line_writer.proofs.Gives.{IsSpelled, Each, each_front, each_back, Gives, nothing_gives, item_gives, behind_gives, joined_gives, either_gives, gives_also}
 use Rattle.line_writer.proofs.Phrases.{IsWritten, sound, path_gives}
 use Rattle.line_writer.proofs.Leaves.{IsGood}
@@ -177,6 +178,15 @@ reduce_word = word_spelled (codes "reduce") refl refl (omega arith)
 count_word : IsSpelled (Word (codes "count"))
 count_word = word_spelled (codes "count") refl refl (omega arith)
 
+actors_word : IsSpelled (Word (codes "actors"))
+actors_word = word_spelled (codes "actors") refl refl (omega arith)
+
+schedule_word : IsSpelled (Word (codes "schedule"))
+schedule_word = word_spelled (codes "schedule") refl refl (omega arith)
+
+turns_word : IsSpelled (Word (codes "turns"))
+turns_word = word_spelled (codes "turns") refl refl (omega arith)
+
 kernel_command : IsSpelled (Word (codes "kernel"))
 kernel_command = word_spelled (codes "kernel") refl refl (omega arith)
 
@@ -253,9 +263,6 @@ counts_fit : (counts : List ℕ) → Each (Each IsSpelled) (map (λ count. count
 counts_fit [] h = tt
 counts_fit (count ∷ counts) h = (one_fits (count_token count) refl h.0.0, counts_fit counts h.1)
 
-abbrev pub index_tokens : List ℕ → List Token
-index_tokens index = bracket_list (map (λ count. count_token count ∷ []) index)
-
 index_fits : (index : List ℕ) → Each IsSpelled (index_tokens index) → Fits 1 (index_tokens index)
 index_fits index h = bracket_list_fits 0 _ (counts_fit index (spelled_commas _ (each_front IsSpelled (with_commas (map (λ count. count_token count ∷ []) index)) (Sign CloseBracket ∷ []) h.1)))
 
@@ -322,12 +329,52 @@ filter_fits : (filter : Option Value) → IsGoodFilter filter → filter_depth f
 filter_fits None good small = fits_more 0 32 [] (omega arith) no_tokens_fit
 filter_fits (Some filter) good small = fits_flat 32 (Word (codes "where")) _ refl where_word (value_in filter good small)
 
-pub update_kept : (version : Version) (view : List ℕ) (filter : Option Value) (sets : List Assignment) → KeptName view → IsGoodFilter filter → IsFull sets → Each IsGoodSet sets → IsKept version (Update view filter sets)
-update_kept version view filter sets kv good full goods = λ small.
-    let low : filter_depth filter ≤ 32 = omega arith in let low' : deepest_set sets ≤ 32 = omega arith in (
-      fits_more 32 64 _ (omega arith) (fits_flat 32 (Word (codes "update")) _ refl update_word (fits_flat 32 (Word view) _ refl (name_in view kv)
-          (fits_append 32 (filter_tokens filter) _ (filter_fits filter good low) (fits_flat 32 (Word (codes "set")) _ refl set_word (commas_fit 32 _ (sets_fit sets goods low')))))),
-      command_line version command.Update (codes "update") _ _ refl (join (Word view ∷ []) _ view _ kv.reads
-          (join (filter_tokens filter) (Word (codes "set") ∷ with_commas (map assignment_tokens sets)) filter _ (filter_reads filter good low)
-          (refl, last (λ sets. Update view filter sets) (with_commas (map assignment_tokens sets)) sets (sets_read sets full goods low')))),
-    )
+-- the parts of an update are kept
+pub record KeptParts (view : List ℕ) (filter : Option Value) (sets : List Assignment) : Type 0 where
+  pub named : KeptName view
+  pub good : IsGoodFilter filter
+  pub full : IsFull sets
+  pub goods : Each IsGoodSet sets
+
+update_fits : (view : List ℕ) (filter : Option Value) (sets : List Assignment) → KeptParts view filter sets → max (filter_depth filter) (deepest_set sets) ≤ 32 → Fits 32 (update_tokens view filter sets)
+update_fits view filter sets k small = fits_flat 32 (Word (codes "update")) _ refl update_word (fits_flat 32 (Word view) _ refl (name_in view k.named)
+    (fits_append 32 (filter_tokens filter) _ (filter_fits filter k.good (omega arith)) (fits_flat 32 (Word (codes "set")) _ refl set_word (commas_fit 32 _ (sets_fit sets k.goods (omega arith))))))
+
+-- with what ends it
+update_reads : (version : Version) (view : List ℕ) (filter : Option Value) (sets : List Assignment) (end : List Token) (s : Sentence) → KeptParts view filter sets →
+    max (filter_depth filter) (deepest_set sets) ≤ 32 → IsUpdateEnd version view filter sets end s → IsLine version 32 (update_tokens view filter sets ++ end) s
+update_reads version view filter sets end s k small ends =
+    let commas : List Token = with_commas (map assignment_tokens sets) in
+    let behind : Joined (IsFilter 32) (λ filter. Behind (Word (codes "set")) (Joined (IsListed (IsAssignment 32)) (λ sets. IsUpdateEnd version view filter sets)))
+    (filter_tokens filter ++ Word (codes "set") ∷ (commas ++ end)) s =
+    join (filter_tokens filter) (Word (codes "set") ∷ (commas ++ end)) filter s (filter_reads filter k.good (omega arith))
+    (refl, join commas end sets s (sets_read sets k.full k.goods (omega arith)) ends) in
+    command_line version command.Update (codes "update") _ s refl (join (Word view ∷ []) _ view s k.named.reads (rw append_assoc behind))
+
+update_ends : (version : Version) (view : List ℕ) (filter : Option Value) (sets : List Assignment) → IsUpdateEnd version view filter sets [] (Update view filter sets)
+update_ends One view filter sets = (refl, refl)
+update_ends Two view filter sets = inr (refl, refl)
+
+pub update_kept : (version : Version) (view : List ℕ) (filter : Option Value) (sets : List Assignment) → KeptParts view filter sets → IsKept version (Update view filter sets)
+update_kept version view filter sets k = λ small. (
+  fits_more 32 64 _ (omega arith) (update_fits view filter sets k small),
+  rw append-nil at (update_reads version view filter sets [] (Update view filter sets) k small (update_ends version view filter sets)),
+)
+
+-- with actors
+pub actors_kept : (view : List ℕ) (filter : Option Value) (sets : List Assignment) (cuts : List ℕ) (seed turns : ℕ) → KeptParts view filter sets → Kept IsCuts index_tokens cuts → KeptCount seed → KeptCount turns →
+    IsKept Two (Actors view filter sets cuts seed turns)
+actors_kept view filter sets cuts seed turns k kc ks kt = λ small. (
+  fits_more 32 64 _ (omega arith) (fits_append 32 (update_tokens view filter sets) _ (update_fits view filter sets k small)
+      (fits_flat 32 (Word (codes "actors")) _ refl actors_word (fits_append 32 (index_tokens cuts) _ (fits_more 1 32 _ (omega arith) (index_fits cuts kc.spelled))
+      (fits_flat 32 (Word (codes "schedule")) _ refl schedule_word (fits_flat 32 (count_token seed) _ refl ks.spelled.0
+      (fits_flat 32 (Word (codes "turns")) _ refl turns_word (fits_more 0 32 _ (omega arith) (one_fits (count_token turns) refl kt.spelled.0)))))))),
+  update_reads Two view filter sets (actors_tokens cuts seed turns) (Actors view filter sets cuts seed turns) k small (inl (
+    refl,
+    join (index_tokens cuts) (Word (codes "schedule") ∷ count_token seed ∷ Word (codes "turns") ∷ count_token turns ∷ []) cuts _ kc.reads (
+      refl,
+      join (count_token seed ∷ []) (Word (codes "turns") ∷ count_token turns ∷ []) seed _ ks.reads
+          (refl, last (λ turns. Actors view filter sets cuts seed turns) (count_token turns ∷ []) turns kt.reads),
+    ),
+  )),
+)

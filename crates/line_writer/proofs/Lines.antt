@@ -1,5 +1,5 @@
 -- A line has its canonical tokens alone, or one with expressions or a kernel, and then its canonical tokens are kept.
-use Rattle.std.proofs.Common.{◌≡◌, ℕ, ◌⊎◌, true, false, List, [], ◌∷◌, ◌++◌, map, Some, None, codes, inl, inr, refl, sym, ap, ◌∙◌, append-nil}
+use Rattle.std.proofs.Common.{◌≡◌, ℕ, ◌⊎◌, true, false, List, [], ◌∷◌, ◌++◌, map, Option, Some, None, codes, inl, inr, refl, sym, ap, ◌∙◌, append-nil}
 use Rattle.phrases.specs.Phrases.{Behind, Joined, IsNothing}
 use Rattle.line_tokens.specs.declared.sign.Sign.TheVariants.{OpenParen, CloseParen, Colon, Comma, Dot, Equals}
 use Rattle.record_dim.specs.Trees.{Record}
@@ -7,18 +7,19 @@ use Rattle.extents.specs.declared.words.ExtentWord.{ExtentWord}
 use Rattle.line_grammar.specs.declared.token.Token.{Token}
 use Rattle.line_grammar.specs.declared.token.Token.TheVariants.{Word, Text, Sign}
 use Rattle.line_grammar.specs.declared.version.Version.{Version}
+use Rattle.line_grammar.specs.declared.version.Version.TheVariants.{One, Two}
 use Rattle.line_grammar.specs.declared.line.Command.{Command}
 use Rattle.line_grammar.specs.declared.line.Command.TheVariants as command
 use Rattle.line_grammar.specs.declared.line.KernelWord.{KernelWord}
-use Rattle.line_grammar.specs.Sentences.{Assignment, Sentence, Blank, Define, Mapping, View, Load, Assign, Update, Kernel, Reduce, Count, Copy, Relayout, Show, Drop, Bytes, Save, Open}
-use Rattle.line_grammar.specs.Grammar.{Phrase, IsName, IsMore, IsListed, IsAssignment, IsFilter, IsKernel, IsMode, IsNew, IsBody, IsLine}
+use Rattle.line_grammar.specs.Sentences.{Assignment, Sentence, Value, Blank, Define, Mapping, View, Load, Assign, Update, Actors, Kernel, Reduce, Count, Copy, Relayout, Show, Drop, Bytes, Save, Open}
+use Rattle.line_grammar.specs.Grammar.{Phrase, IsName, IsMore, IsListed, IsAssignment, IsFilter, IsUpdateEnd, IsKernel, IsMode, IsNew, IsBody, IsLine}
 use Rattle.line_grammar.specs.Words.{reduction_word, show_word, command_word}
-use Rattle.line_writer.specs.Canonical.{count_token, bracket_list, extent_tokens, path_tokens, mode_tokens, new_tokens, line_tokens}
+use Rattle.line_writer.specs.Canonical.{count_token, bracket_list, extent_tokens, index_tokens, path_tokens, mode_tokens, new_tokens, line_tokens}
 use Rattle.line_writer.proofs.Gives.{Each, each_append, Gives, nothing_gives, behind_gives, joined_gives, either_gives, repeats_gives, gives_also}
 use Rattle.line_writer.proofs.Words.{name_gives, count_gives, string_gives, reduction_gives, command_gives, kernel_word_gives}
-use Rattle.line_writer.proofs.Phrases.{IsWritten, sound, path_gives, fields_give, map_gives, bracket_list_gives, fixed_gives, extent_gives}
+use Rattle.line_writer.proofs.Phrases.{IsWritten, sound, path_gives, fields_give, map_gives, bracket_list_gives, cuts_give, fixed_gives, extent_gives}
 use Rattle.line_writer.proofs.Leaves.{expr_gives}
-use Rattle.line_writer.proofs.Kept.{kept_from, kept_gives, KeptKernel, kernel_inside_gives, IsGoodSet, IsGoodFilter, IsFull, index_tokens, IsKept, count_kept, kernel_kept, assign_kept, update_kept}
+use Rattle.line_writer.proofs.Kept.{kept_from, kept_gives, KeptKernel, kernel_inside_gives, IsGoodSet, IsGoodFilter, IsFull, IsKept, KeptParts, count_kept, kernel_kept, assign_kept, update_kept, actors_kept}
 
 -- the tokens are the canonical ones, or the line is kept
 abbrev pub IsDone : Version → List Token → Sentence → Type 0
@@ -139,11 +140,20 @@ sets_give n = joined_gives {Q = λ xs v. IsFull v × Each IsGoodSet v} (assignme
     nothing_gives {Q = λ xs v. IsFull v × Each IsGoodSet v} (found ++ next ∷ []) (full_more found next, each_append IsGoodSet found (next ∷ []) goods.1 (good', tt))))
     (first ∷ []) (tt, (good, tt)))
 
+update_end_gives : (version : Version) (view : List ℕ) (filter : Option Value) (sets : List Assignment) → KeptParts view filter sets → Gives (IsUpdateEnd version view filter sets) (λ xs v. IsKept version v)
+update_end_gives One view filter sets k = nothing_gives {Q = λ xs v. IsKept One v} (Update view filter sets) (update_kept One view filter sets k)
+update_end_gives Two view filter sets k = either_gives {Q = λ xs v. IsKept Two v}
+    (behind_gives {Q = λ xs v. IsKept Two v} (Word (codes "actors")) sound (joined_gives {Q = λ xs v. IsKept Two v} (kept_gives index_tokens cuts_give) (λ f cuts i1 kc s1.
+    behind_gives {Q = λ xs v. IsKept Two v} (Word (codes "schedule")) sound (joined_gives {Q = λ xs v. IsKept Two v} (kept_gives (λ k. count_token k ∷ []) count_gives) (λ g seed i2 ks s2.
+    behind_gives {Q = λ xs v. IsKept Two v} (Word (codes "turns")) sound (joined_gives {Q = λ xs v. IsKept Two v} (kept_gives (λ k. count_token k ∷ []) count_gives) (λ h turns i3 kt s3.
+    nothing_gives {Q = λ xs v. IsKept Two v} (Actors view filter sets cuts seed turns) (actors_kept view filter sets cuts seed turns k kc ks kt))))))))
+    (nothing_gives {Q = λ xs v. IsKept Two v} (Update view filter sets) (update_kept Two view filter sets k))
+
 update_body : (version : Version) (n : ℕ) → Gives (IsBody version n command.Update) (λ xs v. IsKept version v)
 update_body version n = joined_gives {Q = λ xs v. IsKept version v} (kept_gives (λ k. Word k ∷ []) name_gives) (λ f view i1 kv s1.
     joined_gives {Q = λ xs v. IsKept version v} (filter_gives n) (λ g filter i2 good s2.
     behind_gives {Q = λ xs v. IsKept version v} (Word (codes "set")) sound (joined_gives {Q = λ xs v. IsKept version v} (sets_give n) (λ h sets i3 goods s3.
-    nothing_gives {Q = λ xs v. IsKept version v} (Update view filter sets) (update_kept version view filter sets kv good goods.0 goods.1)))))
+    update_end_gives version view filter sets (record { named = kv; good = good; full = goods.0; goods = goods.1 })))))
 
 kernel_gives : Gives IsKernel (λ xs text. (word : KernelWord) × KeptKernel word text)
 kernel_gives = joined_gives {Q = λ xs text. (word : KernelWord) × KeptKernel word text} kernel_word_gives (λ f word i1 e s1.

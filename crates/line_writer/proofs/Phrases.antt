@@ -17,9 +17,9 @@ use Rattle.line_grammar.specs.declared.version.Version.TheVariants.{One, Two}
 use Rattle.line_grammar.specs.declared.line.MapWord.{MapWord}
 use Rattle.line_grammar.specs.declared.line.MapWord.TheVariants as form
 use Rattle.line_grammar.specs.Tokens.{map_word, order_of}
-use Rattle.line_grammar.specs.Grammar.{Phrase, IsName, IsCount, IsMore, IsListed, IsPart, IsPath, IsDims, arrays, fields_of_list, IsTyped, IsNested, IsBraced, IsField, IsFields, IsFieldWidth, IsBracedWidths, IsFieldWidths, IsBits, IsForm, IsFormOrName, IsMap, IsExtent, IsBracketList}
+use Rattle.line_grammar.specs.Grammar.{Phrase, IsName, IsCount, IsMore, IsListed, IsPart, IsPath, IsDims, arrays, fields_of_list, IsTyped, IsNested, IsBraced, IsField, IsFields, IsFieldWidth, IsBracedWidths, IsFieldWidths, IsBits, IsForm, IsFormOrName, IsMap, IsExtent, IsBracketList, IsCuts}
 use Rattle.line_grammar.specs.Words.{type_word, order_word, aos_word, soa_word, form_word}
-use Rattle.line_writer.specs.Canonical.{count_token, bracketed_count, with_commas, bracket_list, step_tokens, path_tokens, dims_tokens, core_tokens, fields_tokens, later_tokens, held_tokens, form_tokens, ordered_tokens, width_tokens, widths_tokens, bits_tokens, map_tokens, extent_tokens}
+use Rattle.line_writer.specs.Canonical.{count_token, bracketed_count, with_commas, bracket_list, step_tokens, path_tokens, dims_tokens, core_tokens, fields_tokens, later_tokens, held_tokens, form_tokens, ordered_tokens, width_tokens, widths_tokens, bits_tokens, map_tokens, extent_tokens, index_tokens}
 use Rattle.line_writer.proofs.Gives.{Gives, nothing_gives, behind_gives, joined_gives, either_gives, repeats_gives, gives_also}
 use Rattle.line_writer.proofs.Behind.{some_widths}
 use Rattle.line_writer.proofs.Words.{name_gives, count_gives, type_gives, integer_type_gives, order_gives, aos_form_gives, soa_form_gives, map_word_is}
@@ -271,12 +271,21 @@ map_gives version (suc n) = joined_gives {Q = IsWritten map_tokens} name_gives (
     gives_also (form_or_name_gives version (map_gives version n) word (map_word word) refl) (λ xs v i s is. is ∙ ap (λ k. k ++ xs) same))
 
 -- lists in brackets
-pub bracket_list_gives : {A : Type 0} {Is : Phrase A} (tokens : A → List Token) → Gives Is (IsWritten tokens) → Gives (IsBracketList Is) (λ xs v. bracket_list (map tokens v) ≡ xs)
-bracket_list_gives tokens one = behind_gives {Q = λ xs v. bracket_list (map tokens v) ≡ xs} (Sign OpenBracket) sound
-    (joined_gives {Q = λ xs v. bracket_list (map tokens v) ≡ Sign OpenBracket ∷ xs} (listed_gives tokens one) (λ front found i same s.
+list_end_gives : {A : Type 0} {Is : Phrase A} (tokens : A → List Token) → Gives Is (IsWritten tokens)
+    → Gives (Joined (IsListed Is) (λ found. Behind (Sign CloseBracket) (IsNothing found))) (λ xs v. bracket_list (map tokens v) ≡ Sign OpenBracket ∷ xs)
+list_end_gives tokens one = joined_gives {Q = λ xs v. bracket_list (map tokens v) ≡ Sign OpenBracket ∷ xs} (listed_gives tokens one) (λ front found i same s.
     behind_gives {Q = λ xs v. bracket_list (map tokens v) ≡ Sign OpenBracket ∷ (front ++ xs)} (Sign CloseBracket) sound
     (nothing_gives {Q = λ xs v. bracket_list (map tokens v) ≡ Sign OpenBracket ∷ (front ++ (Sign CloseBracket ∷ xs))} found
-    (ap (λ k. Sign OpenBracket ∷ (k ++ Sign CloseBracket ∷ [])) same))))
+    (ap (λ k. Sign OpenBracket ∷ (k ++ Sign CloseBracket ∷ [])) same)))
+
+pub bracket_list_gives : {A : Type 0} {Is : Phrase A} (tokens : A → List Token) → Gives Is (IsWritten tokens) → Gives (IsBracketList Is) (λ xs v. bracket_list (map tokens v) ≡ xs)
+bracket_list_gives tokens one = behind_gives {Q = λ xs v. bracket_list (map tokens v) ≡ xs} (Sign OpenBracket) sound (list_end_gives tokens one)
+
+pub cuts_give : Gives IsCuts (IsWritten index_tokens)
+cuts_give = behind_gives {Q = IsWritten index_tokens} (Sign OpenBracket) sound (either_gives {Q = λ xs v. index_tokens v ≡ Sign OpenBracket ∷ xs}
+    (behind_gives {Q = λ xs v. index_tokens v ≡ Sign OpenBracket ∷ xs} (Sign CloseBracket) sound
+    (nothing_gives {Q = λ xs v. index_tokens v ≡ Sign OpenBracket ∷ Sign CloseBracket ∷ xs} [] refl))
+    (list_end_gives (λ count. count_token count ∷ []) count_gives))
 
 pub fixed_gives : Gives (Joined IsCount (λ count. IsNothing (extent.Fixed count))) (IsWritten extent_tokens)
 fixed_gives = joined_gives {Q = IsWritten extent_tokens} count_gives (λ front count i same s.

@@ -22,7 +22,7 @@ use Rattle.line_grammar.specs.declared.line.KernelText.TheVariants as kernel
 use Rattle.line_grammar.specs.declared.line.KernelWord.TheVariants as worded
 use Rattle.line_grammar.specs.declared.line.MapWord.TheVariants as map_form
 use Rattle.line_grammar.specs.Words.{type_word, order_word, aos_word, soa_word, form_word, kernel_word, reduction_word, command_word, operator}
-use Rattle.line_grammar.specs.Sentences.{Assignment, New, Sentence, Value, Blank, Define, Mapping, View, Load, Assign, Update, Kernel, Reduce, Count, Copy, Relayout, Show, Drop, Bytes, Save, Open}
+use Rattle.line_grammar.specs.Sentences.{Assignment, New, Sentence, Value, Blank, Define, Mapping, View, Load, Assign, Update, Actors, Kernel, Reduce, Count, Copy, Relayout, Show, Drop, Bytes, Save, Open}
 
 -- a number; the minus of a negative one is a token of its own
 abbrev pub number_tokens : ℤ → List Token
@@ -169,6 +169,17 @@ abbrev pub filter_tokens : Option Value → List Token
 filter_tokens None = []
 filter_tokens (Some filter) = Word (codes "where") ∷ value_tokens filter
 
+abbrev pub update_tokens : List ℕ → Option Value → List Assignment → List Token
+update_tokens view filter sets = Word (command_word command.Update) ∷ Word view ∷ (filter_tokens filter ++ Word (codes "set") ∷ with_commas (map assignment_tokens sets))
+
+-- counts in brackets
+abbrev pub index_tokens : List ℕ → List Token
+index_tokens counts = bracket_list (map (λ count. count_token count ∷ []) counts)
+
+-- the actors of an update: their cuts, the seed of their schedule, and its turns
+abbrev pub actors_tokens : List ℕ → ℕ → ℕ → List Token
+actors_tokens cuts seed turns = Word (codes "actors") ∷ (index_tokens cuts ++ Word (codes "schedule") ∷ count_token seed ∷ Word (codes "turns") ∷ count_token turns ∷ [])
+
 -- a kernel
 abbrev pub kernel_tokens : KernelText → List Token
 kernel_tokens (kernel.Axpy a x y) = form_tokens (kernel_word worded.Axpy) (number_tokens a ++ Sign Comma ∷ (path_tokens x ++ Sign Comma ∷ path_tokens y))
@@ -186,8 +197,9 @@ line_tokens (Mapping name expr) = Word (command_word command.Mapping) ∷ Word n
 line_tokens (View new) = Word (command_word command.View) ∷ new_tokens new
 line_tokens (Load new file) = Word (command_word command.Load) ∷ (new_tokens new ++ Word (codes "from") ∷ Text file ∷ [])
 line_tokens (Assign view index path value) = Word (command_word command.Set) ∷ Word view ∷
-    (bracket_list (map (λ count. count_token count ∷ []) index) ++ Sign Dot ∷ (path_tokens path ++ Sign Equals ∷ value_tokens value))
-line_tokens (Update view filter sets) = Word (command_word command.Update) ∷ Word view ∷ (filter_tokens filter ++ Word (codes "set") ∷ with_commas (map assignment_tokens sets))
+    (index_tokens index ++ Sign Dot ∷ (path_tokens path ++ Sign Equals ∷ value_tokens value))
+line_tokens (Update view filter sets) = update_tokens view filter sets
+line_tokens (Actors view filter sets cuts seed turns) = update_tokens view filter sets ++ actors_tokens cuts seed turns
 line_tokens (Kernel view text lanes) = Word (command_word command.Kernel) ∷ Word view ∷ (kernel_tokens text ++ Word (codes "lanes") ∷ count_token lanes ∷ [])
 line_tokens (Reduce view kind path) = Word (command_word command.Reduce) ∷ Word view ∷ Word (reduction_word kind) ∷ path_tokens path
 line_tokens (Count view filter) = Word (command_word command.Reduce) ∷ Word view ∷ Word (codes "count") ∷ Word (codes "where") ∷ value_tokens filter

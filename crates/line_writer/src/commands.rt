@@ -7,7 +7,7 @@ ghost use Rattle.line_tokens.specs.declared.sign.Sign.TheVariants.{Dot, Equals};
 ghost use Rattle.line_grammar.specs.declared.token.Token.TheVariants.{Word, Sign, Text as Quoted};
 ghost use Rattle.line_grammar.specs.Sentences.{assignment_of};
 ghost use Rattle.line_grammar.specs.Words.{command_word, kernel_word, operator, reduction_word};
-ghost use Rattle.line_writer.specs.Canonical.{count_token, number_tokens, path_tokens, held_tokens, map_tokens, bracket_list, with_commas, assignment_tokens, filter_tokens, value_tokens, mode_tokens, new_tokens, form_tokens, kernel_tokens};
+ghost use Rattle.line_writer.specs.Canonical.{count_token, number_tokens, path_tokens, held_tokens, map_tokens, index_tokens, with_commas, assignment_tokens, filter_tokens, actors_tokens, value_tokens, mode_tokens, new_tokens, form_tokens, kernel_tokens};
 ghost use Rattle.line_writer.specs.Texts.{behind};
 
 use crate::mapping::{open, write_map};
@@ -110,7 +110,7 @@ pub(crate) fn write_assign(
     value: &Expr,
 ) -> Result<(), NoMemory>
     ensures { OnOk result (text.new ≡ behind (text.old ++ command_word Command.Set) (Word view.now ∷
-        (bracket_list (map (λ count. count_token count ∷ []) index.now) ++ Sign Dot ∷ (path_tokens path.now ++ Sign Equals ∷ value_tokens (term_of value.now))))) }
+        (index_tokens index.now ++ Sign Dot ∷ (path_tokens path.now ++ Sign Equals ∷ value_tokens (term_of value.now))))) }
 {
     write_named(text, Command::Set, view)?;
     write_index(text, index.as_slice())?;
@@ -134,6 +134,24 @@ pub(crate) fn write_update(
     write_filter(text, filter)?;
     push(text, "set")?;
     write_sets(text, sets.as_slice())
+}
+
+// The actors behind an update.
+#[tactic(auto, using(crate::proofs::Behind::behind_append))]
+pub(crate) fn write_actors(
+    text: &mut Text,
+    cuts: &IndexWords,
+    seed: u32,
+    turns: u32,
+) -> Result<(), NoMemory>
+    ensures { OnOk result (text.new ≡ behind text.old (actors_tokens cuts.now seed turns)) }
+{
+    push(text, "actors")?;
+    write_index(text, cuts.as_slice())?;
+    push(text, "schedule")?;
+    push_count(text, seed)?;
+    push(text, "turns")?;
+    push_count(text, turns)
 }
 
 fn write_filter(text: &mut Text, filter: &Option<Expr>) -> Result<(), NoMemory>

@@ -5,9 +5,9 @@ ghost use Rattle.line_grammar.specs.Reads.{Reads};
 ghost use Rattle.line_writer.specs.Texts.{canonical};
 
 use crate::commands::{
-    write_assign, write_bytes, write_copy, write_count, write_define, write_kernel_line,
-    write_load, write_mapping, write_named, write_open, write_reduce, write_relayout, write_update,
-    write_view,
+    write_actors, write_assign, write_bytes, write_copy, write_count, write_define,
+    write_kernel_line, write_load, write_mapping, write_named, write_open, write_reduce,
+    write_relayout, write_update, write_view,
 };
 use line_grammar::{Command, Line};
 use record_dim::Text;
@@ -29,7 +29,7 @@ pub fn write_line(alloc: Global, line: &Line) -> Result<Text, NoMemory>
     Ok(text)
 }
 
-#[tactic(auto, using(crate::proofs::Behind::canonical_begun))]
+#[tactic(auto, using(crate::proofs::Behind::canonical_begun, crate::proofs::Behind::behind_append))]
 fn write_command(text: &mut Text, line: &Line) -> Result<(), NoMemory>
     requires { text.old ≡ [] }
     ensures { OnOk result (text.new ≡ canonical (sentence_of line.now)) }
@@ -59,6 +59,17 @@ fn write_command(text: &mut Text, line: &Line) -> Result<(), NoMemory>
             value,
         } => write_assign(text, view, index, path, value),
         Line::Update { view, filter, sets } => write_update(text, view, filter, sets),
+        Line::Actors {
+            view,
+            filter,
+            sets,
+            cuts,
+            seed,
+            turns,
+        } => {
+            write_update(text, view, filter, sets)?;
+            write_actors(text, cuts, *seed, *turns)
+        }
         Line::Kernel {
             view,
             kernel,

@@ -1,7 +1,7 @@
 // Lists with a comma between each two items.
 ghost use Rattle.std.specs.Prelude.{◌≡◌, ◌∷◌, [], map, OnOk};
 ghost use Rattle.line_grammar.specs.Sentences.{assignment_of};
-ghost use Rattle.line_writer.specs.Canonical.{count_token, bracket_list, with_commas, extent_tokens, assignment_tokens};
+ghost use Rattle.line_writer.specs.Canonical.{count_token, bracket_list, with_commas, extent_tokens, index_tokens, assignment_tokens};
 ghost use Rattle.line_writer.specs.Texts.{behind};
 
 use crate::tokens::{push, push_count, write_path};
@@ -61,7 +61,7 @@ impl Part for ExtentWord {
 
 #[tactic(auto, using(crate::proofs::Behind::behind_append))]
 pub(crate) fn write_index(text: &mut Text, index: &[u32]) -> Result<(), NoMemory>
-    ensures { OnOk result (text.new ≡ behind text.old (bracket_list (map (λ count. count_token count ∷ []) index.now))) }
+    ensures { OnOk result (text.new ≡ behind text.old (index_tokens index.now)) }
 {
     push(text, "[")?;
     write_parts(text, index)?;

@@ -1,8 +1,8 @@
 -- How each command is read, and a whole line.
-use Rattle.std.proofs.Common.{◌≡◌, ℕ, ◌≤◌, true, false, inl, inr, List, [], ◌++◌, codes, None, Result, is_some, refl, ap, neg_ℤ, arith}
+use Rattle.std.proofs.Common.{◌≡◌, ℕ, ◌≤◌, true, false, inl, inr, List, [], ◌++◌, codes, Option, None, Result, is_some, refl, ap, neg_ℤ, arith}
 use Rattle.phrases.specs.Phrases.{Behind, IsItem, IsNothing}
 use Rattle.phrases.specs.Reading.{starts, item_at, give_at}
-use Rattle.phrases.specs.ParsesLaws.{Always, Parses, behind_parses, either_parses, give_parses, item_parses, said_otherwise, then_parses}
+use Rattle.phrases.specs.ParsesLaws.{Always, Parses, behind_parses, either_parses, give_parses, item_parses, said_otherwise, then_parses, which_parses}
 use Rattle.phrases.specs.MoreLaws.{behind_starts, item_starts, joined_starts}
 use Rattle.phrases.specs.WholeLaws.{AtEnd}
 use Rattle.phrases.specs.EndedLaws.{ended_alike, ended_parses}
@@ -22,20 +22,22 @@ use Rattle.line_grammar.specs.declared.line.ReduceKind.TheVariants as reduce
 use Rattle.line_grammar.specs.declared.token.Token.{Token}
 use Rattle.line_grammar.specs.declared.token.Token.TheVariants.{Word, Text, Sign as Signed}
 use Rattle.line_grammar.specs.declared.version.Version.{Version}
-use Rattle.line_grammar.specs.Sentences.{Blank, Define, Mapping, View, Load, Assign, Update, Kernel, Reduce, Count, Copy, Relayout, Show, Drop, Bytes, Save, Open}
+use Rattle.line_grammar.specs.declared.version.Version.TheVariants.{One, Two}
+use Rattle.line_grammar.specs.Versions.{is_two}
+use Rattle.line_grammar.specs.Sentences.{Assignment, Sentence, Value, Blank, Define, Mapping, View, Load, Assign, Update, Actors, Kernel, Reduce, Count, Copy, Relayout, Show, Drop, Bytes, Save, Open}
 use Rattle.line_grammar.specs.Tokens.{is_sign, is_word, number_of, string_of, comparison_of, kernel_word_of, reduction_of, command_of}
-use Rattle.line_grammar.specs.Grammar.{IsAssignment, IsBody, IsCommand, IsConst, IsFilter, IsKernel, IsKernelInside, IsLine, IsMode, IsNew}
+use Rattle.line_grammar.specs.Grammar.{IsAssignment, IsBody, IsCommand, IsConst, IsFilter, IsKernel, IsKernelInside, IsLine, IsMode, IsNew, IsUpdateEnd}
 use Rattle.line_phrases.specs.Constants.{const_at}
 use Rattle.line_phrases.specs.BasicsLaws.{AfterLevel, Not, anything, apart, behind_after, behind_not, count_parses, exact_sign, exact_word, name_parses, number_parses, starts_level}
 use Rattle.line_phrases.specs.FieldLaws.{fields_parses}
 use Rattle.line_phrases.specs.LevelsLaws.{comparison_levels, expr_parses}
 use Rattle.line_phrases.specs.Exprs.{means}
-use Rattle.line_phrases.specs.ListLaws.{AfterList, bracket_list_parses, extent_parses, fixed_parses, listed_parses}
+use Rattle.line_phrases.specs.ListLaws.{AfterList, bracket_list_parses, cuts_parses, extent_parses, fixed_parses, listed_parses}
 use Rattle.line_phrases.specs.MapLaws.{map_parses}
 use Rattle.line_phrases.specs.NestingLaws.{behind_kept, expr_alike, expr_wider, fields_alike, fields_wider, listed_alike, listed_wider, map_alike, map_wider}
 use Rattle.line_phrases.specs.PathsLaws.{path_parses}
 use Rattle.schema_lang.specs.Kernels.{axpy_at, clamp_at, count_where_at, inside_at, kernel_at}
-use Rattle.schema_lang.specs.Updates.{assignment_at, filter_at}
+use Rattle.schema_lang.specs.Updates.{actors_at, assignment_at, filter_at, update_end_at}
 use Rattle.schema_lang.specs.Bodies.{any_token, assign_at, body_at, bytes_at, command_at, copy_at, define_at, kernel_line_at, line_at, load_at, mapping_at, mode_at, new_at, open_at, reduce_at, relayout_at, update_at, view_at}
 use Rattle.schema_lang.proofs.Assignments.{AfterFilter, assignment_parses, filter_parses}
 
@@ -105,6 +107,24 @@ new_parses version p n = then_parses Always name_parses (λ name. behind_parses 
     (λ map. give_parses (Not OpenParen) (record { name = name; schema = schema; words = words; wrap = wrap; term = map })) (λ a ys v rest h after. rw h.0 after)))
     (λ a ys v rest h after. behind_starts (is_word (codes "wrap")) (Word (codes "as")) false refl _ ys v rest h)) (anything _ _)) (anything _ _))) (anything _ _)
 
+-- what ends an update, and that it goes on with no assignment
+update_end_parses : (version : Version) (view : List ℕ) (filter : Option Value) (sets : List Assignment) → Parses (IsUpdateEnd version view filter sets) (update_end_at version view filter sets) AtEnd
+unfolding update_end_at actors_at
+update_end_parses version view filter sets = which_parses (is_two version)
+    (either_parses (is_word (codes "actors"))
+    (behind_parses (exact_word (codes "actors")) (then_parses Always cuts_parses (λ cuts. behind_parses (exact_word (codes "schedule")) (then_parses Always count_parses (λ seed.
+    behind_parses (exact_word (codes "turns")) (then_parses Always count_parses (λ turns. give_parses AtEnd (Actors view filter sets cuts seed turns)) (anything _ _))) (anything _ _))) (anything _ _)))
+    (give_parses AtEnd (Update view filter sets))
+    (λ xs v rest h _. behind_starts (is_word (codes "actors")) (Word (codes "actors")) true refl _ xs v rest h)
+    (λ xs v rest h after. rw (h.0, after) refl))
+    (give_parses AtEnd (Update view filter sets))
+
+after_sets : (version : Version) (view : List ℕ) (filter : Option Value) (sets : List Assignment) (ys : List Token) (v : Sentence) (rest : List Token) → IsUpdateEnd version view filter sets ys v → AtEnd rest
+    → AfterList (AfterLevel 1) (ys ++ rest)
+after_sets One view filter sets ys v rest h after = ended_after (AfterList (AfterLevel 1)) (Update view filter) (refl, omega arith) sets ys v rest h after
+after_sets Two view filter sets ys v rest (inl h) after = (behind_not Comma (Word (codes "actors")) refl _ ys v rest h, behind_after 1 (Word (codes "actors")) (omega arith) _ ys v rest h)
+after_sets Two view filter sets ys v rest (inr h) after = ended_after (AfterList (AfterLevel 1)) (Update view filter) (refl, omega arith) sets ys v rest h after
+
 body_parses : (version : Version) (n : ℕ) (c : Command) → Parses (IsBody version n c) (body_at version n c) AtEnd
 unfolding body_at define_at mapping_at view_at load_at assign_at update_at kernel_line_at reduce_at copy_at relayout_at bytes_at open_at
 body_parses version n command.Record = then_parses Always name_parses (λ name. then_parses Always (fields_parses n) (λ fields. give_parses AtEnd (Define name (Record fields))) (anything _ _)) (anything _ _)
@@ -118,8 +138,8 @@ body_parses version n command.Set = then_parses Always name_parses (λ view. the
     (λ path. behind_parses (exact_sign Equals) (then_parses (AfterLevel 1) (expr_parses n) (λ value. give_parses AtEnd (Assign view index path value)) (ended_after (AfterLevel 1) (Assign view index path) (omega arith))))
     (λ a ys v rest h after. behind_after 6 (Signed Equals) (omega arith) _ ys v rest h))) (anything _ _)) (anything _ _)
 body_parses version n command.Update = then_parses Always name_parses (λ view. then_parses AfterFilter (filter_parses n)
-    (λ filter. behind_parses (exact_word (codes "set")) (then_parses (AfterList (AfterLevel 1)) (listed_parses (assignment_parses n) (λ us. omega arith)) (λ sets. give_parses AtEnd (Update view filter sets))
-    (ended_after (AfterList (AfterLevel 1)) (Update view filter) (refl, omega arith))))
+    (λ filter. behind_parses (exact_word (codes "set")) (then_parses (AfterList (AfterLevel 1)) (listed_parses (assignment_parses n) (λ us. omega arith))
+    (λ sets. update_end_parses version view filter sets) (after_sets version view filter)))
     (λ a ys v rest h after. (behind_starts (is_word (codes "where")) (Word (codes "set")) false refl _ ys v rest h, behind_after 1 (Word (codes "set")) (omega arith) _ ys v rest h))) (anything _ _)
 body_parses version n command.Kernel = then_parses Always name_parses (λ view. then_parses Always kernel_parses (λ kernel. behind_parses (exact_word (codes "lanes")) (then_parses Always count_parses (λ lanes. give_parses AtEnd (Kernel view kernel lanes)) (anything _ _))) (anything _ _)) (anything _ _)
 body_parses version n command.Reduce = then_parses Always name_parses (λ view. either_parses (is_word (codes "count"))

@@ -1,5 +1,5 @@
 -- A line that is read as the definition of a record has a record with fields.
-use Rattle.std.proofs.Common.{◌≡◌, ℕ, Bool, true, false, if◌then◌else◌, List, [], ◌∷◌, codes, Result, Ok, Err, refl, subst}
+use Rattle.std.proofs.Common.{◌≡◌, ℕ, Bool, true, false, if◌then◌else◌, List, [], ◌∷◌, codes, Option, Result, Ok, Err, refl, subst}
 use Rattle.phrases.specs.Ended.{ended, ended_at}
 use Rattle.phrases.specs.ParsesLaws.{ok_parts}
 use Rattle.phrases.specs.Reading.{◌>>=◌, behind_at, either_at, give_at, item_at, past, starts, then_at}
@@ -13,15 +13,16 @@ use Rattle.line_grammar.specs.declared.line.Line.{Line}
 use Rattle.line_grammar.specs.declared.line.Line.TheVariants as line
 use Rattle.line_grammar.specs.declared.token.Token.{Token}
 use Rattle.line_grammar.specs.declared.version.Version.{Version}
-use Rattle.line_grammar.specs.Sentences.{Sentence, sentence_of, Blank, Define, Mapping, View, Load, Assign, Update, Kernel, Reduce, Count, Copy, Relayout, Show, Drop, Bytes, Save, Open}
+use Rattle.line_grammar.specs.declared.version.Version.TheVariants.{One, Two}
+use Rattle.line_grammar.specs.Sentences.{Assignment, Sentence, Value, sentence_of, Blank, Define, Mapping, View, Load, Assign, Update, Actors, Kernel, Reduce, Count, Copy, Relayout, Show, Drop, Bytes, Save, Open}
 use Rattle.line_grammar.specs.Tokens.{is_sign, is_word, name_of, count_of, string_of, reduction_of, command_of}
 use Rattle.line_phrases.specs.Exprs.{expr_at}
 use Rattle.line_phrases.specs.Fields.{fields_at}
-use Rattle.line_phrases.specs.Lists.{bracket_list_at, extent_at, fixed_at, listed_at}
+use Rattle.line_phrases.specs.Lists.{bracket_list_at, cuts_at, extent_at, fixed_at, listed_at}
 use Rattle.line_phrases.specs.Maps.{map_at}
 use Rattle.line_phrases.specs.Paths.{path_at}
 use Rattle.schema_lang.specs.Kernels.{kernel_at}
-use Rattle.schema_lang.specs.Updates.{assignment_at, filter_at}
+use Rattle.schema_lang.specs.Updates.{actors_at, assignment_at, filter_at, update_end_at}
 use Rattle.schema_lang.specs.Bodies.{any_token, assign_at, body_at, bytes_at, command_at, copy_at, define_at, kernel_line_at, line_at, load_at, mapping_at, new_at, open_at, reduce_at, relayout_at, update_at, view_at}
 use Rattle.schema_lang.specs.Parsing.{IsWhole}
 
@@ -74,6 +75,14 @@ each_ended {read = read} each = record { all = λ tokens v rest e. of tokens v r
     of tokens v rest (Ok x) is e = of_rest v rest x.0 x.1 (each.all tokens x.0 x.1 is) e
     of tokens v rest (Err n) is e = absurd cc
 
+update_end_whole : (version : Version) (view : List ℕ) (filter : Option Value) (sets : List Assignment) → Each (update_end_at version view filter sets)
+unfolding update_end_at actors_at
+update_end_whole One view filter sets = each_give (Update view filter sets) tt
+update_end_whole Two view filter sets = each_either (is_word (codes "actors"))
+    (each_behind (is_word (codes "actors")) (each_then cuts_at (λ cuts. each_behind (is_word (codes "schedule")) (each_then (item_at count_of) (λ seed.
+    each_behind (is_word (codes "turns")) (each_then (item_at count_of) (λ turns. each_give (Actors view filter sets cuts seed turns) tt)))))))
+    (each_give (Update view filter sets) tt)
+
 body_whole : (version : Version) (n : ℕ) (word : Command) → Each (body_at version n word)
 unfolding body_at define_at mapping_at view_at load_at assign_at update_at kernel_line_at reduce_at copy_at relayout_at bytes_at open_at
 body_whole version n command.Record = each_then (item_at name_of) (λ name. each_then (fields_at n) (λ fields. each_give (Define name (Record fields)) tt))
@@ -82,8 +91,8 @@ body_whole version n command.View = each_then (new_at version fixed_at n) (λ ne
 body_whole version n command.Load = each_then (new_at version extent_at n) (λ new. each_behind (is_word (codes "from")) (each_then (item_at string_of) (λ file. each_give (Load new file) tt)))
 body_whole version n command.Set = each_then (item_at name_of) (λ view. each_then (bracket_list_at (item_at count_of)) (λ index. each_behind (is_sign Dot) (each_then path_at (λ path.
     each_behind (is_sign Equals) (each_then (expr_at n) (λ value. each_give (Assign view index path value) tt))))))
-body_whole version n command.Update = each_then (item_at name_of) (λ view. each_then (filter_at n) (λ filter. each_behind (is_word (codes "set")) (each_then (listed_at (assignment_at n)) (λ sets.
-    each_give (Update view filter sets) tt))))
+body_whole version n command.Update = each_then (item_at name_of) (λ view. each_then (filter_at n) (λ filter. each_behind (is_word (codes "set")) (each_then (listed_at (assignment_at n))
+    (update_end_whole version view filter))))
 body_whole version n command.Kernel = each_then (item_at name_of) (λ view. each_then kernel_at (λ kernel. each_behind (is_word (codes "lanes")) (each_then (item_at count_of) (λ lanes.
     each_give (Kernel view kernel lanes) tt))))
 body_whole version n command.Reduce = each_then (item_at name_of) (λ view. each_either (is_word (codes "count"))

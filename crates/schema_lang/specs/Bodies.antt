@@ -10,7 +10,7 @@ use Rattle.line_grammar.specs.declared.line.Command.{Command}
 use Rattle.line_grammar.specs.declared.line.Command.TheVariants as command
 use Rattle.line_grammar.specs.declared.token.Token.{Token}
 use Rattle.line_grammar.specs.declared.version.Version.{Version}
-use Rattle.line_grammar.specs.Sentences.{New, Sentence, Blank, Define, Mapping, View, Load, Assign, Update, Kernel, Reduce, Count, Copy, Relayout, Show, Drop, Bytes, Save, Open}
+use Rattle.line_grammar.specs.Sentences.{New, Sentence, Blank, Define, Mapping, View, Load, Assign, Kernel, Reduce, Count, Copy, Relayout, Show, Drop, Bytes, Save, Open}
 use Rattle.line_grammar.specs.Tokens.{is_sign, is_word, name_of, count_of, string_of, reduction_of, command_of}
 use Rattle.line_phrases.specs.Exprs.{expr_at}
 use Rattle.line_phrases.specs.Fields.{fields_at}
@@ -19,7 +19,7 @@ use Rattle.line_phrases.specs.Maps.{map_at}
 use Rattle.line_phrases.specs.Paths.{path_at}
 use Rattle.schema_lang.specs.declared.bodies.New as bodies
 use Rattle.schema_lang.specs.Kernels.{kernel_at}
-use Rattle.schema_lang.specs.Updates.{assignment_at, filter_at}
+use Rattle.schema_lang.specs.Updates.{assignment_at, filter_at, update_end_at}
 
 unfoldable pub define_at : ℕ → List Token → Result (Sentence × List Token) ℕ
 define_at n = then_at (item_at name_of) (λ name. then_at (fields_at n) (λ fields. give_at (Define name (Record fields))))
@@ -54,9 +54,9 @@ unfoldable pub assign_at : ℕ → List Token → Result (Sentence × List Token
 assign_at n = then_at (item_at name_of) (λ view. then_at (bracket_list_at (item_at count_of))
     (λ index. behind_at (is_sign Dot) (then_at path_at (λ path. behind_at (is_sign Equals) (then_at (expr_at n) (λ value. give_at (Assign view index path value)))))))
 
-unfoldable pub update_at : ℕ → List Token → Result (Sentence × List Token) ℕ
-update_at n = then_at (item_at name_of) (λ view. then_at (filter_at n)
-    (λ filter. behind_at (is_word (codes "set")) (then_at (listed_at (assignment_at n)) (λ sets. give_at (Update view filter sets)))))
+unfoldable pub update_at : Version → ℕ → List Token → Result (Sentence × List Token) ℕ
+update_at version n = then_at (item_at name_of) (λ view. then_at (filter_at n)
+    (λ filter. behind_at (is_word (codes "set")) (then_at (listed_at (assignment_at n)) (λ sets. update_end_at version view filter sets))))
 
 unfoldable pub kernel_line_at : List Token → Result (Sentence × List Token) ℕ
 kernel_line_at = then_at (item_at name_of) (λ view. then_at kernel_at (λ kernel. behind_at (is_word (codes "lanes")) (then_at (item_at count_of) (λ lanes. give_at (Kernel view kernel lanes)))))
@@ -85,7 +85,7 @@ body_at version n command.Mapping = mapping_at version n
 body_at version n command.View = view_at version n
 body_at version n command.Load = load_at version n
 body_at version n command.Set = assign_at n
-body_at version n command.Update = update_at n
+body_at version n command.Update = update_at version n
 body_at version n command.Kernel = kernel_line_at
 body_at version n command.Reduce = reduce_at n
 body_at version n command.Copy = copy_at

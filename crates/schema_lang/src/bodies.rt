@@ -12,8 +12,8 @@ use line_grammar::{
     Command, Count, ExtentWords, FileName, FirstCommand, Line, ReduceKind, Version,
 };
 use line_phrases::{
-    ReadError, Tokens, read_expr, read_extents, read_fields, read_fixed_extents, read_index,
-    read_map, read_path,
+    ReadError, Tokens, read_cuts, read_expr, read_extents, read_fields, read_fixed_extents,
+    read_index, read_map, read_path,
 };
 use line_tokens::Sign;
 use map_expr::MapExpr;
@@ -62,7 +62,7 @@ fn read_body(
         Command::View => read_view(alloc, version, room, tokens),
         Command::Load => read_load(alloc, version, room, tokens),
         Command::Set => read_assign(alloc, room, tokens),
-        Command::Update => read_update(alloc, room, tokens),
+        Command::Update => read_update(alloc, version, room, tokens),
         Command::Kernel => read_kernel_line(alloc, tokens),
         Command::Reduce => read_reduce(alloc, room, tokens),
         Command::Copy => read_copy(tokens),
@@ -233,15 +233,36 @@ fn read_assign(alloc: Global, room: usize, tokens: &mut Tokens) -> Result<Line, 
     })
 }
 
-#[tactic(auto, unfolding(crate::specs::Bodies::update_at))]
-fn read_update(alloc: Global, room: usize, tokens: &mut Tokens) -> Result<Line, ReadError>
-    ensures { Gives (λ x. (sentence_of x, tokens.new)) result (update_at room tokens.old) }
+#[tactic(auto, unfolding(crate::specs::Bodies::update_at, crate::specs::Updates::update_end_at, crate::specs::Updates::actors_at))]
+fn read_update(
+    alloc: Global,
+    version: Version,
+    room: usize,
+    tokens: &mut Tokens,
+) -> Result<Line, ReadError>
+    ensures { Gives (λ x. (sentence_of x, tokens.new)) result (update_at version room tokens.old) }
 {
     let view = tokens.item::<Name>()?;
     let filter = read_filter(alloc, room, tokens)?;
     tokens.word("set")?;
     let sets = read_sets(alloc, room, tokens)?;
-    Ok(Line::Update { view, filter, sets })
+    if !version.is_two() || !tokens.begins_word("actors") {
+        return Ok(Line::Update { view, filter, sets });
+    }
+    tokens.word("actors")?;
+    let cuts = read_cuts(alloc, tokens)?;
+    tokens.word("schedule")?;
+    let seed = tokens.item::<Count>()?;
+    tokens.word("turns")?;
+    let turns = tokens.item::<Count>()?;
+    Ok(Line::Actors {
+        view,
+        filter,
+        sets,
+        cuts,
+        seed,
+        turns,
+    })
 }
 
 #[tactic(auto, unfolding(crate::specs::Bodies::kernel_line_at))]

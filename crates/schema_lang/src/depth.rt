@@ -1,4 +1,4 @@
-ghost use Rattle.std.specs.Prelude.{◌≡◌, ◌≤◌, nat_le, map, List};
+ghost use Rattle.std.specs.Prelude.{◌≡◌, ◌≤◌, nat_le, map, option_map, List};
 ghost use Rattle.std.specs.List.{list_all};
 ghost use Rattle.expr_lang.specs.Terms.{depth_of, term_of};
 ghost use Rattle.line_grammar.specs.Sentences.{assignment_of, deepest, deepest_set, filter_depth, sentence_of};
@@ -15,16 +15,9 @@ pub(crate) fn is_shallow(line: &Line) -> bool
 {
     match line {
         Line::Assign { value, .. } => is_low(value),
-        Line::Update {
-            filter: Some(filter),
-            sets,
-            ..
-        } => is_low(filter) && are_low(sets.as_slice()),
-        Line::Update {
-            filter: None,
-            sets,
-            ..
-        } => are_low(sets.as_slice()),
+        Line::Update { filter, sets, .. } | Line::Actors { filter, sets, .. } => {
+            is_low_filter(filter) && are_low(sets.as_slice())
+        }
         Line::Count { filter, .. } => is_low(filter),
         _ => true,
     }
@@ -34,6 +27,15 @@ fn is_low(value: &Expr) -> bool
     ensures { result ≡ nat_le (depth_of (term_of value.now)) 32 }
 {
     value.depth() <= MAX_DEPTH
+}
+
+fn is_low_filter(filter: &Option<Expr>) -> bool
+    ensures { result ≡ nat_le (filter_depth (option_map term_of filter.now)) 32 }
+{
+    match filter {
+        None => true,
+        Some(filter) => is_low(filter),
+    }
 }
 
 #[tactic(auto, using(crate::proofs::Depths::low_first))]
