@@ -97,7 +97,7 @@ fn shared_out(alloc: Global, view: &View, words: &UpdateByActors<'_>) -> Result<
 
 // The cuts, where there are not too many, they do not fall, and none is over the number of rows.
 fn fit_cuts(view: &View, cuts: &[u32]) -> Result<ArrayVec<u64, 63>, StepFault>
-    ensures fit { Gives (λ wide. tt) result (refused_if (not (fit_cuts cuts.now (length view.now.rows))) (BadActors Cuts)) }
+    ensures fit { Gives (λ wide. tt) result (refused_if (not (fit_cuts cuts.now (length view.now.rows))) (CommandFault.BadActors BadActors.Cuts)) }
     ensures cuts { IfOk result (λ wide. wide.items ≡ cuts.now) }
 {
     if cuts.len() > MAX_CUTS || !are_cuts(cuts, view.extents().count()) {
@@ -122,7 +122,7 @@ fn are_cuts(cuts: &[u32], rows: u64) -> bool
 
 // That there are not too many turns.
 fn check_turns(turns: u32) -> Result<(), StepFault>
-    ensures { Gives (λ done. tt) result (refused_if (nat_lt (2 ^ 20) turns) (BadActors Turns)) }
+    ensures { Gives (λ done. tt) result (refused_if (nat_lt (2 ^ 20) turns) (CommandFault.BadActors BadActors.Turns)) }
 {
     if turns > MAX_TURNS {
         return Err(bad_actors(BadActors::Turns));
