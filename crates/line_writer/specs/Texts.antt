@@ -1,5 +1,5 @@
 -- The canonical text of a line: its canonical tokens with exactly one space between each two.
-use Rattle.std.specs.Prelude.{ℕ, List, [], ◌∷◌, ◌++◌, map}
+use Rattle.std.specs.Prelude.{ℕ, Bool, true, false, List, [], ◌∷◌, ◌++◌, map}
 use Rattle.std.specs.Fmt.{signed_decimal}
 use Rattle.std.specs.Str.{byte}
 use Rattle.line_tokens.specs.Signs.{spelling}
@@ -7,7 +7,7 @@ use Rattle.line_tokens.specs.Spelled.{Written, joined}
 use Rattle.line_tokens.specs.declared.token.TokenKind.TheVariants as kind
 use Rattle.line_grammar.specs.declared.token.Token.{Token}
 use Rattle.line_grammar.specs.declared.token.Token.TheVariants.{Word, Number, Text, Sign, Bad}
-use Rattle.line_grammar.specs.Sentences.{Sentence}
+use Rattle.line_grammar.specs.Sentences.{Sentence, Assign, Update, Actors, Kernel, Reduce, Count}
 use Rattle.line_writer.specs.Canonical.{line_tokens}
 
 -- a token with its bytes: a number has no leading zeros; no line has a bad token
@@ -26,3 +26,13 @@ canonical sentence = joined (map written (line_tokens sentence))
 abbrev pub behind : List ℕ → List Token → List ℕ
 behind text [] = text
 behind text (token ∷ tokens) = behind (text ++ byte " " ∷ (written token).bytes) tokens
+
+-- whether a line changes numbers in rows, or makes one number of them
+abbrev pub is_on_rows : Sentence → Bool
+is_on_rows (Assign view index path value) = true
+is_on_rows (Update view filter sets) = true
+is_on_rows (Actors view filter sets cuts seed turns) = true
+is_on_rows (Kernel view text lanes) = true
+is_on_rows (Reduce view kind path) = true
+is_on_rows (Count view filter) = true
+is_on_rows _ = false

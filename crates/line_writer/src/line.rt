@@ -1,8 +1,8 @@
-ghost use Rattle.std.specs.Prelude.{ℕ, List, ◌≡◌, ◌≤◌, [], IfOk, OnOk};
+ghost use Rattle.std.specs.Prelude.{ℕ, List, ◌≡◌, ◌≤◌, [], IfOk, IsTrue, OnOk};
 ghost use Rattle.line_grammar.specs.declared.version.Version.{Version};
 ghost use Rattle.line_grammar.specs.Sentences.{sentence_of, deepest};
 ghost use Rattle.line_grammar.specs.Reads.{Reads};
-ghost use Rattle.line_writer.specs.Texts.{canonical};
+ghost use Rattle.line_writer.specs.Texts.{canonical, is_on_rows};
 
 use crate::commands::{
     write_actors, write_assign, write_bytes, write_copy, write_count, write_define,
@@ -29,7 +29,7 @@ pub fn write_line(alloc: Global, line: &Line) -> Result<Text, NoMemory>
     Ok(text)
 }
 
-#[tactic(auto, using(crate::proofs::Behind::canonical_begun, crate::proofs::Behind::behind_append))]
+#[tactic(auto, using(crate::proofs::Behind::canonical_begun))]
 fn write_command(text: &mut Text, line: &Line) -> Result<(), NoMemory>
     requires { text.old ≡ [] }
     ensures { OnOk result (text.new ≡ canonical (sentence_of line.now)) }
@@ -52,6 +52,29 @@ fn write_command(text: &mut Text, line: &Line) -> Result<(), NoMemory>
             expr,
             file,
         } => write_load(text, name, schema, words, *wrap, expr, file),
+        Line::Copy { source, target } => write_copy(text, source, target),
+        Line::Relayout { view, expr } => write_relayout(text, view, expr),
+        Line::Drop(view) => write_named(text, Command::Drop, view),
+        Line::Bytes { view, blob } => write_bytes(text, view, *blob),
+        Line::SaveView(view) => write_named(text, Command::Save, view),
+        Line::OpenFile { name, file } => write_open(text, name, file),
+        Line::Blank => Ok(()),
+        // What is left shows something, or is on rows.
+        _ => match line.shown() {
+            Some((kind, view)) => write_named(text, Command::Show(kind), &view),
+            None => write_on_rows(text, line),
+        },
+    }
+}
+
+// A line that changes numbers in rows, or makes one number of them.
+#[tactic(auto, using(crate::proofs::Behind::canonical_begun, crate::proofs::Behind::behind_append))]
+fn write_on_rows(text: &mut Text, line: &Line) -> Result<(), NoMemory>
+    requires empty { text.old ≡ [] }
+    requires on_rows { IsTrue (is_on_rows (sentence_of line.now)) }
+    ensures { OnOk result (text.new ≡ canonical (sentence_of line.now)) }
+{
+    match line {
         Line::Assign {
             view,
             index,
@@ -77,16 +100,6 @@ fn write_command(text: &mut Text, line: &Line) -> Result<(), NoMemory>
         } => write_kernel_line(text, view, kernel, *lanes),
         Line::Reduce { view, kind, path } => write_reduce(text, view, *kind, path),
         Line::Count { view, filter } => write_count(text, view, filter),
-        Line::Copy { source, target } => write_copy(text, source, target),
-        Line::Relayout { view, expr } => write_relayout(text, view, expr),
-        Line::Drop(view) => write_named(text, Command::Drop, view),
-        Line::Bytes { view, blob } => write_bytes(text, view, *blob),
-        Line::SaveView(view) => write_named(text, Command::Save, view),
-        Line::OpenFile { name, file } => write_open(text, name, file),
-        // What is left shows something, or is blank.
-        _ => match line.shown() {
-            Some((kind, view)) => write_named(text, Command::Show(kind), &view),
-            None => Ok(()),
-        },
+        _ => unreachable!(),
     }
 }
