@@ -1,5 +1,5 @@
 -- After every schedule and what it left the bytes are those of the plain update.
-use Rattle.std.proofs.Common.{◌≡◌, ℕ, ◌<◌, ◌≤◌, ℤ, pos, List, [], length, map, get_or, Option, Ok, refl, sym, ap, ◌∙◌, subst, arith}
+use Rattle.std.proofs.Common.{◌≡◌, ℕ, ◌<◌, ℤ, List, [], length, map, get_or, Option, Ok, refl, sym, ap, ◌∙◌, subst, arith}
 use Rattle.std.proofs.lemmas.List.{length-map}
 use Rattle.expr_lang.specs.Terms.{Term}
 use Rattle.linearize.specs.Slots.{index_at}
@@ -13,10 +13,9 @@ use Rattle.piece_bits.specs.Tables.{HasShape, hold_at, table_in}
 use Rattle.kept_tables.specs.Modes.{kind_at, declared_table, Stays}
 use Rattle.kept_tables.specs.EntryLaws.{stays_kept}
 use Rattle.kept_tables.specs.ImageLaws.{image_table}
-use Rattle.views.specs.Tables.{Table, IsTable, owners_of, leaf_types_of, table_holds, leaf_count_of, answer_of, kept_of}
+use Rattle.views.specs.Tables.{Table, owners_of, leaf_types_of, table_holds, leaf_count_of, answer_of, kept_of}
 use Rattle.views.specs.AnswerLaws.{answer_stays}
 use Rattle.row_updates.specs.Rows.{Setting, updated_of}
-use Rattle.actor_steps.specs.Micro.{Job, row_of}
 use Rattle.actor_steps.specs.BytesOfLaws.{IsMemory}
 use Rattle.actor_steps.specs.HeldLaws.{digit_held, IsHeld}
 use Rattle.actor_steps.specs.RowLaws.{IsSound, IsWork, row_entries}
@@ -26,7 +25,7 @@ use Rattle.actor_steps.specs.UpdateLaws.{row_same, row_keeps, updated_at, update
 use Rattle.actor_steps.specs.ScheduleLaws.{none_left, held_after, memory_by-end}
 use Rattle.actor_steps.specs.Jobs.{job_of, memory_of, fresh_of, start_of}
 use Rattle.actor_steps.specs.Schedules.{run_by}
-use Rattle.actor_steps.specs.Agree.{IsLawful, IsParted, memory_by, SchedulesAgree, NothingIsLeft, UpdatesAreLawful, BytesAreRead, SchedulesKeepPadding}
+use Rattle.actor_steps.specs.Agree.{IsLawful, memory_by, SchedulesAgree, NothingIsLeft, UpdatesAreLawful, BytesAreRead, SchedulesKeepPadding}
 
 module _ (table : Table) (lawful : IsLawful table) where
   leaf_count : leaf_count_of table ≡ length (leaf_types_of table)

@@ -106,7 +106,8 @@ module _ {M S R : Type 0} (stored : S → M → R → M) (loaded : S → M → R
               (λ (l : length state.actors ≤ b). absurd (let bad : [] ≡ s ∷ rest = sym none ∙ ap (λ (x : Actor S R). x.rest) (sym (get_or_past state.actors b idle l)) ∙ e in let no : ⊥ = cc in no))
               (cases_lt b (length state.actors))
 
-          by_test : (t : Bool) → (b == a) ≡ t → (b ≡ a → ⊥) → (slice_index_or state.actors a idle).rest ≡ (if t then tail_of (slice_index_or state.actors a idle).rest else (slice_index_or state.actors a idle).rest)
+          by_test : (t : Bool) → (b == a) ≡ t → (b ≡ a → ⊥)
+              → (slice_index_or state.actors a idle).rest ≡ (if t then tail_of (slice_index_or state.actors a idle).rest else (slice_index_or state.actors a idle).rest)
           by_test true same other = absurd (other (eqb-true b a same))
           by_test false same other = refl
 
@@ -114,7 +115,8 @@ module _ {M S R : Type 0} (stored : S → M → R → M) (loaded : S → M → R
   schedule-rest [] state a = refl
   schedule-rest (b ∷ schedule) state a =
       schedule-rest schedule (turned stored loaded idle b state) a ∙ ap (without (times a schedule)) (turn-rest b state a) ∙ by_test (b == a) where
-        by_test : (t : Bool) → without (times a schedule) (if t then tail_of (rest_of state a) else rest_of state a) ≡ without (if t then suc (times a schedule) else times a schedule) (rest_of state a)
+        by_test : (t : Bool) → without (times a schedule) (if t then tail_of (rest_of state a) else rest_of state a)
+            ≡ without (if t then suc (times a schedule) else times a schedule) (rest_of state a)
         by_test true = refl
         by_test false = refl
 
@@ -125,7 +127,8 @@ times-replicate a b zero schedule = by_test (b == a) where
   by_test false = refl
 times-replicate a b (suc n) schedule =
     ap (λ (w : ℕ). if b == a then suc w else w) (times-replicate a b n schedule) ∙ by_test (b == a) where
-      by_test : (t : Bool) → (if t then suc (if t then n + times a schedule else times a schedule) else (if t then n + times a schedule else times a schedule)) ≡ (if t then suc n + times a schedule else times a schedule)
+      by_test : (t : Bool) → (if t then suc (if t then n + times a schedule else times a schedule) else (if t then n + times a schedule else times a schedule))
+          ≡ (if t then suc n + times a schedule else times a schedule)
       by_test true = omega arith
       by_test false = refl
 

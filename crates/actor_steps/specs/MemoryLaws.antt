@@ -56,9 +56,11 @@ zero_at n i =
 pub zeros-laid : (layout : List (List Owner)) → All (λ blob. length blob % 8 ≡ 0) layout → AreLaid layout (map (λ bytes. replicate bytes 0) (blob_lengths layout))
 zeros-laid layout whole = record {
   sized = zeros-sized layout whole;
-  padded = record { padding = λ b p pad.
-    ap (λ (w : List ℕ). bit_of w p) (get_or-map (λ bytes. replicate bytes 0) (blob_lengths layout) b 0)
-    ∙ ap (λ (w : ℕ). bit_at w (p % 8)) (zero_at (get_or (blob_lengths layout) b 0) (p / 8)) ∙ bit_at-zero (p % 8) };
+  padded = record {
+    padding = λ b p pad.
+        ap (λ (w : List ℕ). bit_of w p) (get_or-map (λ bytes. replicate bytes 0) (blob_lengths layout) b 0)
+        ∙ ap (λ (w : ℕ). bit_at w (p % 8)) (zero_at (get_or (blob_lengths layout) b 0) (p / 8)) ∙ bit_at-zero (p % 8);
+  };
 }
 
 module _ (layout : List (List Owner)) (whole : All (λ blob. length blob % 8 ≡ 0) layout) (rows : List (List ℤ)) where
