@@ -1,6 +1,6 @@
 -- The parts of an update by actors, and what is done by it.
 use Rattle.std.proofs.Common.{◌≡◌, ℕ, zero, suc, ◌+◌, ◌/◌, ◌%◌, ◌^◌, ◌<◌, ◌≤◌, Bool, true, false, ℤ, nat_le, List, [], ◌∷◌, ◌++◌, length, get_or, set, drop, map, Result, Ok, Err, refl, sym, ap, ◌∙◌, arith}
-use Rattle.std.specs.Prelude.{is_ok, ◌&&◌, ◌*◌, not, nat_lt, sum_by, slice_set, filter, Option, Some, None}
+use Rattle.std.specs.Prelude.{◌&&◌, ◌*◌, not, nat_lt, sum_by, slice_set, filter, Option, Some, None}
 use Rattle.std.proofs.Math.Path.{fun_ext}
 use Rattle.std.proofs.lemmas.Bool.{and_parts, leb-true}
 use Rattle.std.proofs.lemmas.Bool.Decides.{nat_tests}
@@ -27,7 +27,7 @@ use Rattle.expr_lang.specs.Terms.{Term}
 use Rattle.row_updates.specs.Logs.{update_log}
 use Rattle.views.specs.Tables.{Table, owners_of, after_log, after_stores}
 use Rattle.views.specs.Tallies.{Access, Read, Write}
-use Rattle.actors.specs.Faults.{reads_in, writes_in, reads, writes}
+use Rattle.actors.specs.Updates.{is_read as reads, is_write as writes, reads_in, writes_in}
 use Rattle.worlds.specs.Actors.{updated_by_actors, fit_cuts, shared, is_read, reads_first, memory_text}
 use Rattle.worlds.specs.Names.{bound_filter, bound_sets, each_once, leaves_of}
 use Rattle.worlds.specs.OnView.{Done, done_to}
@@ -138,10 +138,6 @@ pub acted_goes : (table : Table) (bound : Bindings) (cuts : List ℕ) (seed turn
     → done_to table (acted table bound cuts seed turns)
     ≡ Goes (left_with (after_stores table rows (reads_first (update_log table bound.test bound.settings (length table.rows)))) (memory_text (written_by table bound.test bound.settings cuts seed turns)))
 acted_goes table bound cuts seed turns rows is = rw is refl
-
-pub ok_value : {A E : Type 0} (result : Result A E) → is_ok result ≡ true → (x : A) × (result ≡ Ok x)
-ok_value (Ok x) is = (x, refl)
-ok_value (Err e) is = absurd (cc)
 
 -- one turn more of a schedule
 pub turn_more : (run : Run) (actors n x : ℕ) → after_turns (after_turns run ((next x / 65536) % actors ∷ [])) (entries actors n (next x)) ≡ after_turns run (entries actors (suc n) x)

@@ -1,16 +1,17 @@
 // `update V where .. set .. = .., .. actors [..] schedule S turns N`.
-ghost use Rattle.std.specs.Prelude.{◌≡◌, ◌<◌, ◌+◌, ◌^◌, true, is_ok, IfOk, IfErr, OnOk, length, map, filter, not, nat_lt, option_map};
+ghost use Rattle.std.specs.Prelude.{◌≡◌, ◌<◌, ◌+◌, ◌^◌, IfOk, IfErr, OnOk, length, map, not, nat_lt, option_map};
 ghost use Rattle.actor_steps.specs.Cuts.{AreCuts, actor_of, are_cuts};
 ghost use Rattle.actor_steps.specs.Schedules.{next, schedule_of};
 ghost use Rattle.actor_steps.specs.Shared.{shared_byte};
 ghost use Rattle.actors.specs.Runs.{uncounted, started_run, after_turns};
+ghost use Rattle.actors.specs.Updates.{IsUpdated, reads_in};
 ghost use Rattle.expr_lang.specs.Terms.{term_of};
 ghost use Rattle.layout_io.specs.Writing.{Writes};
 ghost use Rattle.line_grammar.specs.Sentences.{assignment_of};
 ghost use Rattle.row_updates.specs.Rows.{updated_of};
 ghost use Rattle.row_updates.specs.Logs.{update_log};
 ghost use Rattle.views.specs.Tables.{owners_of, after_log};
-ghost use Rattle.worlds.specs.Actors.{updated_by_actors, fit_cuts, shared, is_read, memory_text};
+ghost use Rattle.worlds.specs.Actors.{updated_by_actors, fit_cuts, shared, memory_text};
 ghost use Rattle.worlds.specs.OnView.{done_to};
 ghost use Rattle.worlds.specs.Outcomes.{Goes, ok_or, refused_by, refused_if};
 ghost use Rattle.worlds.specs.Show.{small};
@@ -187,8 +188,8 @@ fn started<'a, L: Ledger>(
 ) -> Result<ActorRun<'a>, StepFault>
     requires { IsTeamOf view.old team.now }
     ensures run { IfOk result (λ run. run ≡ started_run view.old (bindings_of team.now).test (bindings_of team.now).settings team.now.cuts.items) }
-    ensures goes { OnOk result (is_ok (updated_of view.old (bindings_of team.now).test (bindings_of team.now).settings (length view.old.rows)) ≡ true) }
-    ensures read { OnOk result (view.new ≡ after_log view.old (filter is_read
+    ensures updated { OnOk result (IsUpdated (updated_of view.old (bindings_of team.now).test (bindings_of team.now).settings (length view.old.rows))) }
+    ensures read { OnOk result (view.new ≡ after_log view.old (reads_in
         (update_log view.old (bindings_of team.now).test (bindings_of team.now).settings (length view.old.rows)))) }
     ensures refused { IfErr result (GivesUp (ok_or (update_fault view.old.fields)
         (updated_of view.old (bindings_of team.now).test (bindings_of team.now).settings (length view.old.rows)))) }

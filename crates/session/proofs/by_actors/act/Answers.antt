@@ -1,7 +1,6 @@
 use Rattle.std.proofs.Common.{rules, arith, ◌≡◌, ◌∙◌, ◌+◌, ℕ, List, ℤ, Err, length, refl, sym, ap, subst}
 use Rattle.actors.specs.Runs.{Run}
 use Rattle.places.specs.Layout.{Owner}
-use Rattle.row_updates.specs.Rows.{updated_of}
 use Rattle.row_updates.specs.Logs.{update_log}
 use Rattle.views.specs.Tables.{Table, owners_of, after_stores}
 use Rattle.worlds.specs.Actors.{memory_text, reads_first}
@@ -9,7 +8,7 @@ use Rattle.worlds.specs.OnView.{done_to}
 use Rattle.worlds.specs.Outcomes.{Goes}
 use Rattle.session.specs.Changes.{left_with}
 use Rattle.session.specs.Teams.{bindings_of, acted}
-use Rattle.session.proofs.Acting.{acted_goes, ok_value, has_turned, turned_count, stored_back}
+use Rattle.session.proofs.Acting.{acted_goes, has_turned, turned_count, stored_back}
 use Rattle.session.proofs.Views.{then_broke, then_wrote}
 use Rattle.session.proofs.by_actors.act.Goals as goal
 
@@ -28,7 +27,7 @@ returns-in_err-write_memory g c =
     let cuts = c.args.team.now.cuts.items in
     let actors : c.len.result + 1 ≡ length c.args.team.now.cuts.items + 1 = omega (arith, c.len.ensures.value) in
     let turned = has_turned table bound cuts c.args.seed c.args.turns _ _ _ c.in_ok-run.ensures.run actors c.take_turns.ensures in
-    let plain = ok_value (updated_of table bound.test bound.settings (length table.rows)) c.in_ok-run.ensures.goes in
+    let plain = c.in_ok-run.ensures.updated in
     let left = left_with (after_stores table plain.0 (reads_first (update_log table bound.test bound.settings (length table.rows)))) (memory_text c.take_turns.new.run.state.memory) in
     then_broke g.K.Sink.taken g.K.Sink.faults c.args.out.now c.write_memory.new.out c.started.new.view _ left _ (search rules)
     (rw turned.memory (acted_goes table bound cuts c.args.seed c.args.turns plain.0 plain.1)) c.in_err-write_memory.ensures
