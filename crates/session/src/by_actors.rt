@@ -147,10 +147,7 @@ fn check_apart(alloc: Global, view: &View, cuts: &[u64]) -> Result<(), StepFault
         Ok(()) => Ok(()),
         Err(CutFault::SharedByte { blob, byte }) => {
             let blob = blob as u64;
-            Err(StepFault::Command(CommandFault::SharedByte {
-                blob,
-                byte,
-            }))
+            Err(StepFault::Command(CommandFault::SharedByte { blob, byte }))
         }
         Err(CutFault::NoMemory) => Err(StepFault::NoMemory),
     }
