@@ -7,7 +7,7 @@ use Rattle.std.proofs.lemmas.List.{take-append-drop}
 use Rattle.std.proofs.lemmas.Slice.Eq.{bytes_eq-Decides}
 use Rattle.line_tokens.specs.Ends.{NoEnd}
 use Rattle.line_grammar.specs.Reads.{Reads, StopsAt}
-use Rattle.line_grammar.specs.Sentences.{Sentence, New, Blank, Define, Mapping, View, Load, Assign, Update, Kernel, Reduce, Count, Copy, Relayout, Show, Drop, Bytes, Save, Open, deepest}
+use Rattle.line_grammar.specs.Sentences.{Sentence, New, Blank, Define, Mapping, View, Load, Assign, Update, Actors, Kernel, Reduce, Count, Copy, Relayout, Show, Drop, Bytes, Save, Open, deepest}
 use Rattle.line_grammar.specs.declared.version.Version.{Version}
 use Rattle.line_grammar.specs.declared.version.Version.TheVariants.{Two}
 use Rattle.line_writer.specs.Texts.{canonical}
@@ -68,6 +68,7 @@ fields_are (Some (View new)) fields e = absurd (cc e)
 fields_are (Some (Load new file)) fields e = absurd (cc e)
 fields_are (Some (Assign view index path value)) fields e = absurd (cc e)
 fields_are (Some (Update view filter sets)) fields e = absurd (cc e)
+fields_are (Some (Actors view filter sets cuts seed turns)) fields e = absurd (cc e)
 fields_are (Some (Kernel view text lanes)) fields e = absurd (cc e)
 fields_are (Some (Reduce view kind path)) fields e = absurd (cc e)
 fields_are (Some (Count view filter)) fields e = absurd (cc e)
@@ -90,6 +91,7 @@ new_is (Some (Mapping name term)) new e = absurd (cc e)
 new_is (Some (Load found file)) new e = absurd (cc e)
 new_is (Some (Assign view index path value)) new e = absurd (cc e)
 new_is (Some (Update view filter sets)) new e = absurd (cc e)
+new_is (Some (Actors view filter sets cuts seed turns)) new e = absurd (cc e)
 new_is (Some (Kernel view text lanes)) new e = absurd (cc e)
 new_is (Some (Reduce view kind path)) new e = absurd (cc e)
 new_is (Some (Count view filter)) new e = absurd (cc e)

@@ -35,3 +35,4 @@ module _ (world other : World) (alike : AlikeWorlds world other) (term : MapTerm
   step_agree (line.Open name file) plain = open_agree world other alike false false name file files unread
   step_agree (line.Bytes name blob) plain = absurd (cc)
   step_agree (line.Save name) plain = absurd (cc)
+  step_agree (line.Actors name filter sets cuts seed turns) plain = absurd (cc)

@@ -1,7 +1,7 @@
 -- Lines that differ in their mapping expressions alone, and the texts that are lines.
 use Rattle.std.specs.Prelude.{ℕ, ◌≡◌, ◌≤◌, ⊤, Bool, true, false, List, [], ◌∷◌, length, Ok}
 use Rattle.map_expr.specs.Terms.{Term as MapTerm}
-use Rattle.line_grammar.specs.Sentences.{Sentence, Mapping, View, Load, Relayout, Show, Bytes, Save, deepest}
+use Rattle.line_grammar.specs.Sentences.{Sentence, Mapping, View, Load, Relayout, Show, Bytes, Save, Actors, deepest}
 use Rattle.line_grammar.specs.declared.line.ShowKind.TheVariants as show
 use Rattle.line_grammar.specs.declared.version.Version.{Version}
 use Rattle.schema_lang.specs.LineOf.{line_of}
@@ -26,6 +26,7 @@ shows_layout (Show show.Heat view) = true
 shows_layout (Show show.Layout view) = true
 shows_layout (Bytes view blob) = true
 shows_layout (Save view) = true
+shows_layout (Actors view filter sets cuts seed turns) = true
 shows_layout _ = false
 
 -- in a version of the language, the text is this line, and both are within the limits on lines

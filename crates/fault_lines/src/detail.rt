@@ -11,6 +11,8 @@ pub enum Detail<'a> {
     Count(u64),
     /// The number of a row, and the path text of a leaf.
     Place { row: u64, leaf: &'a str },
+    /// The number of a blob, and that of a byte in it.
+    Byte { blob: u64, byte: u64 },
     /// The text of a path.
     Path(&'a Path),
 }

@@ -62,6 +62,10 @@ fn put_detail<K: Sink>(
             ];
             buffer.put_parts(&parts, sink)
         }
+        Detail::Byte { blob, byte } => {
+            let parts = [Part::Count(blob), Part::Text(b" byte "), Part::Count(byte)];
+            buffer.put_parts(&parts, sink)
+        }
         Detail::Path(path) => put_path(path, buffer, sink),
     }
 }

@@ -1,13 +1,13 @@
 // The words of each fault.
 ghost use Rattle.std.specs.Prelude.{◌≡◌, [], ◌++◌, codes};
-ghost use Rattle.worlds.specs.FaultTexts.{fault_words, unknown_words, record_words, extents_words, mapping_words, kernel_words, file_words};
+ghost use Rattle.worlds.specs.FaultTexts.{fault_words, unknown_words, record_words, extents_words, mapping_words, kernel_words, file_words, actors_words};
 ghost use Rattle.fault_lines.specs.Details.{detail_text, place_text};
 
 use crate::detail::{Detail, Words};
 use extents::BadExtents;
 use map_expr::BadMapping;
 use record_dim::{BadRecord, Text};
-use worlds::{BadFile, BadKernel, CommandFault, UnknownName};
+use worlds::{BadActors, BadFile, BadKernel, CommandFault, UnknownName};
 
 /// The words of a fault.
 pub fn words_of(fault: &CommandFault) -> Words<'_>
@@ -37,6 +37,11 @@ pub fn words_of(fault: &CommandFault) -> Words<'_>
         CommandFault::BadMapping(bad) => words("BadMapping ", Detail::Text(mapping_words(*bad))),
         CommandFault::BadKernel(bad) => words("BadKernel ", Detail::Text(kernel_words(*bad))),
         CommandFault::BadFile(bad) => words("BadFile ", Detail::Text(file_words(*bad))),
+        CommandFault::BadActors(bad) => words("BadActors ", Detail::Text(actors_words(*bad))),
+        CommandFault::SharedByte { blob, byte } => {
+            let (blob, byte) = (*blob, *byte);
+            words("SharedByte blob ", Detail::Byte { blob, byte })
+        }
         CommandFault::ShortRow { row, leaf } => words("ShortRow record ", place(*row, leaf)),
         CommandFault::Number { row, leaf } => words("Number record ", place(*row, leaf)),
         CommandFault::Range { row, leaf } => words("Range record ", place(*row, leaf)),
@@ -144,5 +149,14 @@ fn file_words(bad: BadFile) -> &'static str
         BadFile::Layout => "Layout",
         BadFile::Length => "Length",
         BadFile::Contents => "Contents",
+    }
+}
+
+fn actors_words(bad: BadActors) -> &'static str
+    ensures { result.now ≡ actors_words bad }
+{
+    match bad {
+        BadActors::Cuts => "Cuts",
+        BadActors::Turns => "Turns",
     }
 }

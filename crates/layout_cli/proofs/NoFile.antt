@@ -3,22 +3,23 @@ use Rattle.std.proofs.Common.{◌≡◌, ℕ, Bool, true, false, List, [], ◌�
 use Rattle.std.specs.Prelude.{if◌then◌else◌}
 use Rattle.phrases.specs.Reading.{◌>>=◌, item_at, past, starts, item_or, then_at, give_at, behind_at, either_at}
 use Rattle.phrases.specs.Ended.{ended}
-use Rattle.line_grammar.specs.Sentences.{Sentence}
+use Rattle.line_grammar.specs.Sentences.{Sentence, Value, Assignment}
 use Rattle.line_grammar.specs.Sentences as line
 use Rattle.line_grammar.specs.Tokens.{is_sign, is_word, name_of, count_of, reduction_of, command_of}
 use Rattle.line_grammar.specs.declared.token.Token.{Token}
 use Rattle.line_grammar.specs.declared.line.Command.{Command}
 use Rattle.line_grammar.specs.declared.line.Command.TheVariants as command
 use Rattle.line_grammar.specs.declared.version.Version.{Version}
+use Rattle.line_grammar.specs.declared.version.Version.TheVariants.{One, Two}
 use Rattle.schema_lang.specs.Bodies.{line_at, command_at, body_at, define_at, mapping_at, new_at, view_at, assign_at, update_at, kernel_line_at, reduce_at, copy_at, relayout_at, bytes_at}
 use Rattle.line_tokens.specs.declared.sign.Sign.TheVariants.{Dot, Equals}
 use Rattle.line_phrases.specs.Exprs.{expr_at}
 use Rattle.line_phrases.specs.Fields.{fields_at}
-use Rattle.line_phrases.specs.Lists.{bracket_list_at, fixed_at, listed_at}
+use Rattle.line_phrases.specs.Lists.{bracket_list_at, cuts_at, fixed_at, listed_at}
 use Rattle.line_phrases.specs.Maps.{map_at}
 use Rattle.line_phrases.specs.Paths.{path_at}
 use Rattle.schema_lang.specs.Kernels.{kernel_at}
-use Rattle.schema_lang.specs.Updates.{assignment_at, filter_at}
+use Rattle.schema_lang.specs.Updates.{actors_at, assignment_at, filter_at, update_end_at}
 use Rattle.line_grammar.specs.Sentences.{file_of as file_in}
 
 -- whether the first of these tokens is the word of a command that reads a file
@@ -61,6 +62,14 @@ either test {read} {other} one two = record { reads = λ tokens. of_test (starts
   of_test true tokens = one.reads tokens
   of_test false tokens = two.reads tokens
 
+update_end_none : (version : Version) (view : List ℕ) (filter : Option Value) (sets : List Assignment) → NoneRead (update_end_at version view filter sets)
+unfolding update_end_at actors_at
+update_end_none One view filter sets = given _ refl
+update_end_none Two view filter sets = either (is_word (codes "actors"))
+    (behind (is_word (codes "actors")) (next cuts_at (λ cuts. behind (is_word (codes "schedule")) (next (item_at count_of) (λ seed.
+    behind (is_word (codes "turns")) (next (item_at count_of) (λ turns. given _ refl)))))))
+    (given _ refl)
+
 body_none : (version : Version) (n : ℕ) (c : Command) → is_reader (Some c) ≡ false → NoneRead (body_at version n c)
 unfolding body_at define_at mapping_at view_at assign_at update_at kernel_line_at reduce_at copy_at relayout_at bytes_at
 body_none version n command.Record other = next (item_at name_of) (λ name. next (fields_at n) (λ fields. given _ refl))
@@ -72,7 +81,7 @@ body_none version n command.Set other =
     next (item_at name_of) (λ name. next (bracket_list_at (item_at count_of)) (λ index. behind (is_sign Dot) (next path_at (λ path.
     behind (is_sign Equals) (next (expr_at n) (λ value. given _ refl))))))
 body_none version n command.Update other =
-    next (item_at name_of) (λ name. next (filter_at n) (λ filter. behind (is_word (codes "set")) (next (listed_at (assignment_at n)) (λ sets. given _ refl))))
+    next (item_at name_of) (λ name. next (filter_at n) (λ filter. behind (is_word (codes "set")) (next (listed_at (assignment_at n)) (update_end_none version name filter))))
 body_none version n command.Kernel other =
     next (item_at name_of) (λ name. next kernel_at (λ kernel. behind (is_word (codes "lanes")) (next (item_at count_of) (λ lanes. given _ refl))))
 body_none version n command.Reduce other = next (item_at name_of) (λ name. either (is_word (codes "count"))

@@ -38,6 +38,7 @@ use Rattle.worlds.specs.View.{view, new_table, named, Named}
 use Rattle.worlds.specs.Load.{load, loaded_table, loaded, filled, read, there}
 use Rattle.worlds.specs.OnView.{Done, with_table, on_view}
 use Rattle.worlds.specs.Assign.{assigned, inside}
+use Rattle.worlds.specs.Actors.{updated_by_actors}
 use Rattle.worlds.specs.Update.{updated}
 use Rattle.worlds.specs.Reduce.{reduction, reduced, counting, column}
 use Rattle.worlds.specs.Copy.{copy, relayout, with_rows, copied, laid_anew, all_read}
@@ -206,6 +207,15 @@ updated_reads table filter sets =
     next (once_reads table.fields [] (leaves_of settings)) (λ once.
     next (answered _ _) (λ rows. goes _))))
 
+by_actors_reads : (table : Table) (filter : Option Value) (sets : List line.Assignment) (cuts : List ℕ) (seed turns : ℕ) → IsReadable (updated_by_actors table filter sets cuts seed turns)
+unfolding updated_by_actors
+by_actors_reads table filter sets cuts seed turns =
+    next (filter_reads table.fields (length table.extents) filter) (λ test.
+    next (sets_reads table.fields (length table.extents) sets) (λ settings.
+    next (once_reads table.fields [] (leaves_of settings)) (λ once.
+    next (tested _ _) (λ fit. next (tested _ _) (λ few. next (tested _ _) (λ shown. next (caused _ _) (λ apart.
+    next (answered _ _) (λ rows. goes _))))))))
+
 reduced_reads : (kind : ReduceKind) (values : List ℤ) → IsReadable (reduced kind values)
 reduced_reads Sum values = goes _
 reduced_reads Min [] = faults _
@@ -337,6 +347,7 @@ step_reads world (line.View new) files dataset is = view_reads world new
 step_reads world (line.Load new file) files dataset is = load_reads world new file dataset files is
 step_reads world (line.Assign name index path value) files dataset is = view_works world name _ (λ table. assigned_reads table index path value)
 step_reads world (line.Update name filter sets) files dataset is = view_works world name _ (λ table. updated_reads table filter sets)
+step_reads world (line.Actors name filter sets cuts seed turns) files dataset is = view_works world name _ (λ table. by_actors_reads table filter sets cuts seed turns)
 step_reads world (line.Reduce name kind path) files dataset is = view_works world name _ (λ table. reduction_reads table kind path)
 step_reads world (line.Count name filter) files dataset is = view_works world name _ (λ table. counting_reads table filter)
 step_reads world (line.Kernel name kernel lanes) files dataset is = view_works world name _ (λ table. kernel_reads table kernel lanes)

@@ -16,7 +16,7 @@ use Rattle.line_grammar.specs.declared.version.Version.TheVariants.{Two}
 use Rattle.line_grammar.specs.declared.line.Command.{Command}
 use Rattle.line_grammar.specs.declared.line.Command.TheVariants as command
 use Rattle.line_grammar.specs.Tokens.{count_of}
-use Rattle.line_grammar.specs.Sentences.{Sentence, New, Blank, Define, Mapping, View, Load, Assign, Update, Kernel, Reduce, Count, Copy, Relayout, Show, Drop, Bytes, Save, Open}
+use Rattle.line_grammar.specs.Sentences.{Sentence, New, Blank, Define, Mapping, View, Load, Assign, Update, Actors, Kernel, Reduce, Count, Copy, Relayout, Show, Drop, Bytes, Save, Open}
 use Rattle.line_grammar.specs.Grammar.{Phrase, IsCount, IsListed, IsFixed, IsExtent, IsBracketList, IsFields, IsNew, IsBody, IsLine, IsSentence}
 use Rattle.line_writer.specs.Texts.{written}
 use Rattle.line_writer.proofs.Gives.{Each, each_append}
@@ -128,7 +128,9 @@ body_says n command.Load = says_joined (new_says n extents_low) (λ new said. sa
 body_says n command.Set = says_joined (says_any _) (λ view a. says_joined (says_any _) (λ index b. says_behind (Sign Dot) (says_joined (says_any _) (λ path c.
     says_behind (Sign Equals) (says_joined (says_any _) (λ value d. says_nothing IsSaid (Assign view index path value) tt))))))
 body_says n command.Update = says_joined (says_any _) (λ view a. says_joined (says_any _) (λ filter b. says_behind (Word (codes "set")) (says_joined (says_any _) (λ sets c.
-    says_nothing IsSaid (Update view filter sets) tt))))
+    says_either (says_behind (Word (codes "actors")) (says_joined (says_any _) (λ cuts d. says_behind (Word (codes "schedule")) (says_joined (says_any _) (λ seed e.
+    says_behind (Word (codes "turns")) (says_joined (says_any _) (λ turns f. says_nothing IsSaid (Actors view filter sets cuts seed turns) tt)))))))
+    (says_nothing IsSaid (Update view filter sets) tt)))))
 body_says n command.Kernel = says_joined (says_any _) (λ view a. says_joined (says_any _) (λ text b. says_behind (Word (codes "lanes")) (says_joined (says_any _) (λ lanes c.
     says_nothing IsSaid (Kernel view text lanes) tt))))
 body_says n command.Reduce = says_joined (says_any _) (λ view a. says_either

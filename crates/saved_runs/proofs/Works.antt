@@ -1,6 +1,6 @@
 -- A command on one view leaves rows that the view may hold.
 use Rattle.std.proofs.Common.{ℕ, ◌<◌, ◌≤◌, List, [], length, get_or, Option, Some, None}
-use Rattle.std.specs.Prelude.{nat_le}
+use Rattle.std.specs.Prelude.{◌^◌, not, nat_le, nat_lt}
 use Rattle.extents.specs.Indices.{indices}
 use Rattle.record_dim.specs.declared.path.PathStep.{PathStep}
 use Rattle.record_dim.specs.Leaves.{kinds_of}
@@ -14,11 +14,14 @@ use Rattle.line_grammar.specs.declared.line.ReduceKind.{ReduceKind}
 use Rattle.line_grammar.specs.declared.line.ShowKind.{ShowKind}
 use Rattle.line_grammar.specs.declared.line.ShowKind.TheVariants as show
 use Rattle.lane_kernels.specs.Kernels.{kernel_fault}
-use Rattle.row_updates.specs.Rows.{updated_rows, counted}
-use Rattle.views.specs.Tables.{Table, answer_of, kept_of}
+use Rattle.actor_steps.specs.Cuts.{actor_of}
+use Rattle.actor_steps.specs.Shared.{shared_byte}
+use Rattle.row_updates.specs.Rows.{updated_rows, updated_of, counted}
+use Rattle.views.specs.Tables.{Table, owners_of, answer_of, kept_of}
 use Rattle.blob_file.specs.Files.{AreRows}
 use Rattle.blob_file.specs.Saving.{header_of}
 use Rattle.blob_file.specs.Statements.{HoldsBits}
+use Rattle.worlds.specs.Actors.{updated_by_actors, fit_cuts, shared}
 use Rattle.worlds.specs.Assign.{assigned, inside}
 use Rattle.worlds.specs.Files.{save, is_long}
 use Rattle.worlds.specs.Kernel.{kernel_run, fit_kernel, run_fault}
@@ -30,7 +33,8 @@ use Rattle.worlds.specs.Show.{print, counts, heat, layout, bytes, showing, small
 use Rattle.worlds.specs.Step.{work_of}
 use Rattle.worlds.specs.Update.{updated, update_fault}
 use Rattle.worlds.specs.Values.{value_on, storable, store_fault}
-use Rattle.worlds.specs.declared.fault.CommandFault.TheVariants.{BadIndex, NotCounted, TooBig}
+use Rattle.worlds.specs.declared.fault.BadActors.TheVariants.{Cuts, Turns}
+use Rattle.worlds.specs.declared.fault.CommandFault.TheVariants.{BadActors, BadIndex, NotCounted, TooBig}
 use Rattle.equal_runs.proofs.Logs.{IfGoes, to, bind}
 use Rattle.saved_runs.specs.SavedRuns.{IsSavable}
 use Rattle.saved_runs.proofs.Went.{answered}
@@ -72,6 +76,20 @@ module _ (holds_bits : HoldsBits) (table : Table) (good : IsSavable table) where
       bind Keeps (ok_or (update_fault table.fields) (updated_rows (answer_of table) (kept_of table) test settings table.extents table.rows (length table.rows))) _ (λ rows d.
       to _ (update_stays (header_of table) wide test settings table.extents table.rows rows good.rows (answered (update_fault table.fields) _ rows d))))))
 
+  -- the rows are those of the plain update
+  by_actors_keeps : (filter : Option Value) (sets : List Assignment) (cuts : List ℕ) (seed turns : ℕ) → IfGoes Keeps (updated_by_actors table filter sets cuts seed turns)
+  unfolding updated_by_actors
+  by_actors_keeps filter sets cuts seed turns =
+      bind Keeps (bound_filter table.fields (length table.extents) filter) _ (λ test a.
+      bind Keeps (bound_sets table.fields (length table.extents) sets) _ (λ settings b.
+      bind Keeps (each_once table.fields [] (leaves_of settings)) _ (λ once c.
+      bind Keeps (refused_if (not (fit_cuts cuts (length table.rows))) (BadActors Cuts)) _ (λ fit d.
+      bind Keeps (refused_if (nat_lt (2 ^ 20) turns) (BadActors Turns)) _ (λ few e.
+      bind Keeps (small table) _ (λ shown f.
+      bind Keeps (refused_by shared (shared_byte (owners_of table) (actor_of cuts))) _ (λ apart g.
+      bind Keeps (ok_or (update_fault table.fields) (updated_of table test settings (length table.rows))) _ (λ rows h.
+      to _ (update_stays (header_of table) wide test settings table.extents table.rows rows good.rows (answered (update_fault table.fields) _ rows h))))))))))
+
   kernel_keeps : (text : KernelText) (lanes : ℕ) → IfGoes Keeps (kernel_run table text lanes)
   unfolding kernel_run
   kernel_keeps text lanes =
@@ -110,6 +128,7 @@ module _ (holds_bits : HoldsBits) (table : Table) (good : IsSavable table) where
   pub work_keeps : (sentence : Sentence) → WorkKeeps table (work_of sentence)
   work_keeps (line.Assign name index path value) = assigned_keeps index path value
   work_keeps (line.Update name filter sets) = updated_keeps filter sets
+  work_keeps (line.Actors name filter sets cuts seed turns) = by_actors_keeps filter sets cuts seed turns
   work_keeps (line.Kernel name text lanes) = kernel_keeps text lanes
   work_keeps (line.Reduce name kind path) = reduction_keeps kind path
   work_keeps (line.Count name filter) = counting_keeps filter

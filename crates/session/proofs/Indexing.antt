@@ -66,7 +66,7 @@ then_same (Faults fault) f g h k same = refl
 then_same (CannotRead name) f g h k same = refl
 
 -- a table that is read and then stored in
-read_stored : (table : Table) (rows : List (List ℤ)) (log more : List Access) → after_stores table rows (log ++ more) ≡ after_stores (after_log table log) rows more
+pub read_stored : (table : Table) (rows : List (List ℤ)) (log more : List Access) → after_stores table rows (log ++ more) ≡ after_stores (after_log table log) rows more
 read_stored table rows log more = ap (λ (tally : Tally). record table { rows = rows; tally = tally }) (sym (tallied-append (owners_of table) table.tally log more))
 
 -- the value of an expression goes into a leaf of the row of an index

@@ -1,3 +1,4 @@
+pub mod Acting
 pub mod Exits
 pub mod Views
 pub mod Named

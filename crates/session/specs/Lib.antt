@@ -6,3 +6,4 @@ pub mod Bounds
 pub mod Columns
 pub mod LoadsLaws
 pub mod Opens
+pub mod Teams

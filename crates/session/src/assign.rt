@@ -101,14 +101,14 @@ fn bad_index() -> StepFault
     StepFault::Command(CommandFault::BadIndex)
 }
 
-// The index with wider components.
-fn widened(index: &[u32]) -> ArrayVec<u64, 4>
-    requires { length index.now ≤ 4 }
-    ensures { result.items ≡ index.now }
+/// The same numbers, wider.
+pub fn widened<const N: usize>(numbers: &[u32]) -> ArrayVec<u64, N>
+    requires { length numbers.now ≤ N }
+    ensures { result.items ≡ numbers.now }
 {
     let mut wide = ArrayVec::new();
-    for component in index {
-        wide.push(u64::from(*component));
+    for number in numbers {
+        wide.push(u64::from(*number));
     }
     wide
 }

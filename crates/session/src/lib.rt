@@ -2,6 +2,7 @@
 #![tactic(auto)]
 
 mod assign;
+mod by_actors;
 mod copy;
 mod define;
 mod faults;
@@ -19,10 +20,10 @@ mod update;
 mod view;
 mod work;
 
+pub use actors::{Assign, UpdateFault, UpdateKind, update_rows};
 pub use command_checks::{
     MappingEntry, MappingList, RecordEntry, RecordList, StepFault, ViewEntry, ViewList,
 };
 pub use fault_lines::write_fault;
-pub use row_updates::{Assign, UpdateFault, UpdateKind, update_rows};
 pub use session::Session;
-pub use worlds::{BadFile, BadKernel, CommandFault, UnknownName};
+pub use worlds::{BadActors, BadFile, BadKernel, CommandFault, UnknownName};

@@ -8,6 +8,7 @@ ghost use Rattle.worlds.specs.Step.{step, command};
 ghost use Rattle.worlds.specs.Worlds.{empty, found};
 
 use crate::assign::Assign;
+use crate::by_actors::UpdateByActors;
 use crate::kernel::RunKernel;
 use crate::reduce::{Count, Reduce};
 use crate::save::Save;
@@ -125,6 +126,23 @@ impl Session {
             } => self.on_view(*view, &Assign { index, path, value }, out, steps),
             Line::Update { view, filter, sets } => {
                 self.on_view(*view, &Update { filter, sets }, out, steps)
+            }
+            Line::Actors {
+                view,
+                filter,
+                sets,
+                cuts,
+                seed,
+                turns,
+            } => {
+                let work = UpdateByActors {
+                    filter,
+                    sets,
+                    cuts,
+                    seed,
+                    turns,
+                };
+                self.on_view(*view, &work, out, steps)
             }
             Line::Kernel {
                 view,

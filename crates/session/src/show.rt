@@ -155,8 +155,8 @@ fn shown(view: &View, blob: u32) -> Result<&Blob, StepFault>
     Ok(view.blob(blob))
 }
 
-// That the blobs of a view are small enough to be shown.
-fn check_small(view: &View) -> Result<(), StepFault>
+/// That the blobs of a view are small enough to be shown.
+pub fn check_small(view: &View) -> Result<(), StepFault>
     ensures { Gives (λ done. tt) result (small view.now) }
 {
     if view.blob_bytes() > MAX_SHOWN_BYTES {

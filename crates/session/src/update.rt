@@ -85,7 +85,8 @@ fn update_all<L: Ledger>(
     }
 }
 
-fn bound_filter(
+/// The filter, where there is one.
+pub fn bound_filter(
     alloc: Global,
     view: &View,
     filter: &Option<Expr>,
@@ -103,8 +104,8 @@ fn bound_filter(
     }
 }
 
-// The leaves that are set, and their new values.
-fn bound_sets(alloc: Global, view: &View, sets: &[SetText]) -> Result<Vec<Assign>, StepFault>
+/// The leaves that are set, and their new values.
+pub fn bound_sets(alloc: Global, view: &View, sets: &[SetText]) -> Result<Vec<Assign>, StepFault>
     ensures sets { Gives (λ bound. map setting_of bound.items) result
         (bound_sets view.now.fields (length view.now.extents) (map assignment_of sets.now)) }
     ensures over { IfOk result (λ bound. All (IsSetOf view.now) bound.items) }
@@ -126,8 +127,8 @@ fn bound_set(alloc: Global, view: &View, set: &SetText) -> Result<Assign, StepFa
     Ok(Assign { leaf, value })
 }
 
-// That no leaf is set a second time.
-fn each_once(alloc: Global, view: &View, sets: &[Assign]) -> Result<(), StepFault>
+/// That no leaf is set a second time.
+pub fn each_once(alloc: Global, view: &View, sets: &[Assign]) -> Result<(), StepFault>
     requires { All (IsSetOf view.now) sets.now }
     ensures once { Gives (λ done. tt) result (each_once view.now.fields [] (leaves_of (map setting_of sets.now))) }
     ensures few { OnOk result (length sets.now ≤ 64) }

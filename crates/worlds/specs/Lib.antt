@@ -18,5 +18,6 @@ pub mod Copy
 pub mod Kernel
 pub mod Show
 pub mod Files
+pub mod Actors
 pub mod Step
 pub mod FaultTexts

@@ -11,6 +11,7 @@ use Rattle.worlds.specs.View.{view}
 use Rattle.worlds.specs.Load.{load}
 use Rattle.worlds.specs.Assign.{assigned}
 use Rattle.worlds.specs.Update.{updated}
+use Rattle.worlds.specs.Actors.{updated_by_actors}
 use Rattle.worlds.specs.Reduce.{reduction, counting}
 use Rattle.worlds.specs.Copy.{copy, relayout}
 use Rattle.worlds.specs.Kernel.{kernel_run}
@@ -21,6 +22,7 @@ use Rattle.worlds.specs.Files.{save, open_view}
 abbrev pub work_of : line.Sentence → Option Work
 work_of (line.Assign name index path value) = Some (record { view = name; does = λ table. assigned table index path value })
 work_of (line.Update name filter sets) = Some (record { view = name; does = λ table. updated table filter sets })
+work_of (line.Actors name filter sets cuts seed turns) = Some (record { view = name; does = λ table. updated_by_actors table filter sets cuts seed turns })
 work_of (line.Kernel name text lanes) = Some (record { view = name; does = λ table. kernel_run table text lanes })
 work_of (line.Reduce name kind path) = Some (record { view = name; does = λ table. reduction table kind path })
 work_of (line.Count name filter) = Some (record { view = name; does = λ table. counting table filter })

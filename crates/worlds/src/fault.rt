@@ -42,6 +42,9 @@ pub enum CommandFault {
     BadMapping(BadMapping),
     BadKernel(BadKernel),
     BadFile(BadFile),
+    BadActors(BadActors),
+    /// The byte holds bits of rows of two actors.
+    SharedByte { blob: u64, byte: u64 },
     /// The row of the dataset has no field in the leaf's column.
     ShortRow { row: u64, leaf: Text },
     /// The field of the dataset is no number.
@@ -68,6 +71,15 @@ pub enum BadFile {
     Length,
     /// They are not the image of rows that such a view may hold.
     Contents,
+}
+
+/// Why rows are not shared out among actors.
+#[derive(Clone, Copy)]
+pub enum BadActors {
+    /// There are more than 63 cuts, they fall somewhere, or one is over the number of rows.
+    Cuts,
+    /// There are more than 2^20 turns.
+    Turns,
 }
 
 /// A name, a path or an index that names nothing.

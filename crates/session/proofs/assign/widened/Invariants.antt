@@ -1,5 +1,5 @@
 use Rattle.std.proofs.Common.{◌≡◌, take}
 use Rattle.session.proofs.assign.widened.Given as goal
 
-abbrev pub invariant-loop-component : goal.invariant-loop-component
-invariant-loop-component l = l.wide.items ≡ take l.component-index l.index
+abbrev pub invariant-loop-number : goal.invariant-loop-number
+invariant-loop-number g l = l.wide.items ≡ take l.number-index l.numbers

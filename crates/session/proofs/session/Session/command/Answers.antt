@@ -37,6 +37,10 @@ pub returns-in-Update-clause-answers : goal.returns-in-Update-clause-answers
 returns-in-Update-clause-answers g c = λ files unread.
     line_shows g.K.Sink.taken g.K.Sink.faults c.args.out.now c.on_view-in-Update.new.out (world_of c.args.self) c.args.line.now _ files unread c.on_view-in-Update.result c.in-Update.is c.on_view-in-Update.ensures.answers
 
+pub returns-in-Actors-clause-answers : goal.returns-in-Actors-clause-answers
+returns-in-Actors-clause-answers g c = λ files unread.
+    line_shows g.K.Sink.taken g.K.Sink.faults c.args.out.now c.on_view-in-Actors.new.out (world_of c.args.self) c.args.line.now _ files unread c.on_view-in-Actors.result c.in-Actors.is c.on_view-in-Actors.ensures.answers
+
 pub returns-in-Kernel-clause-answers : goal.returns-in-Kernel-clause-answers
 returns-in-Kernel-clause-answers g c = λ files unread.
     line_shows g.K.Sink.taken g.K.Sink.faults c.args.out.now c.on_view-in-Kernel.new.out (world_of c.args.self) c.args.line.now _ files unread c.on_view-in-Kernel.result c.in-Kernel.is c.on_view-in-Kernel.ensures.answers

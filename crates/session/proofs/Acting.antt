@@ -1,0 +1,236 @@
+-- The parts of an update by actors, and what is done by it.
+use Rattle.std.proofs.Common.{◌≡◌, ℕ, zero, suc, ◌+◌, ◌/◌, ◌%◌, ◌^◌, ◌<◌, ◌≤◌, Bool, true, false, ℤ, nat_le, List, [], ◌∷◌, ◌++◌, length, get_or, set, drop, map, Result, Ok, Err, refl, sym, ap, ◌∙◌, arith}
+use Rattle.std.specs.Prelude.{◌&&◌, ◌*◌, not, nat_lt, sum_by, slice_set, filter, Option, Some, None}
+use Rattle.std.proofs.Math.Path.{fun_ext}
+use Rattle.std.proofs.lemmas.Bool.{and_parts, leb-true}
+use Rattle.std.proofs.lemmas.Bool.Decides.{nat_tests}
+use Rattle.std.proofs.lemmas.List.{length-map, length-set, ext_get_or}
+use Rattle.std.proofs.lemmas.List.FromFn.{get_or-map-range_with_len, length-map-range_with_len}
+use Rattle.std.proofs.Math.Seq.{drop-cons}
+use Rattle.actors.specs.Runs.{Run, uncounted, started_run, after_turns}
+use Rattle.actor_steps.specs.Confluence.{Actor, State, moved, turned, scheduled}
+use Rattle.actor_steps.specs.Cuts.{AreCuts, actor_of, are_cuts}
+use Rattle.actor_steps.specs.CutsLaws.{are_cuts-are}
+use Rattle.actor_steps.specs.declared.place.Place.{Place}
+use Rattle.actor_steps.specs.Jobs.{memory_of, written_by, start_of, job_of, fresh_of}
+use Rattle.actor_steps.specs.Micro.{Job, Micro, Fetch, Load, Store, Registers, stored, loaded, with_bits_of, value_on, row_in}
+use Rattle.actor_steps.specs.Schedules.{next, entries, schedule_of, idle_with, run_by}
+use Rattle.actor_steps.specs.Shared.{shared_byte}
+use Rattle.line_grammar.specs.Sentences.{Value, Assignment}
+use Rattle.places.specs.Image.{image, bit_held}
+use Rattle.places.specs.NumbersLaws.{number_same}
+use Rattle.blobs.specs.Bits.{bit_of, bits_of, AreBytes}
+use Rattle.blobs.specs.BytesLaws.{number_of_byte}
+use Rattle.instrument.specs.BlobTexts.{byte_at, bytes_of}
+use Rattle.row_updates.specs.Rows.{Setting, updated_of}
+use Rattle.expr_lang.specs.Terms.{Term}
+use Rattle.row_updates.specs.Logs.{update_log}
+use Rattle.views.specs.Tables.{Table, owners_of, after_log, after_stores}
+use Rattle.views.specs.Tallies.{Access, Read, Write}
+use Rattle.actors.specs.Updates.{is_read as reads, is_write as writes, reads_in, writes_in}
+use Rattle.worlds.specs.Actors.{updated_by_actors, fit_cuts, shared, is_read, reads_first, memory_text}
+use Rattle.worlds.specs.Names.{bound_filter, bound_sets, each_once, leaves_of}
+use Rattle.worlds.specs.OnView.{Done, done_to}
+use Rattle.worlds.specs.Outcomes.{Outcome, Goes, Faults, CannotRead, ◌>>=◌, refused_if, refused_by}
+use Rattle.worlds.specs.Show.{small}
+use Rattle.worlds.specs.declared.fault.BadActors.TheVariants.{Cuts, Turns}
+use Rattle.worlds.specs.declared.fault.CommandFault.TheVariants.{BadActors, TooBig}
+use Rattle.session.specs.Changes.{left_with}
+use Rattle.session.specs.Teams.{Bindings, shared_out, acted}
+use Rattle.session.proofs.Indexing.{read_stored}
+
+-- cuts from one of them on: it falls, or it is the next that the others may not fall below
+pub cuts_stop : (cuts : List ℕ) (i from rows : ℕ) → i < length cuts → get_or cuts i 0 < from → are_cuts from (drop i cuts) rows ≡ false
+cuts_stop cuts i from rows small low =
+    let falls : nat_le from (get_or cuts i 0) ≡ false = grind (arith, nat_tests) in
+    rw (drop-cons cuts i 0 small, falls) refl
+
+pub cuts_more : (cuts : List ℕ) (i from rows : ℕ) → i < length cuts → from ≤ get_or cuts i 0 → are_cuts from (drop i cuts) rows ≡ are_cuts (get_or cuts i 0) (drop (suc i) cuts) rows
+cuts_more cuts i from rows small high =
+    let rises : nat_le from (get_or cuts i 0) ≡ true = grind (arith, nat_tests) in
+    rw (drop-cons cuts i 0 small, rises) refl
+
+-- cuts that pass
+of_fit : (test : Bool) → refused_if (not test) (BadActors Cuts) ≡ Goes tt → test ≡ true
+of_fit true is = refl
+of_fit false is = absurd (cc)
+
+pub cuts_fit : (cuts : List ℕ) (rows : ℕ) → refused_if (not (fit_cuts cuts rows)) (BadActors Cuts) ≡ Goes tt → AreCuts 0 cuts rows × (length cuts ≤ 63)
+cuts_fit cuts rows is =
+    let both = and_parts (nat_le (length cuts) 63) (are_cuts 0 cuts rows) (of_fit (fit_cuts cuts rows) is) in
+    (are_cuts-are 0 cuts rows both.1, leb-true (length cuts) 63 both.0)
+
+-- a table that is small
+pub small_few : (table : Table) → small table ≡ Goes tt → sum_by length (owners_of table) ≤ 8 * 65536
+small_few table is = of_test (nat_lt (8 * 65536) (sum_by length (owners_of table))) refl is where
+  of_test : (test : Bool) → nat_lt (8 * 65536) (sum_by length (owners_of table)) ≡ test → refused_if test TooBig ≡ Goes tt → sum_by length (owners_of table) ≤ 8 * 65536
+  of_test true e is = absurd (cc)
+  of_test false e is = grind (arith, nat_tests)
+
+-- no byte is shared
+pub none_shared : (cause : Option Place) → refused_by shared cause ≡ Goes tt → cause ≡ None
+none_shared None is = refl
+none_shared (Some place) is = absurd (cc)
+
+-- one thing after another, in two parts
+in_parts : {A B C : Type 0} (x : Outcome A) (f : A → Outcome C) (first : A → Outcome B) (rest : B → Outcome C) → ((a : A) → f a ≡ (first a >>= rest)) → (x >>= f) ≡ ((x >>= first) >>= rest)
+in_parts (Goes a) f first rest same = same a
+in_parts (Faults fault) f first rest same = refl
+in_parts (CannotRead name) f first rest same = refl
+
+-- what comes behind each test, up to the values of the rows, and with them
+module _ (table : Table) (cuts : List ℕ) (seed turns : ℕ) where
+  abbrev apart : Outcome (Unit {0})
+  apart = refused_by shared (shared_byte (owners_of table) (actor_of cuts))
+
+  abbrev few : Outcome (Unit {0})
+  few = refused_if (nat_lt (2 ^ 20) turns) (BadActors Turns)
+
+  abbrev fit : Outcome (Unit {0})
+  fit = refused_if (not (fit_cuts cuts (length table.rows))) (BadActors Cuts)
+
+  abbrev once : List Setting → Outcome (Unit {0})
+  once settings = each_once table.fields [] (leaves_of settings)
+
+  module _ {B : Type 0} (last : Option (Term ℕ) → List Setting → Outcome B) where
+    abbrev behind_small : Option (Term ℕ) → List Setting → Outcome B
+    behind_small test settings = apart >>= (λ a. last test settings)
+
+    abbrev behind_few : Option (Term ℕ) → List Setting → Outcome B
+    behind_few test settings = small table >>= (λ a. behind_small test settings)
+
+    abbrev behind_fit : Option (Term ℕ) → List Setting → Outcome B
+    behind_fit test settings = few >>= (λ a. behind_few test settings)
+
+    abbrev behind_once : Option (Term ℕ) → List Setting → Outcome B
+    behind_once test settings = fit >>= (λ a. behind_fit test settings)
+
+    abbrev behind_sets : Option (Term ℕ) → List Setting → Outcome B
+    behind_sets test settings = once settings >>= (λ a. behind_once test settings)
+
+  abbrev bound : Option (Term ℕ) → List Setting → Outcome Bindings
+  bound test settings = Goes (record { test = test; settings = settings })
+
+  abbrev done : Bindings → Outcome Done
+  done bound = acted table bound cuts seed turns
+
+  abbrev whole : Option (Term ℕ) → List Setting → Outcome Done
+  whole test settings = done (record { test = test; settings = settings })
+
+  behind : (test : Option (Term ℕ)) (settings : List Setting) → behind_sets whole test settings ≡ (behind_sets bound test settings >>= done)
+  behind test settings =
+      in_parts (once settings) (λ a. behind_once whole test settings) (λ a. behind_once bound test settings) done (λ a.
+      in_parts fit (λ b. behind_fit whole test settings) (λ b. behind_fit bound test settings) done (λ b.
+      in_parts few (λ c. behind_few whole test settings) (λ c. behind_few bound test settings) done (λ c.
+      in_parts (small table) (λ d. behind_small whole test settings) (λ d. behind_small bound test settings) done (λ d.
+      in_parts apart (λ e. whole test settings) (λ e. bound test settings) done (λ e. refl)))))
+
+  pub by_parts : (filter : Option Value) (sets : List Assignment)
+      → updated_by_actors table filter sets cuts seed turns ≡ (shared_out table filter sets cuts turns >>= done)
+  unfolding updated_by_actors
+  by_parts filter sets =
+      let settings : Outcome (List Setting) = bound_sets table.fields (length table.extents) sets in
+      in_parts (bound_filter table.fields (length table.extents) filter) (λ test. settings >>= behind_sets whole test) (λ test. settings >>= behind_sets bound test) done (λ test.
+      in_parts settings (behind_sets whole test) (behind_sets bound test) done (behind test))
+
+-- what is done where the plain update meets no fault
+pub acted_goes : (table : Table) (bound : Bindings) (cuts : List ℕ) (seed turns : ℕ) (rows : List (List ℤ)) → updated_of table bound.test bound.settings (length table.rows) ≡ Ok rows
+    → done_to table (acted table bound cuts seed turns)
+    ≡ Goes (left_with (after_stores table rows (reads_first (update_log table bound.test bound.settings (length table.rows)))) (memory_text (written_by table bound.test bound.settings cuts seed turns)))
+acted_goes table bound cuts seed turns rows is = rw is refl
+
+-- one turn more of a schedule
+pub turn_more : (run : Run) (actors n x : ℕ) → after_turns (after_turns run ((next x / 65536) % actors ∷ [])) (entries actors n (next x)) ≡ after_turns run (entries actors (suc n) x)
+turn_more run actors n x = refl
+
+-- a schedule leaves as many blobs
+step_count : (job : Job) (step : Micro) (memory : List (List ℕ)) (registers : Registers) → length (stored job step memory registers) ≡ length memory
+step_count job (Fetch place) memory registers = refl
+step_count job (Load place) memory registers = refl
+step_count job (Store place row set) memory registers = length-set memory place.blob (slice_set (get_or memory place.blob []) place.byte (with_bits_of job.layout place row set.leaf (value_on job (row_in job registers.loaded row) row set) registers.byte))
+
+turn_count : (job : Job) (fresh : Registers) (a : ℕ) (state : State (List (List ℕ)) Micro Registers) → length (run_by job fresh (a ∷ []) state).memory ≡ length state.memory
+turn_count job fresh a state = of_rest (get_or state.actors a (idle_with fresh)).rest where
+  of_rest : (rest : List Micro) → length (moved (stored job) (loaded job) rest (get_or state.actors a (idle_with fresh)).registers a state).memory ≡ length state.memory
+  of_rest [] = refl
+  of_rest (step ∷ rest) = step_count job step state.memory (get_or state.actors a (idle_with fresh)).registers
+
+pub blob_count : (job : Job) (fresh : Registers) (schedule : List ℕ) (state : State (List (List ℕ)) Micro Registers) → length (run_by job fresh schedule state).memory ≡ length state.memory
+blob_count job fresh [] state = refl
+blob_count job fresh (a ∷ schedule) state = blob_count job fresh schedule (run_by job fresh (a ∷ []) state) ∙ turn_count job fresh a state
+
+-- the blobs of a table, as bytes and as bits
+pub length-memory_of : (table : Table) → length (memory_of table) ≡ length (owners_of table)
+length-memory_of table = length-map (image (owners_of table) table.rows) bytes_of ∙ length-map (owners_of table) (map (bit_held table.rows))
+
+-- a run of a table after its turns
+pub record HasTurned (table : Table) (bound : Bindings) (cuts : List ℕ) (seed turns : ℕ) (run : Run) : Type 0 where
+  pub found : run.found ≡ uncounted table
+  pub test : run.filter ≡ bound.test
+  pub settings : run.sets ≡ bound.settings
+  pub memory : run.state.memory ≡ written_by table bound.test bound.settings cuts seed turns
+
+pub has_turned : (table : Table) (bound : Bindings) (cuts : List ℕ) (seed turns actors : ℕ) (first run : Run) → first ≡ started_run table bound.test bound.settings cuts → actors ≡ length cuts + 1
+    → run ≡ after_turns first (schedule_of actors seed turns) → HasTurned table bound cuts seed turns run
+has_turned table bound cuts seed turns actors first run is count turned =
+    let whole : run ≡ after_turns (started_run table bound.test bound.settings cuts) (schedule_of (length cuts + 1) seed turns) =
+    turned ∙ ap (λ (r : Run). after_turns r (schedule_of actors seed turns)) is ∙ ap (λ (n : ℕ). after_turns (started_run table bound.test bound.settings cuts) (schedule_of n seed turns)) count in
+    record {
+      found = ap (λ (r : Run). r.found) whole;
+      test = ap (λ (r : Run). r.filter) whole;
+      settings = ap (λ (r : Run). r.sets) whole;
+      memory = ap (λ (r : Run). r.state.memory) whole;
+    }
+
+-- it has as many blobs as the table
+pub turned_count : (table : Table) (bound : Bindings) (cuts : List ℕ) (seed turns : ℕ) (run : Run) → HasTurned table bound cuts seed turns run → length run.state.memory ≡ length (owners_of table)
+turned_count table bound cuts seed turns run has =
+    ap length has.memory
+    ∙ blob_count (job_of table bound.test bound.settings) (fresh_of table) (schedule_of (length cuts + 1) seed turns) (start_of table bound.test bound.settings cuts)
+    ∙ length-memory_of table
+
+-- the reads and the writes of a list of accesses
+same_test : (access : Access) → reads access ≡ is_read access
+same_test (Read row leaf) = refl
+same_test (Write row leaf) = refl
+
+other_test : (access : Access) → writes access ≡ not (is_read access)
+other_test (Read row leaf) = refl
+other_test (Write row leaf) = refl
+
+both_in : (log : List Access) → reads_in log ++ writes_in log ≡ reads_first log
+both_in log =
+    ap (λ (test : Access → Bool). filter test log ++ writes_in log) (fun_ext same_test)
+    ∙ ap (λ (test : Access → Bool). filter is_read log ++ filter test log) (fun_ext other_test)
+
+-- a table that is read, and then stored in as the plain update has it
+pub stored_back : (table now view : Table) (bound : Bindings) (rows : List (List ℤ)) (test : Option (Term ℕ)) (settings : List Setting) → test ≡ bound.test → settings ≡ bound.settings
+    → now ≡ after_log table (reads_in (update_log table bound.test bound.settings (length table.rows)))
+    → updated_of now test settings (length now.rows) ≡ Ok rows → view ≡ after_stores now rows (writes_in (update_log now test settings (length now.rows)))
+    → (updated_of table bound.test bound.settings (length table.rows) ≡ Ok rows) × (view ≡ after_stores table rows (reads_first (update_log table bound.test bound.settings (length table.rows))))
+stored_back table now view bound rows test settings test_is settings_are read updated stored =
+    let log = update_log table bound.test bound.settings (length table.rows) in
+    let goes : updated_of table bound.test bound.settings (length table.rows) ≡ Ok rows = rw (test_is, settings_are, read) at updated in
+    let left : view ≡ after_stores (after_log table (reads_in log)) rows (writes_in log) = rw (test_is, settings_are, read) at stored in
+    (goes, left ∙ sym (read_stored table rows (reads_in log) (writes_in log)) ∙ ap (after_stores table rows) (both_in log))
+
+-- the bytes of the bits of bytes
+bits_long : (bytes : List ℕ) → length (bits_of bytes) ≡ 8 * length bytes
+bits_long bytes = length-map-range_with_len (bit_of bytes) 0 (8 * length bytes)
+
+whole_byte : (byte : ℕ) → byte < 256 → byte / 2 ^ 0 % 2 ^ 8 ≡ byte
+whole_byte byte small = omega (arith, small)
+
+byte_is : (bytes : List ℕ) (at : ℕ) → at < length bytes → get_or bytes at 0 < 256 → get_or (bytes_of (bits_of bytes)) at 0 ≡ get_or bytes at 0
+byte_is bytes at small fits =
+    let eights : at < length (bits_of bytes) / 8 = omega (arith, bits_long bytes) in
+    get_or-map-range_with_len (byte_at (bits_of bytes)) 0 (length (bits_of bytes) / 8) at at 0 eights (omega arith)
+    ∙ number_same (λ k. get_or (bits_of bytes) (8 * at + k) 0) (λ k. bit_of bytes (8 * at + k)) 8
+    (λ k l. get_or-map-range_with_len (bit_of bytes) 0 (8 * length bytes) (8 * at + k) (8 * at + k) 0 (omega arith) (omega arith))
+    ∙ number_of_byte bytes (8 * at) at 0 8 (omega arith) (omega arith)
+    ∙ whole_byte (get_or bytes at 0) fits
+
+pub bytes_of_bits : (bytes : List ℕ) → AreBytes bytes → bytes_of (bits_of bytes) ≡ bytes
+bytes_of_bits bytes are =
+    let long : length (bytes_of (bits_of bytes)) ≡ length bytes = omega (arith, length-map-range_with_len (byte_at (bits_of bytes)) 0 (length (bits_of bytes) / 8), bits_long bytes) in
+    ext_get_or 0 (bytes_of (bits_of bytes)) bytes long (λ at small. byte_is bytes at (omega (arith, small, long)) (are at))

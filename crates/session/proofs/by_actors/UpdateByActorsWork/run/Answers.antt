@@ -1,0 +1,21 @@
+use Rattle.std.proofs.Common.{rules, map, option_map}
+use Rattle.line_grammar.specs.Sentences.{assignment_of}
+use Rattle.expr_lang.specs.Terms.{term_of}
+use Rattle.worlds.specs.OnView.{done_to}
+use Rattle.command_checks.specs.GivesLaws.{GivesUp-then, goes_then}
+use Rattle.session.specs.Changes.{IsLeft}
+use Rattle.session.proofs.Acting.{by_parts}
+use Rattle.session.proofs.Exits.{gave_up}
+use Rattle.session.proofs.by_actors.UpdateByActorsWork.run.Goals as goal
+
+pub returns-in_err-team-clause-answers : goal.returns-in_err-team-clause-answers
+returns-in_err-team-clause-answers g c =
+    let fault = c.in_err-team.field-0.0 in
+    let whole = by_parts c.args.view.now c.args.self.now.cuts.now c.args.self.now.seed.now c.args.self.now.turns.now (option_map term_of c.args.self.now.filter.now) (map assignment_of c.args.self.now.sets.now) in
+    gave_up (IsLeft c.args.view.now) g.K.Sink.taken g.K.Sink.faults c.args.out.now _ fault _ (search rules)
+    (rw whole (GivesUp-then _ _ fault (GivesUp-then _ _ fault c.in_err-team.ensures.bound)))
+
+pub returns-clause-answers : goal.returns-clause-answers
+returns-clause-answers g c =
+    let whole = by_parts c.args.view.now c.args.self.now.cuts.now c.args.self.now.seed.now c.args.self.now.turns.now (option_map term_of c.args.self.now.filter.now) (map assignment_of c.args.self.now.sets.now) in
+    rw (whole, c.in_ok-team.ensures.bound, ← c.in_ok-team.ensures.cuts) c.act.ensures

@@ -1,0 +1,46 @@
+use Rattle.std.proofs.Common.{rules, arith, ◌≡◌, ◌∙◌, ◌+◌, ℕ, List, ℤ, Err, length, refl, sym, ap, subst}
+use Rattle.actors.specs.Runs.{Run}
+use Rattle.places.specs.Layout.{Owner}
+use Rattle.row_updates.specs.Logs.{update_log}
+use Rattle.views.specs.Tables.{Table, owners_of, after_stores}
+use Rattle.worlds.specs.Actors.{memory_text, reads_first}
+use Rattle.worlds.specs.OnView.{done_to}
+use Rattle.worlds.specs.Outcomes.{Goes}
+use Rattle.session.specs.Changes.{left_with}
+use Rattle.session.specs.Teams.{bindings_of, acted}
+use Rattle.session.proofs.Acting.{acted_goes, has_turned, turned_count, stored_back}
+use Rattle.session.proofs.Views.{then_broke, then_wrote}
+use Rattle.session.proofs.by_actors.act.Goals as goal
+
+pub write_memory-requires : goal.write_memory-requires
+write_memory-requires g c =
+    let table = c.args.view.now in
+    let bound = bindings_of c.args.team.now in
+    let actors : c.len.result + 1 ≡ length c.args.team.now.cuts.items + 1 = omega (arith, c.len.ensures.value) in
+    let turned = has_turned table bound c.args.team.now.cuts.items c.args.seed c.args.turns _ _ _ c.in_ok-run.ensures.run actors c.take_turns.ensures in
+    omega (arith, c.blob_count.ensures, ap (length {A = List Owner}) c.map.ensures.layout, ap (λ (t : Table). length (owners_of t)) c.in_ok-run.ensures.read, turned_count table bound c.args.team.now.cuts.items c.args.seed c.args.turns _ turned)
+
+pub returns-in_err-write_memory : goal.returns-in_err-write_memory
+returns-in_err-write_memory g c =
+    let table = c.args.view.now in
+    let bound = bindings_of c.args.team.now in
+    let cuts = c.args.team.now.cuts.items in
+    let actors : c.len.result + 1 ≡ length c.args.team.now.cuts.items + 1 = omega (arith, c.len.ensures.value) in
+    let turned = has_turned table bound cuts c.args.seed c.args.turns _ _ _ c.in_ok-run.ensures.run actors c.take_turns.ensures in
+    let plain = c.in_ok-run.ensures.updated in
+    let left = left_with (after_stores table plain.0 (reads_first (update_log table bound.test bound.settings (length table.rows)))) (memory_text c.take_turns.new.run.state.memory) in
+    then_broke g.K.Sink.taken g.K.Sink.faults c.args.out.now c.write_memory.new.out c.started.new.view _ left _ (search rules)
+    (rw turned.memory (acted_goes table bound cuts c.args.seed c.args.turns plain.0 plain.1)) c.in_err-write_memory.ensures
+
+pub returns : goal.returns
+returns g c =
+    let table = c.args.view.now in
+    let bound = bindings_of c.args.team.now in
+    let cuts = c.args.team.now.cuts.items in
+    let actors : c.len.result + 1 ≡ length c.args.team.now.cuts.items + 1 = omega (arith, c.len.ensures.value) in
+    let turned = has_turned table bound cuts c.args.seed c.args.turns _ _ _ c.in_ok-run.ensures.run actors c.take_turns.ensures in
+    let test = ap (λ (run : Run). run.filter) c.finish.ensures.turned ∙ turned.test in
+    let settings = ap (λ (run : Run). run.sets) c.finish.ensures.turned ∙ turned.settings in
+    let stored = stored_back table c.started.new.view c.store_back.new.view bound _ _ _ test settings c.in_ok-run.ensures.read c.store_back.ensures.rows c.store_back.ensures.stored in
+    then_wrote g.K.Sink.taken g.K.Sink.faults c.args.out.now c.write_memory.new.out c.store_back.new.view _ (memory_text c.take_turns.new.run.state.memory)
+    (rw (turned.memory, stored.1) (acted_goes table bound cuts c.args.seed c.args.turns _ stored.0)) c.in_ok-write_memory.ensures

@@ -1,0 +1,26 @@
+use Rattle.std.proofs.Common.{rules, arith, ◌≡◌, ◌<◌, ◌≤◌, ℕ, IsErr, List, [], length, get_or, take, ap, sym, ◌∙◌, subst}
+use Rattle.std.proofs.lemmas.List.{take_all}
+use Rattle.layout_io.specs.Writing.{Wrote, Stopped}
+use Rattle.layout_io.specs.WritingLaws.{Stopped-flat_map, Stopped-second, Writes-err, Wrote-append, flat_map_push}
+use Rattle.instrument.specs.BlobTexts.{bytes_text}
+use Rattle.worlds.specs.Actors.{memory_text}
+use Rattle.session.proofs.Acting.{bytes_of_bits}
+use Rattle.session.proofs.by_actors.write_memory.Goals as goal
+
+pub returns-in_err-write_bytes : goal.returns-in_err-write_bytes
+returns-in_err-write_bytes g c =
+    let memory = c.args.run.now.state.memory in
+    let small : c.loop-blob.blob < length memory = omega (arith, c.loop-blob-test.true, c.requires) in
+    let err : IsErr c.from_residual.result = search rules in
+    let is : bytes_text _ ≡ bytes_text (get_or memory c.loop-blob.blob []) = ap bytes_text (bytes_of_bits c.memory-blob.result.now c.bytes_law.ensures ∙ c.memory-blob.ensures) in
+    let stopped = rw is at c.in_err-write_bytes.ensures in
+    Writes-err c.from_residual.result err (Stopped-flat_map bytes_text memory c.loop-blob.blob [] small (Stopped-second c.loop-blob.invariant stopped))
+
+pub loop-blob-preserved : goal.loop-blob-preserved
+loop-blob-preserved g c =
+    let memory = c.args.run.now.state.memory in
+    let small : c.loop-blob.blob < length memory = omega (arith, c.loop-blob-test.true, c.requires) in
+    let is : bytes_text _ ≡ bytes_text (get_or memory c.loop-blob.blob []) = ap bytes_text (bytes_of_bits c.memory-blob.result.now c.bytes_law.ensures ∙ c.memory-blob.ensures) in
+    let wrote = rw is at c.in_ok-write_bytes.ensures in
+    subst (λ (text : List ℕ). Wrote g.K.Sink.taken g.K.Sink.faults c.args.out.now c.write_bytes.new.sink text) (flat_map_push bytes_text memory c.loop-blob.blob [] small)
+    (Wrote-append c.loop-blob.invariant wrote)

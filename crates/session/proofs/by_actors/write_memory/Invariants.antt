@@ -1,0 +1,7 @@
+use Rattle.std.proofs.Common.{take}
+use Rattle.layout_io.specs.Writing.{Wrote}
+use Rattle.worlds.specs.Actors.{memory_text}
+use Rattle.session.proofs.by_actors.write_memory.Given as goal
+
+abbrev pub invariant-loop-blob : goal.invariant-loop-blob
+invariant-loop-blob g l = Wrote g.K.Sink.taken g.K.Sink.faults l.initial.out l.out (memory_text (take l.blob l.run.state.memory))

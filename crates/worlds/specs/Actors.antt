@@ -1,0 +1,57 @@
+-- `update V where .. set .. = .., .. actors [..] schedule S turns N` shares the rows of an update out among actors.
+use Rattle.std.specs.Prelude.{ℕ, ◌^◌, ◌++◌, ◌&&◌, Bool, true, false, not, nat_le, nat_lt, List, [], length, filter, flat_map, Option}
+use Rattle.line_grammar.specs.Sentences.{Value, Assignment}
+use Rattle.instrument.specs.BlobTexts.{bytes_text}
+use Rattle.views.specs.Tables.{Table, owners_of}
+use Rattle.views.specs.Tallies.{Access, Read, Write}
+use Rattle.row_updates.specs.Rows.{updated_of}
+use Rattle.row_updates.specs.Logs.{update_log}
+use Rattle.actor_steps.specs.declared.place.Place.{Place}
+use Rattle.actor_steps.specs.Cuts.{are_cuts, actor_of}
+use Rattle.actor_steps.specs.Shared.{shared_byte}
+use Rattle.actor_steps.specs.Jobs.{written_by}
+use Rattle.worlds.specs.OnView.{Done}
+use Rattle.worlds.specs.Outcomes.{Outcome, Goes, ◌>>=◌, refused_if, refused_by, ok_or}
+use Rattle.worlds.specs.Names.{bound_filter, bound_sets, each_once, leaves_of}
+use Rattle.worlds.specs.Show.{small}
+use Rattle.worlds.specs.Update.{update_fault}
+use Rattle.worlds.specs.declared.fault.BadActors.TheVariants.{Cuts, Turns}
+use Rattle.worlds.specs.declared.fault.CommandFault.{CommandFault}
+use Rattle.worlds.specs.declared.fault.CommandFault.TheVariants.{BadActors, SharedByte}
+
+-- at most 63 cuts, which do not fall, and none is over the number of rows
+abbrev pub fit_cuts : List ℕ → ℕ → Bool
+fit_cuts cuts rows = nat_le (length cuts) 63 && are_cuts 0 cuts rows
+
+-- the fault of a byte that holds bits of rows of two actors
+abbrev pub shared : Place → CommandFault
+shared place = SharedByte place.blob place.byte
+
+abbrev pub is_read : Access → Bool
+is_read (Read row leaf) = true
+is_read (Write row leaf) = false
+
+-- the same accesses, all reads before all writes
+abbrev pub reads_first : List Access → List Access
+reads_first log = filter is_read log ++ filter (λ access. not (is_read access)) log
+
+-- the bytes of all blobs
+abbrev pub memory_text : List (List ℕ) → List ℕ
+memory_text memory = flat_map bytes_text memory
+
+-- the rows of the plain update, once no actor has a step left; its text is the memory in the midst of it, after so many turns
+unfoldable pub updated_by_actors : Table → Option Value → List Assignment → List ℕ → ℕ → ℕ → Outcome Done
+updated_by_actors table filter sets cuts seed turns = do
+  test ← bound_filter table.fields (length table.extents) filter
+  settings ← bound_sets table.fields (length table.extents) sets
+  once ← each_once table.fields [] (leaves_of settings)
+  fit ← refused_if (not (fit_cuts cuts (length table.rows))) (BadActors Cuts)
+  few ← refused_if (nat_lt (2 ^ 20) turns) (BadActors Turns)
+  shown ← small table
+  apart ← refused_by shared (shared_byte (owners_of table) (actor_of cuts))
+  rows ← ok_or (update_fault table.fields) (updated_of table test settings (length table.rows))
+  Goes (record {
+    rows = rows;
+    log = reads_first (update_log table test settings (length table.rows));
+    text = memory_text (written_by table test settings cuts seed turns);
+  })
