@@ -101,7 +101,8 @@ fn extents_of(words: &[ExtentWord]) -> Result<Extents, FileFault>
     }
 }
 
-fn mode_by(wrap: bool) -> StoreMode
+/// The mode of a view whose line has, or has not, the word `wrap`.
+pub fn mode_by(wrap: bool) -> StoreMode
     ensures { result ≡ mode_by wrap }
 {
     if wrap {
