@@ -9,7 +9,7 @@ ghost use Rattle.blob_file.specs.declared.fault.FileFault.TheVariants as fault;
 
 use crate::fault::FileFault;
 use schema_lang::{Line, LineFault, MAX_LINE_BYTES, Version, parse_line, write_line};
-use std::alloc::{AllocError as NoMemory, Global};
+use std::alloc::Global;
 
 /// The bytes before the first LF, and those behind it.
 pub fn cut_line(bytes: &[u8]) -> Option<(&[u8], &[u8])>
@@ -58,19 +58,26 @@ fn spelled(alloc: Global, line: Line, text: &[u8]) -> Result<Line, FileFault>
     ensures same { IfOk result (λ same. (same ≡ line) × (same_bytes (canonical (sentence_of line)) text.now ≡ true)) }
     ensures other { IfErr result (λ found. (found ≡ fault.NoMemory) ⊎ ((found ≡ fault.Header) × (same_bytes (canonical (sentence_of line)) text.now ≡ false))) }
 {
-    match is_canonical(alloc, &line, text) {
-        Ok(true) => Ok(line),
-        Ok(false) => Err(FileFault::Header),
-        Err(NoMemory) => Err(FileFault::NoMemory),
+    match spelling(alloc, &line, text) {
+        Ok(()) => Ok(line),
+        Err(fault) => {
+            drop(line);
+            Err(fault)
+        }
     }
 }
 
-// Whether a text is the canonical one of a line.
-fn is_canonical(alloc: Global, line: &Line, text: &[u8]) -> Result<bool, NoMemory>
-    ensures { IfOk result (λ is. is ≡ same_bytes (canonical (sentence_of line.now)) text.now) }
+// The fault of a text that is not the canonical one of a line.
+fn spelling(alloc: Global, line: &Line, text: &[u8]) -> Result<(), FileFault>
+    ensures same { OnOk result (same_bytes (canonical (sentence_of line.now)) text.now ≡ true) }
+    ensures other { IfErr result (λ found. (found ≡ fault.NoMemory) ⊎ ((found ≡ fault.Header) × (same_bytes (canonical (sentence_of line.now)) text.now ≡ false))) }
 {
     let written = write_line(alloc, line)?;
-    Ok(is_same(written.as_str().as_bytes(), text))
+    if is_same(written.as_str().as_bytes(), text) {
+        Ok(())
+    } else {
+        Err(FileFault::Header)
+    }
 }
 
 // The fault of a text that is no line.

@@ -50,7 +50,10 @@ pub fn read_file<L: Ledger>(
     let mut view = empty_view(alloc, header)?;
     match fill_view(alloc, &mut view, body, steps) {
         Ok(()) => Ok(view),
-        Err(fault) => Err(fault),
+        Err(fault) => {
+            drop(view);
+            Err(fault)
+        }
     }
 }
 

@@ -48,11 +48,13 @@ pub fn view_text(alloc: Global, view: &View) -> Result<Text, NoMemory>
     text_of(alloc, line)
 }
 
-// The canonical text of a line, which is let go here alone.
+// The canonical text of a line.
 fn text_of(alloc: Global, line: Line) -> Result<Text, NoMemory>
     ensures { IfOk result (λ text. text ≡ canonical (sentence_of line)) }
 {
-    write_line(alloc, &line)
+    let text = write_line(alloc, &line);
+    drop(line);
+    text
 }
 
 // The name with this text.
