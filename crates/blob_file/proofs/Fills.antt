@@ -1,6 +1,6 @@
 -- A view of zeros that was filled by what blobs hold: what is opened of the bytes behind a header.
-use Rattle.std.proofs.Common.{◌≡◌, true, false, ℕ, ◌+◌, ◌*◌, ◌<◌, ◌≤◌, ℤ, pos, List, [], length, get_or, map, Result, Ok, Err, is_ok, inr, refl, sym, ap, ◌∙◌, subst, arith}
-use Rattle.std.specs.Prelude.{◌==◌, nat_eq, sum_by, IfOk, IfErr}
+use Rattle.std.proofs.Common.{◌≡◌, true, false, ℕ, ◌+◌, ◌*◌, ◌<◌, ◌≤◌, ℤ, pos, List, [], length, get_or, map, Ok, Err, is_ok, refl, sym, ap, ◌∙◌, arith}
+use Rattle.std.specs.Prelude.{◌==◌, nat_eq, sum_by}
 use Rattle.std.specs.List.{enumerate_from}
 use Rattle.std.specs.Cmp.Lexicographic.{pointwise}
 use Rattle.std.proofs.lemmas.Bool.{eq-eqb, and_parts, and_from, false_from_ne_true}
@@ -26,11 +26,10 @@ use Rattle.views.specs.StrictLaws.{stored_fits}
 use Rattle.views.specs.Stores.{Keeping, is_between, store_answer, kept_or, kept_row, kept_rows}
 use Rattle.views.specs.Tables.{Table, owners_of, table_holds, leaf_count_of, kept_of, after_stores}
 use Rattle.views.specs.Tallies.{Tally, Write, all_accesses, tallied, no_tally, blob_lengths}
-use Rattle.blob_file.specs.Files.{Header, image_bytes}
+use Rattle.blob_file.specs.Files.{Header, owners_by, image_bytes}
 use Rattle.blob_file.specs.Filling.{IsTaken}
 use Rattle.blob_file.specs.Opened.{raw_in, rows_in, answer_by, all_taken, are_contents, cut, with_blobs, with_body, empty_table, table_of, leaf_count, row_count, IsRead}
 use Rattle.blob_file.specs.Saving.{header_of, blobs_of}
-use Rattle.blob_file.specs.declared.fault.FileFault.{FileFault}
 use Rattle.blob_file.specs.declared.fault.FileFault.TheVariants as fault
 use Rattle.blob_file.proofs.Contents.{ok_itself, each_taken, taken_each, raw_shape, raw_range, some_bits, same_count, same_blobs-Decides}
 
@@ -65,10 +64,16 @@ kept_shape keep rows count leaves shape = record {
       ∙ length-enumerate_from 0 (get_or rows row []) ∙ shape.leaf_count row l;
 }
 
--- a view of zeros, its laws, and the bytes that are cut into its blobs
+-- what stands behind the test of the length
+pub body_is : (header : Header) (body : List ℕ) → 8 * length body ≡ sum_by (length {A = Owner}) (owners_by header) → with_body header body ≡ with_blobs header (cut (blob_lengths (owners_by header)) body)
+body_is header body sized =
+    let yes : (8 * length body == sum_by (length {A = Owner}) (owners_by header)) ≡ true = eq-eqb _ _ sized in
+    rw yes refl
+
+-- a view of zeros, its laws, and blobs
 module _ (table : Table) (laid : IsLaidOut (owners_of table) (length (indices table.extents)) (map (λ (h : Hold). h.width) (table_holds table)))
     (paired : length (table_holds table) ≡ length (kinds_of table.fields)) (empty : table ≡ empty_table (header_of table))
-    (body : List ℕ) (blobs : List (List ℕ)) (sized : 8 * length body ≡ sum_by (length {A = Owner}) (owners_of table)) (is : blobs ≡ cut (blob_lengths (owners_of table)) body) where
+    (blobs : List (List ℕ)) where
   abbrev header : Header
   header = header_of table
 
@@ -106,19 +111,13 @@ module _ (table : Table) (laid : IsLaidOut (owners_of table) (length (indices ta
       (taken row leaf (omega (arith, l, rows_long)) (omega (arith, m, same_count header laid paired)))
       ∙ sym (declared_entry (row_count header) (kinds_of table.fields) raw shape row leaf l m)))
 
-  -- what stands behind the test of the length
-  body_is : with_body header body ≡ with_blobs header blobs
-  body_is =
-      let yes : (8 * length body == sum_by (length {A = Owner}) (owners_of table)) ≡ true = eq-eqb _ _ sized in
-      (rw yes refl) ∙ ap (with_blobs header) (sym is)
-
-  contents_refused : (are_contents header blobs ≡ true → ⊥) → with_body header body ≡ Err fault.Contents
+  contents_refused : (are_contents header blobs ≡ true → ⊥) → with_blobs header blobs ≡ Err fault.Contents
   contents_refused none =
       let no : are_contents header blobs ≡ false = false_from_ne_true (are_contents header blobs) none in
-      body_is ∙ (rw no refl)
+      rw no refl
 
   -- a leaf refuses its number
-  pub refused_number : (IsTaken table raw → ⊥) → with_body header body ≡ Err fault.Contents
+  pub refused_number : (IsTaken table raw → ⊥) → with_blobs header blobs ≡ Err fault.Contents
   unfolding are_contents
   refused_number none =
       contents_refused (λ e. none (taken_of (and_parts (all_taken (answer_by header) raw) (pointwise (pointwise nat_eq) (image_bytes header (rows_in header blobs)) blobs) e).0))
@@ -136,30 +135,22 @@ module _ (table : Table) (laid : IsLaidOut (owners_of table) (length (indices ta
         ∙ ap (λ (w : Tally). record table { rows = rows_in header blobs; tally = tallied (owners_of table) w (all_accesses Write (leaf_count header) (row_count header)) }) tally
 
     -- the blobs of the view are those of the file
-    opened_view : blobs_of new ≡ blobs → IsRead (with_body header body) (Ok new)
+    pub opened_view : blobs_of new ≡ blobs → IsRead (with_blobs header blobs) (Ok new)
     unfolding are_contents
     opened_view same =
         let both = and_from (all_taken (answer_by header) raw) (pointwise (pointwise nat_eq) (image_bytes header (rows_in header blobs)) blobs) (all_of taken)
         ((same_blobs-Decides (image_bytes header (rows_in header blobs)) blobs).1 (sym own_blobs ∙ same)) in
-        (record { header = header; blobs = blobs }, body_is ∙ (rw both refl), new_is)
+        (record { header = header; blobs = blobs }, (rw both refl), new_is)
 
     -- or are not
-    other_view : (blobs_of new ≡ blobs → ⊥) → with_body header body ≡ Err fault.Contents
+    pub other_view : (blobs_of new ≡ blobs → ⊥) → with_blobs header blobs ≡ Err fault.Contents
     unfolding are_contents
     other_view other =
         contents_refused (λ e.
         other (own_blobs ∙ (same_blobs-Decides (image_bytes header (rows_in header blobs)) blobs).0
         (and_parts (all_taken (answer_by header) raw) (pointwise (pointwise nat_eq) (image_bytes header (rows_in header blobs)) blobs) e).1))
 
-    -- the answer to which it is
-    pub kept_view : (result : Result Table FileFault) → IfOk result (λ same. (same ≡ new) × (blobs_of new ≡ blobs)) → IfErr result (λ found. (found ≡ fault.Contents) × (blobs_of new ≡ blobs → ⊥)) → IsRead (with_body header body) result
-    kept_view (Ok same) own other = subst (λ (t : Table). IsRead (with_body header body) (Ok t)) (sym own.0) (opened_view own.1)
-    kept_view (Err found) own other = inr (other_view other.1 ∙ ap (λ (f : FileFault). Err f) (sym other.0))
-
     -- and the steps that it took
-    pub kept_steps : (result : Result Table FileFault) (before now : ℕ) → now ≡ before + length table.rows * leaf_count_of table → IfOk result (λ same. (same ≡ new) × (blobs_of new ≡ blobs))
-        → IfOk result (λ same. now ≡ before + row_count (header_of same) * leaf_count (header_of same))
-    kept_steps (Ok same) before now steps own =
-        steps ∙ ap (λ (n : ℕ). before + n * leaf_count_of table) rows_long
-        ∙ ap (λ (t : Table). before + row_count (header_of t) * leaf_count (header_of t)) (sym (own.0 ∙ stored))
-    kept_steps (Err found) before now steps own = tt
+    pub steps_taken : (before now : ℕ) → now ≡ before + length table.rows * leaf_count_of table → now ≡ before + row_count (header_of new) * leaf_count (header_of new)
+    steps_taken before now steps =
+        steps ∙ ap (λ (n : ℕ). before + n * leaf_count_of table) rows_long ∙ ap (λ (t : Table). before + row_count (header_of t) * leaf_count (header_of t)) (sym stored)

@@ -17,3 +17,4 @@ mod HeadReads
 mod Blobs
 mod HeadTold
 mod Lies
+mod OnePiece

@@ -1,12 +1,12 @@
--- Blobs, and the bytes of one, that are put one after another.
-use Rattle.std.proofs.Common.{◌≡◌, ℕ, ◌+◌, ◌<◌, ◌≤◌, List, ◌++◌, length, take, drop, get_or, set, refl, sym, ap, ◌∙◌, subst, Option, Result, Ok, Err, IsErr, ⊎_elim, arith}
+-- Blobs that are put one after another, and blocks of one that go to the sink.
+use Rattle.std.proofs.Common.{◌≡◌, ℕ, ◌+◌, ◌<◌, List, [], ◌++◌, length, take, drop, get_or, refl, sym, ap, subst, Option, Result, Ok, Err, IsErr, arith}
 use Rattle.std.specs.Prelude.{flat_map}
-use Rattle.layout_io.specs.Gathering.{Puts, HasPut}
 use Rattle.std.proofs.Math.Seq.{take-add}
-use Rattle.std.proofs.lemmas.Bool.{cases_eq}
-use Rattle.std.proofs.lemmas.List.{get_or-set_same, get_or-set_other, take_all, take-append-drop, length-take-le, length-drop, get_or-take, get_or-drop, ext_get_or}
-use Rattle.layout_io.specs.GatheringLaws.{Puts-nil, Puts-append, Puts-stop}
-use Rattle.layout_io.specs.WritingLaws.{flat_map_push}
+use Rattle.std.proofs.lemmas.List.{take-append-drop}
+use Rattle.layout_io.specs.Gathering.{Gathers, Puts, HasPut}
+use Rattle.layout_io.specs.GatheringLaws.{Gathers-written, Puts-append}
+use Rattle.layout_io.specs.Writing.{Wrote, Stopped, Writes}
+use Rattle.layout_io.specs.WritingLaws.{flat_map_push, Wrote-append, Stopped-first, Stopped-second}
 
 -- what a call that ended well put, whatever its answer is made of
 as_put : {K T E : Type 0} {taken : K → Option (List ℕ)} {faults : K → ℕ} {old new : K} {was held text : List ℕ} {value : T} → Puts {E = E} taken faults old new was held (Ok value) text → HasPut taken faults old new was held text
@@ -22,50 +22,44 @@ pub part_more : {K X T E : Type 0} {taken : K → Option (List ℕ)} {faults : K
 part_more {taken} {faults} {old} {new} {was} {held} text parts i d small before step =
     subst (λ (t : List ℕ). HasPut taken faults old new was held t) (flat_map_push text parts i d small) (Puts-append before (as_put step))
 
--- the bytes of a blob before this one
-abbrev pub PutBytes : {K : Type 0} → (K → Option (List ℕ)) → (K → ℕ) → K → K → List ℕ → List ℕ → List ℕ → ℕ → Type 0
-PutBytes taken faults old new was held bytes i = HasPut taken faults old new was held (take i bytes)
+-- a block more of the bytes that were written before
+pub block_written : {K : Type 0} {taken : K → Option (List ℕ)} {faults : K → ℕ} {first mid new : K} (blob block : List ℕ) (done count : ℕ) → block ≡ take count (drop done blob)
+    → Wrote taken faults first mid (take done blob) → Wrote taken faults mid new block → Wrote taken faults first new (take (done + count) blob)
+block_written {taken} {faults} {first} {mid} {new} blob block done count is before wrote =
+    rw (take-add done count blob) (Wrote-append before (subst (λ (t : List ℕ). Wrote taken faults mid new t) is wrote))
 
-pub no_byte : {K : Type 0} (taken : K → Option (List ℕ)) (faults : K → ℕ) (old : K) (held bytes : List ℕ) → PutBytes taken faults old old held held bytes 0
-no_byte taken faults old held bytes = Puts-nil taken faults old held tt
+-- a stop in a block
+pub block_stopped : {K T E : Type 0} {taken : K → Option (List ℕ)} {faults : K → ℕ} {first mid new : K} (result : Result T E) (blob block : List ℕ) (done count : ℕ) → IsErr result → block ≡ take count (drop done blob)
+    → Wrote taken faults first mid (take done blob) → Stopped taken faults mid new block → Writes taken faults first new result blob
+block_stopped (Ok value) blob block done count err is before stop = absurd (cc)
+block_stopped {taken} {faults} {first} {mid} {new} (Err error) blob block done count err is before stop =
+    let part : Stopped taken faults first new (take (done + count) blob) =
+    rw (take-add done count blob) (Stopped-second before (subst (λ (t : List ℕ). Stopped taken faults mid new t) is stop)) in
+    subst (λ (t : List ℕ). Stopped taken faults first new t) (take-append-drop (done + count) blob) (Stopped-first (drop (done + count) blob) part)
 
--- some bytes more
-pub bytes_more : {K T E : Type 0} {taken : K → Option (List ℕ)} {faults : K → ℕ} {old mid new : K} {was kept held : List ℕ} {value : T} (bytes : List ℕ) (i n j : ℕ) → i + n ≡ j
-    → PutBytes taken faults old mid was kept bytes i → Puts {E = E} taken faults mid new kept held (Ok value) (take n (drop i bytes)) → PutBytes taken faults old new was held bytes j
-bytes_more {taken} {faults} {old} {new} {was} {held} bytes i n j sum before step =
-    subst (λ (t : List ℕ). HasPut taken faults old new was held t) (sym (take-add i n bytes) ∙ ap (λ (m : ℕ). take m bytes) sum) (Puts-append before (as_put step))
+-- a text that no buffer holds, and a stop before it
+pub large_stopped : {K T E : Type 0} {taken : K → Option (List ℕ)} {faults : K → ℕ} {old new : K} {was held : List ℕ} (result : Result T E) (text : List ℕ) → IsErr result → 4096 < length text → held ≡ []
+    → ((first : K) (before : List ℕ) → Gathers taken faults first old was before → Stopped taken faults first new before) → Puts taken faults old new was held result text
+large_stopped (Ok value) text err long empty flushed = absurd (cc)
+large_stopped (Err error) text err long empty flushed = record {
+  gathers = λ first before gathers. Stopped-first text (flushed first before gathers);
+  bound = λ bound. omega (arith, ap (length {A = ℕ}) empty);
+  fits = λ fits. absurd (omega (arith, fits, long));
+  stopped = empty;
+}
 
--- a stop in them
-pub bytes_stop : {K T S E F : Type 0} {taken : K → Option (List ℕ)} {faults : K → ℕ} {old mid new : K} {was kept held : List ℕ} {error : F} (result : Result T E) (bytes : List ℕ) (i n : ℕ) → IsErr result
-    → PutBytes taken faults old mid was kept bytes i → Puts {T = S} taken faults mid new kept held (Err error) (take n (drop i bytes)) → Puts taken faults old new was held result bytes
-bytes_stop {taken} {faults} {old} {new} {was} {held} result bytes i n err before stop =
-    let front : take i bytes ++ take n (drop i bytes) ≡ take (i + n) bytes = sym (take-add i n bytes) in
-    subst (λ (t : List ℕ). Puts taken faults old new was held result t)
-    (ap (λ (t : List ℕ). t ++ drop (i + n) bytes) front ∙ take-append-drop (i + n) bytes)
-    (Puts-stop result (drop (i + n) bytes) err (Puts-append before stop))
-
--- and all that are left
-pub bytes_last : {K T E : Type 0} {taken : K → Option (List ℕ)} {faults : K → ℕ} {old mid new : K} {was kept held : List ℕ} (result : Result T E) (bytes : List ℕ) (i j n : ℕ) → i ≡ j → j + n ≡ length bytes
-    → PutBytes taken faults old mid was kept bytes i → Puts taken faults mid new kept held result (take n (drop j bytes)) → Puts taken faults old new was held result bytes
-bytes_last {taken} {faults} {old} {mid} {new} {was} {kept} {held} result bytes i j n same all before step =
-    subst (λ (t : List ℕ). Puts taken faults old new was held result t)
-    (sym (take-add j n bytes) ∙ take_all (j + n) bytes (omega (arith, all)))
-    (Puts-append (subst (λ (m : ℕ). PutBytes taken faults old mid was kept bytes m) same before) step)
-
--- one byte more is copied
-pub copied_more : (block bytes : List ℕ) (from k byte : ℕ) → k < length block → byte ≡ get_or bytes (from + k) 0 → ((j : ℕ) → j < k → get_or block j 0 ≡ get_or bytes (from + j) 0) → (j : ℕ) → j < k + 1 →
-    get_or (set block k byte) j 0 ≡ get_or bytes (from + j) 0
-copied_more block bytes from k byte small is before j l =
-    ⊎_elim
-    (λ (same : j ≡ k). ap (λ (n : ℕ). get_or (set block k byte) n 0) same ∙ get_or-set_same block k byte 0 small ∙ is ∙ ap (λ (n : ℕ). get_or bytes (from + n) 0) (sym same))
-    (λ (other : j ≡ k → ⊥). get_or-set_other block k j byte 0 other ∙ before j (omega (arith, l, other)))
-    (cases_eq j k)
-
--- bytes that were copied
-pub copied : (block bytes : List ℕ) (from n : ℕ) → n ≤ length block → from + n ≤ length bytes → ((k : ℕ) → k < n → get_or block k 0 ≡ get_or bytes (from + k) 0) → take n block ≡ take n (drop from bytes)
-copied block bytes from n few there each =
-    let long : length (take n block) ≡ n = length-take-le n block few in
-    let wide : length (take n (drop from bytes)) ≡ n = length-take-le n (drop from bytes) (omega (arith, there, length-drop from bytes)) in
-    ext_get_or 0 (take n block) (take n (drop from bytes)) (long ∙ sym wide) (λ k l.
-    (let small : k < n = omega (arith, l, long) in
-    get_or-take n block k 0 small ∙ each k small ∙ sym (get_or-take n (drop from bytes) k 0 small ∙ get_or-drop from bytes k 0)))
+-- and one that was written behind what the buffer held
+pub large_put : {K T E : Type 0} {taken : K → Option (List ℕ)} {faults : K → ℕ} {old mid new : K} {was held : List ℕ} (result : Result T E) (text : List ℕ) → 4096 < length text → held ≡ []
+    → ((first : K) (before : List ℕ) → Gathers taken faults first old was before → Wrote taken faults first mid before) → Writes taken faults mid new result text → Puts taken faults old new was held result text
+large_put {taken} {faults} {new} (Ok value) text long empty flushed wrote = record {
+  gathers = λ first before gathers. subst (λ (h : List ℕ). Gathers taken faults first new h (before ++ text)) (sym empty) (Gathers-written (Wrote-append (flushed first before gathers) wrote));
+  bound = λ bound. omega (arith, ap (length {A = ℕ}) empty);
+  fits = λ fits. absurd (omega (arith, fits, long));
+  stopped = tt;
+}
+large_put (Err error) text long empty flushed stop = record {
+  gathers = λ first before gathers. Stopped-second (flushed first before gathers) stop;
+  bound = λ bound. omega (arith, ap (length {A = ℕ}) empty);
+  fits = λ fits. absurd (omega (arith, fits, long));
+  stopped = empty;
+}

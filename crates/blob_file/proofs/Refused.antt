@@ -25,8 +25,12 @@ module _ (bytes : List ℕ) (begins : same_bytes (take 8 bytes) magic ≡ true) 
     pub no_layout : (CanLie header → ⊥) → opened bytes ≡ Err fault.Layout
     no_layout none = let no : can_lie header ≡ false = cannot_lie header none in behind ∙ ap with_header is ∙ (rw no refl)
 
-    pub with_layout : CanLie header → opened bytes ≡ with_body header body
+    with_layout : CanLie header → opened bytes ≡ with_body header body
     with_layout can = let yes : can_lie header ≡ true = (lies header).1 can in behind ∙ ap with_header is ∙ (rw yes refl)
+
+  -- the same, of a header that is told in the other way
+  pub body_told : (header : Header) {body : List ℕ} → header_at (drop 8 bytes) ≡ Some (header, body) → CanLie header → (made : Header) → made ≡ header → opened bytes ≡ with_body made body
+  body_told header {body} is can made same = with_layout header body is can ∙ ap (λ (h : Header). with_body h body) (sym same)
 
 -- a refusal, passed on
 pub refused_on : {P Q : Type 0} (why found : FileFault) → (P → Q) → (found ≡ fault.NoMemory) ⊎ ((found ≡ why) × P) → (found ≡ fault.NoMemory) ⊎ ((found ≡ why) × Q)

@@ -1,20 +1,23 @@
 -- The lines of a header: what is told of a text is what the grammar says.
-use Rattle.std.proofs.Common.{◌≡◌, ℕ, ◌<◌, ◌≤◌, Bool, true, false, List, length, Result, Ok, Err, Option, Some, None, inl, inr, refl, ap, subst}
-use Rattle.std.specs.Prelude.{MatchResult, ◌⊎◌, nat_le, ◌&&◌, if◌then◌else◌}
+use Rattle.std.proofs.Common.{◌≡◌, ℕ, ◌<◌, ◌≤◌, Bool, true, false, List, length, Result, Ok, Err, Option, Some, None, inl, inr, refl, sym, ap, ◌∙◌, subst, ⊎_elim}
+use Rattle.std.specs.Prelude.{MatchResult, IfOk, IfErr, OnOk, ◌⊎◌, nat_le, ◌&&◌, if◌then◌else◌}
 use Rattle.std.proofs.lemmas.Bool.{and_parts, and_left, and_right, leb-true, le-leb, lt-leb}
 use Rattle.std.proofs.lemmas.Slice.Eq.{bytes_eq-Decides}
 use Rattle.line_tokens.specs.declared.spots.Spot.{Spot}
 use Rattle.line_tokens.specs.SpotLaws.{same_spots}
 use Rattle.line_grammar.specs.Grammar.{IsSentence}
 use Rattle.line_grammar.specs.Reads.{Reads, StopsAt, tokens_of}
-use Rattle.line_grammar.specs.Sentences.{Sentence, deepest}
+use Rattle.line_grammar.specs.Sentences.{Sentence, sentence_of, deepest}
+use Rattle.line_grammar.specs.declared.line.Line.{Line}
 use Rattle.line_grammar.specs.declared.version.Version.{Version}
 use Rattle.line_grammar.specs.declared.version.Version.TheVariants.{Two}
 use Rattle.line_writer.specs.Texts.{canonical}
 use Rattle.schema_lang.specs.LineOf.{line_of, IsTold}
+use Rattle.schema_lang.specs.Parsing.{IsWhole}
 use Rattle.schema_lang.specs.declared.fault.LineFault.{LineFault}
 use Rattle.schema_lang.specs.declared.fault.LineFault.TheVariants.{Syntax, TooDeep, NoMemory}
 use Rattle.blob_file.specs.Refusals.{refusal}
+use Rattle.blob_file.specs.declared.fault.FileFault.{FileFault}
 use Rattle.blob_file.specs.declared.fault.FileFault.TheVariants as fault
 use Rattle.blob_file.specs.Opened.{same_bytes, canonical_by, line_told}
 
@@ -87,6 +90,27 @@ module _ (text : List ℕ) where
   refused_line (Syntax column) told = inr (refl, told_no column told)
   refused_line TooDeep told = inr (refl, told_deep told.0 told.1 told.2)
   refused_line NoMemory told = inl refl
+
+  -- a line whose spelling was looked at
+  module _ (line : Line) (short : length text ≤ 4096) (is : line_of Two text ≡ Ok (sentence_of line)) (low : deepest (sentence_of line) ≤ 32) where
+    pub spelled_told : (result : Result Line FileFault) → IfOk result (λ same. (same ≡ line) × (same_bytes (canonical (sentence_of line)) text ≡ true)) → IfOk result (λ same. line_told text ≡ Some (sentence_of same))
+    spelled_told (Ok same) told = told_some (sentence_of line) short is low told.1 ∙ ap (λ (l : Line). Some (sentence_of l)) (sym told.0)
+    spelled_told (Err found) told = tt
+
+    pub spelled_whole : (result : Result Line FileFault) → IsWhole line → IfOk result (λ same. (same ≡ line) × (same_bytes (canonical (sentence_of line)) text ≡ true)) → IfOk result IsWhole
+    spelled_whole (Ok same) whole told = subst IsWhole (sym told.0) whole
+    spelled_whole (Err found) whole told = tt
+
+    pub spelled_short : (result : Result Line FileFault) → OnOk result (length text ≤ 4096)
+    spelled_short (Ok same) = short
+    spelled_short (Err found) = tt
+
+    pub spelled_other : (result : Result Line FileFault) → IfErr result (λ found. (found ≡ fault.NoMemory) ⊎ ((found ≡ fault.Header) × (same_bytes (canonical (sentence_of line)) text ≡ false)))
+        → IfErr result (λ found. (found ≡ fault.NoMemory) ⊎ ((found ≡ fault.Header) × (line_told text ≡ None)))
+    spelled_other (Ok same) told = tt
+    spelled_other (Err found) told =
+        ⊎_elim (λ (none : found ≡ fault.NoMemory). inl none)
+        (λ (other : (found ≡ fault.Header) × (same_bytes (canonical (sentence_of line)) text ≡ false)). inr (other.0, told_other (sentence_of line) is other.1)) told
 
 -- ---- against the grammar
 

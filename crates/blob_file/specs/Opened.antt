@@ -166,3 +166,8 @@ table_of saved = record {
 abbrev pub IsRead : Result Saved FileFault → Result Table FileFault → Type 0
 IsRead told (Ok table) = (saved : Saved) × (told ≡ Ok saved) × (table ≡ table_of saved)
 IsRead told (Err found) = (found ≡ fault.NoMemory) ⊎ (told ≡ Err found)
+
+-- the same of one that makes the table in its place
+abbrev pub IsReadInto : Result Saved FileFault → Table → Result Unit FileFault → Type 0
+IsReadInto told table (Ok done) = IsRead told (Ok table)
+IsReadInto told table (Err found) = IsRead told (Err found)

@@ -1,19 +1,20 @@
 // The rows of a view, stored by the raw numbers that blobs hold.
-ghost use Rattle.std.specs.Prelude.{ℕ, ◌≡◌, ◌+◌, ◌*◌, ◌<◌, pos, true, is_ok, IfErr, OnOk, OnErr, [], length, slice_index_or, slice_set};
+ghost use Rattle.std.specs.Prelude.{ℕ, ◌≡◌, ◌+◌, ◌*◌, ◌<◌, pos, true, is_ok, IfErr, IfSome, OnOk, OnErr, [], length, slice_index_or, slice_set};
 ghost use Rattle.places.specs.Image.{entry};
 ghost use Rattle.piece_bits.specs.Tables.{AreSized, table_in};
 ghost use Rattle.views.specs.Stores.{kept_row, kept_rows};
 ghost use Rattle.views.specs.Tables.{answer_of, kept_of, leaf_count_of, owners_of, after_stores};
 ghost use Rattle.views.specs.Tallies.{Write, row_accesses, all_accesses};
 ghost use Rattle.blob_file.specs.Opened.{raw_in};
-ghost use Rattle.blob_file.specs.Filling.{IsTaken, IsTakenRow};
+ghost use Rattle.blob_file.specs.Filling.{IsTaken, IsTakenRow, is_one_piece};
 ghost use Rattle.blob_file.specs.Saving.{header_of};
 ghost use Rattle.blob_file.specs.declared.fault.FileFault.TheVariants as fault;
 
 use crate::fault::FileFault;
 use blobs::Blob;
-use piece_bits::{decode, read_pieces};
-use places::Mapping;
+use map_any::{AnyMap, Word};
+use piece_bits::{decode, read_pieces, read_word};
+use places::{Mapping, laws_of};
 use std::sync::ledger::Ledger;
 use steps::Steps;
 use views::{View, laws_of_table};
@@ -85,7 +86,58 @@ fn read_row(blobs: &[Blob], row: u64, view: &View, values: &mut [i128]) -> Resul
 }
 
 // The raw number of a leaf in a row, read off blobs whose padding may be anything.
-fn raw_entry<M: Mapping>(map: &M, blobs: &[Blob], slot: u64, cell: usize) -> i128
+#[inline(always)]
+fn raw_entry(map: &AnyMap, blobs: &[Blob], row: u64, leaf: usize) -> i128
+    requires slot_in { row < ⟦<AnyMap as Mapping>⟧.slot_count map.now }
+    requires cell_in { leaf < length (⟦<AnyMap as Mapping>⟧.cell_list map.now) }
+    requires sized { AreSized (⟦<AnyMap as Mapping>⟧.layout map.now) blobs.now }
+    ensures { result ≡ entry (table_in (⟦<AnyMap as Mapping>⟧.layout map.now) (⟦<AnyMap as Mapping>⟧.slot_count map.now)
+        (⟦<AnyMap as Mapping>⟧.hold_list map.now) blobs.now) row leaf }
+{
+    match near_entry(map, blobs, row, leaf) {
+        Some(number) => number,
+        None => entry_by_rule(map, blobs, row, leaf),
+    }
+}
+
+// The same by the short form of the leaf's rule, where it lies in one piece and goes by rows. None says nothing.
+#[inline(always)]
+fn near_entry(map: &AnyMap, blobs: &[Blob], row: u64, leaf: usize) -> Option<i128>
+    requires slot_in { row < ⟦<AnyMap as Mapping>⟧.slot_count map.now }
+    requires cell_in { leaf < length (⟦<AnyMap as Mapping>⟧.cell_list map.now) }
+    requires sized { AreSized (⟦<AnyMap as Mapping>⟧.layout map.now) blobs.now }
+    ensures { IfSome result (λ number. number ≡ entry (table_in (⟦<AnyMap as Mapping>⟧.layout map.now) (⟦<AnyMap as Mapping>⟧.slot_count map.now)
+        (⟦<AnyMap as Mapping>⟧.hold_list map.now) blobs.now) row leaf) }
+{
+    laws_of(map);
+    let short = &map.short(leaf).short;
+    let start = short.near_start(row)?;
+    if !is_one_piece(short.word) {
+        return None;
+    }
+    Some(read_word(&blobs[short.blob], start, short.word, &short.field))
+}
+
+// Whether what stands at a place is one piece: no bytes in reverse order, and none by itself.
+#[inline(always)]
+fn is_one_piece(word: Word) -> bool
+    ensures { result ≡ is_one_piece word }
+{
+    !matches!(
+        word,
+        Word::TurnedU16
+            | Word::TurnedU32
+            | Word::TurnedU64
+            | Word::TurnedI16
+            | Word::TurnedI32
+            | Word::TurnedI64
+            | Word::Scattered
+    )
+}
+
+// The same by the whole rule.
+#[inline(never)]
+fn entry_by_rule<M: Mapping>(map: &M, blobs: &[Blob], slot: u64, cell: usize) -> i128
     requires slot_in { slot < M.slot_count map.now }
     requires cell_in { cell < length (M.cell_list map.now) }
     requires sized { AreSized (M.layout map.now) blobs.now }

@@ -95,7 +95,10 @@ fn read_record(alloc: Global, text: &[u8]) -> Result<Dim, FileFault>
                 Err(FileFault::Header)
             }
         }
-        _ => Err(FileFault::Header),
+        other => {
+            drop(other);
+            Err(FileFault::Header)
+        }
     }
 }
 
@@ -122,7 +125,10 @@ fn read_view(alloc: Global, text: &[u8]) -> Result<ShownView, FileFault>
                 Err(FileFault::Header)
             }
         }
-        _ => Err(FileFault::Header),
+        other => {
+            drop(other);
+            Err(FileFault::Header)
+        }
     }
 }
 

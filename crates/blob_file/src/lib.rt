@@ -13,5 +13,5 @@ mod texts;
 
 pub use fault::{FileFault, SaveEnd};
 pub use laws::{bits_law, file_law, opened_law, rows_law};
-pub use open::read_file;
+pub use open::{mode_by, read_file};
 pub use save::write_file;

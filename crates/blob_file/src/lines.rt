@@ -1,6 +1,7 @@
 // The lines of a header, cut and read.
-ghost use Rattle.std.specs.Prelude.{ℕ, ◌≡◌, ◌≢◌, ◌<◌, ◌≤◌, ◌⊎◌, MatchOption, IfNone, IfSome, IfOk, IfErr, OnOk, Some, None, length, slice_index};
+ghost use Rattle.std.specs.Prelude.{ℕ, ◌≡◌, ◌≢◌, ◌<◌, ◌≤◌, ◌⊎◌, MatchOption, IfNone, IfSome, IfOk, IfErr, OnOk, Some, None, true, false, length, slice_index};
 ghost use Rattle.line_grammar.specs.Sentences.{sentence_of};
+ghost use Rattle.line_writer.specs.Texts.{canonical};
 ghost use Rattle.schema_lang.specs.Parsing.{IsWhole};
 ghost use Rattle.blob_file.specs.Opened.{line_at, line_told, same_bytes};
 ghost use Rattle.blob_file.specs.Refusals.{refusal};
@@ -46,13 +47,34 @@ pub fn read_line(alloc: Global, text: &[u8]) -> Result<Line, FileFault>
     if text.len() > MAX_LINE_BYTES {
         return Err(FileFault::Header);
     }
-    let line = match parse_line(alloc, text, Version::Two) {
-        Ok(line) => line,
-        Err(fault) => return Err(refusal(fault)),
-    };
-    let written = write_line(alloc, &line)?;
+    match parse_line(alloc, text, Version::Two) {
+        Ok(line) => spelled(alloc, line, text),
+        Err(fault) => Err(refusal(fault)),
+    }
+}
+
+// The line, where a text is its canonical one.
+fn spelled(alloc: Global, line: Line, text: &[u8]) -> Result<Line, FileFault>
+    ensures same { IfOk result (λ same. (same ≡ line) × (same_bytes (canonical (sentence_of line)) text.now ≡ true)) }
+    ensures other { IfErr result (λ found. (found ≡ fault.NoMemory) ⊎ ((found ≡ fault.Header) × (same_bytes (canonical (sentence_of line)) text.now ≡ false))) }
+{
+    match spelling(alloc, &line, text) {
+        Ok(()) => Ok(line),
+        Err(fault) => {
+            drop(line);
+            Err(fault)
+        }
+    }
+}
+
+// The fault of a text that is not the canonical one of a line.
+fn spelling(alloc: Global, line: &Line, text: &[u8]) -> Result<(), FileFault>
+    ensures same { OnOk result (same_bytes (canonical (sentence_of line.now)) text.now ≡ true) }
+    ensures other { IfErr result (λ found. (found ≡ fault.NoMemory) ⊎ ((found ≡ fault.Header) × (same_bytes (canonical (sentence_of line.now)) text.now ≡ false))) }
+{
+    let written = write_line(alloc, line)?;
     if is_same(written.as_str().as_bytes(), text) {
-        Ok(line)
+        Ok(())
     } else {
         Err(FileFault::Header)
     }

@@ -9,7 +9,8 @@ ghost use Rattle.record_dim.specs.Schemas.{schema_fields};
 ghost use Rattle.record_dim.specs.Trees.{tree_of, Record, IsRecord};
 ghost use Rattle.blob_file.specs.Files.{Header, IsFile};
 ghost use Rattle.blob_file.specs.Headers.{is_nameless, CanLie};
-ghost use Rattle.blob_file.specs.Opened.{empty_table, leaf_count, mode_by, opened, row_count, with_body, IsRead};
+ghost use Rattle.blob_file.specs.Opened.{empty_table, leaf_count, mode_by, opened, row_count, with_blobs, with_body, IsRead, IsReadInto};
+ghost use Rattle.piece_bits.specs.Tables.{AreSized};
 ghost use Rattle.views.specs.Refusals.{IsOver, IsNoView};
 ghost use Rattle.views.specs.Tables.{owners_of};
 ghost use Rattle.blob_file.specs.Parts.{header_by, header_in};
@@ -46,8 +47,14 @@ pub fn read_file<L: Ledger>(
         return Err(FileFault::Magic);
     };
     let (header, body) = read_header(alloc, rest)?;
-    let view = empty_view(alloc, header)?;
-    filled_view(alloc, view, body, steps)
+    let mut view = empty_view(alloc, header)?;
+    match fill_view(alloc, &mut view, body, steps) {
+        Ok(()) => Ok(view),
+        Err(fault) => {
+            drop(view);
+            Err(fault)
+        }
+    }
 }
 
 // A view of zeros that the header says, in which nothing was counted.
@@ -101,7 +108,8 @@ fn extents_of(words: &[ExtentWord]) -> Result<Extents, FileFault>
     }
 }
 
-fn mode_by(wrap: bool) -> StoreMode
+/// The mode of a view whose line has, or has not, the word `wrap`.
+pub fn mode_by(wrap: bool) -> StoreMode
     ensures { result ≡ mode_by wrap }
 {
     if wrap {
@@ -156,37 +164,41 @@ fn zeros(
     }
 }
 
-// The view with the rows of a file, whose header it was made of, behind which these bytes stand.
-fn filled_view<L: Ledger>(
+// Fills a view of zeros with the rows of a file, whose header it was made of, behind which these bytes stand.
+fn fill_view<L: Ledger>(
     alloc: Global,
-    view: View,
+    view: &mut View,
     body: &[u8],
     steps: &mut Steps<L>,
-) -> Result<View, FileFault>
-    requires empty { view ≡ empty_table (header_of view) }
-    ensures read { IsRead (with_body (header_of view) body.now) result }
-    ensures steps { IfOk result (λ made. steps.new ≡ steps.old + row_count (header_of made) * leaf_count (header_of made)) }
+) -> Result<(), FileFault>
+    requires empty { view.old ≡ empty_table (header_of view.old) }
+    ensures read { IsReadInto (with_body (header_of view.old) body.now) view.new result }
+    ensures steps { OnOk result (steps.new ≡ steps.old + row_count (header_of view.new) * leaf_count (header_of view.new)) }
 {
-    let mut view = view;
     laws_of(view.map());
-    laws_of_table(&view);
     if body.len() as u64 != view.blob_bytes() {
         return Err(FileFault::Length);
     }
-    let list = cut_blobs(alloc, view.map(), body)?;
-    let blobs = list.as_slice();
-    fill_rows(blobs, &mut view, steps)?;
-    kept(view, blobs)
+    let blobs = cut_blobs(alloc, view.map(), body)?;
+    fill_from(blobs.as_slice(), view, steps)
 }
 
-// The view, where its blobs are these.
-fn kept(view: View, blobs: &[Blob]) -> Result<View, FileFault>
-    requires { length blobs.now ≡ length (owners_of view) }
-    ensures own { IfOk result (λ same. (same ≡ view) × (blobs_of view ≡ blobs.now)) }
-    ensures other { IfErr result (λ found. (found ≡ fault.Contents) × (blobs_of view ≡ blobs.now → ⊥)) }
+// The same, of the blobs into which the bytes are cut.
+fn fill_from<L: Ledger>(
+    blobs: &[Blob],
+    view: &mut View,
+    steps: &mut Steps<L>,
+) -> Result<(), FileFault>
+    requires empty { view.old ≡ empty_table (header_of view.old) }
+    requires sized { AreSized (owners_of view.old) blobs.now }
+    ensures read { IsReadInto (with_blobs (header_of view.old) blobs.now) view.new result }
+    ensures steps { OnOk result (steps.new ≡ steps.old + row_count (header_of view.new) * leaf_count (header_of view.new)) }
 {
-    if has_blobs(&view, blobs) {
-        Ok(view)
+    laws_of(view.map());
+    laws_of_table(view);
+    fill_rows(blobs, view, steps)?;
+    if has_blobs(view, blobs) {
+        Ok(())
     } else {
         Err(FileFault::Contents)
     }

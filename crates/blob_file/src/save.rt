@@ -8,26 +8,26 @@ ghost use Rattle.blob_file.specs.Saving.{header_of, blobs_of, head_of, IsSaved};
 use crate::fault::SaveEnd;
 use crate::texts::{record_text, view_text};
 use blobs::Blob;
-use layout_io::{Failed, Sink, TextBuffer};
+use layout_io::{BUFFER_BYTES, Failed, Sink, TextBuffer, write_all};
 use places::Mapping;
 use schema_lang::MAX_LINE_BYTES;
 use std::alloc::Global;
-use views::View;
+use views::{View, laws_of_table};
 
 /// The first bytes of each file.
 pub const MAGIC: [u8; 8] = [b'L', b'L', b'A', b'M', b'A', b'B', b'1', b'\n'];
 
-// The most bytes of a blob that are put at once.
-const BLOCK_BYTES: usize = 512;
+// The most bytes of a blob that go to the sink at once.
+const BLOCK_BYTES: usize = 65_536;
 
 /// Writes a view as a file: a header, which says its record, its extents, how it stores and its mapping, and the bytes of its blobs. `TooBig`
-/// comes exactly where a text of the header has more than 4,096 bytes. All memory is taken before the first write, and there is one write for
-/// each 4,096 bytes.
+/// comes exactly where a text of the header has more than 4,096 bytes. All memory is taken before the first write. A blob of more than 4,096
+/// bytes is written in blocks of 65,536, and smaller ones are gathered.
 pub fn write_file<K: Sink>(alloc: Global, view: &View, sink: &mut K) -> Result<(), SaveEnd>
     ensures saved { IsSaved K.taken K.faults sink.old sink.new (header_of view.now) (blobs_of view.now) result }
     ensures file { IsShort (header_of view.now) → IsFile (file_of (header_of view.now) (blobs_of view.now)) (header_of view.now) (blobs_of view.now) }
 {
-    let _extents = view.extents();
+    laws_of_table(view);
     let record = record_text(alloc, view)?;
     let shown = view_text(alloc, view)?;
     let first = record.as_str().as_bytes();
@@ -103,34 +103,44 @@ fn put_blobs<K: Sink>(view: &View, buffer: &mut TextBuffer, sink: &mut K) -> Res
     Ok(())
 }
 
-// Puts the bytes of a blob, block after block.
+// Puts the bytes of a blob. One that the buffer cannot hold goes to the sink itself, behind what was put before it.
 fn put_blob<K: Sink>(blob: &Blob, buffer: &mut TextBuffer, sink: &mut K) -> Result<(), Failed>
     ensures { Puts K.taken K.faults sink.old sink.new buffer.old buffer.new result blob.now }
 {
-    let blocks = blob.len() / BLOCK_BYTES;
-    for block in 0..blocks {
-        put_block(blob, BLOCK_BYTES * block, BLOCK_BYTES, buffer, sink)?;
+    if blob.len() > BUFFER_BYTES {
+        buffer.flush(sink)?;
+        return write_blob(blob, sink);
     }
-    let done = BLOCK_BYTES * blocks;
-    put_block(blob, done, blob.len() - done, buffer, sink)
+    let mut block = [0; BUFFER_BYTES];
+    let bytes = &mut block[..blob.len()];
+    copy_out(blob, 0, bytes);
+    buffer.put(bytes, sink)
 }
 
-// Puts bytes of a blob from a place on. They go by an array, which takes them as one copy.
-fn put_block<K: Sink>(
-    blob: &Blob,
-    from: usize,
-    len: usize,
-    buffer: &mut TextBuffer,
-    sink: &mut K,
-) -> Result<(), Failed>
-    requires few { len ≤ 512 }
-    requires there { from + len ≤ length blob.now }
-    ensures { Puts K.taken K.faults sink.old sink.new buffer.old buffer.new result (take len (drop from blob.now)) }
+// Writes the bytes of a blob, block after block.
+fn write_blob<K: Sink>(blob: &Blob, sink: &mut K) -> Result<(), Failed>
+    ensures { Writes K.taken K.faults sink.old sink.new result blob.now }
 {
-    let _there = blob.len();
     let mut block = [0; BLOCK_BYTES];
-    for k in 0..len {
-        block[k] = blob.get(from + k);
+    let mut done = 0;
+    while done < blob.len() {
+        let len = BLOCK_BYTES.min(blob.len() - done);
+        let bytes = &mut block[..len];
+        copy_out(blob, done, bytes);
+        write_all(sink, bytes)?;
+        done += len;
     }
-    buffer.put(&block[..len], sink)
+    Ok(())
+}
+
+// Makes bytes those of a blob from a place on. The loop becomes a copy of sixteen at a time.
+fn copy_out(blob: &Blob, from: usize, bytes: &mut [u8])
+    requires { from + length bytes.old ≤ length blob.now }
+    ensures { bytes.new ≡ take (length bytes.old) (drop from blob.now) }
+{
+    let there = blob.len() - from;
+    prove!(bytes.len() <= there);
+    for at in 0..bytes.len() {
+        bytes[at] = blob.get(from + at);
+    }
 }

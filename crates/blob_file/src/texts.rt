@@ -1,6 +1,8 @@
 // The two texts of a header, written.
 ghost use Rattle.std.specs.Prelude.{◌≡◌, IfOk, IsTrue, map};
 ghost use Rattle.extents.specs.declared.words.ExtentWord.TheVariants.{Fixed};
+ghost use Rattle.line_grammar.specs.Sentences.{sentence_of};
+ghost use Rattle.line_writer.specs.Texts.{canonical};
 ghost use Rattle.record_dim.specs.Names.{is_name};
 ghost use Rattle.blob_file.specs.Files.{is_wrap, record_text, view_text};
 ghost use Rattle.blob_file.specs.Saving.{header_of};
@@ -23,8 +25,7 @@ pub fn record_text(alloc: Global, view: &View) -> Result<Text, NoMemory>
 {
     let dim = view.schema().tree(alloc)?;
     let name = named(RECORD_NAME);
-    let line = Line::Define { name, dim };
-    write_line(alloc, &line)
+    text_of(alloc, Line::Define { name, dim })
 }
 
 /// The text of the view itself.
@@ -44,7 +45,16 @@ pub fn view_text(alloc: Global, view: &View) -> Result<Text, NoMemory>
         wrap,
         expr,
     };
-    write_line(alloc, &line)
+    text_of(alloc, line)
+}
+
+// The canonical text of a line.
+fn text_of(alloc: Global, line: Line) -> Result<Text, NoMemory>
+    ensures { IfOk result (λ text. text ≡ canonical (sentence_of line)) }
+{
+    let text = write_line(alloc, &line);
+    drop(line);
+    text
 }
 
 // The name with this text.

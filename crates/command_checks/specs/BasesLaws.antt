@@ -13,30 +13,13 @@ use Rattle.record_dim.specs.NameBytesLaws.{both}
 use Rattle.record_dim.specs.declared.path.PathStep.{PathStep}
 use Rattle.map_expr.specs.Terms.{Term, Aos, Soa, Aosoa, BitAos, BitSoa, Split, Byteswap, Bytesplit, Change, Count, Heat, Named}
 use Rattle.map_expr.specs.Checks.{IsNameless}
-use Rattle.map_checks.specs.Mappings.{IsBuiltTerm}
+pub use Rattle.blob_file.specs.HeaderLaws.{nameless_built}
 use Rattle.worlds.specs.Outcomes.{Goes, Faults}
 use Rattle.worlds.specs.Tables.{resolved}
 use Rattle.worlds.specs.declared.fault.CommandFault.TheVariants.{BadExtents}
 use Rattle.command_checks.specs.Bases.{is_nameless, rows_for}
 
--- a mapping without names has a layout
-pub nameless_built : (term : Term) → is_nameless term ≡ true → IsBuiltTerm term
-nameless_built (Aos form order) e = tt
-nameless_built (Soa form order) e = tt
-nameless_built (Aosoa lanes order) e = tt
-nameless_built (BitAos width fields order) e = tt
-nameless_built (BitSoa width fields order) e = tt
-nameless_built (Split path first rest) e =
-    let names = both (is_nameless first) (is_nameless rest) e in
-    (nameless_built first names.0, nameless_built rest names.1)
-nameless_built (Byteswap inner) e = nameless_built inner e
-nameless_built (Bytesplit inner) e = nameless_built inner e
-nameless_built (Change from to inner) e = nameless_built inner e
-nameless_built (Count inner) e = nameless_built inner e
-nameless_built (Heat granule inner) e = nameless_built inner e
-nameless_built (Named name) e = absurd (false≢true e)
-
--- and can be checked
+-- a mapping without names can be checked
 pub nameless_term : (term : Term) → is_nameless term ≡ true → IsNameless term
 nameless_term (Aos form order) e = tt
 nameless_term (Soa form order) e = tt

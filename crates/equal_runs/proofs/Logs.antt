@@ -35,42 +35,18 @@ use Rattle.worlds.specs.Names.{nameless}
 use Rattle.worlds.specs.View.{view, new_table, with_view, named, Named}
 use Rattle.worlds.specs.declared.fault.CommandFault.{CommandFault}
 use Rattle.worlds.specs.declared.fault.CommandFault.TheVariants.{BadMapping, TooBig, Mismatch}
+use Rattle.equal_runs.specs.GoesLaws.{IfGoes, to, refused, unread, bind, behind, gone, known_found}
 use Rattle.equal_runs.specs.Logs.{log_in, logged, reads_of, writes_of, fills_of, done_log, work_logs, logs_after}
 use Rattle.equal_runs.proofs.Agreeing.{Told, goes, told}
 use Rattle.equal_runs.proofs.Entries.{Entries, Finds, some, nothing, finds, entries_added, entries_replaced, entries_removed, found_added, found_replaced}
 use Rattle.equal_runs.proofs.Tables.{with_written, anew_of, made_told, rows_told, anew_told}
 
--- where it goes, it goes to a thing of which this holds
-pub data IfGoes {A : Type 0} (P : A → Type 0) : Outcome A → Type 0 where
-  to : (x : A) → P x → IfGoes P (Goes x)
-  refused : (fault : CommandFault) → IfGoes P (Faults fault)
-  unread : (name : List ℕ) → IfGoes P (CannotRead name)
-
-pub bind : {A B : Type 0} (P : B → Type 0) (x : Outcome A) (f : A → Outcome B) → ((a : A) → x ≡ Goes a → IfGoes P (f a)) → IfGoes P (x >>= f)
-bind P (Goes a) f each = each a refl
-bind P (Faults fault) f each = refused fault
-bind P (CannotRead name) f each = unread name
-
--- behind what goes to a thing of which something holds
-pub behind : {A B : Type 0} (P : B → Type 0) (Q : A → Type 0) (x : Outcome A) (f : A → Outcome B) → IfGoes Q x → ((a : A) → Q a → IfGoes P (f a)) → IfGoes P (x >>= f)
-behind P Q x f (to a q) each = each a q
-behind P Q x f (refused fault) each = refused fault
-behind P Q x f (unread name) each = unread name
-
-pub gone : {A : Type 0} (P : A → Type 0) (x : Outcome A) (a : A) → IfGoes P x → x ≡ Goes a → P a
-gone P x a (to b p) is = let same : b ≡ a = cc in subst P same p
-gone P x a (refused fault) is = absurd (cc)
-gone P x a (unread name) is = absurd (cc)
-
+-- what is told goes there
 of_told : {A : Type 0} (P : A → Type 0) (x : Outcome A) → Told false P x → IfGoes P x
 of_told P x (goes a p) = to a p
 of_told P x (told fault of) = refused fault
 
--- what a used name stands for
-pub known_found : {A : Type 0} (fault : CommandFault) (x : Option A) (a : A) → some_or fault x ≡ Goes a → x ≡ Some a
-known_found fault (Some b) a is = let same : b ≡ a = cc in ap Some same
-known_found fault None a is = absurd (cc)
-
+-- a name that is free stands for nothing
 free_found : {A : Type 0} (fault : CommandFault) (x : Option A) → refused_if (is_some x) fault ≡ Goes tt → x ≡ None
 free_found fault None is = refl
 free_found fault (Some a) is = absurd (cc)

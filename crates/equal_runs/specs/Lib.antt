@@ -4,3 +4,4 @@ pub mod Widths
 pub mod EqualRuns
 pub mod Logs
 pub mod Entries
+pub mod GoesLaws

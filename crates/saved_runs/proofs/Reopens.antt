@@ -6,7 +6,7 @@ use Rattle.worlds.specs.Files.{save}
 use Rattle.worlds.specs.OnView.{Done, done_to, on_view, with_table}
 use Rattle.worlds.specs.Outcomes.{Goes, LeftOf, Left, known}
 use Rattle.worlds.specs.Step.{step}
-use Rattle.equal_runs.proofs.Logs.{known_found}
+use Rattle.equal_runs.specs.GoesLaws.{known_found}
 use Rattle.saved_runs.specs.Runs.{RunsSavable, RunsReopen}
 use Rattle.saved_runs.specs.SavedRuns.{once_written, OpensAs, SavedOpens}
 use Rattle.saved_runs.proofs.Went.{went, same_things}

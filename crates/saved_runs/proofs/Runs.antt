@@ -15,7 +15,7 @@ use Rattle.worlds.specs.Step.{step}
 use Rattle.script_runs.specs.Fold.{fails_at}
 use Rattle.equal_runs.specs.Lines.{IsLine, AreLines}
 use Rattle.equal_runs.specs.Logs.{SoFar, at_first, one_more, Comes, there, further}
-use Rattle.equal_runs.proofs.Logs.{gone}
+use Rattle.equal_runs.specs.GoesLaws.{gone}
 use Rattle.saved_runs.specs.Runs.{RunsSavable}
 use Rattle.saved_runs.specs.SavedRuns.{IsSavable}
 use Rattle.saved_runs.proofs.Lines.{IsSaid, sentence_said}

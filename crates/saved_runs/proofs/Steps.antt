@@ -36,7 +36,7 @@ use Rattle.worlds.specs.Tables.{resolved, made, zeros_of}
 use Rattle.worlds.specs.View.{named, new_table, view, with_view}
 use Rattle.worlds.specs.declared.fault.CommandFault.TheVariants.{Mismatch, TooBig}
 use Rattle.command_checks.specs.AlikeLaws.{not_alike}
-use Rattle.equal_runs.proofs.Logs.{IfGoes, to, refused, unread, bind, behind, known_found}
+use Rattle.equal_runs.specs.GoesLaws.{IfGoes, to, refused, unread, bind, behind, known_found}
 use Rattle.saved_runs.specs.SavedRuns.{IsSavable}
 use Rattle.saved_runs.proofs.Went.{unrefused, answered}
 use Rattle.saved_runs.proofs.Saves.{table_opened, table_savable}

@@ -25,7 +25,7 @@ use Rattle.worlds.specs.Outcomes.{free, known, refused_if, refused_by, ok_or}
 use Rattle.worlds.specs.Tables.{room, shaped, resolved, made, zeros_of, blob_bits, live_bits}
 use Rattle.worlds.specs.View.{Named, named}
 use Rattle.worlds.specs.declared.fault.CommandFault.TheVariants.{BadExtents, BadMapping, TooBig}
-use Rattle.equal_runs.proofs.Logs.{IfGoes, to, bind, behind, known_found}
+use Rattle.equal_runs.specs.GoesLaws.{IfGoes, to, bind, behind, known_found}
 use Rattle.saved_runs.specs.SavedRuns.{IsSavable}
 use Rattle.saved_runs.proofs.Went.{unrefused, answered}
 use Rattle.saved_runs.proofs.Maps.{HasTokens}

@@ -35,7 +35,7 @@ use Rattle.worlds.specs.Update.{updated, update_fault}
 use Rattle.worlds.specs.Values.{value_on, storable, store_fault}
 use Rattle.worlds.specs.declared.fault.BadActors.TheVariants.{Cuts, Turns}
 use Rattle.worlds.specs.declared.fault.CommandFault.TheVariants.{BadActors, BadIndex, NotCounted, TooBig}
-use Rattle.equal_runs.proofs.Logs.{IfGoes, to, bind}
+use Rattle.equal_runs.specs.GoesLaws.{IfGoes, to, bind}
 use Rattle.saved_runs.specs.SavedRuns.{IsSavable}
 use Rattle.saved_runs.proofs.Went.{answered}
 use Rattle.saved_runs.proofs.Rows.{entry_rows, answered_stays}

@@ -16,7 +16,7 @@ use Rattle.worlds.specs.Names.{nameless}
 use Rattle.worlds.specs.Outcomes.{Outcome, Goes, Faults, CannotRead, ◌>>=◌, Left, known, free, refused_by, ok_or}
 use Rattle.worlds.specs.declared.fault.CommandFault.{CommandFault}
 use Rattle.worlds.specs.declared.fault.CommandFault.TheVariants.{BadRecord, BadMapping}
-use Rattle.equal_runs.proofs.Logs.{IfGoes, to, refused, unread, bind, behind, known_found}
+use Rattle.equal_runs.specs.GoesLaws.{IfGoes, to, refused, unread, bind, behind, known_found}
 use Rattle.saved_runs.specs.SavedRuns.{IsSavable}
 use Rattle.saved_runs.proofs.Maps.{HasTokens}
 use Rattle.saved_runs.proofs.Lines.{IsRecord}

@@ -2,12 +2,12 @@
 ghost use Rattle.std.specs.Prelude.{◌≡◌, ◌<◌, IfOk, IfErr, OnOk, true, length};
 ghost use Rattle.extents.specs.Shapes.{IsShape};
 ghost use Rattle.map_expr.specs.Terms.{term_of};
-ghost use Rattle.worlds.specs.Tables.{mode_by};
 ghost use Rattle.worlds.specs.View.{named, new_table, view, with_view};
 ghost use Rattle.command_checks.specs.Bases.{is_nameless};
 ghost use Rattle.command_checks.specs.Gives.{Gives};
 
 use crate::session::Session;
+use blob_file::mode_by;
 use command_checks::{
     MappingList, RecordList, StepFault, ViewEntry, free_view, has_room, made, nameless, resolved,
     schema_of, shaped,
@@ -117,16 +117,6 @@ pub fn named<'a>(
         expr,
         shape,
     })
-}
-
-fn mode_by(wrap: bool) -> StoreMode
-    ensures { result ≡ mode_by wrap }
-{
-    if wrap {
-        StoreMode::Wrap
-    } else {
-        StoreMode::Strict
-    }
 }
 
 // The view that stands at first.

@@ -1,17 +1,17 @@
 -- New tables, and what refuses them.
-use Rattle.std.specs.Prelude.{ℕ, ◌+◌, ◌*◌, ◌^◌, Bool, List, length, sum_by, nat_lt, nat_le, Option, if◌then◌else◌}
-use Rattle.extents.specs.Indices.{indices}
+use Rattle.std.specs.Prelude.{ℕ, ◌+◌, ◌*◌, ◌^◌, List, length, sum_by, nat_lt, nat_le, Option}
 use Rattle.extents.specs.Shapes.{extents_for, bad_shape, bad_extents}
 use Rattle.extents.specs.declared.words.ExtentWord.{ExtentWord}
 use Rattle.record_dim.specs.Trees.{Fields}
-use Rattle.record_dim.specs.Leaves.{leaves, kinds_of}
+use Rattle.record_dim.specs.Leaves.{kinds_of}
 use Rattle.map_expr.specs.Terms.{Term as MapTerm}
-use Rattle.map_checks.specs.Mappings.{leaf_cells, layout_by, most_slots, accepted}
-use Rattle.piece_bits.specs.Tables.{zeros}
+use Rattle.map_checks.specs.Mappings.{leaf_cells, most_slots, accepted}
 use Rattle.kept_tables.specs.declared.mode.StoreMode.{StoreMode}
-use Rattle.kept_tables.specs.declared.mode.StoreMode.TheVariants.{Strict, Wrap}
-use Rattle.views.specs.Tallies.{no_tally, granules_for}
+use Rattle.views.specs.Tallies.{granules_for}
 use Rattle.views.specs.Tables.{Table, owners_of}
+use Rattle.blob_file.specs.Opened.{empty_table}
+use Rattle.blob_file.specs.Parts.{header_by}
+pub use Rattle.blob_file.specs.Opened.{mode_by}
 use Rattle.worlds.specs.Worlds.{Entry}
 use Rattle.worlds.specs.Outcomes.{Outcome, Goes, ◌>>=◌, refused_if, refused_by, ok_or}
 use Rattle.worlds.specs.declared.fault.CommandFault.TheVariants.{TooManyViews, TooBig, BadExtents, BadMapping}
@@ -38,20 +38,9 @@ blob_bits table = sum_by length (owners_of table)
 abbrev pub live_bits : List (Entry Table) → ℕ
 live_bits views = sum_by (λ entry. blob_bits entry.held) views
 
--- how a line says that its view stores a value that does not fit
-abbrev pub mode_by : Bool → StoreMode
-mode_by wrap = if wrap then Wrap else Strict
-
 -- a table of zeros, to which there was no access
 abbrev pub zeros_of : StoreMode → Fields → List ℕ → MapTerm → Table
-zeros_of mode fields extents mapping = record {
-  fields = fields;
-  extents = extents;
-  mapping = mapping;
-  mode = mode;
-  rows = zeros (length (indices extents)) (length (leaves fields));
-  tally = no_tally mapping (layout_by mapping extents fields) (length (leaves fields));
-}
+zeros_of mode fields extents mapping = empty_table (header_by fields extents mode mapping)
 
 -- a table of zeros beside these views, where its mapping is one and no limit is passed: the slots, the bytes of its blobs, the granules
 -- that are counted, and the bytes of all live views

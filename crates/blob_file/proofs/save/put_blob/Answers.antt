@@ -1,18 +1,11 @@
-use Rattle.std.proofs.Common.{rules, arith, ◌*◌, IsErr}
-use Rattle.blob_file.proofs.Puts.{no_byte, bytes_more, bytes_stop, bytes_last}
+use Rattle.std.proofs.Common.{rules, arith, IsErr}
+use Rattle.blob_file.proofs.Puts.{large_put, large_stopped}
 use Rattle.blob_file.proofs.save.put_blob.Goals as goal
 
-pub loop-block-init : goal.loop-block-init
-loop-block-init g c = no_byte _ _ _ _ c.args.blob.now
-
-pub returns-in_err-put_block : goal.returns-in_err-put_block
-returns-in_err-put_block g c =
+pub returns-in_err-flush : goal.returns-in_err-flush
+returns-in_err-flush g c =
     let err : IsErr c.from_residual.result = search rules in
-    bytes_stop c.from_residual.result c.args.blob.now (512 * c.loop-block.block) 512 err c.loop-block.invariant c.in_err-put_block.ensures
+    large_stopped c.from_residual.result c.args.blob.now err (omega arith) c.flush.ensures.emptied c.in_err-flush.ensures.writes
 
-pub loop-block-preserved : goal.loop-block-preserved
-loop-block-preserved g c = bytes_more c.args.blob.now (512 * c.loop-block.block) 512 _ (omega arith) c.loop-block.invariant c.in_ok-put_block.ensures
-
-pub returns : goal.returns
-returns g c =
-    bytes_last c.put_block-2.result c.args.blob.now (512 * c.loop-block.block) _ _ (omega arith) (omega arith) c.loop-block.invariant c.put_block-2.ensures
+pub returns-then-len-gt-BUFFER_BYTES : goal.returns-then-len-gt-BUFFER_BYTES
+returns-then-len-gt-BUFFER_BYTES g c = large_put c.write_blob.result c.args.blob.now (omega arith) c.flush.ensures.emptied c.in_ok-flush.ensures.writes c.write_blob.ensures

@@ -12,4 +12,4 @@ returns c =
     let tree : tree_of c.in_ok-dim.dim ≡ Record c.args.view.now.fields = c.in_ok-dim.ensures.tree ∙ ap Record c.schema.ensures.value in
     let line : Define c.named-name.result (tree_of c.in_ok-dim.dim) ≡ record_line (header_of c.args.view.now) =
     ap (λ (name : List ℕ). Define name (tree_of c.in_ok-dim.dim)) c.named-name.ensures ∙ ap (Define (codes "R")) tree in
-    rw (ap canonical line) at c.write_line.ensures.text
+    rw (ap canonical line) at c.text_of.ensures

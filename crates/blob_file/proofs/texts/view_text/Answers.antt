@@ -15,4 +15,4 @@ returns c =
     let new : New = record { name = c.named-name.result; schema = c.named-schema.result; words = c.in_ok-words.words; wrap = c.is_wrap-wrap.result; term = term_of c.in_ok-expr.expr } in
     let line : View new ≡ view_line (header_of c.args.view.now) =
     λ i. View (record { name = c.named-name.ensures i; schema = c.named-schema.ensures i; words = words i; wrap = wrap i; term = term i }) in
-    rw (ap canonical line) at c.write_line.ensures.text
+    rw (ap canonical line) at c.text_of.ensures

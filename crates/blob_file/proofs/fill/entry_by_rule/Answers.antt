@@ -6,9 +6,9 @@ use Rattle.places.specs.declared.piece.Hold.{Hold}
 use Rattle.places.specs.Laws.{IsLocated}
 use Rattle.piece_bits.specs.CellsLaws.{IsCell, some_bits, few_bits, bit_count, read_small, read_entry_is}
 use Rattle.piece_bits.specs.LocatedLaws.{pieces_within}
-use Rattle.blob_file.proofs.fill.raw_entry.Given as given
-use Rattle.blob_file.proofs.fill.raw_entry.Goals as goal
-use Rattle.blob_file.proofs.fill.raw_entry.Goals.{After-as_slice, After-read_pieces}
+use Rattle.blob_file.proofs.fill.entry_by_rule.Given as given
+use Rattle.blob_file.proofs.fill.entry_by_rule.Goals as goal
+use Rattle.blob_file.proofs.fill.entry_by_rule.Goals.{After-as_slice, After-read_pieces}
 
 at : (g : given.Over) (c : goal.After-as_slice g) →
     IsCell (g.M.Mapping.layout c.args.map.now) (g.M.Mapping.slot_count c.args.map.now) (g.M.Mapping.hold_list c.args.map.now)

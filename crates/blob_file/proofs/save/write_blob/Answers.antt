@@ -1,0 +1,24 @@
+use Rattle.std.proofs.Common.{rules, arith, ◌≡◌, ◌∙◌, ◌++◌, ℕ, IsErr, length, take, drop, ap}
+use Rattle.std.proofs.lemmas.List.{length-take-le, length-append, length-drop}
+use Rattle.blob_file.proofs.Puts.{block_written, block_stopped}
+use Rattle.blob_file.proofs.save.write_blob.Goals as goal
+
+pub returns-in_err-write_all : goal.returns-in_err-write_all
+returns-in_err-write_all g c =
+    let err : IsErr c.from_residual.result = search rules in
+    block_stopped c.from_residual.result c.args.blob.now c.copy_out.new.bytes c.loop-done.done _ err c.copy_out.ensures c.loop-done.invariant.wrote c.in_err-write_all.ensures.writes
+
+pub loop-done-preserved : goal.loop-done-preserved
+loop-done-preserved g c =
+    let blob = c.args.blob.now in
+    let done = c.loop-done.done in
+    let len = c.min-len.result in
+    let is : c.copy_out.new.bytes ≡ take len (drop done blob) = search rules in
+    let long : length c.copy_out.new.bytes ≡ len = ap (length {A = ℕ}) is ∙ length-take-le len (drop done blob) (omega (arith, length-drop done blob)) in
+    let room : length (c.copy_out.new.bytes ++ drop len c.loop-done.block) ≡ 65536 =
+    omega (arith, length-append c.copy_out.new.bytes (drop len c.loop-done.block), length-drop len c.loop-done.block, long, c.loop-done.invariant.room) in
+    record {
+      within = omega arith;
+      room = room;
+      wrote = block_written blob c.copy_out.new.bytes done len is c.loop-done.invariant.wrote c.in_ok-write_all.ensures.writes;
+    }
