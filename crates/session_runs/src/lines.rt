@@ -73,7 +73,12 @@ fn do_line<H: Shelf, K: Sink, L: Ledger>(
         return Err(LineEnd::Command(CommandFault::LineTooLong));
     }
     match parse_line(alloc, text, version) {
-        Ok(line) => do_command(alloc, session, &line, shelf, sink, steps),
+        Ok(line) => {
+            let done = do_command(alloc, session, &line, shelf, sink, steps);
+            // One call: at the end of the block a drop for each kind of line would stand here.
+            drop(line);
+            done
+        }
         Err(fault) => match fault {
             LineFault::Syntax { column } => Err(LineEnd::Command(CommandFault::Syntax { column })),
             LineFault::TooDeep => Err(LineEnd::Command(CommandFault::TooDeep)),
