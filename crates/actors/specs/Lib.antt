@@ -1,0 +1,4 @@
+pub mod Codes
+pub mod Runs
+pub mod Standing
+pub mod Kept

@@ -1,0 +1,46 @@
+-- A run of the actors of an update: what it keeps, and how far its actors are.
+use Rattle.std.specs.Prelude.{ℕ, ◌≡◌, List, [], Option, None, slice_index_or}
+use Rattle.expr_lang.specs.Terms.{Term}
+use Rattle.views.specs.Tables.{Table}
+use Rattle.row_updates.specs.Rows.{Setting}
+use Rattle.actor_steps.specs.Confluence.{Actor, State}
+use Rattle.actor_steps.specs.Jobs.{job_of, fresh_of, start_of}
+use Rattle.actor_steps.specs.Micro.{Job, Micro, Registers}
+use Rattle.actor_steps.specs.Schedules.{idle_with, run_by}
+
+-- the table as the run found it, with no counts; the filter and the leaves that are set; the cuts; the memory and the actors over it
+pub record Run : Type 0 where
+  pub found : Table
+  pub filter : Option (Term ℕ)
+  pub sets : List Setting
+  pub cuts : List ℕ
+  pub state : State (List (List ℕ)) Micro Registers
+
+-- a table without what is counted of it: its record, extents, mode, mapping and rows, and so its blobs
+abbrev pub uncounted : Table → Table
+uncounted table = record table { tally = record { counts = None; heat = None } }
+
+-- a run before its first micro-step
+abbrev pub started_run : Table → Option (Term ℕ) → List Setting → List ℕ → Run
+started_run table filter sets cuts = record {
+  found = uncounted table;
+  filter = filter;
+  sets = sets;
+  cuts = cuts;
+  state = start_of (uncounted table) filter sets cuts;
+}
+
+abbrev pub job_in : Run → Job
+job_in run = job_of run.found run.filter run.sets
+
+-- what an actor has left
+abbrev pub rest_in : Run → ℕ → List Micro
+rest_in run actor = (slice_index_or run.state.actors actor (idle_with (fresh_of run.found))).rest
+
+-- a run after a schedule
+abbrev pub after_turns : Run → List ℕ → Run
+after_turns run schedule = record run { state = run_by (job_in run) (fresh_of run.found) schedule run.state }
+
+-- no actor has a micro-step left
+abbrev pub IsDone : Run → Type 0
+IsDone run = (actor : ℕ) → rest_in run actor ≡ []

@@ -1,0 +1,8 @@
+//! Updates whose rows are split among actors, which load and store single bytes in the order of a schedule. No thread runs.
+#![tactic(auto)]
+
+mod actor;
+mod run;
+
+pub use row_updates::{Assign, UpdateFault, UpdateKind, update_rows};
+pub use run::ActorRun;
