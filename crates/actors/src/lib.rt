@@ -2,7 +2,10 @@
 #![tactic(auto)]
 
 mod actor;
+mod fault;
+mod memory;
 mod run;
 
+pub use fault::ActorFault;
 pub use row_updates::{Assign, UpdateFault, UpdateKind, update_rows};
 pub use run::ActorRun;
