@@ -1,5 +1,5 @@
 -- Cuts of the rows among actors.
-use Rattle.std.specs.Prelude.{ℕ, zero, suc, ◌-◌, ◌≤◌, ◌&&◌, Bool, nat_le, List, [], ◌∷◌, map, if◌then◌else◌}
+use Rattle.std.specs.Prelude.{ℕ, suc, ◌-◌, ◌≤◌, ◌&&◌, Bool, nat_le, List, [], ◌∷◌, map, if◌then◌else◌}
 use Rattle.actor_steps.specs.Confluence.{Actor}
 use Rattle.actor_steps.specs.Micro.{Job, Micro, Registers, steps_of}
 

@@ -1,0 +1,147 @@
+-- The bytes of an image, and the memory that has its bits.
+use Rattle.std.proofs.Common.{◌≡◌, ℕ, ◌+◌, ◌*◌, ◌/◌, ◌%◌, ◌^◌, ◌<◌, ◌≤◌, All, ℤ, List, [], length, map, get_or, replicate, refl, sym, ap, ◌∙◌, subst, ⊎_elim, arith}
+use Rattle.std.specs.Int.{bit_at}
+use Rattle.std.proofs.Math.ListN.{get_or-map}
+use Rattle.std.proofs.lemmas.Bool.{cases_lt}
+use Rattle.std.proofs.lemmas.List.{length-map, length-replicate, get_or_past, ext_get_or}
+use Rattle.std.proofs.lemmas.List.FromFn.{length-map-range_with_len, get_or-map-range_with_len}
+use Rattle.std.proofs.lemmas.Nat.Bits.{bit_at-zero}
+use Rattle.places.specs.Layout.{Owner, Pad, Bit, owner_at}
+use Rattle.places.specs.Image.{number, entry, bit_held, image, IsImage}
+use Rattle.places.specs.NumbersLaws.{number_same, number_lt, number_bits, bit_number, digit_lt}
+use Rattle.blobs.specs.Bits.{bit_of, bit_in, AreBytes}
+use Rattle.blobs.specs.BytesLaws.{bit_of_byte}
+use Rattle.instrument.specs.BlobTexts.{byte_at as byte_of_bits, bytes_of}
+use Rattle.piece_bits.specs.Tables.{AreSized}
+use Rattle.views.specs.Tallies.{blob_lengths}
+use Rattle.actor_steps.specs.BytesOfLaws.{IsMemory}
+use Rattle.actor_steps.specs.HeldLaws.{digit_held, IsHeld}
+
+-- blobs are whole bytes, and so is no blob
+whole_blob : (layout : List (List Owner)) → All (λ blob. length blob % 8 ≡ 0) layout → (b : ℕ) → length (get_or layout b []) % 8 ≡ 0
+whole_blob layout whole b =
+    ⊎_elim (λ (inside : b < length layout). whole b [] inside)
+    (λ (outside : length layout ≤ b). ap (λ (w : List Owner). length w % 8) (get_or_past layout b [] outside))
+    (cases_lt b (length layout))
+
+-- a byte by its bits
+whole_byte : (byte : ℕ) → byte < 256 → byte % 2 ^ 8 ≡ byte
+whole_byte byte low = omega (arith, low)
+
+same_bits : (one two : ℕ) → one < 256 → two < 256 → ((k : ℕ) → k < 8 → bit_at one k ≡ bit_at two k) → one ≡ two
+same_bits one two low high same =
+    sym (whole_byte one low) ∙ sym (number_bits one 8) ∙ number_same (bit_at one) (bit_at two) 8 same ∙ number_bits two 8 ∙ whole_byte two high
+
+-- registers of zeros have the lengths of a layout
+pub zeros-sized : (layout : List (List Owner)) → All (λ blob. length blob % 8 ≡ 0) layout → AreSized layout (map (λ bytes. replicate bytes 0) (blob_lengths layout))
+zeros-sized layout whole =
+    let zeros : ℕ → List ℕ = λ bytes. replicate bytes 0 in
+    let bytes : List Owner → ℕ = λ blob. length blob / 8 in
+    record {
+      count = length-map (blob_lengths layout) zeros ∙ length-map layout bytes;
+      lengths = λ b inside.
+          let whole_here = whole_blob layout whole b in
+          let there : length (get_or (map zeros (blob_lengths layout)) b []) ≡ length (get_or layout b []) / 8 =
+          ap (length {A = ℕ}) (get_or-map zeros (blob_lengths layout) b 0) ∙ length-replicate (get_or (blob_lengths layout) b 0) 0 ∙ get_or-map bytes layout b [] in
+          omega arith;
+    }
+
+module _ (layout : List (List Owner)) (whole : All (λ blob. length blob % 8 ≡ 0) layout) (rows : List (List ℤ)) where
+  bits : ℕ → List ℕ
+  bits b = get_or (image layout rows) b []
+
+  bits-length : (b : ℕ) → length (bits b) ≡ length (get_or layout b [])
+  unfolding bits
+  bits-length b = ap (length {A = ℕ}) (get_or-map (map (bit_held rows)) layout b []) ∙ length-map (get_or layout b []) (bit_held rows)
+
+  bits-at : (b p : ℕ) → get_or (bits b) p 0 ≡ bit_held rows (owner_at layout b p)
+  unfolding bits
+  bits-at b p = ap (λ (w : List ℕ). get_or w p 0) (get_or-map (map (bit_held rows)) layout b []) ∙ get_or-map (bit_held rows) (get_or layout b []) p Pad
+
+  held_lt : (owner : Owner) → bit_held rows owner < 2
+  held_lt Pad = omega arith
+  held_lt (Bit row leaf bit) = digit_lt (entry rows row leaf) bit
+
+  bits-lt : (b p : ℕ) → get_or (bits b) p 0 < 2
+  bits-lt b p = subst (λ (w : ℕ). w < 2) (sym (bits-at b p)) (held_lt (owner_at layout b p))
+
+  bytes : ℕ → List ℕ
+  bytes b = bytes_of (bits b)
+
+  whole_image : List (List ℕ)
+  whole_image = map bytes_of (image layout rows)
+
+  memory-at : (b : ℕ) → get_or whole_image b [] ≡ bytes b
+  unfolding bits bytes whole_image
+  memory-at b = get_or-map bytes_of (image layout rows) b []
+
+  bytes-length : (b : ℕ) → 8 * length (bytes b) ≡ length (get_or layout b [])
+  unfolding bytes
+  bytes-length b =
+      let whole_here = whole_blob layout whole b in
+      let there : length (bytes_of (bits b)) ≡ length (bits b) / 8 = length-map-range_with_len (byte_of_bits (bits b)) 0 (length (bits b) / 8) in
+      omega (arith, there, bits-length b)
+
+  byte-is : (b i : ℕ) → i < length (bytes b) → get_or (bytes b) i 0 ≡ number (λ k. get_or (bits b) (8 * i + k) 0) 8
+  unfolding bytes
+  byte-is b i inside =
+      let there : length (bytes_of (bits b)) ≡ length (bits b) / 8 = length-map-range_with_len (byte_of_bits (bits b)) 0 (length (bits b) / 8) in
+      get_or-map-range_with_len (byte_of_bits (bits b)) 0 (length (bits b) / 8) i i 0 (omega (arith, inside, there)) (omega arith)
+
+  bytes-are : (b : ℕ) → AreBytes (bytes b)
+  bytes-are b i =
+      ⊎_elim (λ (inside : i < length (bytes b)).
+      subst (λ (w : ℕ). w < 256) (sym (byte-is b i inside)) (number_lt (λ k. get_or (bits b) (8 * i + k) 0) 8 (λ k l. bits-lt b (8 * i + k))))
+      (λ (outside : length (bytes b) ≤ i). subst (λ (w : ℕ). w < 256) (sym (get_or_past (bytes b) i 0 outside)) (omega arith))
+      (cases_lt i (length (bytes b)))
+
+  bytes-bit : (b p : ℕ) → bit_of (bytes b) p ≡ bit_held rows (owner_at layout b p)
+  bytes-bit b p =
+      ⊎_elim (λ (inside : p / 8 < length (bytes b)).
+      let back : 8 * (p / 8) + p % 8 ≡ p = omega arith in
+      ap (λ (w : ℕ). bit_at w (p % 8)) (byte-is b (p / 8) inside)
+      ∙ bit_number (λ k. get_or (bits b) (8 * (p / 8) + k) 0) 8 (p % 8) (λ k l. bits-lt b (8 * (p / 8) + k)) (omega arith)
+      ∙ ap (λ (w : ℕ). get_or (bits b) w 0) back ∙ bits-at b p)
+      (λ (outside : length (bytes b) ≤ p / 8).
+      let over : length (get_or layout b []) ≤ p = omega (arith, bytes-length b, outside) in
+      ap (λ (w : ℕ). bit_at w (p % 8)) (get_or_past (bytes b) (p / 8) 0 outside) ∙ bit_at-zero (p % 8)
+      ∙ sym (ap (bit_held rows) (get_or_past (get_or layout b []) p Pad over)))
+      (cases_lt (p / 8) (length (bytes b)))
+
+  -- the bytes of an image are memory of the layout, and have its bits
+  pub image-memory : IsMemory layout (map bytes_of (image layout rows))
+  unfolding whole_image
+  image-memory = record {
+    sized = record {
+      count = length-map (image layout rows) bytes_of ∙ length-map layout (map (bit_held rows));
+      lengths = λ b l. ap (λ (w : List ℕ). 8 * length w) (memory-at b) ∙ bytes-length b;
+    };
+    bytes = λ b. subst AreBytes (sym (memory-at b)) (bytes-are b);
+  }
+
+  pub image-bits : IsImage layout rows (bit_in (map bytes_of (image layout rows)))
+  unfolding whole_image
+  image-bits b p = ap (λ (w : List ℕ). bit_of w p) (memory-at b) ∙ bytes-bit b p
+
+  -- memory with these bits has these bytes
+  pub memory-is : (other : List (List ℕ)) → IsMemory layout other → IsImage layout rows (bit_in other) → other ≡ map bytes_of (image layout rows)
+  unfolding whole_image
+  memory-is other is same =
+      ext_get_or [] other (map bytes_of (image layout rows)) (is.sized.count ∙ sym image-memory.sized.count)
+      (λ b inside.
+      let blob = get_or other b [] in
+      let blob_in : b < length layout = omega (arith, inside, is.sized.count) in
+      ext_get_or 0 blob (bytes b) (omega (arith, is.sized.lengths b blob_in, bytes-length b))
+      (λ i low. same_bits (get_or blob i 0) (get_or (bytes b) i 0) (is.bytes b i) (bytes-are b i)
+      (λ k l.
+      let place : 8 * i + k ≡ 8 * i + k = refl in
+      sym (bit_of_byte blob (8 * i + k) i k place l) ∙ same b (8 * i + k) ∙ sym (bytes-bit b (8 * i + k)) ∙ bit_of_byte (bytes b) (8 * i + k) i k place l))
+      ∙ sym (memory-at b))
+
+-- the image of a table holds its entries
+held_entry : (rows : List (List ℤ)) (owner : Owner) → bit_held rows owner ≡ digit_held (entry rows) owner
+held_entry rows Pad = refl
+held_entry rows (Bit row leaf bit) = refl
+
+pub image-held : (layout : List (List Owner)) (rows : List (List ℤ)) (memory : List (List ℕ)) → IsImage layout rows (bit_in memory) → IsHeld layout (entry rows) memory
+image-held layout rows memory is b p = is b p ∙ held_entry rows (owner_at layout b p)
