@@ -2,4 +2,5 @@ pub mod Codes
 pub mod Runs
 pub mod Rows
 pub mod Standing
+pub mod Updates
 pub mod Kept

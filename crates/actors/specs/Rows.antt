@@ -1,8 +1,10 @@
 -- Rows that blobs hold, and what an update asks of a row.
-use Rattle.std.specs.Prelude.{ℕ, ◌<◌, ℤ, List, [], length, slice_index_or}
+use Rattle.std.specs.Prelude.{ℕ, ◌≡◌, ◌<◌, Bool, true, false, ℤ, List, [], length, slice_index_or, slice_set}
 use Rattle.kept_tables.specs.Modes.{declared_table}
 use Rattle.piece_bits.specs.Tables.{table_in}
 use Rattle.actor_steps.specs.declared.place.Place.{Place}
+use Rattle.actor_steps.specs.Micro.{Job, is_in, reads_of, lets_through}
+use Rattle.actors.specs.declared.plan.RowPlan.{RowPlan}
 use Rattle.views.specs.Tables.{Table, owners_of, leaf_types_of, table_holds}
 
 -- a row of the table that blobs hold
@@ -13,3 +15,17 @@ row_held table blobs row = slice_index_or (declared_table (leaf_types_of table) 
 pub record HasByte (blobs : List (List ℕ)) (place : Place) : Type 0 where
   pub blob_in : place.blob < length blobs
   pub byte_in : place.byte < length (slice_index_or blobs place.blob [])
+
+-- marks of leaves with one more of them marked
+abbrev pub marked : List Bool → ℕ → List Bool
+marked asked leaf = slice_set asked leaf true
+
+-- what is known of a row of an update: which leaves it reads, and whether the filter lets it through
+pub record IsPlanOf (job : Job) (row : ℕ) (plan : RowPlan) : Type 0 where
+  pub asked : (leaf : ℕ) → leaf < 64 → slice_index_or plan.asked leaf false ≡ is_in (reads_of job row) leaf
+  pub through : plan.through ≡ lets_through job row
+
+-- so of each of the first so many rows
+pub record ArePlans (job : Job) (count : ℕ) (plans : List RowPlan) : Type 0 where
+  pub long : length plans ≡ count
+  pub each : (row : ℕ) (other : RowPlan) → row < count → IsPlanOf job row (slice_index_or plans row other)

@@ -4,6 +4,8 @@
 mod actor;
 mod fault;
 mod memory;
+mod noted;
+mod plan;
 mod run;
 
 pub use fault::ActorFault;

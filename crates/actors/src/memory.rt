@@ -5,6 +5,7 @@ ghost use Rattle.places.specs.Image.{entry};
 ghost use Rattle.places.specs.Writes.{IsWrite};
 ghost use Rattle.piece_bits.specs.Tables.{AreSized, table_in};
 ghost use Rattle.views.specs.Tables.{leaf_count_of, owners_of};
+ghost use Rattle.actor_steps.specs.Agree.{IsLawful};
 ghost use Rattle.actor_steps.specs.Jobs.{memory_of, fresh_of};
 ghost use Rattle.actor_steps.specs.Micro.{byte_at, with_byte, with_bits_of};
 ghost use Rattle.actors.specs.Rows.{row_held, HasByte};
@@ -13,7 +14,7 @@ use actor_steps::Place;
 use blobs::Blob;
 use kept_numbers::{declared, held};
 use piece_bits::{decode, encode, read_pieces, write_pieces};
-use places::Mapping;
+use places::{Mapping, laws_of};
 use std::alloc::{AllocError as NoMemory, Global};
 use views::{BlobList, View, laws_of_table};
 
@@ -23,7 +24,9 @@ pub fn copied_blobs(alloc: Global, view: &View) -> Result<BlobList, NoMemory>
 {
     let mut blobs = Vec::new(alloc);
     for b in 0..view.map().blob_count() {
-        blobs.push(copied(alloc, view.blob(b))?)?;
+        let blob = view.blob(b);
+        blob.bytes_law();
+        blobs.push(copied(alloc, blob)?)?;
     }
     Ok(blobs)
 }
@@ -51,6 +54,14 @@ pub fn fresh_blobs(alloc: Global, view: &View) -> Result<BlobList, NoMemory>
     Ok(blobs)
 }
 
+/// A view's table lies under a layout with its laws. It does nothing: its contract is the law.
+pub fn laws_of_view(view: &View)
+    ensures { IsLawful view.now }
+{
+    laws_of_table(view);
+    laws_of(view.map());
+}
+
 /// Makes `values`, one for each leaf, those of a row that blobs hold, whatever their padding is.
 pub fn read_held(view: &View, blobs: &[Blob], row: u64, values: &mut [i128])
     requires sized { AreSized (owners_of view.now) blobs.now }
@@ -58,15 +69,15 @@ pub fn read_held(view: &View, blobs: &[Blob], row: u64, values: &mut [i128])
     requires values { length values.old ≡ leaf_count_of view.now }
     ensures { values.new ≡ row_held view.now blobs.now row }
 {
-    laws_of_table(view);
+    laws_of_view(view);
     for leaf in 0..values.len() {
         let raw = raw_entry(view.map(), blobs, row, leaf);
         values[leaf] = declared(view.schema().leaf_type(leaf), raw);
     }
 }
 
-// The raw number of a leaf in a row that blobs hold, whatever their padding is.
-pub fn raw_entry<M: Mapping>(mapping: &M, blobs: &[Blob], slot: u64, cell: usize) -> i128
+// The raw number of a leaf in a row that blobs hold.
+fn raw_entry<M: Mapping>(mapping: &M, blobs: &[Blob], slot: u64, cell: usize) -> i128
     requires slot_in { slot < M.slot_count mapping.now }
     requires cell_in { cell < length (M.cell_list mapping.now) }
     requires sized { AreSized (M.layout mapping.now) blobs.now }
@@ -113,7 +124,6 @@ pub fn changed_byte<M: Mapping>(
 {
     put_byte(scratch, place, byte);
     write_bits(mapping, scratch, row, leaf, value);
-    scratch[place.blob].bytes_law();
     byte_at(scratch, place)
 }
 
