@@ -4,6 +4,7 @@ use Rattle.std.specs.List.{flat_map, range_with_len}
 use Rattle.std.proofs.lemmas.List.{append-nil}
 use Rattle.std.proofs.lemmas.List.Elements.{filter-append}
 use Rattle.expr_lang.specs.Terms.{Term}
+use Rattle.expr_lang.specs.Values.{outcome_of}
 use Rattle.linearize.specs.Slots.{index_at}
 use Rattle.views.specs.Stores.{Answer, Keeping}
 use Rattle.views.specs.Tables.{Table, answer_of, kept_of, after_log}
@@ -13,7 +14,7 @@ use Rattle.row_updates.specs.declared.fault.UpdateFault.{UpdateFault}
 use Rattle.row_updates.specs.Logs.{value_log, filter_log, if_ok, if_passes, sides_log, stores_log, tried_log, if_given, row_log, update_log}
 use Rattle.row_updates.specs.Rows.{Setting, each, ◌>>=◌, passes, new_value, tried_row, given_row, updated_row, updated_of}
 use Rattle.row_updates.specs.TriedLaws.{updated_as_tried, log_as_tried}
-use Rattle.actors.specs.Updates.{IsUpdated, IsUpdatedRow, reads_in, writes_in}
+use Rattle.actors.specs.Updates.{IsUpdated, IsUpdatedRow, is_read, is_write, reads_in, writes_in}
 
 -- one list of things after another
 unit_right : {B : Type 0} (found : Result (List B) UpdateFault) → found ≡ (found >>= (λ ys. Ok ys))
@@ -82,12 +83,12 @@ module _ (answer : Answer) (number : ℕ) (row : List ℤ) (index : List ℕ) wh
   no_log = record { reads = refl; writes = refl }
 
   value_reads : (value : Term ℕ) → AreReads (value_log number row index value)
-  value_reads value = record { reads = only_reads number _; writes = no_writes number _ }
+  value_reads value = let leaves = (outcome_of row index value).reads in record { reads = only_reads number leaves; writes = no_writes number leaves }
 
   both_read : (first rest : List Access) → AreReads first → AreReads rest → AreReads (first ++ rest)
   both_read first rest one two = record {
-    reads = filter-append _ first rest ∙ ap (λ (w : List Access). w ++ reads_in rest) one.reads ∙ ap (λ (w : List Access). first ++ w) two.reads;
-    writes = filter-append _ first rest ∙ ap (λ (w : List Access). w ++ writes_in rest) one.writes ∙ two.writes;
+    reads = filter-append is_read first rest ∙ ap (λ (w : List Access). w ++ reads_in rest) one.reads ∙ ap (λ (w : List Access). first ++ w) two.reads;
+    writes = filter-append is_write first rest ∙ ap (λ (w : List Access). w ++ writes_in rest) one.writes ∙ two.writes;
   }
 
   ok_reads : {A : Type 0} (found : Result A UpdateFault) (log : List Access) → AreReads log → AreReads (if_ok found log)
@@ -96,7 +97,8 @@ module _ (answer : Answer) (number : ℕ) (row : List ℤ) (index : List ℕ) wh
 
   sides_read : (sets : List Setting) → AreReads (sides_log answer number row index sets)
   sides_read [] = no_log
-  sides_read (set ∷ sets) = both_read (value_log number row index set.value) _ (value_reads set.value) (ok_reads (new_value answer number row index set) _ (sides_read sets))
+  sides_read (set ∷ sets) = both_read (value_log number row index set.value) (if_ok (new_value answer number row index set) (sides_log answer number row index sets)) (value_reads set.value)
+      (ok_reads (new_value answer number row index set) (sides_log answer number row index sets) (sides_read sets))
 
   passes_read : (found : Result Bool UpdateFault) (log : List Access) → AreReads log → AreReads (if_passes found log)
   passes_read (Ok true) log are = are
@@ -111,7 +113,7 @@ module _ (answer : Answer) (number : ℕ) (row : List ℤ) (index : List ℕ) wh
     tried_read : AreReads (tried_log answer filter sets number row index)
     tried_read =
         both_read (filter_log number row index filter) (if_passes (passes number row index filter) (sides_log answer number row index sets)) (filter_read filter)
-        (passes_read (passes number row index filter) _ (sides_read sets))
+        (passes_read (passes number row index filter) (sides_log answer number row index sets) (sides_read sets))
 
     given_reads : (given : Result (Option (List ℤ)) UpdateFault) → reads_in (if_given given (stores_log number sets)) ≡ []
     given_reads (Ok (Some values)) = no_reads number sets
@@ -127,7 +129,7 @@ module _ (answer : Answer) (number : ℕ) (row : List ℤ) (index : List ℕ) wh
     pub row_reads : reads_in (row_log answer filter sets number row index) ≡ tried_log answer filter sets number row index
     row_reads =
         let given = if_given (tried_row answer filter sets number row index) (stores_log number sets) in
-        ap reads_in (log_as_tried answer filter sets number row index) ∙ filter-append _ (tried_log answer filter sets number row index) given
+        ap reads_in (log_as_tried answer filter sets number row index) ∙ filter-append is_read (tried_log answer filter sets number row index) given
         ∙ ap (λ (w : List Access). w ++ reads_in given) tried_read.reads
         ∙ ap (λ (w : List Access). tried_log answer filter sets number row index ++ w) (given_reads (tried_row answer filter sets number row index))
         ∙ append-nil (tried_log answer filter sets number row index)
@@ -135,7 +137,7 @@ module _ (answer : Answer) (number : ℕ) (row : List ℤ) (index : List ℕ) wh
     pub row_writes : writes_in (row_log answer filter sets number row index) ≡ if_given (tried_row answer filter sets number row index) (stores_log number sets)
     row_writes =
         let given = if_given (tried_row answer filter sets number row index) (stores_log number sets) in
-        ap writes_in (log_as_tried answer filter sets number row index) ∙ filter-append _ (tried_log answer filter sets number row index) given
+        ap writes_in (log_as_tried answer filter sets number row index) ∙ filter-append is_write (tried_log answer filter sets number row index) given
         ∙ ap (λ (w : List Access). w ++ writes_in given) tried_read.writes ∙ given_writes (tried_row answer filter sets number row index)
 
     -- a row that can be tried is updated, and one that cannot has the fault
@@ -169,7 +171,7 @@ module _ (old : Table) (filter : Option (Term ℕ)) (sets : List Setting) where
   one_tried view after row so_far updated read = record {
     read = read ∙ ap (λ (t : Table). after_log t (reads_in (log_step row))) so_far.read
         ∙ after_log-append old (reads_in (update_log old filter sets row)) (reads_in (log_step row))
-        ∙ ap (after_log old) (sym (ap reads_in (logs_more log_step row) ∙ filter-append _ (update_log old filter sets row) (log_step row)));
+        ∙ ap (after_log old) (sym (ap reads_in (logs_more log_step row) ∙ filter-append is_read (update_log old filter sets row) (log_step row)));
     updated = (so_far.updated.0 ++ updated.0 ∷ [], each_more row_step row so_far.updated.0 so_far.updated.1 updated.0 updated.1);
   }
 
