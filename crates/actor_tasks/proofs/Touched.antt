@@ -1,6 +1,6 @@
 -- The bytes that the pieces of a leaf in a row touch are those that hold a bit of it, so the first of the ones is the first of the others.
 use Rattle.std.proofs.Common.{◌≡◌, ℕ, ◌+◌, ◌*◌, ◌<◌, ◌≤◌, max, Bool, true, false, List, [], ◌∷◌, length, filter, get_or, Option, Some, None, refl, sym, ap, ◌∙◌, ⊎_elim, inl, inr, arith}
-use Rattle.std.specs.Prelude.{◌⊎◌, ◌==◌, ◌&&◌, ◌||◌, not, nat_lt, min, if◌then◌else◌}
+use Rattle.std.specs.Prelude.{◌⊎◌, IfSome, ◌==◌, ◌&&◌, ◌||◌, not, nat_lt, min, if◌then◌else◌}
 use Rattle.std.proofs.lemmas.Bool.{true≢false, cases_Bool, cases_lt, and_from, and_parts, or_left, or_right, eq-eqb, lt-ltb}
 use Rattle.std.proofs.lemmas.Bool.Decides.{nat_tests}
 use Rattle.places.specs.declared.piece.Piece.{Piece}
@@ -11,10 +11,10 @@ use Rattle.places.specs.ComposeLaws.{within_blobs}
 use Rattle.places.specs.Touched.{is_in_granule, is_touched}
 use Rattle.places.specs.TouchedLaws.{hot_place, in_granule, touched_hot}
 use Rattle.actor_steps.specs.declared.place.Place.{Place}
+use Rattle.actor_steps.specs.BytesOfLaws.{IsByte}
 use Rattle.actor_steps.specs.Micro.{all_bytes}
 use Rattle.actor_tasks.specs.Places.{is_before, ComesFrom, holds_bit, IsHead}
 use Rattle.actor_tasks.specs.Nexts.{Touches, AnyTouches, IsNext}
-use Rattle.actor_tasks.specs.OrderedLaws.{Occurs}
 use Rattle.actor_tasks.specs.PlacesLaws.{occurs-all, places_from-first}
 
 -- a byte is a granule of one byte
@@ -82,13 +82,14 @@ module _ (layout : List (List Owner)) (slots : ℕ) (widths : List ℕ) (laid : 
   holds-touch : (place : Place) → holds_bit layout row leaf place ≡ true → AnyTouches pieces place
   holds-touch place holds = touched-any pieces place (touched_hot laid located 1 place.blob place.byte ∙ holds)
 
-  in_all : (place : Place) → holds_bit layout row leaf place ≡ true → Occurs is_before place (all_bytes layout)
-  in_all place holds =
+  -- such a byte is one of the layout
+  pub is_byte : (place : Place) → holds_bit layout row leaf place ≡ true → IsByte layout place
+  is_byte place holds =
       let bit = hot_place layout 1 row leaf place.blob place.byte holds in
       let blob_in : place.blob < length layout = within_blobs layout place.blob bit.bit row leaf bit.number bit.owner in
       let inside : bit.bit < length (get_or layout place.blob []) = within (get_or layout place.blob []) bit.bit row leaf bit.number bit.owner in
       let whole = laid.whole_bytes place.blob [] blob_in in
-      occurs-all layout place blob_in (omega (arith, bit.from, bit.below))
+      record { blob_in = blob_in; byte_in = omega (arith, bit.from, bit.below) }
 
   -- what the code finds is the head of the list
   pub head_found : (from : Place) (result : Option Place) → IsNext (AnyTouches pieces) from result → IsHead layout row leaf from result
@@ -98,7 +99,12 @@ module _ (layout : List (List Owner)) (slots : ℕ) (widths : List ℕ) (laid : 
       (let both = and_parts (holds_bit layout row leaf place) (not (is_before place from)) e in
       none place (holds-touch place both.0) (comes from place (not_it (is_before place from) both.1))))
   head_found from (Some place) found =
-      places_from-first layout row leaf from place (in_all place (touches-hold place found.meets)) (touches-hold place found.meets) (comes-not from place found.behind)
+      places_from-first layout row leaf from place (occurs-all layout place (is_byte place (touches-hold place found.meets))) (touches-hold place found.meets) (comes-not from place found.behind)
       (λ y e.
       (let both = and_parts (holds_bit layout row leaf y) (not (is_before y from)) e in
       same_or_before place y (found.first y (holds-touch y both.0) (comes from y (not_it (is_before y from) both.1)))))
+
+  -- and one of the layout
+  pub found_inside : (from : Place) (result : Option Place) → IsNext (AnyTouches pieces) from result → IfSome result (IsByte layout)
+  found_inside from None none = tt
+  found_inside from (Some place) found = is_byte place (touches-hold place found.meets)

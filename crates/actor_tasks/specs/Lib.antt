@@ -6,3 +6,4 @@ pub mod OrderedLaws
 pub mod PlacesLaws
 pub mod TasksLaws
 pub mod MarksLaws
+pub mod RowsLaws

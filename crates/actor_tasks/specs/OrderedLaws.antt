@@ -59,13 +59,15 @@ module _ {X : Type 0} (before : X → X → Bool) where
           cond-false (test y && before x y) (y ∷ filter (λ z. test z && before x z) ys) (filter (λ z. test z && before x z) ys)
           (and_false (test y) (before x y) (not_so (before x y) (λ b. irreflexive x (ap (before x) (sym e) ∙ b)))) in
           let same : filter test ys ≡ filter (λ z. test z && before x z) ys =
-          same_filter test (λ z. test z && before x z) ys (λ k d inside. and_true (test (get_or ys k d)) (before x (get_or ys k d)) (ap (λ (w : X). before w (get_or ys k d)) (sym e) ∙ ordered.0 k d inside)) in
+          same_filter test (λ z. test z && before x z) ys
+          (λ k d inside. and_true (test (get_or ys k d)) (before x (get_or ys k d)) (ap (λ (w : X). before w (get_or ys k d)) (sym e) ∙ ordered.0 k d inside)) in
           picked ∙ ap (λ (w : X). w ∷ filter test ys) e ∙ ap (λ (rest : List X). x ∷ rest) (same ∙ sym left)
 
       behind : (Occurs x ys → filter test ys ≡ x ∷ filter (λ z. test z && before x z) ys) → Occurs x ys → filter test (y ∷ ys) ≡ x ∷ filter (λ z. test z && before x z) (y ∷ ys)
       behind IH rest =
           let first : before y x ≡ true = fact_of (λ z. before y z ≡ true) x ys ordered.0 rest in
-          let fails : test y ≡ false = not_so (test y) (λ m. ⊎_elim (λ (e : y ≡ x). irreflexive x (ap (λ (w : X). before w x) (sym e) ∙ first)) (λ (b : before x y ≡ true). asymmetric x y b first) (least y m)) in
+          let fails : test y ≡ false =
+          not_so (test y) (λ m. ⊎_elim (λ (e : y ≡ x). irreflexive x (ap (λ (w : X). before w x) (sym e) ∙ first)) (λ (b : before x y ≡ true). asymmetric x y b first) (least y m)) in
           let picked : filter test (y ∷ ys) ≡ filter test ys = cond-false (test y) (y ∷ filter test ys) (filter test ys) fails in
           let left : filter (λ z. test z && before x z) (y ∷ ys) ≡ filter (λ z. test z && before x z) ys =
           cond-false (test y && before x y) (y ∷ filter (λ z. test z && before x z) ys) (filter (λ z. test z && before x z) ys) (ap (λ (t : Bool). t && before x y) fails) in

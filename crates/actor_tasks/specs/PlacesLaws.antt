@@ -1,30 +1,23 @@
 -- The bytes of a leaf in a row from a place on: the first of them, and those behind it.
-use Rattle.std.proofs.Common.{◌≡◌, ℕ, zero, suc, ◌+◌, ◌/◌, ◌<◌, Bool, true, false, List, [], ◌∷◌, ◌++◌, length, map, get_or, All, refl, sym, ap, ◌∙◌, subst, ⊎_elim, inl, inr, arith}
+use Rattle.std.proofs.Common.{◌≡◌, ℕ, zero, suc, ◌+◌, ◌/◌, ◌<◌, Bool, true, false, List, [], ◌∷◌, ◌++◌, length, map, get_or, All, ap, ◌∙◌, subst, ⊎_elim, inl, inr, arith}
 use Rattle.std.specs.Prelude.{◌≤◌, ◌⊎◌, ◌&&◌, not}
 use Rattle.std.specs.List.{flat_map, range_with_len}
-use Rattle.std.proofs.lemmas.Bool.{true≢false, cases_lt, and_from}
+use Rattle.std.proofs.lemmas.Bool.{cases_lt, and_from}
 use Rattle.std.proofs.lemmas.Bool.Decides.{nat_tests}
 use Rattle.std.proofs.lemmas.List.Elements.{All-nil, All-cons, All-append, All-map}
 use Rattle.places.specs.Layout.{Owner}
 use Rattle.actor_steps.specs.declared.place.Place.{Place}
+use Rattle.actor_steps.specs.BytesOfLaws.{IsByte}
 use Rattle.actor_steps.specs.Micro.{bytes_in, all_bytes, places_of}
 use Rattle.actor_tasks.specs.Places.{is_before, origin, behind, holds_bit, places_from}
 use Rattle.actor_tasks.specs.OrderedLaws.{same_filter, IsOrdered, ordered-append, Occurs, split_first}
 
+-- bytes stand in one order
 irreflexive : (a : Place) → is_before a a ≡ true → ⊥
 irreflexive a e = grind (arith, nat_tests)
 
 asymmetric : (a b : Place) → is_before a b ≡ true → is_before b a ≡ true → ⊥
 asymmetric a b e f = grind (arith, nat_tests)
-
-apart : (first y : Place) → is_before first y ≡ true → is_before y (behind first) ≡ false
-apart first y e = grind (arith, nat_tests)
-
-later : (first y : Place) → is_before y (behind first) ≡ false → is_before first y ≡ true
-later first y e = grind (arith, nat_tests)
-
-through : (first y from : Place) → is_before first from ≡ false → is_before first y ≡ true → is_before y from ≡ false
-through first y from low e = grind (arith, nat_tests)
 
 -- the bytes of a blob are ordered
 bytes-above : (blob a n least : ℕ) → least < a → All (λ y. is_before (record { blob = blob; byte = least }) y ≡ true) (map (λ byte. record { blob = blob; byte = byte }) (range_with_len a n))
@@ -82,33 +75,24 @@ occurs-blob : (layout : List (List Owner)) (a n : ℕ) (place : Place) → a ≤
     → Occurs is_before place (flat_map (bytes_in layout) (range_with_len a n))
 occurs-blob layout a zero place low high inside = absurd (omega arith)
 occurs-blob layout a (suc n) place low high inside =
-    ⊎_elim (λ (l : a < place.blob). occurs-back place (bytes_in layout a) (flat_map (bytes_in layout) (range_with_len (a + 1) n)) (occurs-blob layout (a + 1) n place (omega arith) (omega arith) inside))
+    ⊎_elim (λ (l : a < place.blob).
+    occurs-back place (bytes_in layout a) (flat_map (bytes_in layout) (range_with_len (a + 1) n)) (occurs-blob layout (a + 1) n place (omega arith) (omega arith) inside))
     (λ (l : place.blob ≤ a).
     let same : place.blob ≡ a = omega arith in
     occurs-front place (bytes_in layout a) (flat_map (bytes_in layout) (range_with_len (a + 1) n))
     (subst (λ (b : ℕ). Occurs is_before place (bytes_in layout b)) same (occurs-byte place.blob 0 (length (get_or layout place.blob []) / 8) place.byte (omega arith) (omega arith))))
     (cases_lt a place.blob)
 
-pub occurs-all : (layout : List (List Owner)) (place : Place) → place.blob < length layout → place.byte < length (get_or layout place.blob []) / 8 → Occurs is_before place (all_bytes layout)
-occurs-all layout place blob_in byte_in = occurs-blob layout 0 (length layout) place (omega arith) (omega arith) byte_in
+pub occurs-all : (layout : List (List Owner)) (place : Place) → IsByte layout place → Occurs is_before place (all_bytes layout)
+occurs-all layout place byte = occurs-blob layout 0 (length layout) place (omega arith) (omega (arith, byte.blob_in)) (omega (arith, byte.byte_in))
 
 -- the tests of a byte behind one that is found, and from the next byte on
 rest_test : (holds : Bool) (first from y : Place) → is_before first from ≡ false → ((holds && not (is_before y from)) && is_before first y) ≡ (holds && not (is_before y (behind first)))
-rest_test holds first from y low = by_test (is_before first y) refl where
-  by_test : (t : Bool) → is_before first y ≡ t → ((holds && not (is_before y from)) && is_before first y) ≡ (holds && not (is_before y (behind first)))
-  by_test true e = tests holds (is_before y from) (is_before first y) (is_before y (behind first)) (through first y from low e) e (apart first y e) where
-    tests : (h a b c : Bool) → a ≡ false → b ≡ true → c ≡ false → ((h && not a) && b) ≡ (h && not c)
-    tests h a b c p q r = grind arith
-  by_test false e = other holds (is_before y from) (is_before first y) (is_before y (behind first)) e (behind_is (is_before y (behind first)) refl) where
-    behind_is : (t : Bool) → is_before y (behind first) ≡ t → t ≡ true
-    behind_is true f = refl
-    behind_is false f = absurd (true≢false (sym (later first y f) ∙ e))
-
-    other : (h a b c : Bool) → b ≡ false → c ≡ true → ((h && not a) && b) ≡ (h && not c)
-    other h a b c p q = grind arith
+rest_test holds first from y low = grind (arith, nat_tests)
 
 -- a byte of the leaf that no other such byte from a place on stands before is the first of them, and the others are those behind it
-pub places_from-first : (layout : List (List Owner)) (row leaf : ℕ) (from first : Place) → Occurs is_before first (all_bytes layout) → holds_bit layout row leaf first ≡ true → is_before first from ≡ false
+pub places_from-first : (layout : List (List Owner)) (row leaf : ℕ) (from first : Place) → Occurs is_before first (all_bytes layout) → holds_bit layout row leaf first ≡ true
+    → is_before first from ≡ false
     → ((y : Place) → (holds_bit layout row leaf y && not (is_before y from)) ≡ true → (y ≡ first) ⊎ (is_before first y ≡ true))
     → places_from layout row leaf from ≡ first ∷ places_from layout row leaf (behind first)
 places_from-first layout row leaf from first there holds low least =

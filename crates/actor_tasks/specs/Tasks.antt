@@ -1,5 +1,5 @@
 -- Where an actor stands in its rows, and what is left from there on.
-use Rattle.std.specs.Prelude.{ℕ, ◌+◌, Bool, List, [], ◌∷◌, ◌++◌, length, map, drop, if◌then◌else◌}
+use Rattle.std.specs.Prelude.{ℕ, zero, suc, ◌+◌, Bool, List, [], ◌∷◌, ◌++◌, length, map, drop, if◌then◌else◌}
 use Rattle.std.specs.List.{flat_map, range_with_len}
 use Rattle.actor_steps.specs.declared.place.Place.{Place}
 use Rattle.row_updates.specs.Rows.{Setting}
@@ -49,3 +49,8 @@ pub record Worker : Type 0 where
 -- what is left from there on
 abbrev pub left_of : Job → Worker → List Micro
 left_of job worker = tasks_steps job worker.row worker.from (drop worker.done (all_tasks job)) ++ steps_of job (worker.row + 1) worker.more
+
+-- what is left of so many rows from one on, of which so many tasks are done and the next one goes on from a byte; nothing where there is no row
+abbrev pub left_in : Job → ℕ → ℕ → ℕ → Place → List Micro
+left_in job row zero done from = []
+left_in job row (suc more) done from = left_of job (record { row = row; more = more; done = done; from = from })

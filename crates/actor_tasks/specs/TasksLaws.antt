@@ -10,6 +10,7 @@ use Rattle.actor_tasks.specs.Places.{origin, places_from, behind}
 use Rattle.actor_tasks.specs.Tasks.{Task, Reads, Sets, all_tasks, is_asked, leaf_of, place_steps, task_steps, tasks_steps, left_of}
 use Rattle.actor_tasks.specs.PlacesLaws.{places_from-origin}
 
+-- the tasks of reads make the loads of the bytes of the leaves that are read
 fetch_all : (places : List Place) (row leaf : ℕ) → flat_map (place_steps row (Reads leaf)) places ≡ map Fetch places
 fetch_all [] row leaf = refl
 fetch_all (place ∷ places) row leaf = ap (λ (w : List Micro). Fetch place ∷ w) (fetch_all places row leaf)
@@ -31,6 +32,7 @@ reads_all job row (leaf ∷ leaves) =
       by_test true = refl
       by_test false = refl
 
+-- the tasks of sets make the changes of the leaves that are set
 sets_all : (job : Job) (row : ℕ) (sets : List Setting) → flat_map (task_steps job row origin) (map Sets sets) ≡ (if lets_through job row then flat_map (stores_of job row) sets else [])
 sets_all job row [] = by_test (lets_through job row) where
   by_test : (t : Bool) → [] ≡ (if t then flat_map (stores_of job row) [] else [])
@@ -40,7 +42,8 @@ sets_all job row (set ∷ sets) =
     ap (λ (w : List Micro). w ++ flat_map (task_steps job row origin) (map Sets sets))
     (ap (λ (w : List Place). if lets_through job row then flat_map (changes row set) w else []) (places_from-origin job.layout row set.leaf))
     ∙ ap (λ (w : List Micro). (if lets_through job row then stores_of job row set else []) ++ w) (sets_all job row sets) ∙ by_test (lets_through job row) where
-      by_test : (t : Bool) → (if t then stores_of job row set else []) ++ (if t then flat_map (stores_of job row) sets else []) ≡ (if t then stores_of job row set ++ flat_map (stores_of job row) sets else [])
+      by_test : (t : Bool) → (if t then stores_of job row set else []) ++ (if t then flat_map (stores_of job row) sets else [])
+          ≡ (if t then stores_of job row set ++ flat_map (stores_of job row) sets else [])
       by_test true = refl
       by_test false = refl
 
@@ -59,7 +62,7 @@ row_left job row =
 pub rows_left : (job : Job) (first more : ℕ) → left_of job (record { row = first; more = more; done = 0; from = origin }) ≡ steps_of job first (suc more)
 rows_left job first more = ap (λ (w : List Micro). w ++ steps_of job (first + 1) more) (row_left job first)
 
--- a task that is asked for has a next place: its micro-steps there are the next ones
+-- a task that the row asks for has a next byte: its micro-steps there are the next ones
 pub next_place : (job : Job) (row : ℕ) (from place : Place) (task : Task) (tasks : List Task) → is_asked job row task ≡ true
     → places_from job.layout row (leaf_of task) from ≡ place ∷ places_from job.layout row (leaf_of task) (behind place)
     → tasks_steps job row from (task ∷ tasks) ≡ place_steps row task place ++ tasks_steps job row (behind place) (task ∷ tasks)
@@ -70,11 +73,12 @@ next_place job row from place task tasks asked first =
     ap (λ (w : List Micro). w ++ rest) (here from ∙ ap (flat_map (place_steps row task)) first ∙ ap (λ (w : List Micro). place_steps row task place ++ w) (sym (here (behind place))))
     ∙ append_assoc (place_steps row task place) (task_steps job row (behind place) task) rest
 
--- a task that is not asked for, or has no place left, is done
+-- a task that it does not ask for, or that has no byte left, is done
 pub next_task : (job : Job) (row : ℕ) (from : Place) (task : Task) (tasks : List Task) → task_steps job row from task ≡ []
     → tasks_steps job row from (task ∷ tasks) ≡ tasks_steps job row origin tasks
 next_task job row from task tasks none = ap (λ (w : List Micro). w ++ flat_map (task_steps job row origin) tasks) none ∙ sym (tasks-origin job row tasks)
 
--- a row whose tasks are done is done
-pub next_row : (job : Job) (row more : ℕ) (from : Place) → tasks_steps job row from [] ++ steps_of job (row + 1) (suc more) ≡ left_of job (record { row = row + 1; more = more; done = 0; from = origin })
+-- behind a row whose tasks are done comes the next one
+pub next_row : (job : Job) (row more : ℕ) (from : Place) → tasks_steps job row from [] ++ steps_of job (row + 1) (suc more)
+    ≡ left_of job (record { row = row + 1; more = more; done = 0; from = origin })
 next_row job row more from = sym (rows_left job (row + 1) more)

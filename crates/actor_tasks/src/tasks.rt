@@ -1,5 +1,6 @@
 // The next place of the tasks of a row.
-ghost use Rattle.std.specs.Prelude.{◌+◌, ◌<◌, ◌≤◌, All, length};
+ghost use Rattle.std.specs.Prelude.{◌+◌, ◌<◌, ◌≤◌, All, IfSome, length};
+ghost use Rattle.actor_steps.specs.BytesOfLaws.{IsByte};
 ghost use Rattle.actor_steps.specs.Micro.{Job};
 ghost use Rattle.actor_tasks.specs.Marks.{IsRowOf, IsTaskNext, IsRowNext, task_at};
 
@@ -21,8 +22,9 @@ pub fn task_byte<M: Mapping>(
     requires few { length (M.cell_list mapping.now) ≤ 64 }
     requires task_in { task < length (M.cell_list mapping.now) + length sets.now }
     requires sets_in { All (λ leaf. leaf < length (M.cell_list mapping.now)) sets.now }
-    ensures { (job : Job) → IsRowOf job (M.layout mapping.now) (length (M.cell_list mapping.now)) sets.now asked.now through row
+    ensures next { (job : Job) → IsRowOf job (M.layout mapping.now) (length (M.cell_list mapping.now)) sets.now asked.now through row
         → IsTaskNext job row from (task_at job task) result }
+    ensures inside { IfSome result (IsByte (M.layout mapping.now)) }
 {
     let leaves = mapping.cells();
     if task < leaves {
@@ -52,8 +54,10 @@ pub fn next_in_row<M: Mapping>(
     requires short { length sets.now ≤ 64 }
     requires done_in { done ≤ length (M.cell_list mapping.now) + length sets.now }
     requires sets_in { All (λ leaf. leaf < length (M.cell_list mapping.now)) sets.now }
-    ensures { (job : Job) → IsRowOf job (M.layout mapping.now) (length (M.cell_list mapping.now)) sets.now asked.now through row
+    ensures next { (job : Job) → IsRowOf job (M.layout mapping.now) (length (M.cell_list mapping.now)) sets.now asked.now through row
         → IsRowNext job row done from result }
+    ensures task_in { IfSome result (λ next. next.0 < length (M.cell_list mapping.now) + length sets.now) }
+    ensures inside { IfSome result (λ next. IsByte (M.layout mapping.now) next.1) }
 {
     let mut at = from;
     for task in done..mapping.cells() + sets.len() {
