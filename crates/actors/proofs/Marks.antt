@@ -11,7 +11,7 @@ use Rattle.std.proofs.lemmas.List.Sums.{fold-append}
 use Rattle.row_updates.specs.declared.update.Assign.{Assign}
 use Rattle.row_updates.specs.Rows.{Setting, setting_of}
 use Rattle.actor_steps.specs.Micro.{Job, is_in, filter_reads, set_reads, reads_of, lets_through}
-use Rattle.actors.specs.declared.plan.RowPlan.{RowPlan}
+use Rattle.actor_tasks.specs.declared.rows.Asks.{Asks}
 use Rattle.actors.specs.Rows.{marked, IsPlanOf, ArePlans}
 
 -- a leaf is marked where it was, or is among those that are read
@@ -93,7 +93,7 @@ plan_through job row before asked through first is =
 pub no_plans : (job : Job) → ArePlans job 0 []
 no_plans job = record { long = refl; each = λ row other low. absurd (let bad : ⊥ = omega (arith, low) in bad) }
 
-pub one_plan : (job : Job) (n : ℕ) (plans : List RowPlan) (plan : RowPlan) → ArePlans job n plans → IsPlanOf job n plan → ArePlans job (n + 1) (plans ++ plan ∷ [])
+pub one_plan : (job : Job) (n : ℕ) (plans : List Asks) (plan : Asks) → ArePlans job n plans → IsPlanOf job n plan → ArePlans job (n + 1) (plans ++ plan ∷ [])
 one_plan job n plans plan so_far here = record {
   long = length-append plans (plan ∷ []) ∙ ap (λ (w : ℕ). w + 1) so_far.long;
   each = λ row other low.

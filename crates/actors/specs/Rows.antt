@@ -4,7 +4,7 @@ use Rattle.kept_tables.specs.Modes.{declared_table}
 use Rattle.piece_bits.specs.Tables.{table_in}
 use Rattle.actor_steps.specs.declared.place.Place.{Place}
 use Rattle.actor_steps.specs.Micro.{Job, is_in, reads_of, lets_through}
-use Rattle.actors.specs.declared.plan.RowPlan.{RowPlan}
+use Rattle.actor_tasks.specs.declared.rows.Asks.{Asks}
 use Rattle.views.specs.Tables.{Table, owners_of, leaf_types_of, table_holds}
 
 -- a row of the table that blobs hold
@@ -21,11 +21,15 @@ abbrev pub marked : List Bool → ℕ → List Bool
 marked asked leaf = slice_set asked leaf true
 
 -- what is known of a row of an update: which leaves it reads, and whether the filter lets it through
-pub record IsPlanOf (job : Job) (row : ℕ) (plan : RowPlan) : Type 0 where
-  pub asked : (leaf : ℕ) → leaf < 64 → slice_index_or plan.asked leaf false ≡ is_in (reads_of job row) leaf
+pub record IsPlanOf (job : Job) (row : ℕ) (plan : Asks) : Type 0 where
+  pub asked : (leaf : ℕ) → leaf < 64 → slice_index_or plan.reads leaf false ≡ is_in (reads_of job row) leaf
   pub through : plan.through ≡ lets_through job row
 
 -- so of each of the first so many rows
-pub record ArePlans (job : Job) (count : ℕ) (plans : List RowPlan) : Type 0 where
+pub record ArePlans (job : Job) (count : ℕ) (plans : List Asks) : Type 0 where
   pub long : length plans ≡ count
-  pub each : (row : ℕ) (other : RowPlan) → row < count → IsPlanOf job row (slice_index_or plans row other)
+  pub each : (row : ℕ) (other : Asks) → row < count → IsPlanOf job row (slice_index_or plans row other)
+
+-- what is asked of a row, by its number
+abbrev pub asks_at : List Asks → ℕ → Asks
+asks_at plans row = slice_index_or plans row (record { reads = []; through = false })

@@ -7,6 +7,7 @@ mod memory;
 mod noted;
 mod plan;
 mod run;
+mod step;
 
 pub use fault::ActorFault;
 pub use row_updates::{Assign, UpdateFault, UpdateKind, update_rows};

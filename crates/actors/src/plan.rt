@@ -13,6 +13,7 @@ ghost use Rattle.actors.specs.Updates.{IsUpdated, IsUpdatedRow, IsMet, reads_in}
 use crate::fault::ActorFault;
 use crate::memory::{laws_of_view, read_held};
 use crate::noted::value_at;
+use actor_tasks::{AskingRows, Asks};
 use blobs::Blob;
 use expr_lang::Bound;
 use row_updates::{Assign, UpdateFault, try_row};
@@ -21,11 +22,23 @@ use std::sync::ledger::Ledger;
 use steps::Steps;
 use views::View;
 
-/// Which leaves an update reads on a row, and whether its filter lets the row through.
-#[derive(Clone, Copy)]
-pub struct RowPlan {
-    pub asked: [bool; 64],
-    pub through: bool,
+/// What an update asks of each row of a view.
+#[derive(Drop)]
+pub struct Plans {
+    rows: Vec<Asks>,
+}
+
+impl AskingRows for Plans {
+    ghost use Rattle.std.specs.Prelude.{length};
+    ghost use Rattle.actors.specs.Rows.{asks_at};
+
+    ghost row_count = { λ p. length p.rows.items };
+
+    ghost asks_of = { λ p. asks_at p.rows.items };
+
+    fn asks(&self, row: u64) -> Asks {
+        self.rows[row as usize]
+    }
 }
 
 /// The plans of all rows of a view whose blobs have these copies. Each row is tried as the plain update tries it, so that what the update reads
@@ -37,12 +50,12 @@ pub fn plan_rows<L: Ledger>(
     filter: Option<&Bound>,
     sets: &[Assign],
     steps: &mut Steps<L>,
-) -> Result<Vec<RowPlan>, ActorFault>
+) -> Result<Plans, ActorFault>
     requires filter { IfSome filter (λ bound. IsOver view.old bound.now) }
     requires sets { All (IsSetOf view.old) sets.now }
     requires few { length sets.now ≤ 64 }
     requires found { found.now ≡ memory_of view.old }
-    ensures planned { IfOk result (λ plans. ArePlans (job_of view.old (filter_term filter.entry) (map setting_of sets.now)) (length view.old.rows) plans.items) }
+    ensures planned { IfOk result (λ plans. ArePlans (job_of view.old (filter_term filter.entry) (map setting_of sets.now)) (length view.old.rows) plans.rows.items) }
     ensures updated { OnOk result (IsUpdated (updated_of view.old (filter_term filter.entry) (map setting_of sets.now) (length view.old.rows))) }
     ensures read { OnOk result (view.new ≡ after_log view.old
         (reads_in (update_log view.old (filter_term filter.entry) (map setting_of sets.now) (length view.old.rows)))) }
@@ -53,7 +66,7 @@ pub fn plan_rows<L: Ledger>(
     for row in 0..view.extents().count() {
         plans.push(plan_row(view, found, filter, sets, row, steps)?)?;
     }
-    Ok(plans)
+    Ok(Plans { rows: plans })
 }
 
 // The plan of a row.
@@ -64,7 +77,7 @@ fn plan_row<L: Ledger>(
     sets: &[Assign],
     row: u64,
     steps: &mut Steps<L>,
-) -> Result<RowPlan, UpdateFault>
+) -> Result<Asks, UpdateFault>
     requires filter { IfSome filter (λ bound. IsOver view.old bound.now) }
     requires sets { All (IsSetOf view.old) sets.now }
     requires few { length sets.now ≤ 64 }
@@ -105,7 +118,7 @@ fn plan_of(
     sets: &[Assign],
     row: u64,
     values: &[i128],
-) -> RowPlan
+) -> Asks
     requires filter { IfSome filter (λ bound. IsOver view.now bound.now) }
     requires sets { All (IsSetOf view.now) sets.now }
     requires row_in { row < length view.now.rows }
@@ -116,14 +129,14 @@ fn plan_of(
 {
     let mut asked = [false; 64];
     if !lets_through(view, filter, row, values, &mut asked) {
-        return RowPlan {
-            asked,
+        return Asks {
+            reads: asked,
             through: false,
         };
     }
     mark_sets(view, sets, row, values, &mut asked);
-    RowPlan {
-        asked,
+    Asks {
+        reads: asked,
         through: true,
     }
 }
