@@ -1,5 +1,5 @@
 -- A run of the actors of an update: what it keeps, and how far its actors are.
-use Rattle.std.specs.Prelude.{ℕ, ◌≡◌, List, [], Option, None, slice_index_or}
+use Rattle.std.specs.Prelude.{ℕ, ◌≡◌, Bool, true, false, List, [], ◌∷◌, Option, None, slice_index_or}
 use Rattle.expr_lang.specs.Terms.{Term}
 use Rattle.views.specs.Tables.{Table}
 use Rattle.row_updates.specs.Rows.{Setting}
@@ -36,6 +36,11 @@ job_in run = job_of run.found run.filter run.sets
 -- what an actor has left
 abbrev pub rest_in : Run → ℕ → List Micro
 rest_in run actor = (slice_index_or run.state.actors actor (idle_with (fresh_of run.found))).rest
+
+-- whether a list has any item
+abbrev pub has_any : {A : Type 0} → List A → Bool
+has_any [] = false
+has_any (x ∷ xs) = true
 
 -- a run after a schedule
 abbrev pub after_turns : Run → List ℕ → Run

@@ -2,13 +2,16 @@
 use Rattle.std.specs.Prelude.{ℕ, ◌≡◌, ◌+◌, ◌-◌, ◌<◌, ◌≤◌, pos, Bool, true, false, List, [], ◌∷◌, ◌++◌, length, map, slice_index_or, Option, Some, None}
 use Rattle.expr_lang.specs.Terms.{Number}
 use Rattle.places.specs.Layout.{Owner}
+use Rattle.piece_bits.specs.Tables.{AreSized}
+use Rattle.views.specs.Tables.{Table, owners_of, leaf_count_of}
 use Rattle.row_updates.specs.Rows.{Setting}
 use Rattle.actor_steps.specs.declared.place.Place.{Place}
 use Rattle.actor_steps.specs.BytesOfLaws.{IsByte}
 use Rattle.actor_steps.specs.Confluence.{Actor, State}
+use Rattle.actor_steps.specs.Jobs.{fresh_of}
 use Rattle.actor_steps.specs.Micro.{Job, Micro, Fetch, Load, Store, Registers, stored, loaded}
 use Rattle.actor_tasks.specs.Marks.{task_at}
-use Rattle.actor_tasks.specs.Places.{behind}
+use Rattle.actor_tasks.specs.Places.{origin, behind}
 use Rattle.actor_tasks.specs.Tasks.{Task, Reads, Sets, left_in}
 use Rattle.actors.specs.declared.step.Cursor.{Cursor}
 use Rattle.actors.specs.declared.step.Step.{Step}
@@ -69,6 +72,17 @@ actor_shown job actor = record { rest = cursor_steps job actor.cursor; registers
 
 abbrev pub state_shown : Job → List (List ℕ) → List Standing → State (List (List ℕ)) Micro Registers
 state_shown job memory actors = record { memory = memory; actors = map (actor_shown job) actors }
+
+-- where an actor may stand over a table, and so many leaves that are set
+pub record IsStanding (table : Table) (sets : ℕ) (actor : Standing) : Type 0 where
+  pub cursor : IsCursor (owners_of table) (length table.rows) (leaf_count_of table) sets actor.cursor
+  pub loaded : AreSized (owners_of table) actor.bytes.loaded.items
+
+-- an actor at the start of the rows from one up to, and without, an end
+pub record IsFresh (table : Table) (row end : ℕ) (actor : Standing) : Type 0 where
+  pub cursor : actor.cursor ≡ record { row = row; end = end; done = 0; from = origin; half = false }
+  pub loaded : actor.bytes.loaded.items ≡ (fresh_of table).loaded
+  pub byte : actor.bytes.byte ≡ 0
 
 -- what a turn makes of memory and of an actor
 abbrev pub IsTurn : Job → List (List ℕ) → Standing → Bool → List (List ℕ) → Standing → Type 0

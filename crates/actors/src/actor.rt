@@ -1,13 +1,14 @@
 // Actors, and one turn of one of them.
-ghost use Rattle.std.specs.Prelude.{◌≡◌, ◌<◌, ◌≤◌, ℤ, All, None, length, map};
+ghost use Rattle.std.specs.Prelude.{◌≡◌, ◌<◌, ◌≤◌, All, None, Option, [], length, map};
 ghost use Rattle.actor_steps.specs.Jobs.{job_of};
-ghost use Rattle.actor_steps.specs.Micro.{Job, row_in, stored, loaded, value_on};
-ghost use Rattle.actor_tasks.specs.Marks.{AreRowsOf};
+ghost use Rattle.actor_steps.specs.Micro.{row_in, stored, loaded, value_on};
 ghost use Rattle.piece_bits.specs.Tables.{AreSized};
+ghost use Rattle.expr_lang.specs.Terms.{Term};
+ghost use Rattle.std.specs.Prelude.{ℕ};
 ghost use Rattle.row_updates.specs.Rows.{IsSetOf, setting_of};
-ghost use Rattle.views.specs.Tables.{owners_of, leaf_count_of};
-ghost use Rattle.actors.specs.Rows.{asks_at};
-ghost use Rattle.actors.specs.Standing.{IsCursor, IsStepOf, IsTurn, bytes_shown, step_shown};
+ghost use Rattle.views.specs.Tables.{owners_of};
+ghost use Rattle.actors.specs.Rows.{ArePlans};
+ghost use Rattle.actors.specs.Standing.{IsStanding, IsStepOf, IsTurn, bytes_shown, step_shown};
 
 use crate::memory::{byte_at, changed_byte, laws_of_view, put_byte, read_held};
 use crate::noted::value_at;
@@ -70,6 +71,7 @@ fn make_step(
     ensures scratch_sized { AreSized (owners_of view.now) scratch.new.items }
     ensures loaded_sized { AreSized (owners_of view.now) bytes.new.loaded.items }
 {
+    laws_of_view(view);
     match step {
         Step::Fetch(place) => put_byte(&mut bytes.loaded, place, byte_at(memory, place)),
         Step::Load(place) => bytes.byte = byte_at(memory, place),
@@ -88,4 +90,35 @@ fn make_step(
             put_byte(memory, place, byte);
         }
     }
+}
+
+/// Makes the next micro-step of an actor, and tells whether it had one. `targets` are the leaves that are set.
+pub fn turn_of(
+    view: &View,
+    sets: &[Assign],
+    targets: &[usize],
+    plans: &Plans,
+    memory: &mut BlobList,
+    scratch: &mut BlobList,
+    actor: &mut Actor,
+) -> bool
+    requires sets { All (IsSetOf view.now) sets.now }
+    requires targets { targets.now ≡ map (λ set. set.leaf) sets.now }
+    requires few { length targets.now ≤ 64 }
+    requires planned { length plans.now.rows.items ≡ length view.now.rows }
+    requires memory { AreSized (owners_of view.now) memory.old.items }
+    requires scratch { AreSized (owners_of view.now) scratch.old.items }
+    requires actor { IsStanding view.now (length targets.now) actor.old }
+    ensures turn { (filter : Option (Term ℕ)) → ArePlans (job_of view.now filter (map setting_of sets.now)) (length view.now.rows) plans.now.rows.items
+        → IsTurn (job_of view.now filter (map setting_of sets.now)) memory.old.items actor.old result memory.new.items actor.new }
+    ensures memory_sized { AreSized (owners_of view.now) memory.new.items }
+    ensures scratch_sized { AreSized (owners_of view.now) scratch.new.items }
+    ensures standing { IsStanding view.now (length targets.now) actor.new }
+{
+    laws_of_view(view);
+    let Some(step) = next_step(view.map(), targets, plans, &mut actor.cursor) else {
+        return false;
+    };
+    make_step(view, sets, step, memory, scratch, &mut actor.bytes);
+    true
 }

@@ -8,6 +8,7 @@ mod noted;
 mod plan;
 mod run;
 mod step;
+mod team;
 
 pub use fault::ActorFault;
 pub use row_updates::{Assign, UpdateFault, UpdateKind, update_rows};

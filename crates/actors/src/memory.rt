@@ -1,5 +1,5 @@
 // Blobs of a run: copies of those of a view, and single rows and bytes of them.
-ghost use Rattle.std.specs.Prelude.{◌≡◌, ◌<◌, IfOk, length, map};
+ghost use Rattle.std.specs.Prelude.{◌≡◌, ◌<◌, ◌≤◌, IfOk, length, map};
 ghost use Rattle.blobs.specs.Bits.{bit_in};
 ghost use Rattle.places.specs.Image.{entry};
 ghost use Rattle.places.specs.Writes.{IsWrite};
@@ -54,12 +54,14 @@ pub fn fresh_blobs(alloc: Global, view: &View) -> Result<BlobList, NoMemory>
     Ok(blobs)
 }
 
-/// A view's table lies under a layout with its laws. It does nothing: its contract is the law.
+/// A view's table lies under a layout with its laws, and has few leaves. It does nothing: its contract is the law.
 pub fn laws_of_view(view: &View)
-    ensures { IsLawful view.now }
+    ensures lawful { IsLawful view.now }
+    ensures few { leaf_count_of view.now ≤ 64 }
 {
     laws_of_table(view);
     laws_of(view.map());
+    let _leaves = view.schema().leaf_count();
 }
 
 /// Makes `values`, one for each leaf, those of a row that blobs hold, whatever their padding is.
@@ -67,7 +69,8 @@ pub fn read_held(view: &View, blobs: &[Blob], row: u64, values: &mut [i128])
     requires sized { AreSized (owners_of view.now) blobs.now }
     requires row_in { row < length view.now.rows }
     requires values { length values.old ≡ leaf_count_of view.now }
-    ensures { values.new ≡ row_held view.now blobs.now row }
+    ensures row { values.new ≡ row_held view.now blobs.now row }
+    ensures long { length values.new ≡ leaf_count_of view.now }
 {
     laws_of_view(view);
     for leaf in 0..values.len() {

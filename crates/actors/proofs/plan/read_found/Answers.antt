@@ -7,10 +7,10 @@ use Rattle.actors.proofs.plan.read_found.Goals as goal
 
 pub read_held-requires-clause-sized : goal.read_held-requires-clause-sized
 read_held-requires-clause-sized c =
-    subst (AreSized (owners_of c.args.view.now)) (sym c.requires.found) (memory_is c.args.view.now c.laws_of_view.ensures).sized
+    subst (AreSized (owners_of c.args.view.now)) (sym c.requires.found) (memory_is c.args.view.now c.laws_of_view.ensures.lawful).sized
 
 pub returns-clause-row : goal.returns-clause-row
 returns-clause-row c =
     let table = c.args.view.now in
-    c.read_held.ensures ∙ ap (λ (w : List (List ℕ)). row_held table w c.args.row) c.requires.found
-    ∙ ap (λ (t : List (List ℤ)). get_or t c.args.row []) (rows_read table c.laws_of_view.ensures)
+    c.read_held.ensures.row ∙ ap (λ (w : List (List ℕ)). row_held table w c.args.row) c.requires.found
+    ∙ ap (λ (t : List (List ℤ)). get_or t c.args.row []) (rows_read table c.laws_of_view.ensures.lawful)
