@@ -84,8 +84,7 @@ module _ (table : Table) (cuts : List ℕ) where
       let parts = subst (λ (cs : List ℕ). AreCuts row cs (length table.rows)) next so_far.parts in
       record {
         shown = λ job.
-            (let one = record { rest = steps_of job row (cut - row); registers = fresh_of table } in
-            let rest = team_of job (parts_from cut (drop (n + 1) cuts) (length table.rows)) (fresh_of table) in
+            (let rest = team_of job (parts_from cut (drop (n + 1) cuts) (length table.rows)) (fresh_of table) in
             ap (λ (w : List (Actor Micro Registers)). w ++ rest) (map-append (actor_shown job) actors (actor ∷ []))
             ∙ append_assoc (map (actor_shown job) actors) (actor_shown job actor ∷ []) rest
             ∙ ap (λ (w : Actor Micro Registers). map (actor_shown job) actors ++ (w ∷ rest)) (fresh_shown table row cut actor fresh job)

@@ -1,23 +1,31 @@
 -- A turn of one actor.
-use Rattle.std.proofs.Common.{◌≡◌, ℕ, ◌<◌, ◌≤◌, Bool, true, false, All, ℤ, pos, List, [], ◌∷◌, length, map, get_or, Option, None, refl, sym, ap, ◌∙◌, subst, arith}
-use Rattle.std.proofs.lemmas.List.{length-map, get_or-map}
+use Rattle.std.proofs.Common.{◌≡◌, ℕ, ◌<◌, ◌≤◌, Bool, true, false, All, ℤ, pos, List, [], ◌∷◌, ◌++◌, length, map, get_or, set, take, Option, None, refl, sym, ap, ◌∙◌, subst, ⊎_elim, arith}
+use Rattle.std.proofs.lemmas.Bool.{cases_eq}
+use Rattle.std.proofs.lemmas.List.{length-map, length-set, get_or-map, get_or-set_same, get_or-set_other, map-set, set-get_or, take_more}
 use Rattle.expr_lang.specs.Terms.{Term, Number}
 use Rattle.places.specs.Layout.{Owner}
 use Rattle.row_updates.specs.declared.update.Assign.{Assign}
 use Rattle.row_updates.specs.Rows.{Setting, setting_of, IsSetOf}
 use Rattle.views.specs.Tables.{Table, owners_of, leaf_types_of, table_holds, leaf_count_of}
+use Rattle.views.specs.Tallies.{Tally}
 use Rattle.actor_steps.specs.declared.place.Place.{Place}
 use Rattle.actor_steps.specs.Agree.{IsLawful}
-use Rattle.actor_steps.specs.Jobs.{job_of}
-use Rattle.actor_steps.specs.Micro.{Job, row_in, value_on, with_byte, with_bits_of, stored}
+use Rattle.actor_steps.specs.Jobs.{job_of, fresh_of}
+use Rattle.actor_steps.specs.Micro.{Job, Micro, Registers, row_in, value_on, with_byte, with_bits_of, stored, loaded}
+use Rattle.actor_steps.specs.Confluence.{Actor, State, moved}
+use Rattle.actor_steps.specs.ScheduleLaws.{run_by-append}
+use Rattle.actor_steps.specs.Schedules.{idle_with, run_by}
 use Rattle.actor_tasks.specs.declared.rows.Asks.{Asks}
 use Rattle.actor_tasks.specs.Marks.{AreRowsOf}
+use Rattle.actors.specs.declared.actor.Actor.{Actor as Standing}
 use Rattle.actors.specs.declared.actor.Bytes.{Bytes}
 use Rattle.actors.specs.declared.step.Cursor.{Cursor}
 use Rattle.actors.specs.declared.step.Step.{Step}
 use Rattle.actors.specs.declared.step.Step.TheVariants as step
 use Rattle.actors.specs.Rows.{ArePlans, asks_at}
-use Rattle.actors.specs.Standing.{IsCursor, set_at, step_shown, bytes_shown}
+use Rattle.actors.specs.Kept.{AreStanding, IsReached}
+use Rattle.actors.specs.Runs.{Run, uncounted, started_run, after_turns, job_in, has_any}
+use Rattle.actors.specs.Standing.{IsCursor, IsStanding, IsTurn, set_at, cursor_steps, step_shown, bytes_shown, actor_shown, state_shown}
 use Rattle.actors.proofs.Laws.{leaf_count}
 
 -- the set of a number, by the assignment of the code
@@ -81,3 +89,92 @@ plans_told table lawful filter sets targets plans layout leaves end are targets_
         through_is = plan.through;
       });
 }
+
+-- one leaf more that is set
+pub one_target : (sets : List Assign) (n : ℕ) (set : Assign) (targets : List ℕ) → n < length sets → set ≡ get_or sets n set → targets ≡ take n (map (λ one. one.leaf) sets)
+    → targets ++ set.leaf ∷ [] ≡ take (n + 1) (map (λ one. one.leaf) sets)
+one_target sets n set targets low is so_far =
+    let leaf_at : Assign → ℕ = λ one. one.leaf in
+    let at : get_or (map leaf_at sets) n 0 ≡ set.leaf = get_or-map leaf_at sets n set 0 low ∙ ap leaf_at (sym is) in
+    ap (λ (w : List ℕ). w ++ set.leaf ∷ []) so_far ∙ ap (λ (leaf : ℕ). take n (map leaf_at sets) ++ leaf ∷ []) (sym at)
+    ∙ sym (take_more (map leaf_at sets) n 0 (omega (arith, low, length-map sets leaf_at)))
+
+module _ (job : Job) (fresh : Registers) (memory after : List (List ℕ)) (actors : List Standing) (a : ℕ) (old new : Standing) (low : a < length actors) (is : old ≡ get_or actors a old) where
+  here : get_or (map (actor_shown job) actors) a (idle_with fresh) ≡ actor_shown job old
+  here = get_or-map (actor_shown job) actors a old (idle_with fresh) low ∙ ap (actor_shown job) (sym is)
+
+  abbrev registers : Registers
+  registers = bytes_shown old.bytes
+
+  -- nothing changes where nothing is left
+  same_actors : new ≡ old → map (actor_shown job) (set actors a new) ≡ map (actor_shown job) actors
+  same_actors e = ap (λ (x : Standing). map (actor_shown job) (set actors a x)) (e ∙ is) ∙ ap (map (actor_shown job)) (set-get_or actors a old)
+
+  abbrev before : State (List (List ℕ)) Micro Registers
+  before = state_shown job memory actors
+
+  pub not_made : IsTurn job memory old false after new → state_shown job after (set actors a new) ≡ before
+  not_made turn =
+      ap (λ (m : List (List ℕ)). record { memory = m; actors = map (actor_shown job) (set actors a new) }) turn.1
+      ∙ ap (λ (ones : List (Actor Micro Registers)). record { memory = memory; actors = ones }) (same_actors turn.2)
+
+  -- a turn is one of the definition
+  pub turned_state : (made : Bool) → IsTurn job memory old made after new → run_by job fresh (a ∷ []) before ≡ state_shown job after (set actors a new)
+  turned_state made turn =
+      ap (λ (x : Actor Micro Registers). moved (stored job) (loaded job) x.rest x.registers a before) here ∙ by_made made turn where
+        by_made : (made : Bool) → IsTurn job memory old made after new → moved (stored job) (loaded job) (cursor_steps job old.cursor) registers a before ≡ state_shown job after (set actors a new)
+        by_made false none = ap (λ (rest : List Micro). moved (stored job) (loaded job) rest registers a before) none.0 ∙ sym (not_made none)
+        by_made true one =
+            ap (λ (rest : List Micro). moved (stored job) (loaded job) rest registers a before) one.1
+            ∙ ap (λ (m : List (List ℕ)). record {
+              memory = m;
+              actors = set (map (actor_shown job) actors) a (record { rest = cursor_steps job new.cursor; registers = loaded job one.0 memory registers });
+            }) (sym one.2)
+            ∙ ap (λ (r : Registers). record { memory = after; actors = set (map (actor_shown job) actors) a (record { rest = cursor_steps job new.cursor; registers = r }) }) (sym one.3)
+            ∙ ap (λ (ones : List (Actor Micro Registers)). record { memory = after; actors = ones }) (sym (map-set (actor_shown job) actors a new))
+
+  -- it tells whether there was one
+  pub made_any : (made : Bool) → IsTurn job memory old made after new → made ≡ has_any (get_or (map (actor_shown job) actors) a (idle_with fresh)).rest
+  made_any made turn = by_made made turn ∙ ap (λ (x : Actor Micro Registers). has_any x.rest) (sym here) where
+    by_made : (made : Bool) → IsTurn job memory old made after new → made ≡ has_any (cursor_steps job old.cursor)
+    by_made false none = ap has_any (sym none.0)
+    by_made true one = ap has_any (sym one.1)
+
+-- facts of a table without its counts
+pub stands_alone : (table : Table) (sets : ℕ) (actor : Standing) → IsStanding table sets actor → IsStanding (uncounted table) sets actor
+stands_alone table sets actor is = record { cursor = is.cursor; loaded = is.loaded }
+
+pub stands_counted : (table : Table) (tally : Tally) (sets : ℕ) (actor : Standing) → IsStanding (record table { tally = tally }) sets actor → IsStanding table sets actor
+stands_counted table tally sets actor is = record { cursor = is.cursor; loaded = is.loaded }
+
+pub set_alone : (table : Table) (set : Assign) → IsSetOf table set → IsSetOf (uncounted table) set
+set_alone table set is = record { inside = is.inside; over = record { leaves = is.over.leaves; rank = is.over.rank } }
+
+pub lawful_alone : (table : Table) → IsLawful table → IsLawful (uncounted table)
+lawful_alone table is = record {
+  is_table = record { rows = is.is_table.rows; shape = is.is_table.shape; stays = is.is_table.stays; some = is.is_table.some };
+  laid = is.laid;
+  paired = is.paired;
+}
+
+-- another actor stands among others
+pub stands_among : (table : Table) (sets : ℕ) (actors : List Standing) (a : ℕ) (new : Standing) → AreStanding table sets actors → IsStanding table sets new → AreStanding table sets (set actors a new)
+stands_among table sets actors a new are is b other low =
+    let inside : b < length actors = omega (arith, low, length-set actors a new) in
+    ⊎_elim (λ (same : b ≡ a).
+    subst (IsStanding table sets) (sym (ap (λ (w : ℕ). get_or (set actors a new) w other) same ∙ get_or-set_same actors a new other (omega (arith, inside, same)))) is)
+    (λ (apart : b ≡ a → ⊥). subst (IsStanding table sets) (sym (get_or-set_other actors a b new other apart)) (are b other inside))
+    (cases_eq b a)
+
+-- a schedule behind another
+pub after_both : (run : Run) (first rest : List ℕ) → after_turns (after_turns run first) rest ≡ after_turns run (first ++ rest)
+after_both run first rest =
+    ap (λ (s : State (List (List ℕ)) Micro Registers). record run { state = s }) (sym (run_by-append (job_in run) (fresh_of run.found) first rest run.state))
+
+-- one turn more is reached as well
+pub reached_more : (run : Run) (a : ℕ) (new : Run) → IsReached run → new ≡ after_turns run (a ∷ []) → IsReached new
+reached_more run a new reached is =
+    let start : Run → Run = λ r. started_run r.found r.filter r.sets r.cuts in
+    let same : start new ≡ start run = ap start is in
+    (reached.0 ++ a ∷ [],
+    is ∙ ap (λ (r : Run). after_turns r (a ∷ [])) reached.1 ∙ after_both (start run) reached.0 (a ∷ []) ∙ ap (λ (r : Run). after_turns r (reached.0 ++ a ∷ [])) (sym same))

@@ -1,12 +1,14 @@
-use Rattle.std.proofs.Common.{List, length, rules, arith, SFits, subst, sym, ap}
+use Rattle.std.proofs.Common.{◌∙◌, ℕ, [], None, List, length, rules, arith, SFits, subst, sym, ap}
 use Rattle.std.specs.Int.{w128}
 use Rattle.std.proofs.lemmas.Int.{to_z-of_z}
 use Rattle.places.specs.declared.piece.Cell.{Cell}
 use Rattle.piece_bits.specs.Tables.{AreSized}
 use Rattle.map_any.specs.AnyLaws.{length-leaf_cells}
-use Rattle.row_updates.specs.Rows.{IsSetOf}
+use Rattle.row_updates.specs.Rows.{IsSetOf, setting_of}
 use Rattle.views.specs.Tables.{owners_of, leaf_types_of}
 use Rattle.actor_steps.specs.BytesOfLaws.{with_byte-sized}
+use Rattle.actor_steps.specs.Jobs.{job_of}
+use Rattle.actor_steps.specs.Micro.{row_in, value_on}
 use Rattle.actors.specs.Standing.{IsStepOf}
 use Rattle.actors.proofs.Laws.{leaf_count}
 use Rattle.actors.proofs.Turns.{store_made}
@@ -32,7 +34,8 @@ returns-in-Store-clause-stored c =
     let value = c.value_of-value.result in
     let fits : SFits w128 value = search rules in
     store_made table c.args.sets.now c.args.step c.in-Store.place c.in-Store.row c.in-Store.set set c.args.memory.now.items c.put_byte-in-Store.new.blobs.items c.args.bytes.now _ value
-    c.changed_byte-byte.result c.in-Store.is at.2 c.index-sets-set.is c.map.ensures.layout c.value_of-value.ensures
+    c.changed_byte-byte.result c.in-Store.is at.2 c.index-sets-set.is c.map.ensures.layout
+    (c.value_of-value.ensures ∙ ap (λ (w : List (List ℕ)). value_on (job_of table None []) (row_in (job_of table None []) w c.in-Store.row) c.in-Store.row (setting_of set)) c.deref-in-Store.ensures.value)
     (rw (to_z-of_z w128 value fits) at c.changed_byte-byte.ensures.byte) c.put_byte-in-Store.ensures
 
 pub returns-in-Store-clause-memory_sized : goal.returns-in-Store-clause-memory_sized
