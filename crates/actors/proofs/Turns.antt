@@ -1,5 +1,5 @@
 -- A turn of one actor.
-use Rattle.std.proofs.Common.{◌≡◌, ℕ, ◌<◌, ◌≤◌, Bool, true, false, All, ℤ, pos, List, [], ◌∷◌, ◌++◌, length, map, get_or, set, take, Option, None, refl, sym, ap, ◌∙◌, subst, ⊎_elim, arith}
+use Rattle.std.proofs.Common.{◌≡◌, ℕ, ◌+◌, ◌<◌, ◌≤◌, Bool, true, false, All, ℤ, pos, List, [], ◌∷◌, ◌++◌, length, map, get_or, set, take, Option, None, refl, sym, ap, ◌∙◌, subst, ⊎_elim, arith}
 use Rattle.std.proofs.lemmas.Bool.{cases_eq}
 use Rattle.std.proofs.lemmas.List.{length-map, length-set, get_or-map, get_or-set_same, get_or-set_other, map-set, set-get_or, take_more}
 use Rattle.expr_lang.specs.Terms.{Term, Number}

@@ -1,12 +1,12 @@
 -- A run of the actors of an update: what it keeps, and how far its actors are.
-use Rattle.std.specs.Prelude.{ℕ, ◌≡◌, Bool, true, false, List, [], ◌∷◌, Option, None, slice_index_or}
+use Rattle.std.specs.Prelude.{ℕ, ◌≡◌, Bool, true, false, ℤ, List, [], ◌∷◌, length, drop, Option, None, Ok, slice_index_or}
 use Rattle.expr_lang.specs.Terms.{Term}
 use Rattle.views.specs.Tables.{Table}
-use Rattle.row_updates.specs.Rows.{Setting}
+use Rattle.row_updates.specs.Rows.{Setting, updated_of}
 use Rattle.actor_steps.specs.Confluence.{Actor, State}
-use Rattle.actor_steps.specs.Jobs.{job_of, fresh_of, start_of}
+use Rattle.actor_steps.specs.Jobs.{job_of, memory_of, fresh_of, start_of}
 use Rattle.actor_steps.specs.Micro.{Job, Micro, Registers}
-use Rattle.actor_steps.specs.Schedules.{idle_with, run_by}
+use Rattle.actor_steps.specs.Schedules.{idle_with, run_by, turns_from}
 
 -- the table as the run found it, with no counts; the filter and the leaves that are set; the cuts; the memory and the actors over it
 pub record Run : Type 0 where
@@ -45,6 +45,15 @@ has_any (x ∷ xs) = true
 -- a run after a schedule
 abbrev pub after_turns : Run → List ℕ → Run
 after_turns run schedule = record run { state = run_by (job_in run) (fresh_of run.found) schedule run.state }
+
+-- a run after all that its actors from one of them on have left, actor by actor
+abbrev pub finished_from : ℕ → Run → Run
+finished_from actor run = after_turns run (turns_from actor (drop actor run.state.actors))
+
+-- the memory of a run is that of the blobs that the plain update leaves, which meets no fault
+abbrev pub IsPlain : Run → Type 0
+IsPlain run = (rows : List (List ℤ)) × (updated_of run.found run.filter run.sets (length run.found.rows) ≡ Ok rows)
+    × (run.state.memory ≡ memory_of (record run.found { rows = rows }))
 
 -- no actor has a micro-step left
 abbrev pub IsDone : Run → Type 0

@@ -1,11 +1,14 @@
 // Runs of the actors of an update.
-ghost use Rattle.std.specs.Prelude.{ℕ, ◌≡◌, ◌<◌, ◌≤◌, ◌+◌, ◌*◌, All, None, false, [], ◌∷◌, IfOk, IfErr, OnOk, OnErr, IfSome, length, map, sum_by, slice_index_or};
+ghost use Rattle.std.specs.Prelude.{ℕ, ℤ, List, ◌≡◌, ◌<◌, ◌≤◌, ◌+◌, ◌*◌, All, None, false, [], ◌∷◌, IfOk, IfErr, OnOk, OnErr, IfSome, length, map, sum_by, slice_index_or};
 ghost use Rattle.row_updates.specs.Logs.{update_log};
 ghost use Rattle.row_updates.specs.Rows.{IsOver, IsSetOf, filter_term, setting_of, updated_of};
 ghost use Rattle.views.specs.Tables.{after_log, owners_of};
 ghost use Rattle.actor_steps.specs.Cuts.{AreCuts, actor_of};
+ghost use Rattle.actor_steps.specs.Agree.{IsParted};
+ghost use Rattle.actor_steps.specs.Schedules.{turns_left};
 ghost use Rattle.actor_steps.specs.Shared.{shared_byte};
-ghost use Rattle.actors.specs.Runs.{uncounted, started_run, after_turns, rest_in, has_any};
+ghost use Rattle.actors.specs.Kept.{IsReached};
+ghost use Rattle.actors.specs.Runs.{IsDone, IsPlain, uncounted, started_run, after_turns, finished_from, rest_in, has_any};
 ghost use Rattle.actors.specs.Updates.{IsMet, IsUpdated, reads_in};
 
 use crate::actor::{Actor, turn_of};
@@ -13,6 +16,7 @@ use crate::fault::ActorFault;
 use crate::memory::{copied_blobs, fresh_blobs, laws_of_view};
 use crate::plan::{Plans, plan_rows};
 use crate::team::{targets_of, team_of};
+use actor_steps::schedules_agree;
 use blobs::Blob;
 use expr_lang::Bound;
 use extents::Extents;
@@ -142,6 +146,48 @@ impl<'a> ActorRun<'a> {
             &mut self.scratch,
             &mut self.actors[actor],
         )
+    }
+
+    /// Makes the micro-steps that are left, actor by actor. Then no actor has one left, and the memory is that of the blobs that the plain update
+    /// leaves, byte for byte.
+    pub fn finish(&mut self, view: &View)
+        requires view { uncounted view.now ≡ self.old.found }
+        ensures finished { self.new ≡ after_turns self.old (turns_left self.old.state) }
+        ensures done { IsDone self.new }
+        ensures plain { IsPlain self.new }
+    {
+        schedules_agree();
+        self.law();
+        for actor in 0..self.actor_count() {
+            self.finish_actor(view, actor);
+        }
+    }
+
+    // Makes what one actor has left: then as much is left as was behind it.
+    fn finish_actor(&mut self, view: &View, actor: usize)
+        requires actor { actor ≤ length self.old.cuts }
+        requires view { uncounted view.now ≡ self.old.found }
+        ensures left { finished_from (actor + 1) self.new ≡ finished_from actor self.old }
+        ensures same { self.new ≡ record self.old { state = self.new.state } }
+    {
+        self.law();
+        while self.turn(view, actor) {}
+    }
+
+    // The number of actors.
+    fn actor_count(&self) -> usize
+        ensures { result ≡ length self.now.state.actors }
+    {
+        self.actors.len()
+    }
+
+    // What holds of each run. It does nothing: its contract is the law.
+    fn law(&self)
+        ensures parted { (rows : List (List ℤ)) × IsParted self.now.found self.now.filter self.now.sets self.now.cuts rows }
+        ensures reached { IsReached self.now }
+        ensures actors { length self.now.state.actors ≡ length self.now.cuts + 1 }
+    {
+        let _cuts = &self.cuts;
     }
 
     /// A blob of the memory.

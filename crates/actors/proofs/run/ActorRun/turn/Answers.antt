@@ -57,6 +57,7 @@ turned c =
 pub invariant_of-self : goal.invariant_of-self
 unfolding table turned found
 invariant_of-self c =
+    let d = (goal.at.invariant_of-self c).After-turn_of in
     let r = c.self.inside in
     let inv = c.self.invariant in
     let view = c.args.view.now in
@@ -67,16 +68,16 @@ invariant_of-self c =
       few = inv.few;
       targets_are = inv.targets_are;
       plans_are = inv.plans_are;
-      memory_sized = subst (λ (t : Table). AreSized (owners_of t) c.turn_of.new.memory.items) (found c) c.turn_of.ensures.memory_sized;
-      scratch_sized = subst (λ (t : Table). AreSized (owners_of t) c.turn_of.new.scratch.items) (found c) c.turn_of.ensures.scratch_sized;
+      memory_sized = subst (λ (t : Table). AreSized (owners_of t) c.turn_of.new.memory.items) (found d) c.turn_of.ensures.memory_sized;
+      scratch_sized = subst (λ (t : Table). AreSized (owners_of t) c.turn_of.new.scratch.items) (found d) c.turn_of.ensures.scratch_sized;
       count = length-set r.actors.items c.args.actor new ∙ inv.count;
       standing =
-          stands_among (table c) (length r.targets.items) r.actors.items c.args.actor new inv.standing
-          (subst (λ (t : Table). IsStanding t (length r.targets.items) new) (found c)
+          stands_among (table d) (length r.targets.items) r.actors.items c.args.actor new inv.standing
+          (subst (λ (t : Table). IsStanding t (length r.targets.items) new) (found d)
           (stands_alone view (length r.targets.items) new (subst (λ (ts : List ℕ). IsStanding view (length ts) new) c.as_slice.ensures.value c.turn_of.ensures.standing)));
       reached =
-          reached_more (run_of (table c) (filter_term r.filter) r.sets.now r.cuts.items r.memory.items r.actors.items) c.args.actor
-          (run_of (table c) (filter_term r.filter) r.sets.now r.cuts.items c.turn_of.new.memory.items (set r.actors.items c.args.actor new)) inv.reached (turned c);
+          reached_more (run_of (table d) (filter_term r.filter) r.sets.now r.cuts.items r.memory.items r.actors.items) c.args.actor
+          (run_of (table d) (filter_term r.filter) r.sets.now r.cuts.items c.turn_of.new.memory.items (set r.actors.items c.args.actor new)) inv.reached (turned d);
     }
 
 pub returns-clause-turned : goal.returns-clause-turned
