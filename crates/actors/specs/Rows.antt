@@ -1,7 +1,8 @@
 -- Rows that blobs hold, and what an update asks of a row.
-use Rattle.std.specs.Prelude.{ℕ, ◌≡◌, ◌<◌, Bool, true, false, ℤ, List, [], length, slice_index_or, slice_set}
+use Rattle.std.specs.Prelude.{ℕ, ◌≡◌, ◌<◌, Bool, true, false, ℤ, pos, List, [], ◌∷◌, length, slice_index_or, slice_set}
 use Rattle.kept_tables.specs.Modes.{declared_table}
 use Rattle.piece_bits.specs.Tables.{table_in}
+use Rattle.row_updates.specs.Rows.{Setting}
 use Rattle.actor_steps.specs.declared.place.Place.{Place}
 use Rattle.actor_steps.specs.Micro.{Job, is_in, reads_of, lets_through}
 use Rattle.actor_tasks.specs.declared.rows.Asks.{Asks}
@@ -33,3 +34,8 @@ pub record ArePlans (job : Job) (count : ℕ) (plans : List Asks) : Type 0 where
 -- what is asked of a row, by its number
 abbrev pub asks_at : List Asks → ℕ → Asks
 asks_at plans row = slice_index_or plans row (record { reads = []; through = false })
+
+-- a row in which the leaves that are set are those of another
+abbrev pub with_held : List Setting → List ℤ → List ℤ → List ℤ
+with_held [] held row = row
+with_held (set ∷ sets) held row = with_held sets held (slice_set row set.leaf (slice_index_or held set.leaf (pos 0)))

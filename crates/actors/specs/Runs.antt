@@ -1,7 +1,9 @@
 -- A run of the actors of an update: what it keeps, and how far its actors are.
 use Rattle.std.specs.Prelude.{ℕ, ◌≡◌, Bool, true, false, ℤ, List, [], ◌∷◌, length, drop, Option, None, Ok, slice_index_or}
 use Rattle.expr_lang.specs.Terms.{Term}
-use Rattle.views.specs.Tables.{Table}
+use Rattle.views.specs.Tables.{Table, after_stores}
+use Rattle.actors.specs.Updates.{writes_in}
+use Rattle.row_updates.specs.Logs.{update_log}
 use Rattle.row_updates.specs.Rows.{Setting, updated_of}
 use Rattle.actor_steps.specs.Confluence.{Actor, State}
 use Rattle.actor_steps.specs.Jobs.{job_of, memory_of, fresh_of, start_of}
@@ -50,10 +52,19 @@ after_turns run schedule = record run { state = run_by (job_in run) (fresh_of ru
 abbrev pub finished_from : ℕ → Run → Run
 finished_from actor run = after_turns run (turns_from actor (drop actor run.state.actors))
 
--- the memory of a run is that of the blobs that the plain update leaves, which meets no fault
+-- bytes are those of the blobs that the plain update of a table leaves, which meets no fault
+abbrev pub IsPlainMemory : Table → Option (Term ℕ) → List Setting → List (List ℕ) → Type 0
+IsPlainMemory table filter sets memory =
+    (rows : List (List ℤ)) × (updated_of table filter sets (length table.rows) ≡ Ok rows) × (memory ≡ memory_of (record table { rows = rows }))
+
+-- so is the memory of a run
 abbrev pub IsPlain : Run → Type 0
-IsPlain run = (rows : List (List ℤ)) × (updated_of run.found run.filter run.sets (length run.found.rows) ≡ Ok rows)
-    × (run.state.memory ≡ memory_of (record run.found { rows = rows }))
+IsPlain run = IsPlainMemory run.found run.filter run.sets run.state.memory
+
+-- a table has the rows of the plain update, and its writes are counted
+abbrev pub IsStoredBack : Table → Option (Term ℕ) → List Setting → Table → Type 0
+IsStoredBack table filter sets after = (rows : List (List ℤ)) × (updated_of table filter sets (length table.rows) ≡ Ok rows)
+    × (after ≡ after_stores table rows (writes_in (update_log table filter sets (length table.rows))))
 
 -- no actor has a micro-step left
 abbrev pub IsDone : Run → Type 0

@@ -2,6 +2,7 @@
 #![tactic(auto)]
 
 mod actor;
+mod back;
 mod fault;
 mod memory;
 mod noted;

@@ -8,10 +8,11 @@ ghost use Rattle.actor_steps.specs.Agree.{IsParted};
 ghost use Rattle.actor_steps.specs.Schedules.{turns_left};
 ghost use Rattle.actor_steps.specs.Shared.{shared_byte};
 ghost use Rattle.actors.specs.Kept.{IsReached};
-ghost use Rattle.actors.specs.Runs.{IsDone, IsPlain, uncounted, started_run, after_turns, finished_from, rest_in, has_any};
+ghost use Rattle.actors.specs.Runs.{IsDone, IsPlain, IsStoredBack, uncounted, started_run, after_turns, finished_from, rest_in, has_any};
 ghost use Rattle.actors.specs.Updates.{IsMet, IsUpdated, reads_in};
 
 use crate::actor::{Actor, turn_of};
+use crate::back::store_rows;
 use crate::fault::ActorFault;
 use crate::memory::{copied_blobs, fresh_blobs, laws_of_view};
 use crate::plan::{Plans, plan_rows};
@@ -169,6 +170,7 @@ impl<'a> ActorRun<'a> {
         requires view { uncounted view.now ≡ self.old.found }
         ensures left { finished_from (actor + 1) self.new ≡ finished_from actor self.old }
         ensures same { self.new ≡ record self.old { state = self.new.state } }
+        ensures count { length self.new.state.actors ≡ length self.old.state.actors }
     {
         self.law();
         while self.turn(view, actor) {}
@@ -179,6 +181,25 @@ impl<'a> ActorRun<'a> {
         ensures { result ≡ length self.now.state.actors }
     {
         self.actors.len()
+    }
+
+    /// Sets each leaf that is set of each row that the filter lets through to the reading of the memory, and counts one write of each. No actor has
+    /// a micro-step left, and the view is as the run found it. Then its table is that of the plain update.
+    pub fn store_back<L: Ledger>(&self, view: &mut View, steps: &mut Steps<L>)
+        requires view { uncounted view.old ≡ self.now.found }
+        requires done { IsDone self.now }
+        ensures { IsStoredBack view.old self.now.filter self.now.sets view.new }
+    {
+        schedules_agree();
+        self.law();
+        store_rows(
+            view,
+            self.filter,
+            self.sets,
+            &self.plans,
+            self.memory.as_slice(),
+            steps,
+        );
     }
 
     // What holds of each run. It does nothing: its contract is the law.
