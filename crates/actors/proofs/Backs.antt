@@ -1,5 +1,5 @@
 -- The rows of the plain update, stored leaf by leaf.
-use Rattle.std.proofs.Common.{◌≡◌, ℕ, ◌+◌, ◌-◌, ◌<◌, ◌≤◌, Bool, true, false, ℤ, pos, List, [], ◌∷◌, ◌++◌, length, map, get_or, set, take, drop, Option, Some, None, Result, Ok, Err, refl, sym, ap, ◌∙◌, subst, ⊎_elim, arith, append_assoc, length-append}
+use Rattle.std.proofs.Common.{◌≡◌, ℕ, ◌+◌, ◌-◌, ◌<◌, ◌≤◌, All, Bool, true, false, ℤ, pos, List, [], ◌∷◌, ◌++◌, length, map, get_or, set, take, drop, Option, Some, None, Result, Ok, Err, refl, sym, ap, ◌∙◌, subst, ⊎_elim, arith, append_assoc, length-append}
 use Rattle.std.specs.Prelude.{◌==◌, ◌||◌, if◌then◌else◌}
 use Rattle.std.proofs.lemmas.Bool.{cases_eq, eq-eqb, eqb-true}
 use Rattle.std.proofs.lemmas.List.{append-nil, get_or-map, get_or-set_same, get_or-set_other, get_or-append_right, get_or-drop, length-map, length-set, length-take, length-drop, take_more, take_all, drop_all, drop_more, ext_get_or, map-append, set-get_or, set-set}
@@ -8,20 +8,26 @@ use Rattle.expr_lang.specs.Terms.{Term}
 use Rattle.expr_lang.specs.Values.{outcome_of, is_true}
 use Rattle.expr_lang.specs.declared.fault.EvalFault.{EvalFault}
 use Rattle.linearize.specs.Slots.{index_at}
-use Rattle.piece_bits.specs.Tables.{with_entry}
+use Rattle.places.specs.Image.{entry}
+use Rattle.piece_bits.specs.Tables.{AreSized, hold_at, table_in, with_entry}
+use Rattle.kept_tables.specs.Modes.{declared_table}
+use Rattle.views.specs.AnswerLaws.{stays_answer}
+use Rattle.actor_steps.specs.Agree.{IsLawful}
+use Rattle.actor_steps.specs.AgreeLaws.{memory_is, rows_read}
+use Rattle.actors.proofs.Laws.{leaf_count}
 use Rattle.row_updates.specs.declared.fault.UpdateFault.{UpdateFault}
 use Rattle.row_updates.specs.declared.update.Assign.{Assign}
 use Rattle.row_updates.specs.Logs.{stores_log, if_given, row_log, update_log}
-use Rattle.row_updates.specs.Rows.{Setting, setting_of, each, ◌>>=◌, in_row, eval_kind, passes, new_value, with_values, tried_row, given_row, updated_row, updated_of}
+use Rattle.row_updates.specs.Rows.{Setting, setting_of, each, ◌>>=◌, in_row, eval_kind, passes, new_value, with_values, tried_row, given_row, updated_row, updated_of, IsSetOf}
 use Rattle.row_updates.specs.TriedLaws.{updated_as_tried}
 use Rattle.views.specs.Stores.{Answer, Keeping}
-use Rattle.views.specs.Tables.{Table, answer_of, kept_of, after_stores}
+use Rattle.views.specs.Tables.{Table, owners_of, leaf_types_of, leaf_type_of, leaf_count_of, table_holds, answer_of, kept_of, after_stores}
 use Rattle.views.specs.Tallies.{Access, Write}
 use Rattle.views.specs.TallyLaws.{after_stores-append, after_log-none, logs_more}
-use Rattle.actor_steps.specs.Jobs.{job_of}
+use Rattle.actor_steps.specs.Jobs.{job_of, memory_of}
 use Rattle.actor_steps.specs.Micro.{Job, is_in, number_in, row_of, test_of, lets_through}
 use Rattle.actor_steps.specs.UpdateLaws.{length-with_values, updated_at}
-use Rattle.actors.specs.Rows.{with_held}
+use Rattle.actors.specs.Rows.{row_held, with_held}
 use Rattle.actors.specs.Updates.{is_write, writes_in}
 use Rattle.actors.proofs.Tried.{row_writes}
 
@@ -85,11 +91,13 @@ held_is (s ∷ sets) target row long same =
 values_other : (keep : Keeping) (sets : List Setting) (values row : List ℤ) (f : ℕ) → is_in (map (λ s. s.leaf) sets) f ≡ false → get_or (with_values keep sets values row) f (pos 0) ≡ get_or row f (pos 0)
 values_other keep [] values row f out = refl
 values_other keep (s ∷ sets) [] row f out = refl
-values_other keep (s ∷ sets) (value ∷ values) row f out = by_test (s.leaf == f) refl out where
-  by_test : (t : Bool) → (s.leaf == f) ≡ t → (t || is_in (map (λ s. s.leaf) sets) f) ≡ false → get_or (with_values keep sets values (set row s.leaf (keep s.leaf value))) f (pos 0) ≡ get_or row f (pos 0)
-  by_test true e bad = absurd (let no : true ≡ false = bad in cc)
-  by_test false e rest =
-      values_other keep sets values (set row s.leaf (keep s.leaf value)) f rest
+values_other keep (s ∷ sets) (value ∷ values) row f out = by_test (s.leaf == f) refl out (λ rest. values_other keep sets values (set row s.leaf (keep s.leaf value)) f rest) where
+  by_test : (t : Bool) → (s.leaf == f) ≡ t → (t || is_in (map (λ s. s.leaf) sets) f) ≡ false
+      → (is_in (map (λ s. s.leaf) sets) f ≡ false → get_or (with_values keep sets values (set row s.leaf (keep s.leaf value))) f (pos 0) ≡ get_or (set row s.leaf (keep s.leaf value)) f (pos 0))
+      → get_or (with_values keep sets values (set row s.leaf (keep s.leaf value))) f (pos 0) ≡ get_or row f (pos 0)
+  by_test true e bad others = absurd (let no : true ≡ false = bad in cc)
+  by_test false e rest others =
+      others rest
       ∙ get_or-set_other row s.leaf f (keep s.leaf value) (pos 0) (λ same. (let no : false ≡ true = sym e ∙ eq-eqb s.leaf f (sym same) in cc))
 
 module _ (job : Job) (answer : Answer) (keep : Keeping) (r : ℕ) (new : List ℤ) where
@@ -240,3 +248,42 @@ module _ (old : Table) (filter : Option (Term ℕ)) (sets : List Setting) (rows 
       let back : drop n old.rows ≡ [] = drop_all n old.rows (omega (arith, whole)) in
       so_far.same ∙ ap (λ (r : List (List ℤ)). after_stores old r (writes_in (update_log old filter sets n))) (ap (λ (w : List (List ℤ)). w ++ drop n old.rows) front ∙ ap (λ (w : List (List ℤ)). rows ++ w) back ∙ append-nil rows)
       ∙ ap (λ (k : ℕ). after_stores old rows (writes_in (update_log old filter sets k))) whole
+
+  -- either way one row more is that of the plain update
+  pub one_back : (view new : Table) (n : ℕ) (held : List ℤ) (through : Bool) → n < length old.rows → through ≡ lets_through job n → held ≡ get_or rows n [] → AreBack view n
+      → (through ≡ true → new ≡ after_stores view (set view.rows n (with_held sets held (get_or view.rows n []))) (stores_log n sets)) → (through ≡ false → new ≡ view) → AreBack new (n + 1)
+  one_back view new n held true low is held_same so_far stored left = row_back view new n held low (sym is) held_same so_far (stored refl)
+  one_back view new n held false low is held_same so_far stored left = subst (λ (t : Table). AreBack t (n + 1)) (sym (left refl)) (row_stands view n low (sym is) so_far)
+
+  pub back_count : (view : Table) (n : ℕ) → n ≤ length old.rows → AreBack view n → length view.rows ≡ length old.rows
+  back_count view n low so_far = ap (λ (t : Table). length t.rows) so_far.same ∙ so_far_long n low
+
+  -- the memory of the plain update holds its rows, and the table so far takes each number as it is
+  module _ (view : Table) (n m : ℕ) (low : m ≤ length old.rows) (so_far : AreBack view m) (memory : List (List ℕ)) (lawful : IsLawful (record old { rows = rows })) (is : memory ≡ memory_of (record old { rows = rows })) where
+    abbrev new_rows : Table
+    new_rows = record old { rows = rows }
+
+    pub back_sized : AreSized (owners_of view) memory
+    back_sized = subst (λ (t : Table). AreSized (owners_of t) memory) (sym so_far.same) (subst (AreSized (owners_of old)) (sym is) (memory_is new_rows lawful).sized)
+
+    pub back_held : row_held view memory n ≡ get_or rows n []
+    back_held =
+        ap (λ (t : Table). row_held t memory n) so_far.same
+        ∙ ap (λ (k : ℕ). get_or (declared_table (leaf_types_of old) (table_in (owners_of old) k (table_holds old) memory)) n []) (so_far_long m low ∙ sym count)
+        ∙ ap (λ (w : List (List ℕ)). get_or (declared_table (leaf_types_of old) (table_in (owners_of old) (length rows) (table_holds old) w)) n []) is
+        ∙ ap (λ (t : List (List ℤ)). get_or t n []) (rows_read new_rows lawful)
+
+    pub back_takes : (leaf : ℕ) → n < length old.rows → leaf < leaf_count_of view
+        → answer_of view leaf (get_or (row_held view memory n) leaf (pos 0)) ≡ Ok (get_or (row_held view memory n) leaf (pos 0))
+    back_takes leaf inside leaf_in =
+        let value = get_or (row_held view memory n) leaf (pos 0) in
+        let value_is : value ≡ entry rows n leaf = ap (λ (w : List ℤ). get_or w leaf (pos 0)) back_held in
+        let leaves_same : leaf_count_of view ≡ leaf_count_of old = ap (λ (t : Table). leaf_count_of t) so_far.same in
+        let stays = lawful.is_table.stays n leaf (omega (arith, inside, count)) (omega (arith, leaf_in, leaves_same, leaf_count old)) in
+        ap (λ (t : Table). answer_of t leaf value) so_far.same ∙ ap (answer_of old leaf) value_is
+        ∙ stays_answer old.mode (leaf_type_of old leaf) (hold_at (table_holds old) leaf) (entry rows n leaf) stays ∙ ap (λ (v : ℤ). Ok v) (sym value_is)
+
+    pub back_sets : (assigns : List Assign) → All (IsSetOf old) assigns → All (IsSetOf view) assigns
+    back_sets assigns all k d inside =
+        let one = all k d inside in
+        subst (λ (t : Table). IsSetOf t (get_or assigns k d)) (sym so_far.same) (record { inside = one.inside; over = record { leaves = one.over.leaves; rank = one.over.rank } })
