@@ -98,7 +98,8 @@ module _ (job : Job) (sound : IsSound job) where
       let here = row_work job sound first entries memory registers (omega (arith, inside)) work (λ f. stands first f (omega arith)) in
       let more = solo (first + 1) n (row_entries job first entries) next behind here (omega (arith, inside))
       (λ r f low. row-other job first entries r f (λ e. (let bad : ⊥ = omega (arith, low, e) in bad)) ∙ stands r f (omega (arith, low))) in
-      subst (λ (m : List (List ℕ)). IsWork job (rows_entries job (range_with_len first (suc n)) entries) m (loaded_all (stored job) (loaded job) (row_steps job first ++ steps_of job (first + 1) n) memory registers))
+      subst (λ (m : List (List ℕ)). IsWork job (rows_entries job (range_with_len first (suc n)) entries) m
+      (loaded_all (stored job) (loaded job) (row_steps job first ++ steps_of job (first + 1) n) memory registers))
       (sym (made_all-append (stored job) (loaded job) (row_steps job first) (steps_of job (first + 1) n) memory registers))
       (subst (λ (r : Registers). IsWork job (rows_entries job (range_with_len first (suc n)) entries) (made_all (stored job) (loaded job) (steps_of job (first + 1) n) next behind) r)
       (sym (loaded_all-append (stored job) (loaded job) (row_steps job first) (steps_of job (first + 1) n) memory registers)) more)
@@ -131,7 +132,8 @@ module _ (job : Job) (sound : IsSound job) where
         (each-all (λ leaf. Each (IsOwn (actor row)) (map Fetch (places_of job.layout row leaf))) (read_leaves job row)
         (λ leaf. each-map (IsOwn (actor row)) Fetch (places_of job.layout row leaf) (places-own row leaf))))
         (by_test (lets_through job row)) where
-          one_leaf : (set : Setting) (places : List Place) → Each (λ place. IsByte job.layout place × (owner_of place ≡ actor row)) places → Each (IsOwn (actor row)) (flat_map (changes row set) places)
+          one_leaf : (set : Setting) (places : List Place) → Each (λ place. IsByte job.layout place × (owner_of place ≡ actor row)) places
+              → Each (IsOwn (actor row)) (flat_map (changes row set) places)
           one_leaf set [] own = tt
           one_leaf set (place ∷ places) own = (own.0, (own.0, one_leaf set places own.1))
 
@@ -228,7 +230,8 @@ module _ (job : Job) (sound : IsSound job) where
           (λ (high : length parts ≤ a). subst (λ (x : Actor Micro Registers). Each (IsOwn a) x.rest) (sym (team-past a high)) tt)
           (cases_lt a (length parts))
 
-      pub merged : IsMerged byte_at place_of (stored job) (loaded job) idle refl (IsMemory job.layout) (λ s. IsByte job.layout (place_of s)) owner_of good_after elsewhere same_loaded same_stored alone start
+      pub merged : IsMerged byte_at place_of (stored job) (loaded job) idle refl (IsMemory job.layout) (λ s. IsByte job.layout (place_of s)) owner_of good_after elsewhere
+          same_loaded same_stored alone start
       merged = record { rest = λ a. refl; registers = λ a. refl; bytes = λ p. refl; good = good; goods = λ a. good; own = all-own }
 
       -- the entries that the plain update leaves
@@ -279,8 +282,8 @@ module _ (job : Job) (sound : IsSound job) where
           → IsHeld job.layout updated (scheduled (stored job) (loaded job) idle schedule start).memory
       after_every_schedule schedule done b p =
           let place : Place = record { blob = b; byte = p / 8 } in
-          let same = ended-schedule byte_at place_of (stored job) (loaded job) idle refl (IsMemory job.layout) (λ s. IsByte job.layout (place_of s)) owner_of good_after elsewhere same_loaded same_stored
-          schedule alone start merged done place in
+          let same = ended-schedule byte_at place_of (stored job) (loaded job) idle refl (IsMemory job.layout) (λ s. IsByte job.layout (place_of s)) owner_of good_after elsewhere
+          same_loaded same_stored schedule alone start merged done place in
           ap (λ (w : ℕ). bit_at w (p % 8)) same ∙ solo-bit b p (owner_of place) refl
 
       -- and it is memory of the layout, after any schedule

@@ -2,7 +2,7 @@
 use Rattle.std.specs.Prelude.{ℕ, ◌≡◌, ℤ, List, [], length, map, slice_index_or, Option, None, Ok}
 use Rattle.expr_lang.specs.Terms.{Term}
 use Rattle.places.specs.Laws.{IsLaidOut}
-use Rattle.piece_bits.specs.Tables.{table_in}
+use Rattle.piece_bits.specs.Tables.{AreLaid, table_in}
 use Rattle.kept_tables.specs.Modes.{declared_table}
 use Rattle.views.specs.Tables.{Table, IsTable, owners_of, leaf_types_of, table_holds}
 use Rattle.row_updates.specs.Rows.{Setting, updated_of}
@@ -26,12 +26,13 @@ pub record IsParted (table : Table) (filter : Option (Term ℕ)) (sets : List Se
   pub apart : shared_byte (owners_of table) (actor_of cuts) ≡ None
   pub plain : updated_of table filter sets (length table.rows) ≡ Ok rows
 
--- the bytes after a schedule, and after the micro-steps that it left, actor by actor
+-- the actors of an update after a schedule
+abbrev pub state_by : Table → Option (Term ℕ) → List Setting → List ℕ → List ℕ → State (List (List ℕ)) Micro Registers
+state_by table filter sets cuts schedule = run_by (job_of table filter sets) (fresh_of table) schedule (start_of table filter sets cuts)
+
+-- the bytes after the micro-steps that it left, actor by actor
 abbrev pub memory_by : Table → Option (Term ℕ) → List Setting → List ℕ → List ℕ → List (List ℕ)
-memory_by table filter sets cuts schedule =
-    let job = job_of table filter sets in
-    let fresh = fresh_of table in
-    (finished job fresh (run_by job fresh schedule (start_of table filter sets cuts))).memory
+memory_by table filter sets cuts schedule = (finished (job_of table filter sets) (fresh_of table) (state_by table filter sets cuts schedule)).memory
 
 -- they are those of the table with the rows of the plain update, whatever the schedule was
 abbrev pub SchedulesAgree : Type 0
@@ -52,3 +53,9 @@ UpdatesAreLawful = (table : Table) (filter : Option (Term ℕ)) (sets : List Set
 abbrev pub BytesAreRead : Type 0
 BytesAreRead = (table : Table) → IsLawful table
     → declared_table (leaf_types_of table) (table_in (owners_of table) (length table.rows) (table_holds table) (memory_of table)) ≡ table.rows
+
+-- after each schedule the blobs, and what each actor loaded of them, have the lengths of the layout, and 0 in its padding
+abbrev pub SchedulesKeepPadding : Type 0
+SchedulesKeepPadding = (table : Table) (filter : Option (Term ℕ)) (sets : List Setting) (cuts : List ℕ) → IsLawful table → (schedule : List ℕ)
+    → AreLaid (owners_of table) (state_by table filter sets cuts schedule).memory
+    × ((a : ℕ) → AreLaid (owners_of table) (slice_index_or (state_by table filter sets cuts schedule).actors a (idle_with (fresh_of table))).registers.loaded)

@@ -1,5 +1,5 @@
 -- After every schedule and what it left the bytes are those of the plain update.
-use Rattle.std.proofs.Common.{◌≡◌, ℕ, ◌<◌, ◌≤◌, ℤ, pos, List, [], length, map, get_or, Option, Ok, refl, sym, ap, ◌∙◌, subst, arith}
+use Rattle.std.proofs.Common.{◌≡◌, ℕ, ◌<◌, ℤ, List, [], length, map, get_or, Option, Ok, refl, sym, ap, ◌∙◌, subst, arith}
 use Rattle.std.proofs.lemmas.List.{length-map}
 use Rattle.expr_lang.specs.Terms.{Term}
 use Rattle.linearize.specs.Slots.{index_at}
@@ -13,18 +13,19 @@ use Rattle.piece_bits.specs.Tables.{HasShape, hold_at, table_in}
 use Rattle.kept_tables.specs.Modes.{kind_at, declared_table, Stays}
 use Rattle.kept_tables.specs.EntryLaws.{stays_kept}
 use Rattle.kept_tables.specs.ImageLaws.{image_table}
-use Rattle.views.specs.Tables.{Table, IsTable, owners_of, leaf_types_of, table_holds, leaf_count_of, answer_of, kept_of}
+use Rattle.views.specs.Tables.{Table, owners_of, leaf_types_of, table_holds, leaf_count_of, answer_of, kept_of}
 use Rattle.views.specs.AnswerLaws.{answer_stays}
 use Rattle.row_updates.specs.Rows.{Setting, updated_of}
-use Rattle.actor_steps.specs.Micro.{Job, row_of}
 use Rattle.actor_steps.specs.BytesOfLaws.{IsMemory}
 use Rattle.actor_steps.specs.HeldLaws.{digit_held, IsHeld}
 use Rattle.actor_steps.specs.RowLaws.{IsSound, IsWork, row_entries}
-use Rattle.actor_steps.specs.MemoryLaws.{zeros-sized, image-memory, image-bits, memory-is, image-held}
+use Rattle.actor_steps.specs.MemoryLaws.{zeros-sized, zeros-laid, image-memory, image-laid, image-bits, memory-is, image-held}
+use Rattle.actor_steps.specs.LaidLaws.{AreAllTidy, tidy_by, tidy_start}
 use Rattle.actor_steps.specs.UpdateLaws.{row_same, row_keeps, updated_at, updated_length}
 use Rattle.actor_steps.specs.ScheduleLaws.{none_left, held_after, memory_by-end}
-use Rattle.actor_steps.specs.Jobs.{job_of, memory_of, fresh_of}
-use Rattle.actor_steps.specs.Agree.{IsLawful, IsParted, memory_by, SchedulesAgree, NothingIsLeft, UpdatesAreLawful, BytesAreRead}
+use Rattle.actor_steps.specs.Jobs.{job_of, memory_of, fresh_of, start_of}
+use Rattle.actor_steps.specs.Schedules.{run_by}
+use Rattle.actor_steps.specs.Agree.{IsLawful, memory_by, SchedulesAgree, NothingIsLeft, UpdatesAreLawful, BytesAreRead, SchedulesKeepPadding}
 
 module _ (table : Table) (lawful : IsLawful table) where
   leaf_count : leaf_count_of table ≡ length (leaf_types_of table)
@@ -138,3 +139,14 @@ updates_are_lawful table filter sets rows lawful plain = updated_lawful table la
 
 pub bytes_are_read : BytesAreRead
 bytes_are_read table lawful = rows_read table lawful
+
+pub schedules_keep_padding : SchedulesKeepPadding
+schedules_keep_padding table filter sets cuts lawful schedule =
+    let job = job_of table filter sets in
+    let fresh = fresh_of table in
+    let whole = lawful.laid.whole_bytes in
+    let start = start_of table filter sets cuts in
+    let all : AreAllTidy job fresh (run_by job fresh schedule start) =
+    tidy_by job fresh schedule start
+    (tidy_start job fresh cuts (length table.rows) (memory_of table) (image-laid (owners_of table) whole table.rows) (zeros-laid (owners_of table) whole)) in
+    (all.memory, λ a. (all.actors a).loaded)

@@ -69,7 +69,8 @@ among-filter test [] b i has e = has
 among-filter test (place ∷ places) b i has e =
     ⊎_elim (λ (here : is_place b i place ≡ true).
     let both = and_parts (place.blob == b) (place.byte == i) here in
-    let meets : test place ≡ true = ap (λ (w : ℕ). test (record { blob = w; byte = place.byte })) (eqb-true place.blob b both.0) ∙ ap (λ (w : ℕ). test (record { blob = b; byte = w })) (eqb-true place.byte i both.1) ∙ e in
+    let meets : test place ≡ true = ap (λ (w : ℕ). test (record { blob = w; byte = place.byte })) (eqb-true place.blob b both.0)
+    ∙ ap (λ (w : ℕ). test (record { blob = b; byte = w })) (eqb-true place.byte i both.1) ∙ e in
     ap (λ (w : List Place). is_among w b i) (cond-true (test place) (place ∷ filter test places) (filter test places) meets)
     ∙ or_left (is_place b i place) (is_among (filter test places) b i) here)
     (λ (other : is_place b i place ≡ false).

@@ -1,11 +1,22 @@
 -- Cuts of the rows among actors, and the micro-steps that are left of a run.
 use Rattle.std.proofs.Common.{◌≡◌, ℕ, zero, suc, ◌+◌, ◌-◌, ◌<◌, ◌≤◌, Bool, true, false, List, [], ◌∷◌, ◌++◌, length, get_or, set, replicate, refl, sym, ap, ◌∙◌, subst, ⊎_elim, arith}
 use Rattle.std.specs.Prelude.{nat_le, ◌==◌, if◌then◌else◌, slice_index_or}
-use Rattle.std.proofs.lemmas.Bool.{cases_lt, cases_eq, le-leb, lt-leb, eq-eqb, eqb-true}
+use Rattle.std.proofs.lemmas.Bool.{and_from, and_parts, leb-true, cases_lt, cases_eq, le-leb, lt-leb, eq-eqb, eqb-true}
 use Rattle.std.proofs.lemmas.List.{get_or-set_same, get_or-set_other, get_or_past}
 use Rattle.actor_steps.specs.Confluence.{Actor, State, moved, turned, scheduled}
 use Rattle.actor_steps.specs.Cuts.{actor_of, AreCuts, are_cuts, parts_from}
 use Rattle.actor_steps.specs.Schedules.{turns_from, turns_left}
+
+-- the test of cuts
+pub are_cuts-are : (from : ℕ) (cuts : List ℕ) (count : ℕ) → are_cuts from cuts count ≡ true → AreCuts from cuts count
+are_cuts-are from [] count e = leb-true from count e
+are_cuts-are from (cut ∷ cuts) count e =
+    let both = and_parts (nat_le from cut) (are_cuts cut cuts count) e in
+    (leb-true from cut both.0, are_cuts-are cut cuts count both.1)
+
+pub are-are_cuts : (from : ℕ) (cuts : List ℕ) (count : ℕ) → AreCuts from cuts count → are_cuts from cuts count ≡ true
+are-are_cuts from [] count are = le-leb from count are
+are-are_cuts from (cut ∷ cuts) count are = and_from (nat_le from cut) (are_cuts cut cuts count) (le-leb from cut are.0) (are-are_cuts cut cuts count are.1)
 
 -- a row lies in the part of an actor
 pub record IsPart (parts : List (ℕ × ℕ)) (a row : ℕ) : Type 0 where
@@ -95,7 +106,8 @@ module _ {M S R : Type 0} (stored : S → M → R → M) (loaded : S → M → R
               (λ (l : length state.actors ≤ b). absurd (let bad : [] ≡ s ∷ rest = sym none ∙ ap (λ (x : Actor S R). x.rest) (sym (get_or_past state.actors b idle l)) ∙ e in let no : ⊥ = cc in no))
               (cases_lt b (length state.actors))
 
-          by_test : (t : Bool) → (b == a) ≡ t → (b ≡ a → ⊥) → (slice_index_or state.actors a idle).rest ≡ (if t then tail_of (slice_index_or state.actors a idle).rest else (slice_index_or state.actors a idle).rest)
+          by_test : (t : Bool) → (b == a) ≡ t → (b ≡ a → ⊥)
+              → (slice_index_or state.actors a idle).rest ≡ (if t then tail_of (slice_index_or state.actors a idle).rest else (slice_index_or state.actors a idle).rest)
           by_test true same other = absurd (other (eqb-true b a same))
           by_test false same other = refl
 
@@ -103,7 +115,8 @@ module _ {M S R : Type 0} (stored : S → M → R → M) (loaded : S → M → R
   schedule-rest [] state a = refl
   schedule-rest (b ∷ schedule) state a =
       schedule-rest schedule (turned stored loaded idle b state) a ∙ ap (without (times a schedule)) (turn-rest b state a) ∙ by_test (b == a) where
-        by_test : (t : Bool) → without (times a schedule) (if t then tail_of (rest_of state a) else rest_of state a) ≡ without (if t then suc (times a schedule) else times a schedule) (rest_of state a)
+        by_test : (t : Bool) → without (times a schedule) (if t then tail_of (rest_of state a) else rest_of state a)
+            ≡ without (if t then suc (times a schedule) else times a schedule) (rest_of state a)
         by_test true = refl
         by_test false = refl
 
@@ -114,7 +127,8 @@ times-replicate a b zero schedule = by_test (b == a) where
   by_test false = refl
 times-replicate a b (suc n) schedule =
     ap (λ (w : ℕ). if b == a then suc w else w) (times-replicate a b n schedule) ∙ by_test (b == a) where
-      by_test : (t : Bool) → (if t then suc (if t then n + times a schedule else times a schedule) else (if t then n + times a schedule else times a schedule)) ≡ (if t then suc n + times a schedule else times a schedule)
+      by_test : (t : Bool) → (if t then suc (if t then n + times a schedule else times a schedule) else (if t then n + times a schedule else times a schedule))
+          ≡ (if t then suc n + times a schedule else times a schedule)
       by_test true = omega arith
       by_test false = refl
 

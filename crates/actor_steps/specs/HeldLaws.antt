@@ -1,5 +1,5 @@
 -- Memory that holds the digits of entries, and what is read off it.
-use Rattle.std.proofs.Common.{◌≡◌, ℕ, ◌<◌, Bool, true, false, ℤ, pos, List, [], length, map, get_or, refl, sym, ap, ◌∙◌, subst, arith}
+use Rattle.std.proofs.Common.{◌≡◌, ℕ, ◌<◌, Bool, true, false, ℤ, pos, List, length, map, get_or, refl, sym, ap, ◌∙◌, subst, arith}
 use Rattle.std.specs.Prelude.{◌==◌, ◌&&◌, if◌then◌else◌}
 use Rattle.std.proofs.lemmas.Bool.{and_parts, eqb-true}
 use Rattle.std.proofs.lemmas.List.{length-map}
@@ -14,7 +14,7 @@ use Rattle.places.specs.declared.piece.Hold.{Hold}
 use Rattle.piece_bits.specs.Tables.{HasShape, hold_at, table_in}
 use Rattle.piece_bits.specs.TableLaws.{table_shape, entry_is}
 use Rattle.kept_numbers.specs.Kept.{declared, held}
-use Rattle.kept_tables.specs.Modes.{kind_at, declared_table}
+use Rattle.kept_tables.specs.Modes.{kind_at}
 use Rattle.kept_tables.specs.TableLaws.{declared_shape, declared_entry}
 use Rattle.blobs.specs.Bits.{bit_in}
 use Rattle.actor_steps.specs.Micro.{Job, row_in}

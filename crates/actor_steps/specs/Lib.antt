@@ -4,7 +4,6 @@ pub mod Micro
 pub mod BytesOfLaws
 pub mod SweepLaws
 pub mod AmongLaws
-pub mod LaidLaws
 pub mod OutcomeLaws
 pub mod HeldLaws
 pub mod RowLaws
@@ -15,6 +14,7 @@ pub mod CutsLaws
 pub mod SharedLaws
 pub mod ScanLaws
 pub mod ActorLaws
+pub mod LaidLaws
 pub mod MemoryLaws
 pub mod UpdateLaws
 pub mod ScheduleLaws

@@ -3,7 +3,7 @@ use Rattle.std.proofs.Common.{◌≡◌, ℕ, ◌+◌, ◌*◌, ◌/◌, ◌%◌
 use Rattle.std.specs.Int.{bit_at}
 use Rattle.std.proofs.Math.ListN.{get_or-map}
 use Rattle.std.proofs.lemmas.Bool.{cases_lt}
-use Rattle.std.proofs.lemmas.List.{length-map, length-replicate, get_or_past, ext_get_or}
+use Rattle.std.proofs.lemmas.List.{length-map, length-replicate, get_or-replicate, get_or_past, ext_get_or}
 use Rattle.std.proofs.lemmas.List.FromFn.{length-map-range_with_len, get_or-map-range_with_len}
 use Rattle.std.proofs.lemmas.Nat.Bits.{bit_at-zero}
 use Rattle.places.specs.Layout.{Owner, Pad, Bit, owner_at}
@@ -12,7 +12,7 @@ use Rattle.places.specs.NumbersLaws.{number_same, number_lt, number_bits, bit_nu
 use Rattle.blobs.specs.Bits.{bit_of, bit_in, AreBytes}
 use Rattle.blobs.specs.BytesLaws.{bit_of_byte}
 use Rattle.instrument.specs.BlobTexts.{byte_at as byte_of_bits, bytes_of}
-use Rattle.piece_bits.specs.Tables.{AreSized}
+use Rattle.piece_bits.specs.Tables.{AreSized, AreLaid}
 use Rattle.views.specs.Tallies.{blob_lengths}
 use Rattle.actor_steps.specs.BytesOfLaws.{IsMemory}
 use Rattle.actor_steps.specs.HeldLaws.{digit_held, IsHeld}
@@ -45,6 +45,23 @@ zeros-sized layout whole =
           ap (length {A = ℕ}) (get_or-map zeros (blob_lengths layout) b 0) ∙ length-replicate (get_or (blob_lengths layout) b 0) 0 ∙ get_or-map bytes layout b [] in
           omega arith;
     }
+
+zero_at : (n i : ℕ) → get_or {A = ℕ} (replicate n 0) i 0 ≡ 0
+zero_at n i =
+    ⊎_elim (λ (inside : i < n). get_or-replicate {A = ℕ} n i 0 0 inside)
+    (λ (outside : n ≤ i). get_or_past {X = ℕ} (replicate n 0) i 0 (omega (arith, outside, length-replicate {A = ℕ} n 0)))
+    (cases_lt i n)
+
+-- and 0 in its padding, as everywhere
+pub zeros-laid : (layout : List (List Owner)) → All (λ blob. length blob % 8 ≡ 0) layout → AreLaid layout (map (λ bytes. replicate bytes 0) (blob_lengths layout))
+zeros-laid layout whole = record {
+  sized = zeros-sized layout whole;
+  padded = record {
+    padding = λ b p pad.
+        ap (λ (w : List ℕ). bit_of w p) (get_or-map (λ bytes. replicate bytes 0) (blob_lengths layout) b 0)
+        ∙ ap (λ (w : ℕ). bit_at w (p % 8)) (zero_at (get_or (blob_lengths layout) b 0) (p / 8)) ∙ bit_at-zero (p % 8);
+  };
+}
 
 module _ (layout : List (List Owner)) (whole : All (λ blob. length blob % 8 ≡ 0) layout) (rows : List (List ℤ)) where
   bits : ℕ → List ℕ
@@ -122,6 +139,9 @@ module _ (layout : List (List Owner)) (whole : All (λ blob. length blob % 8 ≡
   pub image-bits : IsImage layout rows (bit_in (map bytes_of (image layout rows)))
   unfolding whole_image
   image-bits b p = ap (λ (w : List ℕ). bit_of w p) (memory-at b) ∙ bytes-bit b p
+
+  pub image-laid : AreLaid layout (map bytes_of (image layout rows))
+  image-laid = record { sized = image-memory.sized; padded = record { padding = λ b p pad. image-bits b p ∙ ap (bit_held rows) pad } }
 
   -- memory with these bits has these bytes
   pub memory-is : (other : List (List ℕ)) → IsMemory layout other → IsImage layout rows (bit_in other) → other ≡ map bytes_of (image layout rows)

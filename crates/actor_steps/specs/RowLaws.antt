@@ -181,7 +181,8 @@ module _ (job : Job) (sound : IsSound job) where
       record { holds = digits; sized = bytes; loaded = subst (AreSized job.layout) (sym stands) work.loaded } in
       let more = sets_work row sets (with_value row set.leaf value entries) next behind after
       (subst (λ (l : List (List ℕ)). Each (λ (s : Setting). value_on job (row_in job l row) row s ≡ value_on job (row_of job row) row s) sets) (sym stands) same.1) in
-      subst (λ (m : List (List ℕ)). IsWork job (set_entries job row (set ∷ sets) entries) m (loaded_all (stored job) (loaded job) (stores_of job row set ++ flat_map (stores_of job row) sets) memory registers))
+      subst (λ (m : List (List ℕ)). IsWork job (set_entries job row (set ∷ sets) entries) m
+      (loaded_all (stored job) (loaded job) (stores_of job row set ++ flat_map (stores_of job row) sets) memory registers))
       (sym (made_all-append (stored job) (loaded job) (stores_of job row set) (flat_map (stores_of job row) sets) memory registers))
       (subst (λ (r : Registers). IsWork job (set_entries job row (set ∷ sets) entries) (made_all (stored job) (loaded job) (flat_map (stores_of job row) sets) next behind) r)
       (sym (loaded_all-append (stored job) (loaded job) (stores_of job row set) (flat_map (stores_of job row) sets) memory registers)) more)
@@ -204,7 +205,8 @@ module _ (job : Job) (sound : IsSound job) where
         ∙ ap (λ (m : List (List ℕ)). made_all (stored job) (loaded job) rest m behind) (fetched_memory row memory registers) in
         let after = loaded_all-append (stored job) (loaded job) (fetches job row) rest memory registers
         ∙ ap (λ (m : List (List ℕ)). loaded_all (stored job) (loaded job) rest m behind) (fetched_memory row memory registers) in
-        subst (λ (m : List (List ℕ)). IsWork job (if test then set_entries job row job.sets entries else entries) m (loaded_all (stored job) (loaded job) (fetches job row ++ rest) memory registers)) (sym made)
+        subst (λ (m : List (List ℕ)). IsWork job (if test then set_entries job row job.sets entries else entries) m
+        (loaded_all (stored job) (loaded job) (fetches job row ++ rest) memory registers)) (sym made)
         (subst (λ (r : Registers). IsWork job (if test then set_entries job row job.sets entries else entries) (made_all (stored job) (loaded job) rest memory behind) r) (sym after)
         (stores test through start)) where
           stores : (test : Bool) → lets_through job row ≡ test → IsWork job entries memory (fetched row memory registers)

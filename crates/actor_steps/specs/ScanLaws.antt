@@ -53,7 +53,8 @@ another actor a (Pad ∷ owners) e =
     let rest = another actor a owners e in
     record { at = suc rest.at; row = rest.row; leaf = rest.leaf; bit = rest.bit; inside = omega (arith, rest.inside); owner = rest.owner; other = rest.other }
 another actor a (Bit r f k ∷ owners) e = by_test (a == actor r) refl e (λ more. another actor a owners more) where
-  by_test : (t : Bool) → (a == actor r) ≡ t → (if t then differs actor (Some a) owners else true) ≡ true → (differs actor (Some a) owners ≡ true → Another actor a owners) → Another actor a (Bit r f k ∷ owners)
+  by_test : (t : Bool) → (a == actor r) ≡ t → (if t then differs actor (Some a) owners else true) ≡ true
+      → (differs actor (Some a) owners ≡ true → Another actor a owners) → Another actor a (Bit r f k ∷ owners)
   by_test true t some rest =
       let found = rest some in
       record { at = suc found.at; row = found.row; leaf = found.leaf; bit = found.bit; inside = omega (arith, found.inside); owner = found.owner; other = found.other }
@@ -91,7 +92,8 @@ some_is : (actor : ℕ → ℕ) (row leaf bit : ℕ) (owners : List Owner) → i
 some_is actor row leaf bit owners =
     ⊎_elim (λ (holds : differs actor (Some (actor row)) owners ≡ true).
     let found = another actor (actor row) owners holds in
-    two_share actor (Bit row leaf bit ∷ owners) 0 (suc found.at) row leaf bit found.row found.leaf found.bit (omega arith) (omega (arith, found.inside)) refl found.owner (swapped (actor found.row) (actor row) found.other)
+    two_share actor (Bit row leaf bit ∷ owners) 0 (suc found.at) row leaf bit found.row found.leaf found.bit (omega arith) (omega (arith, found.inside))
+    refl found.owner (swapped (actor found.row) (actor row) found.other)
     ∙ sym holds)
     (λ (fails : differs actor (Some (actor row)) owners ≡ false).
     not_true (is_shared actor (Bit row leaf bit ∷ owners)) (λ e. one_shares actor (actor row) (Bit row leaf bit ∷ owners) (λ i r f k is. in_all i r f k is fails) e) ∙ sym fails)

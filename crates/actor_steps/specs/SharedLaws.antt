@@ -1,5 +1,5 @@
 -- Bytes that hold bits of rows of two actors, and the actor of a byte that does not.
-use Rattle.std.proofs.Common.{◌≡◌, ℕ, zero, suc, ◌<◌, Bool, true, false, List, [], ◌∷◌, length, get_or, Option, Some, None, refl, ap, ◌∙◌, ⊎_elim, arith}
+use Rattle.std.proofs.Common.{◌≡◌, ℕ, zero, suc, ◌<◌, Bool, true, false, List, [], ◌∷◌, length, get_or, Some, None, refl, ap, ◌∙◌, ⊎_elim, arith}
 use Rattle.std.specs.Prelude.{◌==◌, not, if◌then◌else◌}
 use Rattle.std.specs.List.{list_any}
 use Rattle.std.proofs.lemmas.Bool.{cases_Bool, and_parts, eqb-true}
@@ -7,7 +7,7 @@ use Rattle.std.proofs.lemmas.List.Folds.{list_any_at, Any-from_list_any}
 use Rattle.std.proofs.lemmas.List.{get_or_default}
 use Rattle.places.specs.Layout.{Owner, Pad, Bit}
 use Rattle.actor_steps.specs.ConfluenceLaws.{Each}
-use Rattle.actor_steps.specs.Micro.{Place, all_bytes, is_bit_of, owners_of_byte}
+use Rattle.actor_steps.specs.Micro.{is_bit_of}
 use Rattle.actor_steps.specs.Shared.{are_of_two, is_shared, first_of_all}
 use Rattle.actor_steps.specs.AmongLaws.{true_or_false}
 

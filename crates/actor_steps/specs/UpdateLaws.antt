@@ -1,9 +1,9 @@
 -- What an actor makes of a row is what the plain update makes of it.
-use Rattle.std.proofs.Common.{◌≡◌, ℕ, zero, suc, ◌+◌, ◌<◌, ◌≤◌, Bool, true, false, ℤ, pos, List, [], ◌∷◌, length, map, get_or, set, Result, Ok, Err, Option, Some, None, refl, sym, ap, ◌∙◌, subst, ⊎_elim, arith}
+use Rattle.std.proofs.Common.{◌≡◌, ℕ, zero, suc, ◌+◌, ◌<◌, Bool, true, false, ℤ, pos, List, [], ◌∷◌, length, get_or, set, Result, Ok, Err, Option, Some, None, refl, sym, ap, ◌∙◌, subst, ⊎_elim, arith}
 use Rattle.std.specs.Prelude.{◌==◌, ◌&&◌, if◌then◌else◌}
 use Rattle.std.specs.List.{range_with_len}
 use Rattle.std.proofs.lemmas.Bool.{cases_eq, and_from, and_parts, eq-eqb, eqb-true}
-use Rattle.std.proofs.lemmas.List.{length-set, length-map, get_or-set_same, get_or-set_other}
+use Rattle.std.proofs.lemmas.List.{length-set, get_or-set_same, get_or-set_other}
 use Rattle.std.proofs.lemmas.List.FromFn.{get_or-range_with_len, length-range_with_len}
 use Rattle.expr_lang.specs.Terms.{Term}
 use Rattle.expr_lang.specs.Values.{outcome_of, is_true}
@@ -14,7 +14,7 @@ use Rattle.views.specs.Stores.{Answer, Keeping, kept_or, kept_by}
 use Rattle.views.specs.declared.fault.StoreFault.{StoreFault}
 use Rattle.row_updates.specs.declared.fault.UpdateFault.{UpdateFault}
 use Rattle.row_updates.specs.Rows.{Setting, each, ◌>>=◌, in_row, eval_kind, store_kind, passes, new_value, with_values, updated_row, updated_rows}
-use Rattle.actor_steps.specs.Micro.{Job, row_of, number_in, value_on, lets_through, test_of}
+use Rattle.actor_steps.specs.Micro.{Job, row_of, number_in, value_on, test_of}
 use Rattle.actor_steps.specs.HeldLaws.{with_value}
 use Rattle.actor_steps.specs.RowLaws.{set_entries, row_entries}
 
@@ -157,9 +157,10 @@ module _ (answer : Answer) (number : ℕ) (row : List ℤ) (index : List ℕ) (P
     by_values : (found : Result (List ℤ) UpdateFault) → each (new_value answer number row index) sets ≡ found
         → (found >>= (λ v. Ok (with_values (kept_by answer) sets v row))) ≡ Ok new → (length new ≡ length row) × ((f : ℕ) → f < length row → P f (get_or new f (pos 0)))
     by_values (Ok found) e is =
-        (let same : with_values (kept_by answer) sets found row ≡ new = cc in
-        (ap length (sym same) ∙ length-with_values (kept_by answer) sets found row,
-        λ f inside. subst (λ (w : List ℤ). P f (get_or w f (pos 0))) same (sets_keep sets found row e refl holds f inside)))
+        (let same : with_values (kept_by answer) sets found row ≡ new = cc in (
+          ap length (sym same) ∙ length-with_values (kept_by answer) sets found row,
+          λ f inside. subst (λ (w : List ℤ). P f (get_or w f (pos 0))) same (sets_keep sets found row e refl holds f inside),
+        ))
     by_values (Err fault) e is = absurd (cc)
 
     by_test : (found : Result Bool UpdateFault)

@@ -53,7 +53,7 @@ blobs-ordered layout a (suc n) =
     (λ k d inside. blobs-above layout (a + 1) n a (get_or (range_with_len 0 (length (get_or layout a []) / 8)) k d) (omega arith)))
 
 -- all bytes stand in their order
-pub all-ordered : (layout : List (List Owner)) → IsOrdered is_before (all_bytes layout)
+all-ordered : (layout : List (List Owner)) → IsOrdered is_before (all_bytes layout)
 all-ordered layout = blobs-ordered layout 0 (length layout)
 
 -- a byte within its blob is one of them

@@ -1,4 +1,5 @@
 pub mod Codes
+pub mod Cuts
 pub mod Runs
 pub mod Rows
 pub mod Standing

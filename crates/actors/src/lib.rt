@@ -3,6 +3,7 @@
 
 mod actor;
 mod back;
+mod cuts;
 mod fault;
 mod memory;
 mod noted;
@@ -11,6 +12,7 @@ mod run;
 mod step;
 mod team;
 
-pub use fault::ActorFault;
+pub use cuts::{actor_of, check_cuts, is_shared};
+pub use fault::{ActorFault, CutFault};
 pub use row_updates::{Assign, UpdateFault, UpdateKind, update_rows};
 pub use run::ActorRun;

@@ -1,4 +1,4 @@
-use Rattle.actor_steps.specs.AgreeLaws.{schedules_agree, nothing_is_left, updates_are_lawful, bytes_are_read}
+use Rattle.actor_steps.specs.AgreeLaws.{schedules_agree, nothing_is_left, updates_are_lawful, bytes_are_read, schedules_keep_padding}
 use Rattle.actor_steps.proofs.laws.schedules_agree.Goals as goal
 
 pub returns-clause-bytes : goal.returns-clause-bytes
@@ -12,3 +12,6 @@ returns-clause-lawful c = updates_are_lawful
 
 pub returns-clause-read : goal.returns-clause-read
 returns-clause-read c = bytes_are_read
+
+pub returns-clause-padded : goal.returns-clause-padded
+returns-clause-padded c = schedules_keep_padding
