@@ -1,5 +1,5 @@
 -- A run before its first micro-step.
-use Rattle.std.proofs.Common.{◌≡◌, ℕ, ◌≤◌, All, ℤ, List, [], length, map, get_or, Option, None, refl, sym, ap, ◌∙◌, subst, arith}
+use Rattle.std.proofs.Common.{◌≡◌, ℕ, ◌≤◌, All, ℤ, List, [], length, map, get_or, Option, None, sym, ap, ◌∙◌, subst, arith}
 use Rattle.std.proofs.lemmas.List.{length-map}
 use Rattle.record_dim.specs.Trees.{Fields}
 use Rattle.expr_lang.specs.Terms.{Term}

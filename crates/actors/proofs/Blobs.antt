@@ -4,7 +4,7 @@ use Rattle.std.proofs.lemmas.List.{length-map, get_or-map, ext_get_or, take_more
 use Rattle.std.proofs.lemmas.List.FromFn.{get_or-map-range_with_len, length-map-range_with_len}
 use Rattle.places.specs.Layout.{Owner}
 use Rattle.places.specs.Image.{bit_held, image}
-use Rattle.places.specs.NumbersLaws.{number_same, number_bits}
+use Rattle.places.specs.NumbersLaws.{number_same}
 use Rattle.blobs.specs.Bits.{bit_of, bits_of, AreBytes}
 use Rattle.blobs.specs.BytesLaws.{number_of_byte}
 use Rattle.instrument.specs.BlobTexts.{byte_at, bytes_of}

@@ -1,5 +1,5 @@
 -- The bits of a leaf in a row are written, and a byte of them is read again.
-use Rattle.std.proofs.Common.{◌≡◌, ℕ, ◌+◌, ◌*◌, ◌/◌, ◌%◌, ◌^◌, ◌<◌, ◌≤◌, Bool, true, false, ℤ, List, [], length, get_or, map, refl, sym, ap, ◌∙◌, subst, arith}
+use Rattle.std.proofs.Common.{◌≡◌, ℕ, ◌+◌, ◌*◌, ◌%◌, ◌^◌, ◌<◌, Bool, true, false, ℤ, List, [], length, get_or, map, refl, sym, ap, ◌∙◌, arith}
 use Rattle.std.specs.Prelude.{◌==◌, ◌&&◌, if◌then◌else◌, slice_index, slice_set}
 use Rattle.std.specs.Int.{bit_at}
 use Rattle.std.proofs.lemmas.Bool.{and_from, and_parts, eq-eqb, eqb-true}
@@ -9,10 +9,9 @@ use Rattle.places.specs.declared.piece.Piece.{Piece}
 use Rattle.places.specs.Layout.{Owner, Pad, Bit, owner_at}
 use Rattle.places.specs.Image.{number, digit}
 use Rattle.places.specs.Laws.{IsBitOf}
-use Rattle.places.specs.CellWidthsLaws.{width_at}
 use Rattle.places.specs.NumbersLaws.{number_same, number_bits, bit_number, digit_lt}
 use Rattle.places.specs.Writes.{written, IsWrite}
-use Rattle.blobs.specs.Bits.{bit_of, bit_in, AreBytes}
+use Rattle.blobs.specs.Bits.{bit_in}
 use Rattle.blobs.specs.BytesLaws.{bit_of_byte}
 use Rattle.piece_bits.specs.CellsLaws.{IsCell, bit_count}
 use Rattle.piece_bits.specs.LocatedLaws.{spot_count, spot_owned}

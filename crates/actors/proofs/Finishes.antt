@@ -3,7 +3,7 @@ use Rattle.std.proofs.Common.{◌≡◌, ℕ, suc, ◌+◌, ◌<◌, ◌≤◌, 
 use Rattle.std.proofs.lemmas.List.{drop-set, drop_more, drop_all, length-set, get_or-set_same}
 use Rattle.actor_steps.specs.Agree.{IsParted, SchedulesAgree}
 use Rattle.actor_steps.specs.Confluence.{Actor, State, moved}
-use Rattle.actor_steps.specs.Jobs.{job_of, memory_of, fresh_of, start_of}
+use Rattle.actor_steps.specs.Jobs.{memory_of, fresh_of, start_of}
 use Rattle.actor_steps.specs.Micro.{Job, Micro, Registers, stored, loaded}
 use Rattle.actor_steps.specs.Schedules.{idle_with, run_by, turns_from, turns_left, finished}
 use Rattle.actors.specs.Kept.{IsReached}

@@ -8,7 +8,7 @@ use Rattle.places.specs.Image.{entry}
 use Rattle.places.specs.Laws.{IsLaidOut}
 use Rattle.places.specs.Layout.{Owner}
 use Rattle.places.specs.declared.piece.Hold.{Hold}
-use Rattle.piece_bits.specs.Tables.{hold_at, table_in}
+use Rattle.piece_bits.specs.Tables.{table_in}
 use Rattle.kept_numbers.specs.Kept.{declared}
 use Rattle.kept_tables.specs.Modes.{kind_at}
 use Rattle.views.specs.Tables.{Table, IsTable, owners_of, leaf_types_of, table_holds, leaf_count_of}

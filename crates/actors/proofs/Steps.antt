@@ -1,5 +1,5 @@
 -- The next micro-step of a cursor.
-use Rattle.std.proofs.Common.{◌≡◌, ℕ, ◌+◌, ◌-◌, ◌<◌, ◌≤◌, Bool, true, false, pos, List, [], ◌∷◌, ◌++◌, length, map, get_or, refl, sym, ap, ◌∙◌, arith}
+use Rattle.std.proofs.Common.{◌≡◌, ℕ, ◌+◌, ◌-◌, ◌<◌, ◌≤◌, Bool, true, false, pos, List, ◌∷◌, ◌++◌, length, map, get_or, refl, sym, ap, ◌∙◌, arith}
 use Rattle.std.specs.List.{range_with_len}
 use Rattle.std.proofs.Math.ListN.{get_or-append}
 use Rattle.std.proofs.lemmas.List.{length-map, get_or-map, get_or-append_right}
@@ -8,7 +8,7 @@ use Rattle.expr_lang.specs.Terms.{Number}
 use Rattle.places.specs.Layout.{Owner}
 use Rattle.row_updates.specs.Rows.{Setting}
 use Rattle.actor_steps.specs.declared.place.Place.{Place}
-use Rattle.actor_steps.specs.Micro.{Job, Micro, Fetch, Load, Store}
+use Rattle.actor_steps.specs.Micro.{Job, Fetch, Load, Store}
 use Rattle.actor_tasks.specs.declared.rows.NextByte.{NextByte}
 use Rattle.actor_tasks.specs.Marks.{IsRowOf, task_at}
 use Rattle.actor_tasks.specs.Places.{behind}

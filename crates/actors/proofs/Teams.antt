@@ -3,7 +3,7 @@ use Rattle.std.proofs.Common.{◌≡◌, ℕ, zero, suc, ◌+◌, ◌-◌, ◌<�
 use Rattle.std.proofs.Math.ListN.{get_or-append}
 use Rattle.std.proofs.Math.Seq.{get_or-append_seam}
 use Rattle.std.proofs.lemmas.Bool.{cases_lt}
-use Rattle.std.proofs.lemmas.List.{map-append, append-nil, drop_more}
+use Rattle.std.proofs.lemmas.List.{map-append, drop_more}
 use Rattle.piece_bits.specs.Tables.{AreSized}
 use Rattle.views.specs.Tables.{Table, owners_of, leaf_count_of}
 use Rattle.actor_steps.specs.Agree.{IsLawful}

@@ -6,7 +6,7 @@ use Rattle.expr_lang.specs.Terms.{Term, Number}
 use Rattle.places.specs.Layout.{Owner}
 use Rattle.row_updates.specs.declared.update.Assign.{Assign}
 use Rattle.row_updates.specs.Rows.{Setting, setting_of, IsSetOf}
-use Rattle.views.specs.Tables.{Table, owners_of, leaf_types_of, table_holds, leaf_count_of}
+use Rattle.views.specs.Tables.{Table, owners_of, leaf_count_of}
 use Rattle.views.specs.Tallies.{Tally}
 use Rattle.actor_steps.specs.declared.place.Place.{Place}
 use Rattle.actor_steps.specs.Agree.{IsLawful}
@@ -175,6 +175,7 @@ after_both run first rest =
 pub reached_more : (run : Run) (a : ℕ) (new : Run) → IsReached run → new ≡ after_turns run (a ∷ []) → IsReached new
 reached_more run a new reached is =
     let start : Run → Run = λ r. started_run r.found r.filter r.sets r.cuts in
-    let same : start new ≡ start run = ap start is in
-    (reached.0 ++ a ∷ [],
-    is ∙ ap (λ (r : Run). after_turns r (a ∷ [])) reached.1 ∙ after_both (start run) reached.0 (a ∷ []) ∙ ap (λ (r : Run). after_turns r (reached.0 ++ a ∷ [])) (sym same))
+    let same : start new ≡ start run = ap start is in (
+      reached.0 ++ a ∷ [],
+      is ∙ ap (λ (r : Run). after_turns r (a ∷ [])) reached.1 ∙ after_both (start run) reached.0 (a ∷ []) ∙ ap (λ (r : Run). after_turns r (reached.0 ++ a ∷ [])) (sym same),
+    )

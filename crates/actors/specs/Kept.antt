@@ -14,7 +14,7 @@ use Rattle.actor_steps.specs.Jobs.{job_of}
 use Rattle.actor_tasks.specs.declared.rows.Asks.{Asks}
 use Rattle.actors.specs.declared.actor.Actor.{Actor as Standing}
 use Rattle.actors.specs.Rows.{ArePlans}
-use Rattle.actors.specs.Runs.{Run, uncounted, started_run, after_turns}
+use Rattle.actors.specs.Runs.{Run, started_run, after_turns}
 use Rattle.actors.specs.Standing.{IsStanding, state_shown}
 
 -- the table that fields show, with no counts

@@ -5,7 +5,7 @@ use Rattle.views.specs.Tables.{Table, after_stores}
 use Rattle.actors.specs.Updates.{writes_in}
 use Rattle.row_updates.specs.Logs.{update_log}
 use Rattle.row_updates.specs.Rows.{Setting, updated_of}
-use Rattle.actor_steps.specs.Confluence.{Actor, State}
+use Rattle.actor_steps.specs.Confluence.{State}
 use Rattle.actor_steps.specs.Jobs.{job_of, memory_of, fresh_of, start_of}
 use Rattle.actor_steps.specs.Micro.{Job, Micro, Registers}
 use Rattle.actor_steps.specs.Schedules.{idle_with, run_by, turns_from}

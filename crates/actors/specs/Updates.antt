@@ -1,5 +1,5 @@
 -- What the plain update gives, and the accesses of one kind.
-use Rattle.std.specs.Prelude.{◌≡◌, ℤ, Bool, true, false, List, [], ◌∷◌, filter, Result, Ok, Err}
+use Rattle.std.specs.Prelude.{◌≡◌, ℤ, Bool, true, false, List, filter, Result, Ok, Err}
 use Rattle.row_updates.specs.declared.fault.UpdateFault.{UpdateFault}
 use Rattle.views.specs.Tallies.{Access, Read, Write}
 use Rattle.actors.specs.declared.fault.ActorFault.{ActorFault}

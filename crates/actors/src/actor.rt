@@ -46,7 +46,10 @@ fn value_of(view: &View, loaded: &[Blob], row: u64, set: &Assign) -> i128
     let values = &mut buffer[..view.schema().leaf_count()];
     read_held(view, loaded, row, values);
     let mut asked = [false; 64];
-    view.kept(set.leaf, value_at(view, &set.value, row, values, &mut asked))
+    view.kept(
+        set.leaf,
+        value_at(view, &set.value, row, values, &mut asked),
+    )
 }
 
 // Makes a micro-step: memory and registers are those behind it.
@@ -78,15 +81,7 @@ fn make_step(
         Step::Store { place, row, set } => {
             let set = &sets[set];
             let value = value_of(view, &bytes.loaded, row, set);
-            let byte = changed_byte(
-                view.map(),
-                scratch,
-                place,
-                row,
-                set.leaf,
-                value,
-                bytes.byte,
-            );
+            let byte = changed_byte(view.map(), scratch, place, row, set.leaf, value, bytes.byte);
             put_byte(memory, place, byte);
         }
     }

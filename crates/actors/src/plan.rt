@@ -112,13 +112,7 @@ fn read_found(view: &View, found: &[Blob], row: u64, values: &mut [i128])
 }
 
 // The plan of a row that has these values.
-fn plan_of(
-    view: &View,
-    filter: Option<&Bound>,
-    sets: &[Assign],
-    row: u64,
-    values: &[i128],
-) -> Asks
+fn plan_of(view: &View, filter: Option<&Bound>, sets: &[Assign], row: u64, values: &[i128]) -> Asks
     requires filter { IfSome filter (λ bound. IsOver view.now bound.now) }
     requires sets { All (IsSetOf view.now) sets.now }
     requires row_in { row < length view.now.rows }

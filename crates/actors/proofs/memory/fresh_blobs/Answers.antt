@@ -1,4 +1,4 @@
-use Rattle.std.proofs.Common.{◌≡◌, ◌<◌, ◌≤◌, ◌*◌, [], ℕ, List, length, get_or, ap, ◌∙◌, arith}
+use Rattle.std.proofs.Common.{◌≡◌, ◌<◌, ◌≤◌, ◌*◌, [], List, length, get_or, ap, ◌∙◌, arith}
 use Rattle.places.specs.Layout.{Owner}
 use Rattle.views.specs.Tables.{owners_of}
 use Rattle.actors.proofs.Blobs.{one_fresh, all_fresh}

@@ -1,4 +1,4 @@
-use Rattle.std.proofs.Common.{ℤ, ℕ, ◌≡◌, ◌∙◌, List, map, slice_index, subst, sym, ap, arith, rules, SFits}
+use Rattle.std.proofs.Common.{ℤ, ◌≡◌, ◌∙◌, List, map, slice_index, subst, sym, ap, arith, rules, SFits}
 use Rattle.std.specs.Int.{w128}
 use Rattle.std.proofs.lemmas.Int.{to_z-of_z}
 use Rattle.record_dim.specs.LeafTypes.{IsIn}

@@ -1,4 +1,4 @@
-use Rattle.std.proofs.Common.{◌≡◌, ◌∙◌, [], None, Bool, List, ℤ, fold, ap}
+use Rattle.std.proofs.Common.{◌∙◌, [], None, Bool, List, ℤ, fold, ap}
 use Rattle.expr_lang.specs.Bounds.{bound_term}
 use Rattle.expr_lang.specs.Values.{outcome_of}
 use Rattle.linearize.specs.Slots.{index_at}

@@ -29,6 +29,7 @@ pub returns-clause-updated : goal.returns-clause-updated
 returns-clause-updated g c =
     let view = c.args.view.now in
     let row = c.args.row in
-    let sets = map setting_of c.args.sets.now in
-    (given_row (kept_of view) sets _ (get_or view.rows row []),
-    row_updated (answer_of view) row (get_or view.rows row []) (index_at view.extents row) (filter_term c.args.filter) sets (kept_of view) _ c.in_ok-_passed.ensures.tried)
+    let sets = map setting_of c.args.sets.now in (
+      given_row (kept_of view) sets _ (get_or view.rows row []),
+      row_updated (answer_of view) row (get_or view.rows row []) (index_at view.extents row) (filter_term c.args.filter) sets (kept_of view) _ c.in_ok-_passed.ensures.tried,
+    )

@@ -1,4 +1,4 @@
-use Rattle.std.proofs.Common.{◌≡◌, ◌∙◌, ℕ, List, get_or, [], ℤ, sym, ap, subst}
+use Rattle.std.proofs.Common.{◌∙◌, ℕ, List, get_or, [], ℤ, sym, ap, subst}
 use Rattle.piece_bits.specs.Tables.{AreSized}
 use Rattle.views.specs.Tables.{owners_of}
 use Rattle.actor_steps.specs.AgreeLaws.{memory_is, rows_read}

@@ -1,14 +1,11 @@
-use Rattle.std.proofs.Common.{◌≡◌, ◌∙◌, ℕ, List, [], None, length, map, get_or, sym, ap, subst}
+use Rattle.std.proofs.Common.{◌≡◌, ◌∙◌, ℕ, List, get_or, sym, ap, subst}
 use Rattle.record_dim.specs.Schemas.{schema_fields}
-use Rattle.record_dim.specs.Trees.{Fields}
 use Rattle.map_expr.specs.Terms.{term_of}
-use Rattle.row_updates.specs.Rows.{filter_term, setting_of}
-use Rattle.views.specs.Tables.{Table, owners_of}
-use Rattle.actor_steps.specs.Cuts.{AreCuts, actor_of}
+use Rattle.row_updates.specs.Rows.{filter_term}
+use Rattle.views.specs.Tables.{Table}
 use Rattle.actor_steps.specs.Jobs.{memory_of, fresh_of}
-use Rattle.actor_steps.specs.Shared.{shared_byte}
 use Rattle.actors.specs.Kept.{table_at, run_of, IsRun}
-use Rattle.actors.specs.Runs.{uncounted, started_run}
+use Rattle.actors.specs.Runs.{uncounted}
 use Rattle.actors.proofs.Begins.{table_same, run_begun, run_kept}
 use Rattle.actors.proofs.Teams.{IsTeam}
 use Rattle.actors.proofs.Turns.{stands_counted}
