@@ -1,0 +1,111 @@
+-- The bytes of a leaf in a row from a place on: the first of them, and those behind it.
+use Rattle.std.proofs.Common.{◌≡◌, ℕ, zero, suc, ◌+◌, ◌/◌, ◌<◌, Bool, true, false, List, [], ◌∷◌, ◌++◌, length, map, get_or, All, ap, ◌∙◌, subst, ⊎_elim, inl, inr, arith}
+use Rattle.std.specs.Prelude.{◌≤◌, ◌⊎◌, ◌&&◌, not}
+use Rattle.std.specs.List.{flat_map, range_with_len}
+use Rattle.std.proofs.lemmas.Bool.{cases_lt, and_from}
+use Rattle.std.proofs.lemmas.Bool.Decides.{nat_tests}
+use Rattle.std.proofs.lemmas.List.Elements.{All-nil, All-cons, All-append, All-map}
+use Rattle.places.specs.Layout.{Owner}
+use Rattle.actor_steps.specs.declared.place.Place.{Place}
+use Rattle.actor_steps.specs.BytesOfLaws.{IsByte}
+use Rattle.actor_steps.specs.Micro.{bytes_in, all_bytes, places_of}
+use Rattle.actor_tasks.specs.Places.{is_before, origin, behind, holds_bit, places_from}
+use Rattle.actor_tasks.specs.OrderedLaws.{same_filter, IsOrdered, ordered-append, Occurs, split_first}
+
+-- bytes stand in one order
+irreflexive : (a : Place) → is_before a a ≡ true → ⊥
+irreflexive a e = grind (arith, nat_tests)
+
+asymmetric : (a b : Place) → is_before a b ≡ true → is_before b a ≡ true → ⊥
+asymmetric a b e f = grind (arith, nat_tests)
+
+-- the bytes of a blob are ordered
+bytes-above : (blob a n least : ℕ) → least < a → All (λ y. is_before (record { blob = blob; byte = least }) y ≡ true) (map (λ byte. record { blob = blob; byte = byte }) (range_with_len a n))
+bytes-above blob a zero least low = All-nil (λ y. is_before (record { blob = blob; byte = least }) y ≡ true)
+bytes-above blob a (suc n) least low =
+    All-cons (λ y. is_before (record { blob = blob; byte = least }) y ≡ true) (record { blob = blob; byte = a }) (map (λ byte. record { blob = blob; byte = byte }) (range_with_len (a + 1) n))
+    (here blob least a low) (bytes-above blob (a + 1) n least (omega arith)) where
+      here : (blob least a : ℕ) → least < a → is_before (record { blob = blob; byte = least }) (record { blob = blob; byte = a }) ≡ true
+      here blob least a low = grind (arith, nat_tests)
+
+bytes-ordered : (blob a n : ℕ) → IsOrdered is_before (map (λ byte. record { blob = blob; byte = byte }) (range_with_len a n))
+bytes-ordered blob a zero = tt
+bytes-ordered blob a (suc n) = (bytes-above blob (a + 1) n a (omega arith), bytes-ordered blob (a + 1) n)
+
+-- and those of later blobs stand behind them
+blob-above : (layout : List (List Owner)) (b blob byte : ℕ) → blob < b → All (λ y. is_before (record { blob = blob; byte = byte }) y ≡ true) (bytes_in layout b)
+blob-above layout b blob byte low = All-map (λ y. is_before (record { blob = blob; byte = byte }) y ≡ true) (λ i. record { blob = b; byte = i }) (range_with_len 0 (length (get_or layout b []) / 8))
+    (λ k d inside. here blob byte b (get_or (range_with_len 0 (length (get_or layout b []) / 8)) k d) low) where
+      here : (blob byte b i : ℕ) → blob < b → is_before (record { blob = blob; byte = byte }) (record { blob = b; byte = i }) ≡ true
+      here blob byte b i low = grind (arith, nat_tests)
+
+blobs-above : (layout : List (List Owner)) (a n blob byte : ℕ) → blob < a → All (λ y. is_before (record { blob = blob; byte = byte }) y ≡ true) (flat_map (bytes_in layout) (range_with_len a n))
+blobs-above layout a zero blob byte low = All-nil (λ y. is_before (record { blob = blob; byte = byte }) y ≡ true)
+blobs-above layout a (suc n) blob byte low =
+    All-append (λ y. is_before (record { blob = blob; byte = byte }) y ≡ true) (bytes_in layout a) (flat_map (bytes_in layout) (range_with_len (a + 1) n))
+    (blob-above layout a blob byte low) (blobs-above layout (a + 1) n blob byte (omega arith))
+
+blobs-ordered : (layout : List (List Owner)) (a n : ℕ) → IsOrdered is_before (flat_map (bytes_in layout) (range_with_len a n))
+blobs-ordered layout a zero = tt
+blobs-ordered layout a (suc n) =
+    ordered-append is_before (bytes_in layout a) (flat_map (bytes_in layout) (range_with_len (a + 1) n)) (bytes-ordered a 0 (length (get_or layout a []) / 8)) (blobs-ordered layout (a + 1) n)
+    (All-map (λ x. All (λ y. is_before x y ≡ true) (flat_map (bytes_in layout) (range_with_len (a + 1) n))) (λ i. record { blob = a; byte = i }) (range_with_len 0 (length (get_or layout a []) / 8))
+    (λ k d inside. blobs-above layout (a + 1) n a (get_or (range_with_len 0 (length (get_or layout a []) / 8)) k d) (omega arith)))
+
+-- all bytes stand in their order
+all-ordered : (layout : List (List Owner)) → IsOrdered is_before (all_bytes layout)
+all-ordered layout = blobs-ordered layout 0 (length layout)
+
+-- a byte within its blob is one of them
+occurs-front : (x : Place) (xs ys : List Place) → Occurs is_before x xs → Occurs is_before x (xs ++ ys)
+occurs-front x [] ys there = absurd there
+occurs-front x (y ∷ xs) ys there = ⊎_elim (λ (e : y ≡ x). inl e) (λ (rest : Occurs is_before x xs). inr (occurs-front x xs ys rest)) there
+
+occurs-back : (x : Place) (xs ys : List Place) → Occurs is_before x ys → Occurs is_before x (xs ++ ys)
+occurs-back x [] ys there = there
+occurs-back x (y ∷ xs) ys there = inr (occurs-back x xs ys there)
+
+occurs-byte : (blob a n byte : ℕ) → a ≤ byte → byte < a + n → Occurs is_before (record { blob = blob; byte = byte }) (map (λ byte. record { blob = blob; byte = byte }) (range_with_len a n))
+occurs-byte blob a zero byte low high = absurd (omega arith)
+occurs-byte blob a (suc n) byte low high =
+    ⊎_elim (λ (l : a < byte). inr (occurs-byte blob (a + 1) n byte (omega arith) (omega arith)))
+    (λ (l : byte ≤ a). (let same : a ≡ byte = omega arith in inl (ap (λ (i : ℕ). record { blob = blob; byte = i }) same))) (cases_lt a byte)
+
+occurs-blob : (layout : List (List Owner)) (a n : ℕ) (place : Place) → a ≤ place.blob → place.blob < a + n → place.byte < length (get_or layout place.blob []) / 8
+    → Occurs is_before place (flat_map (bytes_in layout) (range_with_len a n))
+occurs-blob layout a zero place low high inside = absurd (omega arith)
+occurs-blob layout a (suc n) place low high inside =
+    ⊎_elim (λ (l : a < place.blob).
+    occurs-back place (bytes_in layout a) (flat_map (bytes_in layout) (range_with_len (a + 1) n)) (occurs-blob layout (a + 1) n place (omega arith) (omega arith) inside))
+    (λ (l : place.blob ≤ a).
+    let same : place.blob ≡ a = omega arith in
+    occurs-front place (bytes_in layout a) (flat_map (bytes_in layout) (range_with_len (a + 1) n))
+    (subst (λ (b : ℕ). Occurs is_before place (bytes_in layout b)) same (occurs-byte place.blob 0 (length (get_or layout place.blob []) / 8) place.byte (omega arith) (omega arith))))
+    (cases_lt a place.blob)
+
+pub occurs-all : (layout : List (List Owner)) (place : Place) → IsByte layout place → Occurs is_before place (all_bytes layout)
+occurs-all layout place byte = occurs-blob layout 0 (length layout) place (omega arith) (omega (arith, byte.blob_in)) (omega (arith, byte.byte_in))
+
+-- the tests of a byte behind one that is found, and from the next byte on
+rest_test : (holds : Bool) (first from y : Place) → is_before first from ≡ false → ((holds && not (is_before y from)) && is_before first y) ≡ (holds && not (is_before y (behind first)))
+rest_test holds first from y low = grind (arith, nat_tests)
+
+-- a byte of the leaf that no other such byte from a place on stands before is the first of them, and the others are those behind it
+pub places_from-first : (layout : List (List Owner)) (row leaf : ℕ) (from first : Place) → Occurs is_before first (all_bytes layout) → holds_bit layout row leaf first ≡ true
+    → is_before first from ≡ false
+    → ((y : Place) → (holds_bit layout row leaf y && not (is_before y from)) ≡ true → (y ≡ first) ⊎ (is_before first y ≡ true))
+    → places_from layout row leaf from ≡ first ∷ places_from layout row leaf (behind first)
+places_from-first layout row leaf from first there holds low least =
+    split_first is_before irreflexive asymmetric (λ place. holds_bit layout row leaf place && not (is_before place from)) (all_bytes layout) first (all-ordered layout) there
+    (and_from (holds_bit layout row leaf first) (not (is_before first from)) holds (ap not low)) least
+    ∙ ap (λ rest. first ∷ rest)
+    (same_filter (λ y. (holds_bit layout row leaf y && not (is_before y from)) && is_before first y) (λ y. holds_bit layout row leaf y && not (is_before y (behind first))) (all_bytes layout)
+    (λ k d inside. rest_test (holds_bit layout row leaf (get_or (all_bytes layout) k d)) first from (get_or (all_bytes layout) k d) low))
+
+-- from the first byte on these are all
+pub places_from-origin : (layout : List (List Owner)) (row leaf : ℕ) → places_from layout row leaf origin ≡ places_of layout row leaf
+places_from-origin layout row leaf =
+    same_filter (λ place. holds_bit layout row leaf place && not (is_before place origin)) (holds_bit layout row leaf) (all_bytes layout)
+    (λ k d inside. first_is (holds_bit layout row leaf (get_or (all_bytes layout) k d)) (get_or (all_bytes layout) k d)) where
+      first_is : (holds : Bool) (place : Place) → (holds && not (is_before place origin)) ≡ holds
+      first_is holds place = grind (arith, nat_tests)

@@ -1,0 +1,84 @@
+-- How an actor goes from one micro-step to the next.
+use Rattle.std.proofs.Common.{◌≡◌, ℕ, suc, ◌+◌, Bool, true, false, List, [], ◌∷◌, ◌++◌, length, map, filter, refl, sym, ap, ◌∙◌, append_assoc}
+use Rattle.std.specs.Prelude.{if◌then◌else◌}
+use Rattle.std.specs.List.{flat_map, range_with_len}
+use Rattle.std.proofs.lemmas.List.Concat.{flat_map-append}
+use Rattle.row_updates.specs.Rows.{Setting}
+use Rattle.actor_steps.specs.declared.place.Place.{Place}
+use Rattle.actor_steps.specs.Micro.{places_of, Job, Micro, Fetch, lets_through, reads_of, is_in, fetches, changes, stores_of, row_steps, steps_of}
+use Rattle.actor_tasks.specs.Places.{origin, places_from, behind}
+use Rattle.actor_tasks.specs.Tasks.{Task, Reads, Sets, all_tasks, is_asked, leaf_of, place_steps, task_steps, tasks_steps, left_of}
+use Rattle.actor_tasks.specs.PlacesLaws.{places_from-origin}
+
+-- the tasks of reads make the loads of the bytes of the leaves that are read
+fetch_all : (places : List Place) (row leaf : ℕ) → flat_map (place_steps row (Reads leaf)) places ≡ map Fetch places
+fetch_all [] row leaf = refl
+fetch_all (place ∷ places) row leaf = ap (λ (w : List Micro). Fetch place ∷ w) (fetch_all places row leaf)
+
+read_steps : (job : Job) (row leaf : ℕ) → task_steps job row origin (Reads leaf) ≡ (if is_in (reads_of job row) leaf then map Fetch (places_of job.layout row leaf) else [])
+read_steps job row leaf =
+    ap (λ (w : List Micro). if is_in (reads_of job row) leaf then w else [])
+    (ap (flat_map (place_steps row (Reads leaf))) (places_from-origin job.layout row leaf) ∙ fetch_all (places_of job.layout row leaf) row leaf)
+
+reads_all : (job : Job) (row : ℕ) (leaves : List ℕ)
+    → flat_map (task_steps job row origin) (map Reads leaves) ≡ flat_map (λ leaf. map Fetch (places_of job.layout row leaf)) (filter (is_in (reads_of job row)) leaves)
+reads_all job row [] = refl
+reads_all job row (leaf ∷ leaves) =
+    ap (λ (w : List Micro). w ++ flat_map (task_steps job row origin) (map Reads leaves)) (read_steps job row leaf)
+    ∙ ap (λ (w : List Micro). (if is_in (reads_of job row) leaf then map Fetch (places_of job.layout row leaf) else []) ++ w) (reads_all job row leaves)
+    ∙ by_test (is_in (reads_of job row) leaf) where
+      by_test : (t : Bool) → (if t then map Fetch (places_of job.layout row leaf) else []) ++ flat_map (λ leaf. map Fetch (places_of job.layout row leaf)) (filter (is_in (reads_of job row)) leaves)
+          ≡ flat_map (λ leaf. map Fetch (places_of job.layout row leaf)) (if t then leaf ∷ filter (is_in (reads_of job row)) leaves else filter (is_in (reads_of job row)) leaves)
+      by_test true = refl
+      by_test false = refl
+
+-- the tasks of sets make the changes of the leaves that are set
+sets_all : (job : Job) (row : ℕ) (sets : List Setting) → flat_map (task_steps job row origin) (map Sets sets) ≡ (if lets_through job row then flat_map (stores_of job row) sets else [])
+sets_all job row [] = by_test (lets_through job row) where
+  by_test : (t : Bool) → [] ≡ (if t then flat_map (stores_of job row) [] else [])
+  by_test true = refl
+  by_test false = refl
+sets_all job row (set ∷ sets) =
+    ap (λ (w : List Micro). w ++ flat_map (task_steps job row origin) (map Sets sets))
+    (ap (λ (w : List Place). if lets_through job row then flat_map (changes row set) w else []) (places_from-origin job.layout row set.leaf))
+    ∙ ap (λ (w : List Micro). (if lets_through job row then stores_of job row set else []) ++ w) (sets_all job row sets) ∙ by_test (lets_through job row) where
+      by_test : (t : Bool) → (if t then stores_of job row set else []) ++ (if t then flat_map (stores_of job row) sets else [])
+          ≡ (if t then stores_of job row set ++ flat_map (stores_of job row) sets else [])
+      by_test true = refl
+      by_test false = refl
+
+tasks-origin : (job : Job) (row : ℕ) (tasks : List Task) → tasks_steps job row origin tasks ≡ flat_map (task_steps job row origin) tasks
+tasks-origin job row [] = refl
+tasks-origin job row (task ∷ tasks) = refl
+
+-- a row begins with its first task
+pub row_left : (job : Job) (row : ℕ) → tasks_steps job row origin (all_tasks job) ≡ row_steps job row
+row_left job row =
+    tasks-origin job row (all_tasks job) ∙ flat_map-append (task_steps job row origin) (map Reads (range_with_len 0 (length job.holds))) (map Sets job.sets)
+    ∙ ap (λ (w : List Micro). w ++ flat_map (task_steps job row origin) (map Sets job.sets)) (reads_all job row (range_with_len 0 (length job.holds)))
+    ∙ ap (λ (w : List Micro). fetches job row ++ w) (sets_all job row job.sets)
+
+-- all rows of an actor are left at its first
+pub rows_left : (job : Job) (first more : ℕ) → left_of job (record { row = first; more = more; done = 0; from = origin }) ≡ steps_of job first (suc more)
+rows_left job first more = ap (λ (w : List Micro). w ++ steps_of job (first + 1) more) (row_left job first)
+
+-- a task that the row asks for has a next byte: its micro-steps there are the next ones
+pub next_place : (job : Job) (row : ℕ) (from place : Place) (task : Task) (tasks : List Task) → is_asked job row task ≡ true
+    → places_from job.layout row (leaf_of task) from ≡ place ∷ places_from job.layout row (leaf_of task) (behind place)
+    → tasks_steps job row from (task ∷ tasks) ≡ place_steps row task place ++ tasks_steps job row (behind place) (task ∷ tasks)
+next_place job row from place task tasks asked first =
+    let steps : Place → List Micro = λ from. flat_map (place_steps row task) (places_from job.layout row (leaf_of task) from) in
+    let rest = flat_map (task_steps job row origin) tasks in
+    let here : (from : Place) → task_steps job row from task ≡ steps from = λ f. ap (λ (t : Bool). if t then steps f else []) asked in
+    ap (λ (w : List Micro). w ++ rest) (here from ∙ ap (flat_map (place_steps row task)) first ∙ ap (λ (w : List Micro). place_steps row task place ++ w) (sym (here (behind place))))
+    ∙ append_assoc (place_steps row task place) (task_steps job row (behind place) task) rest
+
+-- a task that it does not ask for, or that has no byte left, is done
+pub next_task : (job : Job) (row : ℕ) (from : Place) (task : Task) (tasks : List Task) → task_steps job row from task ≡ []
+    → tasks_steps job row from (task ∷ tasks) ≡ tasks_steps job row origin tasks
+next_task job row from task tasks none = ap (λ (w : List Micro). w ++ flat_map (task_steps job row origin) tasks) none ∙ sym (tasks-origin job row tasks)
+
+-- behind a row whose tasks are done comes the next one
+pub next_row : (job : Job) (row more : ℕ) (from : Place) → tasks_steps job row from [] ++ steps_of job (row + 1) (suc more)
+    ≡ left_of job (record { row = row + 1; more = more; done = 0; from = origin })
+next_row job row more from = sym (rows_left job (row + 1) more)

@@ -1,0 +1,289 @@
+-- The rows of the plain update, stored leaf by leaf.
+use Rattle.std.proofs.Common.{◌≡◌, ℕ, ◌+◌, ◌-◌, ◌<◌, ◌≤◌, All, Bool, true, false, ℤ, pos, List, [], ◌∷◌, ◌++◌, length, map, get_or, set, take, drop, Option, Some, None, Result, Ok, Err, refl, sym, ap, ◌∙◌, subst, ⊎_elim, arith, append_assoc, length-append}
+use Rattle.std.specs.Prelude.{◌==◌, ◌||◌, if◌then◌else◌}
+use Rattle.std.proofs.lemmas.Bool.{cases_eq, eq-eqb, eqb-true}
+use Rattle.std.proofs.lemmas.List.{append-nil, get_or-map, get_or-set_same, get_or-set_other, get_or-append_right, get_or-drop, length-map, length-set, length-take, length-drop, take_more, take_all, drop_all, drop_more, ext_get_or, map-append, set-get_or, set-set}
+use Rattle.std.proofs.lemmas.List.Elements.{filter-append}
+use Rattle.expr_lang.specs.Terms.{Term}
+use Rattle.expr_lang.specs.Values.{outcome_of, is_true}
+use Rattle.expr_lang.specs.declared.fault.EvalFault.{EvalFault}
+use Rattle.linearize.specs.Slots.{index_at}
+use Rattle.places.specs.Image.{entry}
+use Rattle.piece_bits.specs.Tables.{AreSized, hold_at, table_in, with_entry}
+use Rattle.kept_tables.specs.Modes.{declared_table}
+use Rattle.views.specs.AnswerLaws.{stays_answer}
+use Rattle.actor_steps.specs.Agree.{IsLawful}
+use Rattle.actor_steps.specs.AgreeLaws.{memory_is, rows_read}
+use Rattle.actors.proofs.Laws.{leaf_count}
+use Rattle.row_updates.specs.declared.fault.UpdateFault.{UpdateFault}
+use Rattle.row_updates.specs.declared.update.Assign.{Assign}
+use Rattle.row_updates.specs.Logs.{stores_log, if_given, row_log, update_log}
+use Rattle.row_updates.specs.Rows.{Setting, setting_of, each, ◌>>=◌, in_row, eval_kind, passes, new_value, with_values, tried_row, given_row, updated_row, updated_of, IsSetOf}
+use Rattle.row_updates.specs.TriedLaws.{updated_as_tried}
+use Rattle.views.specs.Stores.{Answer, Keeping}
+use Rattle.views.specs.Tables.{Table, owners_of, leaf_types_of, leaf_type_of, leaf_count_of, table_holds, answer_of, kept_of, after_stores}
+use Rattle.views.specs.Tallies.{Access, Write}
+use Rattle.views.specs.TallyLaws.{after_stores-append, after_log-none, logs_more}
+use Rattle.actor_steps.specs.Jobs.{job_of, memory_of}
+use Rattle.actor_steps.specs.Micro.{Job, is_in, number_in, row_of, test_of, lets_through}
+use Rattle.actor_steps.specs.UpdateLaws.{length-with_values, updated_at}
+use Rattle.actors.specs.Rows.{row_held, with_held}
+use Rattle.actors.specs.Updates.{is_write, writes_in}
+use Rattle.actors.proofs.Tried.{row_writes}
+
+-- one leaf more
+held_push : (sets : List Setting) (one : Setting) (held row : List ℤ) → with_held (sets ++ one ∷ []) held row ≡ set (with_held sets held row) one.leaf (get_or held one.leaf (pos 0))
+held_push [] one held row = refl
+held_push (s ∷ sets) one held row = held_push sets one held (set row s.leaf (get_or held s.leaf (pos 0)))
+
+length-held : (sets : List Setting) (held row : List ℤ) → length (with_held sets held row) ≡ length row
+length-held [] held row = refl
+length-held (s ∷ sets) held row = length-held sets held (set row s.leaf (get_or held s.leaf (pos 0))) ∙ length-set row s.leaf (get_or held s.leaf (pos 0))
+
+pub one_stored : (old view new : Table) (row n : ℕ) (sets : List Assign) (one : Assign) (held : List ℤ) (value : ℤ) → n < length sets → one ≡ get_or sets n one → row < length old.rows
+    → value ≡ get_or held one.leaf (pos 0)
+    → view ≡ after_stores old (set old.rows row (with_held (take n (map setting_of sets)) held (get_or old.rows row []))) (stores_log row (take n (map setting_of sets)))
+    → new ≡ after_stores view (with_entry view.rows row one.leaf value) (Write row one.leaf ∷ [])
+    → new ≡ after_stores old (set old.rows row (with_held (take (n + 1) (map setting_of sets)) held (get_or old.rows row []))) (stores_log row (take (n + 1) (map setting_of sets)))
+one_stored old view new row n sets one held value low is inside value_is so_far stored =
+    let settings = map setting_of sets in
+    let here = with_held (take n settings) held (get_or old.rows row []) in
+    let done = stores_log row (take n settings) in
+    let at : get_or settings n (setting_of one) ≡ setting_of one = get_or-map setting_of sets n one (setting_of one) low ∙ ap setting_of (sym is) in
+    let next : take (n + 1) settings ≡ take n settings ++ setting_of one ∷ [] =
+    take_more settings n (setting_of one) (omega (arith, low, length-map sets setting_of)) ∙ ap (λ (s : Setting). take n settings ++ s ∷ []) at in
+    let rows : view.rows ≡ set old.rows row here = ap (λ (t : Table). t.rows) so_far in
+    let entry : with_entry view.rows row one.leaf value ≡ set old.rows row (set here one.leaf value) =
+    ap (λ (r : List (List ℤ)). with_entry r row one.leaf value) rows
+    ∙ ap (λ (r : List ℤ). set (set old.rows row here) row (set r one.leaf value)) (get_or-set_same old.rows row here [] inside)
+    ∙ set-set old.rows row here (set here one.leaf value) in
+    let row_is : set here one.leaf value ≡ with_held (take (n + 1) settings) held (get_or old.rows row []) =
+    ap (set here one.leaf) value_is ∙ sym (held_push (take n settings) (setting_of one) held (get_or old.rows row []))
+    ∙ ap (λ (ss : List Setting). with_held ss held (get_or old.rows row [])) (sym next) in
+    let log : done ++ Write row one.leaf ∷ [] ≡ stores_log row (take (n + 1) settings) =
+    sym (map-append (λ (s : Setting). Write row s.leaf) (take n settings) (setting_of one ∷ [])) ∙ ap (stores_log row) (sym next) in
+    stored ∙ ap (λ (r : List (List ℤ)). after_stores view r (Write row one.leaf ∷ [])) (entry ∙ ap (set old.rows row) row_is)
+    ∙ ap (λ (t : Table). after_stores t (set old.rows row (with_held (take (n + 1) settings) held (get_or old.rows row []))) (Write row one.leaf ∷ [])) so_far
+    ∙ after_stores-append old (set old.rows row here) (set old.rows row (with_held (take (n + 1) settings) held (get_or old.rows row []))) done (Write row one.leaf ∷ [])
+    ∙ ap (after_stores old (set old.rows row (with_held (take (n + 1) settings) held (get_or old.rows row [])))) log
+
+pub none_stored : (old : Table) (row : ℕ) → old ≡ after_stores old (set old.rows row (get_or old.rows row [])) []
+none_stored old row = sym (after_log-none old) ∙ ap (λ (r : List (List ℤ)). after_stores old r []) (sym (set-get_or old.rows row []))
+
+-- a row that agrees with another but for the leaves that are set becomes that one
+held_is : (sets : List Setting) (target row : List ℤ) → length row ≡ length target
+    → ((f : ℕ) → f < length target → is_in (map (λ s. s.leaf) sets) f ≡ false → get_or row f (pos 0) ≡ get_or target f (pos 0)) → with_held sets target row ≡ target
+held_is [] target row long same = ext_get_or (pos 0) row target long (λ f low. same f (omega (arith, low, long)) refl)
+held_is (s ∷ sets) target row long same =
+    held_is sets target (set row s.leaf (get_or target s.leaf (pos 0))) (length-set row s.leaf (get_or target s.leaf (pos 0)) ∙ long)
+    (λ f low out.
+    ⊎_elim (λ (here : f ≡ s.leaf).
+    ap (λ (w : ℕ). get_or (set row s.leaf (get_or target s.leaf (pos 0))) w (pos 0)) here
+    ∙ get_or-set_same row s.leaf (get_or target s.leaf (pos 0)) (pos 0) (omega (arith, low, here, long)) ∙ ap (λ (w : ℕ). get_or target w (pos 0)) (sym here))
+    (λ (other : f ≡ s.leaf → ⊥).
+    get_or-set_other row s.leaf f (get_or target s.leaf (pos 0)) (pos 0) other ∙ same f low (apart (s.leaf == f) refl other out))
+    (cases_eq f s.leaf)) where
+      apart : {f : ℕ} (t : Bool) → (s.leaf == f) ≡ t → (f ≡ s.leaf → ⊥) → is_in (map (λ s. s.leaf) sets) f ≡ false → (t || is_in (map (λ s. s.leaf) sets) f) ≡ false
+      apart {f} true e other out = absurd (other (sym (eqb-true s.leaf f e)))
+      apart {f} false e other out = out
+
+-- the values of an update change no other leaf
+values_other : (keep : Keeping) (sets : List Setting) (values row : List ℤ) (f : ℕ) → is_in (map (λ s. s.leaf) sets) f ≡ false → get_or (with_values keep sets values row) f (pos 0) ≡ get_or row f (pos 0)
+values_other keep [] values row f out = refl
+values_other keep (s ∷ sets) [] row f out = refl
+values_other keep (s ∷ sets) (value ∷ values) row f out = by_test (s.leaf == f) refl out (λ rest. values_other keep sets values (set row s.leaf (keep s.leaf value)) f rest) where
+  by_test : (t : Bool) → (s.leaf == f) ≡ t → (t || is_in (map (λ s. s.leaf) sets) f) ≡ false
+      → (is_in (map (λ s. s.leaf) sets) f ≡ false → get_or (with_values keep sets values (set row s.leaf (keep s.leaf value))) f (pos 0) ≡ get_or (set row s.leaf (keep s.leaf value)) f (pos 0))
+      → get_or (with_values keep sets values (set row s.leaf (keep s.leaf value))) f (pos 0) ≡ get_or row f (pos 0)
+  by_test true e bad others = absurd (let no : true ≡ false = bad in cc)
+  by_test false e rest others =
+      others rest
+      ∙ get_or-set_other row s.leaf f (keep s.leaf value) (pos 0) (λ same. (let no : false ≡ true = sym e ∙ eq-eqb s.leaf f (sym same) in cc))
+
+module _ (job : Job) (answer : Answer) (keep : Keeping) (r : ℕ) (new : List ℤ) where
+  abbrev row : List ℤ
+  row = row_of job r
+
+  abbrev index : List ℕ
+  index = index_at job.extents r
+
+  abbrev tried : Result (Option (List ℤ)) UpdateFault
+  tried = tried_row answer job.filter job.sets r row index
+
+  passed : (filter : Option (Term ℕ)) (test : Bool) → passes r row index filter ≡ Ok test → test_of job r filter ≡ test
+  passed None test e = cc
+  passed (Some filter) test e = by_answer (outcome_of row index filter).answer e where
+    by_answer : (answer : Result ℤ EvalFault) → (in_row r eval_kind answer >>= (λ value. Ok (is_true value))) ≡ Ok test → is_true (number_in answer) ≡ test
+    by_answer (Ok value) is = cc
+    by_answer (Err fault) is = absurd (cc)
+
+  -- a row behind the plain update: what it is given, and what stands
+  pub record IsRowUpdated (through : Bool) : Type 0 where
+    pub writes : if_given tried (stores_log r job.sets) ≡ (if through then stores_log r job.sets else [])
+    pub long : length new ≡ length row
+    pub same : (f : ℕ) → is_in (map (λ s. s.leaf) job.sets) f ≡ false → get_or row f (pos 0) ≡ get_or new f (pos 0)
+    pub left : through ≡ false → row ≡ new
+
+  row_updated : updated_row answer keep job.filter job.sets r row index ≡ Ok new → IsRowUpdated (lets_through job r)
+  row_updated plain = by_test (passes r row index job.filter) refl (sym (updated_as_tried answer job.filter job.sets r row index keep) ∙ plain) where
+    values : Result (List ℤ) UpdateFault
+    values = each (new_value answer r row index) job.sets
+
+    by_values : (found : Result (List ℤ) UpdateFault) → lets_through job r ≡ true → tried ≡ (found >>= (λ v. Ok (Some v)))
+        → ((found >>= (λ v. Ok (Some v))) >>= (λ given. Ok (given_row keep job.sets given row))) ≡ Ok new → IsRowUpdated (lets_through job r)
+    by_values (Ok found) through tried_is is =
+        (let new_is : with_values keep job.sets found row ≡ new = cc in
+        subst IsRowUpdated (sym through) (record {
+          writes = ap (λ (t : Result (Option (List ℤ)) UpdateFault). if_given t (stores_log r job.sets)) tried_is;
+          long = ap length (sym new_is) ∙ length-with_values keep job.sets found row;
+          same = λ f out. sym (ap (λ (w : List ℤ). get_or w f (pos 0)) (sym new_is) ∙ values_other keep job.sets found row f out);
+          left = λ no. absurd (let bad : true ≡ false = no in cc);
+        }))
+    by_values (Err fault) through tried_is is = absurd (cc)
+
+    by_test : (test : Result Bool UpdateFault) → passes r row index job.filter ≡ test → (tried >>= (λ given. Ok (given_row keep job.sets given row))) ≡ Ok new → IsRowUpdated (lets_through job r)
+    by_test (Ok true) e is =
+        (let tried_is : tried ≡ (values >>= (λ v. Ok (Some v))) = rw e refl in
+        by_values values (passed job.filter true e) tried_is (ap (λ (t : Result (Option (List ℤ)) UpdateFault). t >>= (λ given. Ok (given_row keep job.sets given row))) (sym tried_is) ∙ is))
+    by_test (Ok false) e is =
+        (let tried_is : tried ≡ Ok None = rw e refl in
+        let same : Ok row ≡ Ok new = ap (λ (t : Result (Option (List ℤ)) UpdateFault). t >>= (λ given. Ok (given_row keep job.sets given row))) (sym tried_is) ∙ is in
+        let new_is : row ≡ new = cc in
+        subst IsRowUpdated (sym (passed job.filter false e)) (record {
+          writes = ap (λ (t : Result (Option (List ℤ)) UpdateFault). if_given t (stores_log r job.sets)) tried_is;
+          long = ap length (sym new_is);
+          same = λ f out. ap (λ (w : List ℤ). get_or w f (pos 0)) new_is;
+          left = λ no. new_is;
+        }))
+    by_test (Err fault) e is =
+        (let tried_is : tried ≡ Err fault = rw e refl in
+        let bad : Err fault ≡ Ok new = ap (λ (t : Result (Option (List ℤ)) UpdateFault). t >>= (λ given. Ok (given_row keep job.sets given row))) (sym tried_is) ∙ is in
+        absurd (cc))
+
+module _ (old : Table) (filter : Option (Term ℕ)) (sets : List Setting) (rows : List (List ℤ)) (plain : updated_of old filter sets (length old.rows) ≡ Ok rows) (count : length rows ≡ length old.rows) where
+  abbrev job : Job
+  job = job_of old filter sets
+
+  -- the rows so far are those of the plain update
+  abbrev rows_so_far : ℕ → List (List ℤ)
+  rows_so_far n = take n rows ++ drop n old.rows
+
+  pub record AreBack (view : Table) (n : ℕ) : Type 0 where
+    pub same : view ≡ after_stores old (rows_so_far n) (writes_in (update_log old filter sets n))
+
+  pub none_back : AreBack old 0
+  none_back = record { same = sym (after_log-none old) }
+
+  so_far_long : (n : ℕ) → n ≤ length old.rows → length (rows_so_far n) ≡ length old.rows
+  so_far_long n low =
+      let whole = length-append (take n rows) (drop n old.rows) in
+      let front = length-take n rows in
+      let back = length-drop n old.rows in
+      omega (arith, whole, front, back, low, count)
+
+  here_is : (n : ℕ) → n < length old.rows → get_or (rows_so_far n) n [] ≡ get_or old.rows n []
+  here_is n low =
+      let front : length (take n rows) ≡ n = (let long = length-take n rows in omega (arith, long, low, count)) in
+      let zero_n : n - n ≡ 0 = omega arith in
+      let on : n + 0 ≡ n = omega arith in
+      get_or-append_right (take n rows) (drop n old.rows) n n [] front (omega arith) ∙ ap (λ (w : ℕ). get_or (drop n old.rows) w []) zero_n ∙ get_or-drop n old.rows 0 [] ∙ ap (λ (w : ℕ). get_or old.rows w []) on
+
+  set_here : (n : ℕ) → n < length old.rows → set (rows_so_far n) n (get_or rows n []) ≡ rows_so_far (n + 1)
+  set_here n low =
+      let next : drop n old.rows ≡ get_or old.rows n [] ∷ drop (n + 1) old.rows = drop_more old.rows n [] low in
+      let more : take (n + 1) rows ≡ take n rows ++ get_or rows n [] ∷ [] = take_more rows n [] (omega (arith, low, count)) in
+      let front : length (take n rows) ≡ n = (let long = length-take n rows in omega (arith, long, low, count)) in
+      ap (λ (w : List (List ℤ)). set (take n rows ++ w) n (get_or rows n [])) next
+      ∙ ap (λ (k : ℕ). set (take n rows ++ get_or old.rows n [] ∷ drop (n + 1) old.rows) k (get_or rows n [])) (sym front)
+      ∙ set_seam (take n rows) (get_or old.rows n []) (get_or rows n []) (drop (n + 1) old.rows)
+      ∙ sym (append_assoc (take n rows) (get_or rows n [] ∷ []) (drop (n + 1) old.rows)) ∙ ap (λ (w : List (List ℤ)). w ++ drop (n + 1) old.rows) (sym more) where
+        set_seam : (xs : List (List ℤ)) (x y : List ℤ) (ys : List (List ℤ)) → set (xs ++ x ∷ ys) (length xs) y ≡ xs ++ y ∷ ys
+        set_seam [] x y ys = refl
+        set_seam (z ∷ xs) x y ys = ap (λ (w : List (List ℤ)). z ∷ w) (set_seam xs x y ys)
+
+  updated_here : (n : ℕ) → n < length old.rows → IsRowUpdated job (answer_of old) (kept_of old) n (get_or rows n []) (lets_through job n)
+  updated_here n low = row_updated job (answer_of old) (kept_of old) n (get_or rows n []) (updated_at (answer_of old) (kept_of old) filter sets old.extents old.rows rows (length old.rows) n plain low)
+
+  writes_more : (n : ℕ) (through : Bool) → n < length old.rows → lets_through job n ≡ through
+      → writes_in (update_log old filter sets (n + 1)) ≡ writes_in (update_log old filter sets n) ++ (if through then stores_log n sets else [])
+  writes_more n through low is =
+      let step : ℕ → List Access = λ k. row_log (answer_of old) filter sets k (get_or old.rows k []) (index_at old.extents k) in
+      ap writes_in (logs_more step n) ∙ filter-append is_write (update_log old filter sets n) (step n)
+      ∙ ap (λ (w : List Access). writes_in (update_log old filter sets n) ++ w)
+      (row_writes (answer_of old) n (get_or old.rows n []) (index_at old.extents n) filter sets ∙ (updated_here n low).writes ∙ ap (λ (t : Bool). if t then stores_log n sets else []) is)
+
+  -- a row that the filter lets through is stored
+  pub row_back : (view new : Table) (n : ℕ) (held : List ℤ) → n < length old.rows → lets_through job n ≡ true → held ≡ get_or rows n [] → AreBack view n
+      → new ≡ after_stores view (set view.rows n (with_held sets held (get_or view.rows n []))) (stores_log n sets) → AreBack new (n + 1)
+  row_back view new n held low through held_same so_far stored =
+      let here = updated_here n low in
+      let view_rows : view.rows ≡ rows_so_far n = ap (λ (t : Table). t.rows) so_far.same in
+      let row_same : get_or view.rows n [] ≡ get_or old.rows n [] = ap (λ (r : List (List ℤ)). get_or r n []) view_rows ∙ here_is n low in
+      let made : with_held sets held (get_or view.rows n []) ≡ get_or rows n [] =
+      ap (λ (h : List ℤ). with_held sets h (get_or view.rows n [])) held_same ∙ ap (with_held sets (get_or rows n [])) row_same
+      ∙ held_is sets (get_or rows n []) (get_or old.rows n []) (sym here.long) (λ f inside out. here.same f out) in
+      let new_rows : set view.rows n (with_held sets held (get_or view.rows n [])) ≡ rows_so_far (n + 1) =
+      ap (set view.rows n) made ∙ ap (λ (r : List (List ℤ)). set r n (get_or rows n [])) view_rows ∙ set_here n low in
+      record {
+        same = stored ∙ ap (λ (r : List (List ℤ)). after_stores view r (stores_log n sets)) new_rows
+            ∙ ap (λ (t : Table). after_stores t (rows_so_far (n + 1)) (stores_log n sets)) so_far.same
+            ∙ after_stores-append old (rows_so_far n) (rows_so_far (n + 1)) (writes_in (update_log old filter sets n)) (stores_log n sets)
+            ∙ ap (after_stores old (rows_so_far (n + 1))) (sym (writes_more n true low through));
+      }
+
+  -- and one that it leaves out stands
+  pub row_stands : (view : Table) (n : ℕ) → n < length old.rows → lets_through job n ≡ false → AreBack view n → AreBack view (n + 1)
+  row_stands view n low out so_far =
+      let here = updated_here n low in
+      let same : get_or rows n [] ≡ get_or (rows_so_far n) n [] = sym (here.left out) ∙ sym (here_is n low) in
+      let rows_same : rows_so_far n ≡ rows_so_far (n + 1) = sym (set-get_or (rows_so_far n) n []) ∙ ap (set (rows_so_far n) n) (sym same) ∙ set_here n low in
+      record {
+        same = so_far.same ∙ ap (λ (r : List (List ℤ)). after_stores old r (writes_in (update_log old filter sets n))) rows_same
+            ∙ ap (after_stores old (rows_so_far (n + 1))) (sym (writes_more n false low out ∙ append-nil (writes_in (update_log old filter sets n))));
+      }
+
+  pub all_back : (view : Table) (n : ℕ) → n ≡ length old.rows → AreBack view n → view ≡ after_stores old rows (writes_in (update_log old filter sets (length old.rows)))
+  all_back view n whole so_far =
+      let front : take n rows ≡ rows = take_all n rows (omega (arith, whole, count)) in
+      let back : drop n old.rows ≡ [] = drop_all n old.rows (omega (arith, whole)) in
+      so_far.same ∙ ap (λ (r : List (List ℤ)). after_stores old r (writes_in (update_log old filter sets n))) (ap (λ (w : List (List ℤ)). w ++ drop n old.rows) front ∙ ap (λ (w : List (List ℤ)). rows ++ w) back ∙ append-nil rows)
+      ∙ ap (λ (k : ℕ). after_stores old rows (writes_in (update_log old filter sets k))) whole
+
+  -- either way one row more is that of the plain update
+  pub one_back : (view new : Table) (n : ℕ) (held : List ℤ) (through : Bool) → n < length old.rows → through ≡ lets_through job n → held ≡ get_or rows n [] → AreBack view n
+      → (through ≡ true → new ≡ after_stores view (set view.rows n (with_held sets held (get_or view.rows n []))) (stores_log n sets)) → (through ≡ false → new ≡ view) → AreBack new (n + 1)
+  one_back view new n held true low is held_same so_far stored left = row_back view new n held low (sym is) held_same so_far (stored refl)
+  one_back view new n held false low is held_same so_far stored left = subst (λ (t : Table). AreBack t (n + 1)) (sym (left refl)) (row_stands view n low (sym is) so_far)
+
+  pub back_count : (view : Table) (n : ℕ) → n ≤ length old.rows → AreBack view n → length view.rows ≡ length old.rows
+  back_count view n low so_far = ap (λ (t : Table). length t.rows) so_far.same ∙ so_far_long n low
+
+  -- the memory of the plain update holds its rows, and the table so far takes each number as it is
+  module _ (view : Table) (n m : ℕ) (low : m ≤ length old.rows) (so_far : AreBack view m) (memory : List (List ℕ)) (lawful : IsLawful (record old { rows = rows })) (is : memory ≡ memory_of (record old { rows = rows })) where
+    abbrev new_rows : Table
+    new_rows = record old { rows = rows }
+
+    pub back_sized : AreSized (owners_of view) memory
+    back_sized = subst (λ (t : Table). AreSized (owners_of t) memory) (sym so_far.same) (subst (AreSized (owners_of old)) (sym is) (memory_is new_rows lawful).sized)
+
+    pub back_held : row_held view memory n ≡ get_or rows n []
+    back_held =
+        ap (λ (t : Table). row_held t memory n) so_far.same
+        ∙ ap (λ (k : ℕ). get_or (declared_table (leaf_types_of old) (table_in (owners_of old) k (table_holds old) memory)) n []) (so_far_long m low ∙ sym count)
+        ∙ ap (λ (w : List (List ℕ)). get_or (declared_table (leaf_types_of old) (table_in (owners_of old) (length rows) (table_holds old) w)) n []) is
+        ∙ ap (λ (t : List (List ℤ)). get_or t n []) (rows_read new_rows lawful)
+
+    pub back_takes : (leaf : ℕ) → n < length old.rows → leaf < leaf_count_of view
+        → answer_of view leaf (get_or (row_held view memory n) leaf (pos 0)) ≡ Ok (get_or (row_held view memory n) leaf (pos 0))
+    back_takes leaf inside leaf_in =
+        let value = get_or (row_held view memory n) leaf (pos 0) in
+        let value_is : value ≡ entry rows n leaf = ap (λ (w : List ℤ). get_or w leaf (pos 0)) back_held in
+        let leaves_same : leaf_count_of view ≡ leaf_count_of old = ap (λ (t : Table). leaf_count_of t) so_far.same in
+        let stays = lawful.is_table.stays n leaf (omega (arith, inside, count)) (omega (arith, leaf_in, leaves_same, leaf_count old)) in
+        ap (λ (t : Table). answer_of t leaf value) so_far.same ∙ ap (answer_of old leaf) value_is
+        ∙ stays_answer old.mode (leaf_type_of old leaf) (hold_at (table_holds old) leaf) (entry rows n leaf) stays ∙ ap (λ (v : ℤ). Ok v) (sym value_is)
+
+    pub back_sets : (assigns : List Assign) → All (IsSetOf old) assigns → All (IsSetOf view) assigns
+    back_sets assigns all k d inside =
+        let one = all k d inside in
+        subst (λ (t : Table). IsSetOf t (get_or assigns k d)) (sym so_far.same) (record { inside = one.inside; over = record { leaves = one.over.leaves; rank = one.over.rank } })

@@ -1,0 +1,86 @@
+-- A run before its first micro-step.
+use Rattle.std.proofs.Common.{◌≡◌, ℕ, ◌≤◌, All, ℤ, List, [], length, map, get_or, Option, None, sym, ap, ◌∙◌, subst, arith}
+use Rattle.std.proofs.lemmas.List.{length-map}
+use Rattle.record_dim.specs.Trees.{Fields}
+use Rattle.expr_lang.specs.Terms.{Term}
+use Rattle.extents.specs.Indices.{indices}
+use Rattle.map_expr.specs.Terms.{Term as Shape}
+use Rattle.piece_bits.specs.Tables.{AreSized, table_in}
+use Rattle.kept_tables.specs.Modes.{declared_table}
+use Rattle.kept_tables.specs.declared.mode.StoreMode.{StoreMode}
+use Rattle.row_updates.specs.declared.update.Assign.{Assign}
+use Rattle.row_updates.specs.Rows.{setting_of, updated_of, IsSetOf}
+use Rattle.views.specs.Tables.{Table, owners_of, leaf_types_of, table_holds}
+use Rattle.actor_steps.specs.Agree.{IsLawful}
+use Rattle.actor_steps.specs.AgreeLaws.{memory_is, rows_read}
+use Rattle.actor_steps.specs.Confluence.{Actor}
+use Rattle.actor_steps.specs.Cuts.{AreCuts, actor_of}
+use Rattle.actor_steps.specs.Jobs.{job_of, memory_of, fresh_of}
+use Rattle.actor_steps.specs.MemoryLaws.{zeros-sized}
+use Rattle.actor_steps.specs.Micro.{Micro, Registers}
+use Rattle.actor_steps.specs.Shared.{shared_byte}
+use Rattle.actor_tasks.specs.declared.rows.Asks.{Asks}
+use Rattle.actors.specs.declared.actor.Actor.{Actor as Standing}
+use Rattle.actors.specs.Kept.{table_at, run_of, IsRun}
+use Rattle.actors.specs.Rows.{ArePlans}
+use Rattle.actors.specs.Runs.{Run, uncounted, started_run}
+use Rattle.actors.specs.Standing.{actor_shown}
+use Rattle.actors.specs.Updates.{IsUpdated}
+use Rattle.actors.proofs.Teams.{IsTeam}
+use Rattle.actors.proofs.Turns.{stands_alone, set_alone, lawful_alone}
+
+-- the table that copies of the parts of a view show is that of the view
+pub table_same : (view : Table) (lawful : IsLawful view) (fields : Fields) (extents : List ℕ) (mapping : Shape) (mode : StoreMode) (found : List (List ℕ)) → fields ≡ view.fields → extents ≡ view.extents
+    → mapping ≡ view.mapping → mode ≡ view.mode → found ≡ memory_of view → table_at fields extents mapping mode found ≡ uncounted view
+table_same view lawful fields extents mapping mode found fields_are extents_are mapping_is mode_is found_is =
+    let rows : declared_table (leaf_types_of view) (table_in (owners_of view) (length (indices view.extents)) (table_holds view) (memory_of view)) ≡ view.rows =
+    ap (λ (n : ℕ). declared_table (leaf_types_of view) (table_in (owners_of view) n (table_holds view) (memory_of view))) (sym lawful.is_table.rows) ∙ rows_read view lawful in
+    ap (λ (f : Fields). table_at f extents mapping mode found) fields_are
+    ∙ ap (λ (e : List ℕ). table_at view.fields e mapping mode found) extents_are
+    ∙ ap (λ (m : Shape). table_at view.fields view.extents m mode found) mapping_is
+    ∙ ap (λ (m : StoreMode). table_at view.fields view.extents view.mapping m found) mode_is
+    ∙ ap (table_at view.fields view.extents view.mapping view.mode) found_is
+    ∙ ap (λ (r : List (List ℤ)). record {
+      fields = view.fields;
+      extents = view.extents;
+      mapping = view.mapping;
+      mode = view.mode;
+      rows = r;
+      tally = record { counts = None; heat = None };
+    }) rows
+
+module _ (view : Table) (filter : Option (Term ℕ)) (sets : List Assign) (cuts : List ℕ) (memory : List (List ℕ)) (actors : List Standing) (memory_same : memory ≡ memory_of view)
+    (team : IsTeam view cuts actors) where
+  -- the state is that of the definition
+  begun : run_of (uncounted view) filter sets cuts memory actors ≡ started_run view filter (map setting_of sets) cuts
+  begun =
+      let job = job_of view filter (map setting_of sets) in
+      let run : List (List ℕ) → List (Actor Micro Registers) → Run = λ m ones. record {
+        found = uncounted view;
+        filter = filter;
+        sets = map setting_of sets;
+        cuts = cuts;
+        state = record { memory = m; actors = ones };
+      } in
+      ap (λ (m : List (List ℕ)). run m (map (actor_shown job) actors)) memory_same ∙ ap (run (memory_of view)) (team.shown job)
+
+  pub run_begun : (table : Table) → table ≡ uncounted view → run_of table filter sets cuts memory actors ≡ started_run view filter (map setting_of sets) cuts
+  run_begun table is = ap (λ (t : Table). run_of t filter sets cuts memory actors) is ∙ begun
+
+  pub run_kept : (table : Table) (scratch : List (List ℕ)) (plans : List Asks) (targets : List ℕ) → table ≡ uncounted view → IsLawful view → scratch ≡ (fresh_of view).loaded
+      → ArePlans (job_of view filter (map setting_of sets)) (length view.rows) plans → targets ≡ map (λ set. set.leaf) sets → length sets ≤ 64 → All (IsSetOf view) sets
+      → AreCuts 0 cuts (length view.rows) → shared_byte (owners_of view) (actor_of cuts) ≡ None → IsUpdated (updated_of view filter (map setting_of sets) (length view.rows))
+      → IsRun table filter sets cuts memory scratch plans targets actors
+  run_kept table scratch plans targets is lawful scratch_is plans_are targets_are few sets_in parts apart updated =
+      subst (λ (t : Table). IsRun t filter sets cuts memory scratch plans targets actors) (sym is) (record {
+        parted = (updated.0, record { lawful = lawful_alone view lawful; parts = parts; apart = apart; plain = updated.1 });
+        sets_in = λ k d low. set_alone view (get_or sets k d) (sets_in k d low);
+        few = omega (arith, few, ap length targets_are, length-map sets (λ (set : Assign). set.leaf));
+        targets_are = targets_are;
+        plans_are = plans_are;
+        memory_sized = subst (AreSized (owners_of view)) (sym memory_same) (memory_is view lawful).sized;
+        scratch_sized = subst (AreSized (owners_of view)) (sym scratch_is) (zeros-sized (owners_of view) lawful.laid.whole_bytes);
+        count = team.count;
+        standing = λ a other low. stands_alone view (length targets) (get_or actors a other) (team.standing (length targets) a other low);
+        reached = ([], begun);
+      })

@@ -1,0 +1,75 @@
+-- Copies of the blobs of a table.
+use Rattle.std.proofs.Common.{◌≡◌, ℕ, ◌+◌, ◌*◌, ◌/◌, ◌%◌, ◌^◌, ◌<◌, ◌≤◌, List, [], ◌∷◌, ◌++◌, length, map, get_or, take, replicate, sym, ap, ◌∙◌, arith}
+use Rattle.std.proofs.lemmas.List.{length-map, get_or-map, ext_get_or, take_more, take_all}
+use Rattle.std.proofs.lemmas.List.FromFn.{get_or-map-range_with_len, length-map-range_with_len}
+use Rattle.places.specs.Layout.{Owner}
+use Rattle.places.specs.Image.{bit_held, image}
+use Rattle.places.specs.NumbersLaws.{number_same}
+use Rattle.blobs.specs.Bits.{bit_of, bits_of, AreBytes}
+use Rattle.blobs.specs.BytesLaws.{number_of_byte}
+use Rattle.instrument.specs.BlobTexts.{byte_at, bytes_of}
+use Rattle.views.specs.Tables.{Table, owners_of, blob_bits_of}
+use Rattle.views.specs.Tallies.{blob_lengths}
+use Rattle.actor_steps.specs.Jobs.{memory_of, fresh_of}
+
+bits_long : (bytes : List ℕ) → length (bits_of bytes) ≡ 8 * length bytes
+bits_long bytes = length-map-range_with_len (bit_of bytes) 0 (8 * length bytes)
+
+whole_byte : (byte : ℕ) → byte < 256 → byte / 2 ^ 0 % 2 ^ 8 ≡ byte
+whole_byte byte small = omega (arith, small)
+
+byte_is : (bytes : List ℕ) (at : ℕ) → at < length bytes → get_or bytes at 0 < 256 → get_or (bytes_of (bits_of bytes)) at 0 ≡ get_or bytes at 0
+byte_is bytes at small fits =
+    let eights : at < length (bits_of bytes) / 8 = omega (arith, bits_long bytes) in
+    get_or-map-range_with_len (byte_at (bits_of bytes)) 0 (length (bits_of bytes) / 8) at at 0 eights (omega arith)
+    ∙ number_same (λ k. get_or (bits_of bytes) (8 * at + k) 0) (λ k. bit_of bytes (8 * at + k)) 8
+    (λ k l. get_or-map-range_with_len (bit_of bytes) 0 (8 * length bytes) (8 * at + k) (8 * at + k) 0 (omega arith) (omega arith))
+    ∙ number_of_byte bytes (8 * at) at 0 8 (omega arith) (omega arith)
+    ∙ whole_byte (get_or bytes at 0) fits
+
+-- bytes are those of their bits
+bytes_of_bits : (bytes : List ℕ) → AreBytes bytes → bytes_of (bits_of bytes) ≡ bytes
+bytes_of_bits bytes are =
+    let long : length (bytes_of (bits_of bytes)) ≡ length bytes =
+    omega (arith, length-map-range_with_len (byte_at (bits_of bytes)) 0 (length (bits_of bytes) / 8), bits_long bytes) in
+    ext_get_or 0 (bytes_of (bits_of bytes)) bytes long (λ at small. byte_is bytes at (omega (arith, small, long)) (are at))
+
+module _ (table : Table) where
+  pub blob_count : length (memory_of table) ≡ length (owners_of table)
+  blob_count = length-map (image (owners_of table) table.rows) bytes_of ∙ length-map (owners_of table) (map (bit_held table.rows))
+
+  -- a blob by its bits
+  blob_is : (b : ℕ) (bytes : List ℕ) → b < length (owners_of table) → AreBytes bytes → bits_of bytes ≡ blob_bits_of table b → bytes ≡ get_or (memory_of table) b []
+  blob_is b bytes inside are is =
+      let there : b < length (image (owners_of table) table.rows) = omega (arith, inside, length-map (owners_of table) (map (bit_held table.rows))) in
+      sym (bytes_of_bits bytes are) ∙ ap bytes_of is ∙ sym (get_or-map bytes_of (image (owners_of table) table.rows) b [] [] there)
+
+  -- one blob more is copied
+  pub one_copied : (b : ℕ) (bytes : List ℕ) (blobs : List (List ℕ)) → b < length (owners_of table) → AreBytes bytes → bits_of bytes ≡ blob_bits_of table b
+      → blobs ≡ take b (memory_of table) → blobs ++ bytes ∷ [] ≡ take (b + 1) (memory_of table)
+  one_copied b bytes blobs inside are is so_far =
+      ap (λ (w : List (List ℕ)). w ++ bytes ∷ []) so_far ∙ ap (λ (w : List ℕ). take b (memory_of table) ++ w ∷ []) (blob_is b bytes inside are is)
+      ∙ sym (take_more (memory_of table) b [] (omega (arith, inside, blob_count)))
+
+  pub all_copied : (b : ℕ) (blobs : List (List ℕ)) → length (owners_of table) ≤ b → blobs ≡ take b (memory_of table) → blobs ≡ memory_of table
+  all_copied b blobs over so_far = so_far ∙ take_all b (memory_of table) (omega (arith, over, blob_count))
+
+  zero_count : length (fresh_of table).loaded ≡ length (owners_of table)
+  zero_count = length-map (blob_lengths (owners_of table)) (λ (bytes : ℕ). replicate bytes 0) ∙ length-map (owners_of table) (λ (blob : List Owner). length blob / 8)
+
+  zero_is : (b bytes : ℕ) → b < length (owners_of table) → 8 * bytes ≡ length (get_or (owners_of table) b []) → replicate bytes 0 ≡ get_or (fresh_of table).loaded b []
+  zero_is b bytes inside is =
+      let at : get_or (blob_lengths (owners_of table)) b 0 ≡ length (get_or (owners_of table) b []) / 8 = get_or-map (λ (blob : List Owner). length blob / 8) (owners_of table) b [] 0 inside in
+      let same : bytes ≡ get_or (blob_lengths (owners_of table)) b 0 = omega (arith, is, at) in
+      let there : b < length (blob_lengths (owners_of table)) = omega (arith, inside, length-map (owners_of table) (λ (blob : List Owner). length blob / 8)) in
+      ap (λ (n : ℕ). replicate n 0) same ∙ sym (get_or-map (λ (n : ℕ). replicate n 0) (blob_lengths (owners_of table)) b 0 [] there)
+
+  -- the same of bytes that are 0
+  pub one_fresh : (b bytes : ℕ) (blobs : List (List ℕ)) → b < length (owners_of table) → 8 * bytes ≡ length (get_or (owners_of table) b [])
+      → blobs ≡ take b (fresh_of table).loaded → blobs ++ replicate bytes 0 ∷ [] ≡ take (b + 1) (fresh_of table).loaded
+  one_fresh b bytes blobs inside is so_far =
+      ap (λ (w : List (List ℕ)). w ++ replicate bytes 0 ∷ []) so_far ∙ ap (λ (w : List ℕ). take b (fresh_of table).loaded ++ w ∷ []) (zero_is b bytes inside is)
+      ∙ sym (take_more (fresh_of table).loaded b [] (omega (arith, inside, zero_count)))
+
+  pub all_fresh : (b : ℕ) (blobs : List (List ℕ)) → length (owners_of table) ≤ b → blobs ≡ take b (fresh_of table).loaded → blobs ≡ (fresh_of table).loaded
+  all_fresh b blobs over so_far = so_far ∙ take_all b (fresh_of table).loaded (omega (arith, over, zero_count))

@@ -1,0 +1,107 @@
+-- Marks of the leaves that are read.
+use Rattle.std.proofs.Common.{◌≡◌, ℕ, zero, suc, ◌+◌, ◌<◌, ◌≤◌, Bool, true, false, List, [], ◌∷◌, ◌++◌, length, map, get_or, set, take, fold, replicate, refl, sym, ap, ◌∙◌, subst, ⊎_elim, arith, length-append}
+use Rattle.std.specs.Prelude.{◌==◌, ◌||◌, if◌then◌else◌}
+use Rattle.std.specs.List.{flat_map}
+use Rattle.std.proofs.Math.ListN.{get_or-append}
+use Rattle.std.proofs.Math.Seq.{get_or-append_seam}
+use Rattle.std.proofs.lemmas.Bool.{cases_eq, cases_lt, eq-eqb, eqb-true}
+use Rattle.std.proofs.lemmas.List.{get_or-map, get_or-set_same, get_or-set_other, length-set, length-map, length-replicate, append-nil, take_more}
+use Rattle.std.proofs.lemmas.List.Concat.{flat_map-append}
+use Rattle.std.proofs.lemmas.List.Sums.{fold-append}
+use Rattle.row_updates.specs.declared.update.Assign.{Assign}
+use Rattle.row_updates.specs.Rows.{Setting, setting_of}
+use Rattle.actor_steps.specs.Micro.{Job, is_in, filter_reads, set_reads, reads_of, lets_through}
+use Rattle.actor_tasks.specs.declared.rows.Asks.{Asks}
+use Rattle.actors.specs.Rows.{marked, IsPlanOf, ArePlans}
+
+-- a leaf is marked where it was, or is among those that are read
+marks_are : (reads : List ℕ) (asked : List Bool) (leaf : ℕ) → leaf < length asked → get_or (fold marked asked reads) leaf false ≡ (get_or asked leaf false || is_in reads leaf)
+marks_are [] asked leaf low = by_mark (get_or asked leaf false) where
+  by_mark : (mark : Bool) → mark ≡ (mark || false)
+  by_mark true = refl
+  by_mark false = refl
+marks_are (x ∷ reads) asked leaf low =
+    marks_are reads (set asked x true) leaf (omega (arith, low, length-set asked x true)) ∙ ap (λ (m : Bool). m || is_in reads leaf) here ∙ by_mark (get_or asked leaf false) (x == leaf) where
+      by_mark : (mark here : Bool) → ((mark || here) || is_in reads leaf) ≡ (mark || (here || is_in reads leaf))
+      by_mark true here = refl
+      by_mark false here = refl
+
+      here : get_or (set asked x true) leaf false ≡ (get_or asked leaf false || (x == leaf))
+      here =
+          ⊎_elim (λ (same : leaf ≡ x).
+          ap (λ (w : ℕ). get_or (set asked x true) w false) same ∙ get_or-set_same asked x true false (omega (arith, low, same))
+          ∙ sym (both (get_or asked leaf false)) ∙ ap (λ (t : Bool). get_or asked leaf false || t) (sym (eq-eqb x leaf (sym same))))
+          (λ (other : leaf ≡ x → ⊥). get_or-set_other asked x leaf true false other ∙ apart (x == leaf) refl other)
+          (cases_eq leaf x) where
+            both : (mark : Bool) → (mark || true) ≡ true
+            both true = refl
+            both false = refl
+
+            apart : (t : Bool) → (x == leaf) ≡ t → (leaf ≡ x → ⊥) → get_or asked leaf false ≡ (get_or asked leaf false || t)
+            apart true e other = absurd (other (sym (eqb-true x leaf e)))
+            apart false e other = by_none (get_or asked leaf false) where
+              by_none : (mark : Bool) → mark ≡ (mark || false)
+              by_none true = refl
+              by_none false = refl
+
+pub marks_of : (reads : List ℕ) (asked : List Bool) → asked ≡ fold marked (replicate 64 false) reads → (leaf : ℕ) → leaf < 64 → get_or asked leaf false ≡ is_in reads leaf
+marks_of reads asked is leaf low =
+    let none : get_or (replicate 64 false) leaf false ≡ false = unmarked 64 leaf in
+    ap (λ (w : List Bool). get_or w leaf false) is ∙ marks_are reads (replicate 64 false) leaf (omega (arith, low, length-replicate {A = Bool} 64 false)) ∙ ap (λ (m : Bool). m || is_in reads leaf) none where
+      unmarked : (n leaf : ℕ) → get_or (replicate n false) leaf false ≡ false
+      unmarked zero leaf = refl
+      unmarked (suc n) zero = refl
+      unmarked (suc n) (suc leaf) = unmarked n leaf
+
+-- marks after others
+pub more_marks : (asked : List Bool) (first rest : List ℕ) → fold marked (fold marked asked first) rest ≡ fold marked asked (first ++ rest)
+more_marks asked first rest = sym (fold-append marked asked first rest)
+
+-- the reads of one right side more
+pub one_set : (job : Job) (row : ℕ) (sets : List Assign) (n : ℕ) (set : Assign) (asked : List Bool) → n < length sets → set ≡ get_or sets n set
+    → fold marked (fold marked asked (flat_map (set_reads job row) (take n (map setting_of sets)))) (set_reads job row (setting_of set))
+    ≡ fold marked asked (flat_map (set_reads job row) (take (n + 1) (map setting_of sets)))
+one_set job row sets n set asked low is =
+    let settings = map setting_of sets in
+    let steps = flat_map (set_reads job row) in
+    let at : get_or settings n (setting_of set) ≡ setting_of set = get_or-map setting_of sets n set (setting_of set) low ∙ ap setting_of (sym is) in
+    let next : take (n + 1) settings ≡ take n settings ++ setting_of set ∷ [] =
+    take_more settings n (setting_of set) (omega (arith, low, length-map sets setting_of)) ∙ ap (λ (s : Setting). take n settings ++ s ∷ []) at in
+    more_marks asked (steps (take n settings)) (set_reads job row (setting_of set))
+    ∙ ap (λ (w : List ℕ). fold marked asked (steps (take n settings) ++ w)) (sym (append-nil (set_reads job row (setting_of set))))
+    ∙ ap (fold marked asked) (sym (flat_map-append (set_reads job row) (take n settings) (setting_of set ∷ []))) ∙ ap (λ (w : List Setting). fold marked asked (steps w)) (sym next)
+
+-- a row that the filter leaves out, and one that it lets through
+pub plan_left : (job : Job) (row : ℕ) (asked : List Bool) → lets_through job row ≡ false → asked ≡ fold marked (replicate 64 false) (filter_reads job row job.filter)
+    → (leaf : ℕ) → leaf < 64 → get_or asked leaf false ≡ is_in (reads_of job row) leaf
+plan_left job row asked out is =
+    let first = filter_reads job row job.filter in
+    let reads : reads_of job row ≡ first =
+    ap (λ (t : Bool). first ++ (if t then flat_map (set_reads job row) job.sets else [])) out ∙ append-nil first in
+    marks_of (reads_of job row) asked (is ∙ ap (fold marked (replicate 64 false)) (sym reads))
+
+pub plan_through : (job : Job) (row : ℕ) (before asked : List Bool) → lets_through job row ≡ true → before ≡ fold marked (replicate 64 false) (filter_reads job row job.filter)
+    → asked ≡ fold marked before (flat_map (set_reads job row) job.sets) → (leaf : ℕ) → leaf < 64 → get_or asked leaf false ≡ is_in (reads_of job row) leaf
+plan_through job row before asked through first is =
+    let reads = filter_reads job row job.filter in
+    let sets = flat_map (set_reads job row) job.sets in
+    let all : reads_of job row ≡ reads ++ sets = ap (λ (t : Bool). reads ++ (if t then sets else [])) through in
+    marks_of (reads_of job row) asked
+    (is ∙ ap (λ (w : List Bool). fold marked w sets) first ∙ more_marks (replicate 64 false) reads sets ∙ ap (fold marked (replicate 64 false)) (sym all))
+
+-- one plan more
+pub no_plans : (job : Job) → ArePlans job 0 []
+no_plans job = record { long = refl; each = λ row other low. absurd (let bad : ⊥ = omega (arith, low) in bad) }
+
+pub one_plan : (job : Job) (n : ℕ) (plans : List Asks) (plan : Asks) → ArePlans job n plans → IsPlanOf job n plan → ArePlans job (n + 1) (plans ++ plan ∷ [])
+one_plan job n plans plan so_far here = record {
+  long = length-append plans (plan ∷ []) ∙ ap (λ (w : ℕ). w + 1) so_far.long;
+  each = λ row other low.
+      ⊎_elim (λ (less : row < n).
+      subst (IsPlanOf job row) (sym (get_or-append plans (plan ∷ []) other row (omega (arith, less, so_far.long)))) (so_far.each row other less))
+      (λ (more : n ≤ row).
+      let last : row ≡ length plans = omega (arith, more, low, so_far.long) in
+      subst (IsPlanOf job row) (sym (ap (λ (w : ℕ). get_or (plans ++ plan ∷ []) w other) last ∙ get_or-append_seam plans plan [] other))
+      (subst (λ (w : ℕ). IsPlanOf job w plan) (let back : n ≡ row = omega (arith, more, low) in back) here))
+      (cases_lt row n);
+}

@@ -1,0 +1,179 @@
+-- Rows that are tried one after another, as an update tries them, and what was read of them.
+use Rattle.std.proofs.Common.{◌≡◌, ℕ, zero, suc, ◌+◌, ◌-◌, ◌<◌, Bool, true, false, ℤ, List, [], ◌∷◌, ◌++◌, map, get_or, Option, Some, None, Result, Ok, Err, refl, sym, ap, ◌∙◌, arith}
+use Rattle.std.specs.List.{range_with_len}
+use Rattle.std.proofs.lemmas.List.{append-nil}
+use Rattle.std.proofs.lemmas.List.Elements.{filter-append}
+use Rattle.expr_lang.specs.Terms.{Term}
+use Rattle.expr_lang.specs.Values.{outcome_of}
+use Rattle.linearize.specs.Slots.{index_at}
+use Rattle.views.specs.Stores.{Answer, Keeping}
+use Rattle.views.specs.Tables.{Table, answer_of, kept_of, after_log}
+use Rattle.views.specs.Tallies.{Access, Read, Write, Tally}
+use Rattle.views.specs.TallyLaws.{after_log-append, after_log-none, logs_more}
+use Rattle.row_updates.specs.declared.fault.UpdateFault.{UpdateFault}
+use Rattle.row_updates.specs.Logs.{value_log, filter_log, if_ok, if_passes, sides_log, stores_log, tried_log, if_given, row_log, update_log}
+use Rattle.row_updates.specs.Rows.{Setting, each, ◌>>=◌, passes, new_value, tried_row, given_row, updated_row, updated_of}
+use Rattle.row_updates.specs.TriedLaws.{updated_as_tried, log_as_tried}
+use Rattle.actors.specs.Updates.{IsUpdated, IsUpdatedRow, is_read, is_write, reads_in, writes_in}
+
+-- one list of things after another
+unit_right : {B : Type 0} (found : Result (List B) UpdateFault) → found ≡ (found >>= (λ ys. Ok ys))
+unit_right (Ok ys) = refl
+unit_right (Err fault) = refl
+
+each-append : {A B : Type 0} (step : A → Result B UpdateFault) (xs ys : List A) → each step (xs ++ ys) ≡ (each step xs >>= (λ first. each step ys >>= (λ rest. Ok (first ++ rest))))
+each-append step [] ys = unit_right (each step ys)
+each-append {B} step (x ∷ xs) ys =
+    ap (λ (found : Result (List B) UpdateFault). step x >>= (λ y. found >>= (λ all. Ok (y ∷ all)))) (each-append step xs ys) ∙ by_parts (step x) (each step xs) (each step ys) where
+      by_parts : (one : Result B UpdateFault) (first rest : Result (List B) UpdateFault)
+          → (one >>= (λ y. (first >>= (λ a. rest >>= (λ b. Ok (a ++ b)))) >>= (λ all. Ok (y ∷ all)))) ≡ ((one >>= (λ y. first >>= (λ a. Ok (y ∷ a)))) >>= (λ a. rest >>= (λ b. Ok (a ++ b))))
+      by_parts (Ok y) (Ok a) (Ok b) = refl
+      by_parts (Ok y) (Ok a) (Err fault) = refl
+      by_parts (Ok y) (Err fault) rest = refl
+      by_parts (Err fault) first rest = refl
+
+range-append : (a m n : ℕ) → range_with_len a (m + n) ≡ range_with_len a m ++ range_with_len (a + m) n
+range-append a zero n = (let on : a + 0 ≡ a = omega arith in let none : 0 + n ≡ n = omega arith in ap (range_with_len a) none ∙ ap (λ (w : ℕ). range_with_len w n) (sym on))
+range-append a (suc m) n =
+    (let on : a + 1 + m ≡ a + suc m = omega arith in
+    let more : suc m + n ≡ suc (m + n) = omega arith in
+    ap (range_with_len a) more ∙ ap (λ (w : List ℕ). a ∷ w) (range-append (a + 1) m n ∙ ap (λ (w : ℕ). range_with_len (a + 1) m ++ range_with_len w n) on))
+
+module _ {B : Type 0} (step : ℕ → Result B UpdateFault) (n : ℕ) (ys : List B) (so_far : each step (range_with_len 0 n) ≡ Ok ys) where
+  -- one number more
+  pub each_more : (y : B) → step n ≡ Ok y → each step (range_with_len 0 (n + 1)) ≡ Ok (ys ++ y ∷ [])
+  each_more y gives =
+      let on : 0 + n ≡ n = omega arith in
+      ap (each step) (range-append 0 n 1 ∙ ap (λ (w : ℕ). range_with_len 0 n ++ w ∷ []) on) ∙ each-append step (range_with_len 0 n) (n ∷ []) ∙ rw (so_far, gives) refl
+
+  -- the first fault
+  pub each_stop : (count : ℕ) (fault : UpdateFault) → n < count → step n ≡ Err fault → each step (range_with_len 0 count) ≡ Err fault
+  each_stop count fault low stop =
+      let on : 0 + n ≡ n = omega arith in
+      let whole : count ≡ n + suc (count - (n + 1)) = omega (arith, low) in
+      ap (λ (w : ℕ). each step (range_with_len 0 w)) whole
+      ∙ ap (each step) (range-append 0 n (suc (count - (n + 1))) ∙ ap (λ (w : ℕ). range_with_len 0 n ++ w ∷ range_with_len (w + 1) (count - (n + 1))) on)
+      ∙ each-append step (range_with_len 0 n) (n ∷ range_with_len (n + 1) (count - (n + 1))) ∙ rw (so_far, stop) refl
+
+-- the accesses of a row that is tried are reads
+module _ (number : ℕ) where
+  only_reads : (leaves : List ℕ) → reads_in (map (Read number) leaves) ≡ map (Read number) leaves
+  only_reads [] = refl
+  only_reads (leaf ∷ leaves) = ap (λ (w : List Access). Read number leaf ∷ w) (only_reads leaves)
+
+  no_writes : (leaves : List ℕ) → writes_in (map (Read number) leaves) ≡ []
+  no_writes [] = refl
+  no_writes (leaf ∷ leaves) = no_writes leaves
+
+  only_writes : (sets : List Setting) → writes_in (stores_log number sets) ≡ stores_log number sets
+  only_writes [] = refl
+  only_writes (set ∷ sets) = ap (λ (w : List Access). Write number set.leaf ∷ w) (only_writes sets)
+
+  no_reads : (sets : List Setting) → reads_in (stores_log number sets) ≡ []
+  no_reads [] = refl
+  no_reads (set ∷ sets) = no_reads sets
+
+module _ (answer : Answer) (number : ℕ) (row : List ℤ) (index : List ℕ) where
+  -- a log of reads alone
+  pub record AreReads (log : List Access) : Type 0 where
+    pub reads : reads_in log ≡ log
+    pub writes : writes_in log ≡ []
+
+  no_log : AreReads []
+  no_log = record { reads = refl; writes = refl }
+
+  value_reads : (value : Term ℕ) → AreReads (value_log number row index value)
+  value_reads value = let leaves = (outcome_of row index value).reads in record { reads = only_reads number leaves; writes = no_writes number leaves }
+
+  both_read : (first rest : List Access) → AreReads first → AreReads rest → AreReads (first ++ rest)
+  both_read first rest one two = record {
+    reads = filter-append is_read first rest ∙ ap (λ (w : List Access). w ++ reads_in rest) one.reads ∙ ap (λ (w : List Access). first ++ w) two.reads;
+    writes = filter-append is_write first rest ∙ ap (λ (w : List Access). w ++ writes_in rest) one.writes ∙ two.writes;
+  }
+
+  ok_reads : {A : Type 0} (found : Result A UpdateFault) (log : List Access) → AreReads log → AreReads (if_ok found log)
+  ok_reads (Ok x) log are = are
+  ok_reads (Err fault) log are = no_log
+
+  sides_read : (sets : List Setting) → AreReads (sides_log answer number row index sets)
+  sides_read [] = no_log
+  sides_read (set ∷ sets) = both_read (value_log number row index set.value) (if_ok (new_value answer number row index set) (sides_log answer number row index sets)) (value_reads set.value)
+      (ok_reads (new_value answer number row index set) (sides_log answer number row index sets) (sides_read sets))
+
+  passes_read : (found : Result Bool UpdateFault) (log : List Access) → AreReads log → AreReads (if_passes found log)
+  passes_read (Ok true) log are = are
+  passes_read (Ok false) log are = no_log
+  passes_read (Err fault) log are = no_log
+
+  filter_read : (filter : Option (Term ℕ)) → AreReads (filter_log number row index filter)
+  filter_read None = no_log
+  filter_read (Some filter) = value_reads filter
+
+  module _ (filter : Option (Term ℕ)) (sets : List Setting) where
+    tried_read : AreReads (tried_log answer filter sets number row index)
+    tried_read =
+        both_read (filter_log number row index filter) (if_passes (passes number row index filter) (sides_log answer number row index sets)) (filter_read filter)
+        (passes_read (passes number row index filter) (sides_log answer number row index sets) (sides_read sets))
+
+    given_reads : (given : Result (Option (List ℤ)) UpdateFault) → reads_in (if_given given (stores_log number sets)) ≡ []
+    given_reads (Ok (Some values)) = no_reads number sets
+    given_reads (Ok None) = refl
+    given_reads (Err fault) = refl
+
+    given_writes : (given : Result (Option (List ℤ)) UpdateFault) → writes_in (if_given given (stores_log number sets)) ≡ if_given given (stores_log number sets)
+    given_writes (Ok (Some values)) = only_writes number sets
+    given_writes (Ok None) = refl
+    given_writes (Err fault) = refl
+
+    -- the reads of a row are those of trying it, and its writes those of what it is given
+    pub row_reads : reads_in (row_log answer filter sets number row index) ≡ tried_log answer filter sets number row index
+    row_reads =
+        let given = if_given (tried_row answer filter sets number row index) (stores_log number sets) in
+        ap reads_in (log_as_tried answer filter sets number row index) ∙ filter-append is_read (tried_log answer filter sets number row index) given
+        ∙ ap (λ (w : List Access). w ++ reads_in given) tried_read.reads
+        ∙ ap (λ (w : List Access). tried_log answer filter sets number row index ++ w) (given_reads (tried_row answer filter sets number row index))
+        ∙ append-nil (tried_log answer filter sets number row index)
+
+    pub row_writes : writes_in (row_log answer filter sets number row index) ≡ if_given (tried_row answer filter sets number row index) (stores_log number sets)
+    row_writes =
+        let given = if_given (tried_row answer filter sets number row index) (stores_log number sets) in
+        ap writes_in (log_as_tried answer filter sets number row index) ∙ filter-append is_write (tried_log answer filter sets number row index) given
+        ∙ ap (λ (w : List Access). w ++ writes_in given) tried_read.writes ∙ given_writes (tried_row answer filter sets number row index)
+
+    -- a row that can be tried is updated, and one that cannot has the fault
+    pub row_updated : (keep : Keeping) (tried : Option (List ℤ)) → tried_row answer filter sets number row index ≡ Ok tried → updated_row answer keep filter sets number row index ≡ Ok (given_row keep sets tried row)
+    row_updated keep tried gives = updated_as_tried answer filter sets number row index keep ∙ rw gives refl
+
+    pub row_refused : (keep : Keeping) (fault : UpdateFault) → tried_row answer filter sets number row index ≡ Err fault → updated_row answer keep filter sets number row index ≡ Err fault
+    row_refused keep fault stop = updated_as_tried answer filter sets number row index keep ∙ rw stop refl
+
+-- a table whose counts alone changed
+pub counted_alone : (old new : Table) (tally : Tally) → new ≡ record old { tally = tally } → new ≡ record old { tally = new.tally }
+counted_alone old new tally e = e ∙ ap (λ (t : Tally). record old { tally = t }) (sym (ap (λ (t : Table). t.tally) e))
+
+module _ (old : Table) (filter : Option (Term ℕ)) (sets : List Setting) where
+  -- the rows so far were tried
+  pub record AreTried (view : Table) (row : ℕ) : Type 0 where
+    pub read : view ≡ after_log old (reads_in (update_log old filter sets row))
+    pub updated : IsUpdated (updated_of old filter sets row)
+
+  pub none_tried : AreTried old 0
+  none_tried = record { read = sym (after_log-none old); updated = ([], refl) }
+
+  -- a row as the table had it
+  abbrev row_step : ℕ → Result (List ℤ) UpdateFault
+  row_step row = updated_row (answer_of old) (kept_of old) filter sets row (get_or old.rows row []) (index_at old.extents row)
+
+  abbrev log_step : ℕ → List Access
+  log_step row = row_log (answer_of old) filter sets row (get_or old.rows row []) (index_at old.extents row)
+
+  pub one_tried : (view after : Table) (row : ℕ) → AreTried view row → IsUpdatedRow (row_step row) → after ≡ after_log view (reads_in (log_step row)) → AreTried after (row + 1)
+  one_tried view after row so_far updated read = record {
+    read = read ∙ ap (λ (t : Table). after_log t (reads_in (log_step row))) so_far.read
+        ∙ after_log-append old (reads_in (update_log old filter sets row)) (reads_in (log_step row))
+        ∙ ap (after_log old) (sym (ap reads_in (logs_more log_step row) ∙ filter-append is_read (update_log old filter sets row) (log_step row)));
+    updated = (so_far.updated.0 ++ updated.0 ∷ [], each_more row_step row so_far.updated.0 so_far.updated.1 updated.0 updated.1);
+  }
+
+  pub stop_tried : (view : Table) (row count : ℕ) (fault : UpdateFault) → row < count → AreTried view row → row_step row ≡ Err fault → updated_of old filter sets count ≡ Err fault
+  stop_tried view row count fault low so_far stop = each_stop row_step row so_far.updated.0 so_far.updated.1 count fault low stop

@@ -1,0 +1,44 @@
+use Rattle.std.proofs.Common.{◌∙◌, ℕ, [], None, List, length, rules, arith, SFits, subst, sym, ap}
+use Rattle.std.specs.Int.{w128}
+use Rattle.std.proofs.lemmas.Int.{to_z-of_z}
+use Rattle.places.specs.declared.piece.Cell.{Cell}
+use Rattle.piece_bits.specs.Tables.{AreSized}
+use Rattle.map_any.specs.AnyLaws.{length-leaf_cells}
+use Rattle.row_updates.specs.Rows.{IsSetOf, setting_of}
+use Rattle.views.specs.Tables.{owners_of, leaf_types_of}
+use Rattle.actor_steps.specs.BytesOfLaws.{with_byte-sized}
+use Rattle.actor_steps.specs.Jobs.{job_of}
+use Rattle.actor_steps.specs.Micro.{row_in, value_on}
+use Rattle.actors.specs.Standing.{IsStepOf}
+use Rattle.actors.proofs.Laws.{leaf_count}
+use Rattle.actors.proofs.Turns.{store_made}
+use Rattle.actors.proofs.actor.make_step.Goals as goal
+
+pub changed_byte-byte-requires-clause-row_in : goal.changed_byte-byte-requires-clause-row_in
+changed_byte-byte-requires-clause-row_in c =
+    let at = subst (IsStepOf (owners_of c.args.view.now) (length c.args.view.now.rows) (length c.args.sets.now)) c.in-Store.is c.requires.step in
+    omega (arith, at.1, c.map.ensures.slots, c.laws_of_view.ensures.lawful.is_table.rows)
+
+pub changed_byte-byte-requires-clause-leaf_in : goal.changed_byte-byte-requires-clause-leaf_in
+changed_byte-byte-requires-clause-leaf_in c =
+    let table = c.args.view.now in
+    let at = subst (IsStepOf (owners_of table) (length table.rows) (length c.args.sets.now)) c.in-Store.is c.requires.step in
+    let set = subst (IsSetOf table) (sym c.index-sets-set.is) (c.requires.sets c.in-Store.set c.index-sets-set.result at.2) in
+    omega (arith, set.inside, ap (λ (cells : List Cell). length cells) c.map.ensures.cells, length-leaf_cells (leaf_types_of table), leaf_count table)
+
+pub returns-in-Store-clause-stored : goal.returns-in-Store-clause-stored
+returns-in-Store-clause-stored c =
+    let table = c.args.view.now in
+    let at = subst (IsStepOf (owners_of table) (length table.rows) (length c.args.sets.now)) c.in-Store.is c.requires.step in
+    let set = c.index-sets-set.result in
+    let value = c.value_of-value.result in
+    let fits : SFits w128 value = search rules in
+    store_made table c.args.sets.now c.args.step c.in-Store.place c.in-Store.row c.in-Store.set set c.args.memory.now.items c.put_byte-in-Store.new.blobs.items c.args.bytes.now _ value
+    c.changed_byte-byte.result c.in-Store.is at.2 c.index-sets-set.is c.map.ensures.layout
+    (c.value_of-value.ensures ∙ ap (λ (w : List (List ℕ)). value_on (job_of table None []) (row_in (job_of table None []) w c.in-Store.row) c.in-Store.row (setting_of set)) c.deref-in-Store.ensures.value)
+    (rw (to_z-of_z w128 value fits) at c.changed_byte-byte.ensures.byte) c.put_byte-in-Store.ensures
+
+pub returns-in-Store-clause-memory_sized : goal.returns-in-Store-clause-memory_sized
+returns-in-Store-clause-memory_sized c =
+    let layout = owners_of c.args.view.now in
+    subst (AreSized layout) (sym c.put_byte-in-Store.ensures) (with_byte-sized layout c.args.memory.now.items c.in-Store.place c.changed_byte-byte.result c.requires.memory)

@@ -1,0 +1,12 @@
+-- no byte of a blob so far is shared
+use Rattle.std.proofs.Common.{◌≡◌}
+use Rattle.views.specs.Tables.{owners_of}
+use Rattle.actor_steps.specs.Cuts.{actor_of}
+use Rattle.actor_steps.specs.Shared.{shared_byte}
+use Rattle.actors.proofs.SharedBytes.{first_from}
+use Rattle.actors.proofs.cuts.check_cuts.Given as goal
+
+abbrev pub invariant-loop-blob : goal.invariant-loop-blob
+invariant-loop-blob l = record {
+  so_far : shared_byte (owners_of l.view) (actor_of l.cuts) ≡ first_from (owners_of l.view) (actor_of l.cuts) l.blob;
+}

@@ -1,0 +1,13 @@
+-- no byte so far is shared
+use Rattle.std.proofs.Common.{◌≡◌, ◌-◌, ◌/◌, length}
+use Rattle.std.specs.List.{range_with_len}
+use Rattle.actor_steps.specs.Cuts.{actor_of}
+use Rattle.actor_steps.specs.Shared.{is_shared, first_of_all}
+use Rattle.actors.specs.Cuts.{shown_in_byte}
+use Rattle.actors.proofs.cuts.first_shared.Given as goal
+
+abbrev pub invariant-loop-byte : goal.invariant-loop-byte
+invariant-loop-byte l = record {
+  so_far : first_of_all (λ byte. is_shared (actor_of l.cuts) (shown_in_byte l.owners byte)) (range_with_len 0 (length l.owners / 8))
+      ≡ first_of_all (λ byte. is_shared (actor_of l.cuts) (shown_in_byte l.owners byte)) (range_with_len l.byte (length l.owners / 8 - l.byte));
+}

@@ -1,0 +1,8 @@
+use Rattle.std.proofs.Common.{map}
+use Rattle.actor_steps.specs.Cuts.{actor_of}
+use Rattle.actors.specs.Cuts.{owner_shown}
+use Rattle.actors.proofs.Scans.{shared_is}
+use Rattle.actors.proofs.cuts.is_shared.Goals as goal
+
+pub loop-owner-init : goal.loop-owner-init
+loop-owner-init c = record { so_far = shared_is (actor_of c.args.cuts.now) (map owner_shown c.args.owners.now) }

@@ -1,0 +1,6 @@
+use Rattle.std.proofs.Common.{◌≡◌, take}
+use Rattle.actor_steps.specs.Jobs.{memory_of}
+use Rattle.actors.proofs.memory.copied_blobs.Given as goal
+
+abbrev pub invariant-loop-b : goal.invariant-loop-b
+invariant-loop-b l = l.blobs.items ≡ take l.b (memory_of l.view)

@@ -1,0 +1,6 @@
+use Rattle.std.proofs.Common.{◌≡◌, take}
+use Rattle.actor_steps.specs.Jobs.{fresh_of}
+use Rattle.actors.proofs.memory.fresh_blobs.Given as goal
+
+abbrev pub invariant-loop-b : goal.invariant-loop-b
+invariant-loop-b l = l.blobs.items ≡ take l.b (fresh_of l.view).loaded

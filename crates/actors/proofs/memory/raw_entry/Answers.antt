@@ -1,0 +1,50 @@
+use Rattle.std.proofs.Common.{◌∙◌, List, map, slice_index, subst, sym, SFits, rules, arith}
+use Rattle.std.specs.Int.{w128}
+use Rattle.std.proofs.lemmas.Int.{to_z-of_z}
+use Rattle.places.specs.declared.piece.Piece.{Piece}
+use Rattle.places.specs.declared.piece.Hold.{Hold}
+use Rattle.places.specs.Laws.{IsLocated}
+use Rattle.piece_bits.specs.CellsLaws.{IsCell, some_bits, few_bits, bit_count, read_small, read_entry_is}
+use Rattle.piece_bits.specs.LocatedLaws.{pieces_within}
+use Rattle.actors.proofs.memory.raw_entry.Given as given
+use Rattle.actors.proofs.memory.raw_entry.Goals as goal
+use Rattle.actors.proofs.memory.raw_entry.Goals.{After-as_slice, After-read_pieces}
+
+at : (g : given.Over) (c : goal.After-as_slice g) →
+    IsCell (g.M.Mapping.layout c.args.mapping.now) (g.M.Mapping.slot_count c.args.mapping.now) (g.M.Mapping.hold_list c.args.mapping.now)
+    c.args.slot c.args.cell c.hold-hold.result c.as_slice.result.now
+at g c =
+    let m = c.args.mapping.now in
+    record {
+      laid = g.met.M.Mapping.laws m;
+      slot_in = c.requires.slot_in;
+      cell_in = omega (arith, g.met.M.Mapping.holds_cells m);
+      is = c.hold-hold.ensures;
+      located =
+          subst (λ (ps : List Piece). IsLocated (g.M.Mapping.layout m) c.args.slot c.args.cell (slice_index (map (λ (h : Hold). h.width) (g.M.Mapping.hold_list m)) c.args.cell) ps)
+          (sym c.as_slice.ensures.value) c.locate-pieces.ensures;
+    }
+
+pub read_pieces-requires-clause-within : goal.read_pieces-requires-clause-within
+read_pieces-requires-clause-within g c =
+    let cell = at g c in
+    pieces_within (g.M.Mapping.layout c.args.mapping.now) c.args.slot c.args.cell _ c.as_slice.result.now cell.located c.args.blobs.now c.requires.sized
+
+pub read_pieces-requires-clause-few : goal.read_pieces-requires-clause-few
+read_pieces-requires-clause-few g c = omega (arith, few_bits (at g c), bit_count (at g c))
+
+pub decode-requires-clause-some : goal.decode-requires-clause-some
+decode-requires-clause-some g c = some_bits (at g ((goal.at.decode-requires-clause-some g c).After-as_slice))
+
+pub decode-requires-clause-narrow : goal.decode-requires-clause-narrow
+decode-requires-clause-narrow g c = few_bits (at g ((goal.at.decode-requires-clause-narrow g c).After-as_slice))
+
+pub decode-requires-clause-fits : goal.decode-requires-clause-fits
+decode-requires-clause-fits g c =
+    read_small (at g ((goal.at.decode-requires-clause-fits g c).After-as_slice)) c.args.blobs.now c.read_pieces.result c.read_pieces.ensures
+
+pub returns : goal.returns
+returns g c =
+    let fits : SFits w128 c.decode.result = search rules in
+    to_z-of_z w128 c.decode.result fits ∙ c.decode.ensures
+    ∙ read_entry_is (at g ((goal.at.returns g c).After-as_slice)) c.args.blobs.now c.read_pieces.result c.read_pieces.ensures

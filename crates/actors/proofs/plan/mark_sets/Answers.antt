@@ -1,0 +1,20 @@
+use Rattle.std.proofs.Common.{◌∙◌, [], None, Bool, List, ℤ, fold, ap}
+use Rattle.expr_lang.specs.Bounds.{bound_term}
+use Rattle.expr_lang.specs.Values.{outcome_of}
+use Rattle.linearize.specs.Slots.{index_at}
+use Rattle.row_updates.specs.Rows.{setting_of}
+use Rattle.actor_steps.specs.Jobs.{job_of}
+use Rattle.actor_steps.specs.Micro.{set_reads}
+use Rattle.actors.specs.Rows.{marked}
+use Rattle.actors.proofs.Marks.{one_set}
+use Rattle.actors.proofs.plan.mark_sets.Goals as goal
+
+pub loop-set-preserved : goal.loop-set-preserved
+loop-set-preserved c =
+    let job = job_of c.args.view.now None [] in
+    let row = c.args.row in
+    let set = c.set-item.result in
+    c.value_at-value.ensures.asked
+    ∙ ap (λ (w : List ℤ). fold marked c.loop-set.asked (outcome_of w (index_at c.args.view.now.extents row) (bound_term set.value)).reads) c.requires.values
+    ∙ ap (λ (w : List Bool). fold marked w (set_reads job row (setting_of set))) c.loop-set.invariant
+    ∙ one_set job row c.args.sets.now c.loop-set.set-index set c.args.asked.now c.loop-set-test.true c.set-item.is

@@ -1,0 +1,21 @@
+use Rattle.std.proofs.Common.{◌≡◌, ◌∙◌, true, false, map, sym}
+use Rattle.row_updates.specs.Rows.{filter_term, setting_of}
+use Rattle.actor_steps.specs.Jobs.{job_of}
+use Rattle.actor_steps.specs.Micro.{lets_through}
+use Rattle.actors.proofs.Marks.{plan_left, plan_through}
+use Rattle.actors.proofs.plan.plan_of.Goals as goal
+
+pub returns-then-not-lets_through : goal.returns-then-not-lets_through
+returns-then-not-lets_through c =
+    let job = job_of c.args.view.now (filter_term c.args.filter) (map setting_of c.args.sets.now) in
+    let out : lets_through job c.args.row ≡ false = sym c.lets_through.ensures.through ∙ c.if-not-lets_through.true in
+    record { asked = plan_left job c.args.row c.lets_through.new.asked out c.lets_through.ensures.asked; through = sym out }
+
+pub returns : goal.returns
+returns c =
+    let job = job_of c.args.view.now (filter_term c.args.filter) (map setting_of c.args.sets.now) in
+    let through : lets_through job c.args.row ≡ true = sym c.lets_through.ensures.through ∙ c.if-not-lets_through.false in
+    record {
+      asked = plan_through job c.args.row c.lets_through.new.asked c.mark_sets.new.asked through c.lets_through.ensures.asked c.mark_sets.ensures;
+      through = sym through;
+    }

@@ -1,0 +1,35 @@
+use Rattle.std.proofs.Common.{◌∙◌, [], map, get_or, subst, sym, ap}
+use Rattle.linearize.specs.Slots.{index_at}
+use Rattle.row_updates.specs.Rows.{filter_term, setting_of, given_row}
+use Rattle.views.specs.Tables.{Table, answer_of, kept_of, after_log}
+use Rattle.actor_steps.specs.Jobs.{job_of}
+use Rattle.actors.specs.Rows.{IsPlanOf}
+use Rattle.actors.proofs.Tried.{row_reads, row_updated}
+use Rattle.actors.proofs.plan.plan_row.Goals as goal
+
+pub returns-in_err-_passed-clause-read : goal.returns-in_err-_passed-clause-read
+returns-in_err-_passed-clause-read g c =
+    let view = c.args.view.now in
+    let row = c.args.row in
+    c.try_row.ensures.same
+    ∙ ap (after_log view) (sym (row_reads (answer_of view) row (get_or view.rows row []) (index_at view.extents row) (filter_term c.args.filter) (map setting_of c.args.sets.now)))
+
+pub returns-clause-read : goal.returns-clause-read
+returns-clause-read g c =
+    let view = c.args.view.now in
+    let row = c.args.row in
+    c.try_row.ensures.same
+    ∙ ap (after_log view) (sym (row_reads (answer_of view) row (get_or view.rows row []) (index_at view.extents row) (filter_term c.args.filter) (map setting_of c.args.sets.now)))
+
+pub returns-clause-planned : goal.returns-clause-planned
+returns-clause-planned g c =
+    subst (λ (t : Table). IsPlanOf (job_of t (filter_term c.args.filter) (map setting_of c.args.sets.now)) c.args.row c.plan_of.result) c.try_row.ensures.same c.plan_of.ensures
+
+pub returns-clause-updated : goal.returns-clause-updated
+returns-clause-updated g c =
+    let view = c.args.view.now in
+    let row = c.args.row in
+    let sets = map setting_of c.args.sets.now in (
+      given_row (kept_of view) sets _ (get_or view.rows row []),
+      row_updated (answer_of view) row (get_or view.rows row []) (index_at view.extents row) (filter_term c.args.filter) sets (kept_of view) _ c.in_ok-_passed.ensures.tried,
+    )

@@ -1,0 +1,12 @@
+use Rattle.std.proofs.Common.{map}
+use Rattle.row_updates.specs.Rows.{filter_term, setting_of}
+use Rattle.actor_steps.specs.Jobs.{job_of}
+use Rattle.actors.specs.Rows.{ArePlans}
+use Rattle.actors.proofs.Tried.{AreTried}
+use Rattle.actors.proofs.plan.plan_rows.Given as goal
+
+abbrev pub invariant-loop-row : goal.invariant-loop-row
+invariant-loop-row g l = record {
+  tried : AreTried l.initial.view (filter_term l.filter) (map setting_of l.sets) l.view l.row;
+  plans : ArePlans (job_of l.initial.view (filter_term l.filter) (map setting_of l.sets)) l.row l.plans.items;
+}

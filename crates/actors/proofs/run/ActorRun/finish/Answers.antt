@@ -1,0 +1,28 @@
+use Rattle.std.proofs.Common.{◌≤◌, ◌∙◌, length, ap, arith}
+use Rattle.actor_steps.specs.Jobs.{fresh_of}
+use Rattle.actors.specs.Runs.{Run, job_in, rest_in}
+use Rattle.actors.proofs.Finishes.{all_done, finished_plain}
+use Rattle.actors.proofs.run.ActorRun.finish.Goals as goal
+
+pub loop-actor-preserved : goal.loop-actor-preserved
+loop-actor-preserved c =
+    let new = c.finish_actor.new.self in
+    record {
+      left = c.finish_actor.ensures.left ∙ c.loop-actor.invariant.left;
+      same = c.finish_actor.ensures.same ∙ ap (λ (run : Run). record run { state = new.state }) c.loop-actor.invariant.same;
+      count = c.finish_actor.ensures.count ∙ c.loop-actor.invariant.count;
+    }
+
+pub returns-clause-done : goal.returns-clause-done
+returns-clause-done c = λ actor.
+    let first = c.args.self.now in
+    let over : length first.state.actors ≤ c.loop-actor.actor = omega (arith, c.loop-actor-test.false, c.actor_count-actor-end.ensures) in
+    let is = all_done c.loop-actor.actor first c.loop-actor.self over c.loop-actor.invariant.count c.loop-actor.invariant.left in
+    ap (λ (run : Run). rest_in run actor) is ∙ c.schedules_agree.ensures.left (job_in first) (fresh_of first.found) first.state actor
+
+pub returns-clause-plain : goal.returns-clause-plain
+returns-clause-plain c =
+    let first = c.args.self.now in
+    let over : length first.state.actors ≤ c.loop-actor.actor = omega (arith, c.loop-actor-test.false, c.actor_count-actor-end.ensures) in
+    let is = all_done c.loop-actor.actor first c.loop-actor.self over c.loop-actor.invariant.count c.loop-actor.invariant.left in
+    finished_plain c.schedules_agree.ensures.bytes first c.loop-actor.self c.law.ensures.parted c.law.ensures.reached is

@@ -1,0 +1,6 @@
+use Rattle.std.proofs.Common.{subst}
+use Rattle.actors.specs.Kept.{IsReached}
+use Rattle.actors.proofs.run.ActorRun.law.Goals as goal
+
+pub returns-clause-reached : goal.returns-clause-reached
+returns-clause-reached c = subst IsReached c.self.view_is c.self.invariant.reached

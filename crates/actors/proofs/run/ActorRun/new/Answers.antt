@@ -1,0 +1,57 @@
+use Rattle.std.proofs.Common.{◌≡◌, ◌∙◌, ℕ, List, get_or, sym, ap, subst}
+use Rattle.record_dim.specs.Schemas.{schema_fields}
+use Rattle.map_expr.specs.Terms.{term_of}
+use Rattle.row_updates.specs.Rows.{filter_term}
+use Rattle.views.specs.Tables.{Table}
+use Rattle.actor_steps.specs.Jobs.{memory_of, fresh_of}
+use Rattle.actors.specs.Kept.{table_at, run_of, IsRun}
+use Rattle.actors.specs.Runs.{uncounted}
+use Rattle.actors.proofs.Begins.{table_same, run_begun, run_kept}
+use Rattle.actors.proofs.Teams.{IsTeam}
+use Rattle.actors.proofs.Turns.{stands_counted}
+use Rattle.actors.proofs.run.ActorRun.new.Given as given
+use Rattle.actors.proofs.run.ActorRun.new.Goals as goal
+use Rattle.actors.proofs.run.ActorRun.new.Goals.{After-mode}
+
+abbrev table : (g : given.Over) → After-mode g → Table
+table g c = table_at (schema_fields c.in_ok-schema.schema) c.extents.result (term_of c.in_ok-expr.expr) c.mode.result c.in_ok-found.found.items
+
+found : (g : given.Over) (c : After-mode g) → table g c ≡ uncounted c.args.view.now
+found g c =
+    let read = c.in_ok-plans.ensures.read in
+    table_same c.args.view.now c.laws_of_view.ensures.lawful _ _ _ _ _ (c.in_ok-schema.ensures ∙ c.schema.ensures.value ∙ ap (λ (t : Table). t.fields) read)
+    (c.extents.ensures.value ∙ ap (λ (t : Table). t.extents) read) (c.in_ok-expr.ensures ∙ c.expr.ensures ∙ ap (λ (t : Table). t.mapping) read)
+    (c.mode.ensures ∙ ap (λ (t : Table). t.mode) read) c.in_ok-found.ensures
+
+team : (g : given.Over) (c : After-mode g) → IsTeam c.args.view.now c.args.cuts.now c.in_ok-actors.actors.items
+team g c =
+    let read = c.in_ok-plans.ensures.read in
+    let here = subst (λ (t : Table). IsTeam t c.args.cuts.now c.in_ok-actors.actors.items) read
+    (record { shown = c.in_ok-actors.ensures.shown; standing = c.in_ok-actors.ensures.standing; count = c.in_ok-actors.ensures.count }) in
+    record {
+      shown = here.shown;
+      standing = λ sets a other low. stands_counted c.args.view.now _ sets (get_or c.in_ok-actors.actors.items a other) (here.standing sets a other low);
+      count = here.count;
+    }
+
+pub invariant_of-result : goal.invariant_of-result
+invariant_of-result g c =
+    let view = c.args.view.now in
+    let read = c.in_ok-plans.ensures.read in
+    subst (λ (cuts : List ℕ). IsRun (table g c) (filter_term c.args.filter) c.args.sets.now cuts c.in_ok-memory.memory.items c.in_ok-scratch.scratch.items c.in_ok-plans.plans.rows.items
+    c.in_ok-targets.targets.items c.in_ok-actors.actors.items) (sym c.in_ok-cuts.ensures.items)
+    (run_kept view (filter_term c.args.filter) c.args.sets.now c.args.cuts.now c.in_ok-memory.memory.items c.in_ok-actors.actors.items (c.in_ok-memory.ensures ∙ ap memory_of read) (team g c)
+    (table g c) c.in_ok-scratch.scratch.items c.in_ok-plans.plans.rows.items c.in_ok-targets.targets.items (found g c) c.laws_of_view.ensures.lawful
+    (c.in_ok-scratch.ensures ∙ ap (λ (t : Table). (fresh_of t).loaded) read) c.in_ok-plans.ensures.planned c.in_ok-targets.ensures c.requires.few c.requires.sets c.requires.cuts c.requires.apart
+    c.in_ok-plans.ensures.updated)
+
+pub returns-clause-begun : goal.returns-clause-begun
+returns-clause-begun g c =
+    let d = (goal.at.returns-clause-begun g c).After-mode in
+    let view = c.args.view.now in
+    let filter = filter_term c.args.filter in
+    let sets = c.args.sets.now in
+    let memory = c.in_ok-memory.memory.items in
+    let actors = c.in_ok-actors.actors.items in
+    ap (λ (cuts : List ℕ). run_of (table g d) filter sets cuts memory actors) c.in_ok-cuts.ensures.items
+    ∙ run_begun view filter sets c.args.cuts.now memory actors (c.in_ok-memory.ensures ∙ ap memory_of c.in_ok-plans.ensures.read) (team g d) (table g d) (found g d)

@@ -1,0 +1,6 @@
+use Rattle.std.proofs.Common.{◌≡◌, map, take}
+use Rattle.row_updates.specs.declared.update.Assign.{Assign}
+use Rattle.actors.proofs.team.targets_of.Given as goal
+
+abbrev pub invariant-loop-set : goal.invariant-loop-set
+invariant-loop-set l = l.targets.items ≡ take l.set-index (map (λ (set : Assign). set.leaf) l.sets)
