@@ -225,7 +225,8 @@ fn next(x: u64) -> u64
 
 // Writes the bytes of all blobs.
 fn write_memory<K: Sink>(run: &ActorRun<'_>, blobs: usize, out: &mut K) -> Result<(), Failed>
-    requires { blobs ≡ length run.now.state.memory }
+    requires there { blobs ≡ length (owners_of run.now.found) }
+    requires all { blobs ≡ length run.now.state.memory }
     ensures { Writes K.taken K.faults out.old out.new result (memory_text run.now.state.memory) }
 {
     for blob in 0..blobs {

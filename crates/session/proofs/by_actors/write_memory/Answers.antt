@@ -10,7 +10,7 @@ use Rattle.session.proofs.by_actors.write_memory.Goals as goal
 pub returns-in_err-write_bytes : goal.returns-in_err-write_bytes
 returns-in_err-write_bytes g c =
     let memory = c.args.run.now.state.memory in
-    let small : c.loop-blob.blob < length memory = omega (arith, c.loop-blob-test.true, c.requires) in
+    let small : c.loop-blob.blob < length memory = omega (arith, c.loop-blob-test.true, c.requires.all) in
     let err : IsErr c.from_residual.result = search rules in
     let is : bytes_text _ ≡ bytes_text (get_or memory c.loop-blob.blob []) = ap bytes_text (bytes_of_bits c.memory-blob.result.now c.bytes_law.ensures ∙ c.memory-blob.ensures) in
     let stopped = rw is at c.in_err-write_bytes.ensures in
@@ -19,7 +19,7 @@ returns-in_err-write_bytes g c =
 pub loop-blob-preserved : goal.loop-blob-preserved
 loop-blob-preserved g c =
     let memory = c.args.run.now.state.memory in
-    let small : c.loop-blob.blob < length memory = omega (arith, c.loop-blob-test.true, c.requires) in
+    let small : c.loop-blob.blob < length memory = omega (arith, c.loop-blob-test.true, c.requires.all) in
     let is : bytes_text _ ≡ bytes_text (get_or memory c.loop-blob.blob []) = ap bytes_text (bytes_of_bits c.memory-blob.result.now c.bytes_law.ensures ∙ c.memory-blob.ensures) in
     let wrote = rw is at c.in_ok-write_bytes.ensures in
     subst (λ (text : List ℕ). Wrote g.K.Sink.taken g.K.Sink.faults c.args.out.now c.write_bytes.new.sink text) (flat_map_push bytes_text memory c.loop-blob.blob [] small)
