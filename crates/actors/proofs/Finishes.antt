@@ -1,6 +1,6 @@
 -- What is left of a run, and the memory behind it.
 use Rattle.std.proofs.Common.{◌≡◌, ℕ, suc, ◌+◌, ◌<◌, ◌≤◌, true, false, ℤ, List, [], ◌∷◌, ◌++◌, length, get_or, set, drop, replicate, refl, sym, ap, ◌∙◌, subst, arith}
-use Rattle.std.proofs.lemmas.List.{drop-set, drop_more, drop_all, length-set, get_or-set_same}
+use Rattle.std.proofs.lemmas.List.{drop-set, drop_more, drop_all, length-set}
 use Rattle.actor_steps.specs.Agree.{IsParted, SchedulesAgree}
 use Rattle.actor_steps.specs.Confluence.{Actor, State, moved}
 use Rattle.actor_steps.specs.Jobs.{memory_of, fresh_of, start_of}
@@ -62,18 +62,6 @@ module _ (job : Job) (fresh : Registers) where
     by_rest [] e = ap (λ (s : Here). length s.actors) (turn_none n state e)
     by_rest (micro ∷ more) e = ap (λ (s : Here). length s.actors) (turn_some n state micro more e) ∙ length-set state.actors n (record { rest = more; registers = loaded job micro state.memory (get_or state.actors n idle).registers })
 
-  -- a turn that is made leaves less
-  pub turn_less : (n : ℕ) (state : Here) → n < length state.actors → has_any (rest_at n state) ≡ true → length (rest_at n (run_by job fresh (n ∷ []) state)) < length (rest_at n state)
-  turn_less n state low made = by_rest (rest_at n state) refl made where
-    by_rest : (rest : List Micro) → rest_at n state ≡ rest → has_any rest ≡ true → length (rest_at n (run_by job fresh (n ∷ []) state)) < length (rest_at n state)
-    by_rest [] e none = absurd (let bad : false ≡ true = none in cc)
-    by_rest (micro ∷ more) e some =
-        let left : rest_at n (run_by job fresh (n ∷ []) state) ≡ more =
-        ap (rest_at n) (turn_some n state micro more e)
-        ∙ ap (λ (a : Actor Micro Registers). a.rest)
-        (get_or-set_same state.actors n (record { rest = more; registers = loaded job micro state.memory (get_or state.actors n idle).registers }) idle low) in
-        omega (arith, ap length left, ap length e)
-
   -- an actor with nothing left makes way for the next one
   pub none_behind : (n : ℕ) (state : Here) → n < length state.actors → has_any (rest_at n state) ≡ false → left_from (n + 1) state ≡ left_from n state
   none_behind n state low none = by_rest (rest_at n state) refl none where
@@ -96,9 +84,6 @@ pub record IsLeft (actor : ℕ) (first run : Run) : Type 0 where
   pub same : run ≡ record first { state = run.state }
   pub count : length run.state.actors ≡ length first.state.actors
 
-pub all_there : (actor : ℕ) (run : Run) → IsLeft actor run run
-all_there actor run = record { left = refl; same = refl; count = refl }
-
 pub turn_made : (actor : ℕ) (first run new : Run) → actor < length first.state.actors → new ≡ after_turns run (actor ∷ []) → IsLeft actor first run → IsLeft actor first new
 turn_made actor first run new low is so_far = record {
   left = ap (finished_from actor) is
@@ -106,12 +91,6 @@ turn_made actor first run new low is so_far = record {
   same = is ∙ ap (λ (r : Run). record r { state = (after_turns run (actor ∷ [])).state }) so_far.same ∙ ap (λ (r : Run). record first { state = r.state }) (sym is);
   count = ap (λ (r : Run). length r.state.actors) is ∙ turn_count (job_in run) (fresh_of run.found) actor run.state ∙ so_far.count;
 }
-
-pub turn_smaller : (actor : ℕ) (first run new : Run) → actor < length first.state.actors → IsLeft actor first run → new ≡ after_turns run (actor ∷ []) → has_any (rest_in run actor) ≡ true
-    → length (rest_in new actor) < length (rest_in run actor)
-turn_smaller actor first run new low so_far is made =
-    let less = turn_less (job_in run) (fresh_of run.found) actor run.state (omega (arith, low, so_far.count)) made in
-    omega (arith, less, ap (λ (r : Run). length (rest_in r actor)) is)
 
 pub actor_done : (actor : ℕ) (first run : Run) → actor < length first.state.actors → IsLeft actor first run → has_any (rest_in run actor) ≡ false
     → finished_from (actor + 1) run ≡ finished_from actor first

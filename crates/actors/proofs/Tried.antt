@@ -8,7 +8,7 @@ use Rattle.expr_lang.specs.Values.{outcome_of}
 use Rattle.linearize.specs.Slots.{index_at}
 use Rattle.views.specs.Stores.{Answer, Keeping}
 use Rattle.views.specs.Tables.{Table, answer_of, kept_of, after_log}
-use Rattle.views.specs.Tallies.{Access, Read, Write, Tally}
+use Rattle.views.specs.Tallies.{Access, Read, Write}
 use Rattle.views.specs.TallyLaws.{after_log-append, after_log-none, logs_more}
 use Rattle.row_updates.specs.declared.fault.UpdateFault.{UpdateFault}
 use Rattle.row_updates.specs.Logs.{value_log, filter_log, if_ok, if_passes, sides_log, stores_log, tried_log, if_given, row_log, update_log}
@@ -146,10 +146,6 @@ module _ (answer : Answer) (number : ℕ) (row : List ℤ) (index : List ℕ) wh
 
     pub row_refused : (keep : Keeping) (fault : UpdateFault) → tried_row answer filter sets number row index ≡ Err fault → updated_row answer keep filter sets number row index ≡ Err fault
     row_refused keep fault stop = updated_as_tried answer filter sets number row index keep ∙ rw stop refl
-
--- a table whose counts alone changed
-pub counted_alone : (old new : Table) (tally : Tally) → new ≡ record old { tally = tally } → new ≡ record old { tally = new.tally }
-counted_alone old new tally e = e ∙ ap (λ (t : Tally). record old { tally = t }) (sym (ap (λ (t : Table). t.tally) e))
 
 module _ (old : Table) (filter : Option (Term ℕ)) (sets : List Setting) where
   -- the rows so far were tried

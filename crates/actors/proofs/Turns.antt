@@ -10,10 +10,9 @@ use Rattle.views.specs.Tables.{Table, owners_of, leaf_count_of}
 use Rattle.views.specs.Tallies.{Tally}
 use Rattle.actor_steps.specs.declared.place.Place.{Place}
 use Rattle.actor_steps.specs.Agree.{IsLawful}
-use Rattle.actor_steps.specs.Jobs.{job_of, fresh_of}
+use Rattle.actor_steps.specs.Jobs.{job_of}
 use Rattle.actor_steps.specs.Micro.{Job, Micro, Registers, row_in, value_on, with_byte, with_bits_of, stored, loaded}
 use Rattle.actor_steps.specs.Confluence.{Actor, State, moved}
-use Rattle.actor_steps.specs.ScheduleLaws.{run_by-append}
 use Rattle.actor_steps.specs.Schedules.{idle_with, run_by}
 use Rattle.actor_tasks.specs.declared.rows.Asks.{Asks}
 use Rattle.actor_tasks.specs.Marks.{AreRowsOf}
@@ -24,7 +23,8 @@ use Rattle.actors.specs.declared.step.Step.{Step}
 use Rattle.actors.specs.declared.step.Step.TheVariants as step
 use Rattle.actors.specs.Rows.{ArePlans, asks_at}
 use Rattle.actors.specs.Kept.{AreStanding, IsReached}
-use Rattle.actors.specs.Runs.{Run, uncounted, started_run, after_turns, job_in, has_any}
+use Rattle.actors.specs.RunLaws.{after_both}
+use Rattle.actors.specs.Runs.{Run, uncounted, started_run, after_turns, has_any}
 use Rattle.actors.specs.Standing.{IsCursor, IsStanding, IsTurn, set_at, cursor_steps, step_shown, bytes_shown, actor_shown, state_shown}
 use Rattle.actors.proofs.Laws.{leaf_count}
 
@@ -165,11 +165,6 @@ stands_among table sets actors a new are is b other low =
     subst (IsStanding table sets) (sym (ap (λ (w : ℕ). get_or (set actors a new) w other) same ∙ get_or-set_same actors a new other (omega (arith, inside, same)))) is)
     (λ (apart : b ≡ a → ⊥). subst (IsStanding table sets) (sym (get_or-set_other actors a b new other apart)) (are b other inside))
     (cases_eq b a)
-
--- a schedule behind another
-pub after_both : (run : Run) (first rest : List ℕ) → after_turns (after_turns run first) rest ≡ after_turns run (first ++ rest)
-after_both run first rest =
-    ap (λ (s : State (List (List ℕ)) Micro Registers). record run { state = s }) (sym (run_by-append (job_in run) (fresh_of run.found) first rest run.state))
 
 -- one turn more is reached as well
 pub reached_more : (run : Run) (a : ℕ) (new : Run) → IsReached run → new ≡ after_turns run (a ∷ []) → IsReached new

@@ -46,8 +46,9 @@ IsReached run = (schedule : List ℕ) × (run ≡ after_turns (started_run run.f
 abbrev pub AreStanding : Table → ℕ → List Standing → Type 0
 AreStanding table sets actors = (a : ℕ) (other : Standing) → a < length actors → IsStanding table sets (slice_index_or actors a other)
 
--- the facts of a run: cuts part the rows of a lawful table, no byte is shared, and the plain update meets no fault. What rows ask for and the leaves that are set are at hand, memory and the scratch bytes have the lengths of the blobs, each
--- actor stands somewhere, and some schedule leads there
+-- the facts of a run: cuts part the rows of a lawful table, no byte is shared, and the plain update meets no fault; what rows ask for and the
+-- leaves that are set are at hand; memory and the scratch bytes have the lengths of the blobs; each actor stands somewhere; some schedule
+-- leads there
 pub record IsRun (table : Table) (filter : Option (Term ℕ)) (sets : List Assign) (cuts : List ℕ) (memory scratch : List (List ℕ)) (plans : List Asks) (targets : List ℕ)
     (actors : List Standing) : Type 0 where
   pub parted : (rows : List (List ℤ)) × IsParted table filter (map setting_of sets) cuts rows

@@ -5,3 +5,4 @@ pub mod Rows
 pub mod Standing
 pub mod Updates
 pub mod Kept
+pub mod RunLaws

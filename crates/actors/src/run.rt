@@ -1,5 +1,5 @@
 // Runs of the actors of an update.
-ghost use Rattle.std.specs.Prelude.{ℕ, ℤ, List, ◌≡◌, ◌<◌, ◌≤◌, ◌+◌, ◌*◌, All, None, false, [], ◌∷◌, IfOk, IfErr, OnOk, OnErr, IfSome, length, map, sum_by, slice_index_or};
+ghost use Rattle.std.specs.Prelude.{ℤ, List, ◌≡◌, ◌<◌, ◌≤◌, ◌+◌, ◌*◌, All, None, false, [], ◌∷◌, IfOk, IfErr, OnOk, OnErr, IfSome, length, map, sum_by, slice_index_or};
 ghost use Rattle.row_updates.specs.Logs.{update_log};
 ghost use Rattle.row_updates.specs.Rows.{IsOver, IsSetOf, filter_term, setting_of, updated_of};
 ghost use Rattle.views.specs.Tables.{after_log, owners_of};
@@ -150,7 +150,7 @@ impl<'a> ActorRun<'a> {
     }
 
     /// Makes the micro-steps that are left, actor by actor. Then no actor has one left, and the memory is that of the blobs that the plain update
-    /// leaves, byte for byte.
+    /// leaves, byte for byte. The view is as the run found it.
     pub fn finish(&mut self, view: &View)
         requires view { uncounted view.now ≡ self.old.found }
         ensures finished { self.new ≡ after_turns self.old (turns_left self.old.state) }
@@ -164,23 +164,12 @@ impl<'a> ActorRun<'a> {
         }
     }
 
-    // Makes what one actor has left: then as much is left as was behind it.
-    fn finish_actor(&mut self, view: &View, actor: usize)
-        requires actor { actor ≤ length self.old.cuts }
-        requires view { uncounted view.now ≡ self.old.found }
-        ensures left { finished_from (actor + 1) self.new ≡ finished_from actor self.old }
-        ensures same { self.new ≡ record self.old { state = self.new.state } }
-        ensures count { length self.new.state.actors ≡ length self.old.state.actors }
+    /// A blob of the memory.
+    pub fn memory(&self, blob: usize) -> &Blob
+        requires { blob < length (owners_of self.now.found) }
+        ensures { result.now ≡ slice_index_or self.now.state.memory blob [] }
     {
-        self.law();
-        while self.turn(view, actor) {}
-    }
-
-    // The number of actors.
-    fn actor_count(&self) -> usize
-        ensures { result ≡ length self.now.state.actors }
-    {
-        self.actors.len()
+        &self.memory[blob]
     }
 
     /// Sets each leaf that is set of each row that the filter lets through to the reading of the memory, and counts one write of each. No actor has
@@ -202,6 +191,25 @@ impl<'a> ActorRun<'a> {
         );
     }
 
+    // Makes what one actor has left, so that all that is left is what those behind it have.
+    fn finish_actor(&mut self, view: &View, actor: usize)
+        requires actor { actor ≤ length self.old.cuts }
+        requires view { uncounted view.now ≡ self.old.found }
+        ensures left { finished_from (actor + 1) self.new ≡ finished_from actor self.old }
+        ensures same { self.new ≡ record self.old { state = self.new.state } }
+        ensures count { length self.new.state.actors ≡ length self.old.state.actors }
+    {
+        self.law();
+        while self.turn(view, actor) {}
+    }
+
+    // The number of actors.
+    fn actor_count(&self) -> usize
+        ensures { result ≡ length self.now.state.actors }
+    {
+        self.actors.len()
+    }
+
     // What holds of each run. It does nothing: its contract is the law.
     fn law(&self)
         ensures parted { (rows : List (List ℤ)) × IsParted self.now.found self.now.filter self.now.sets self.now.cuts rows }
@@ -209,13 +217,5 @@ impl<'a> ActorRun<'a> {
         ensures actors { length self.now.state.actors ≡ length self.now.cuts + 1 }
     {
         let _cuts = &self.cuts;
-    }
-
-    /// A blob of the memory.
-    pub fn memory(&self, blob: usize) -> &Blob
-        requires { blob < length (owners_of self.now.found) }
-        ensures { result.now ≡ slice_index_or self.now.state.memory blob [] }
-    {
-        &self.memory[blob]
     }
 }

@@ -1,5 +1,5 @@
 // Where an actor stands in its rows, and its next micro-step.
-ghost use Rattle.std.specs.Prelude.{◌≡◌, ◌<◌, ◌≤◌, ◌+◌, All, IfSome, length};
+ghost use Rattle.std.specs.Prelude.{◌≡◌, ◌<◌, ◌≤◌, All, IfSome, length};
 ghost use Rattle.actor_steps.specs.BytesOfLaws.{IsByte};
 ghost use Rattle.actor_steps.specs.Micro.{Job};
 ghost use Rattle.actor_tasks.specs.Marks.{AreRowsOf};

@@ -1,5 +1,5 @@
 // The actors of a run before their first micro-step, and the leaves that it sets.
-ghost use Rattle.std.specs.Prelude.{ℕ, ◌≡◌, ◌+◌, ◌≤◌, IfOk, length, map};
+ghost use Rattle.std.specs.Prelude.{ℕ, ◌≡◌, ◌+◌, IfOk, length, map};
 ghost use Rattle.actor_steps.specs.Cuts.{AreCuts, parts_from, team_of};
 ghost use Rattle.actor_steps.specs.Jobs.{fresh_of};
 ghost use Rattle.actor_steps.specs.Micro.{Job};
