@@ -28,7 +28,12 @@ const SCRIPT_LINES: usize = 65_536;
 /// Runs a script that was read, with what its lines read from `shelf` and what it writes to `sink`.
 ///
 /// Where the shelf tells its files, the bytes that the sink took are those of the specification's `run_form`, as the status says. It is never `Usage`.
-pub fn run_form<H: Shelf, K: Sink>(alloc: Global, script: &[u8], shelf: &mut H, sink: &mut K) -> Status
+pub fn run_form<H: Shelf, K: Sink>(
+    alloc: Global,
+    script: &[u8],
+    shelf: &mut H,
+    sink: &mut K,
+) -> Status
     ensures run { (files : List File) → H.files shelf.old ≡ Some files
         → IsRun K.taken sink.old sink.new (run_form script.now files)
         (Rose (H.faults shelf.old) (H.faults shelf.new)) result }
