@@ -1,6 +1,6 @@
 -- From the line that a text is to the text.
-use Rattle.std.proofs.Common.{◌≡◌, ℕ, ◌≤◌, ltb, Bool, false, List, length, Option, None, Some, Result, Ok, option_map, refl, sym, ap, subst, ◌∙◌, arith}
-use Rattle.std.specs.Prelude.{◌⊎◌, if◌then◌else◌, IsSome, IsSomeAnd}
+use Rattle.std.proofs.Common.{◌≡◌, ℕ, ◌≤◌, ltb, Bool, false, List, length, Option, None, Some, Result, Ok, Err, refl, sym, ap, subst, ◌∙◌, arith}
+use Rattle.std.specs.Prelude.{◌⊎◌, if◌then◌else◌, IsSome}
 use Rattle.std.proofs.lemmas.Bool.Decides.{nat_tests}
 use Rattle.layout_io.specs.Faults.{Rose}
 use Rattle.layout_io.specs.Files.{File}
@@ -10,16 +10,19 @@ use Rattle.line_grammar.specs.declared.line.Line.TheVariants as line
 use Rattle.line_grammar.specs.declared.version.Version.{Version}
 use Rattle.schema_lang.specs.LineOf.{line_of}
 use Rattle.schema_lang.specs.Parsing.{IsWhole}
+use Rattle.command_checks.specs.declared.fault.StepFault.{StepFault}
+use Rattle.command_checks.specs.declared.fault.StepFault.TheVariants as fault
 use Rattle.script_runs.specs.Steps.{ending_of}
 use Rattle.script_runs.specs.declared.fold.LineEnd.{LineEnd}
 use Rattle.script_runs.specs.declared.fold.LineEnd.TheVariants as end
-use Rattle.session.specs.Answers.{IsFit}
+use Rattle.session.specs.Answers.{IsFit, ending_of as fault_ending}
+use Rattle.session.specs.Loads.{UnreadOnly}
 use Rattle.worlds.specs.Worlds.{World}
 use Rattle.worlds.specs.Answers.{Unread, Unreadable, EndsBy, EndCause}
 use Rattle.worlds.specs.Outcomes.{Outcome, Faults, Left}
 use Rattle.worlds.specs.Step.{step}
 use Rattle.worlds.specs.declared.fault.CommandFault.TheVariants.{LineTooLong, TooDeep}
-use Rattle.session_runs.specs.Steps.{step_text, step_line, TellsFile}
+use Rattle.session_runs.specs.Steps.{step_text, step_line, EndsAs, TellsFile}
 
 -- a text that is a line does what the line does
 pub text_steps : (version : Version) (files : List File) (world : World) (text : List ℕ) (sentence : Sentence) (unread : Bool) → length text ≤ 4096 → line_of version text ≡ Ok sentence → deepest sentence ≤ 32 → step_text version files world text unread ≡ step world sentence files unread
@@ -30,17 +33,8 @@ text_steps version files world text sentence unread short is shallow =
     ∙ ap (λ (l : Result Sentence ℕ). step_line files world l unread) is
     ∙ ap (λ (b : Bool). if b then Faults TooDeep else step world sentence files unread) few
 
--- a line whose file was not read reads one
-pub reads_one : (file : Option (List ℕ)) (P : List ℕ → Type 0) → IsSomeAnd file P → IsSome file
-reads_one None P unread = absurd unread
-reads_one (Some name) P unread = refl
-
-pub map_some : {A B : Type 0} (f : A → B) (x : Option A) (y : Option B) → option_map f x ≡ y → IsSome y → IsSome x
-map_some f (Some a) y is some = refl
-map_some f None y is some = subst (λ (o : Option _). IsSome o) (sym is) some
-
 -- a line whose file was not read ends the run with the file's name
-pub told_unread : {K : Type 0} (taken : K → Option (List ℕ)) (faults : K → ℕ) (old new : K) (name : List ℕ) (file : Option (List ℕ)) (outcome : Bool → Outcome Left) (read_failed : Type 0) (ending : LineEnd) →
+told_unread : {K : Type 0} (taken : K → Option (List ℕ)) (faults : K → ℕ) (old new : K) (name : List ℕ) (file : Option (List ℕ)) (outcome : Bool → Outcome Left) (read_failed : Type 0) (ending : LineEnd) →
     file ≡ Some name → TellsFile name ending → EndsBy taken faults old new outcome read_failed (Unread file) → EndsBy taken faults old new outcome read_failed (ending_of ending)
 told_unread taken faults old new name file outcome read_failed (end.Source told) is tells unread =
     subst (λ (f : Option (List ℕ)). EndsBy taken faults old new outcome read_failed (Unread f)) (is ∙ ap Some (sym tells)) unread
@@ -56,9 +50,35 @@ fit_of_whole (line.Define name dim) whole = whole
 fit_of_whole _ whole = tt
 
 -- which counts rose where a file was not read
-pub unread_cause : (name : List ℕ) (files : Option (List File)) (shelf_old shelf_new sink_old sink_new : ℕ) (ending : LineEnd) →
+unread_cause : (name : List ℕ) (files : Option (List File)) (shelf_old shelf_new sink_old sink_new : ℕ) (ending : LineEnd) →
     TellsFile name ending → (Rose shelf_old shelf_new ⊎ IsSome files) × (shelf_old ≤ shelf_new) × (sink_new ≡ sink_old) → EndCause files shelf_old shelf_new sink_old sink_new (ending_of ending)
 unread_cause name files shelf_old shelf_new sink_old sink_new (end.Source told) tells cause = cause
 unread_cause name files shelf_old shelf_new sink_old sink_new end.NoMemory tells cause = (cause.1, cause.2)
 unread_cause name files shelf_old shelf_new sink_old sink_new (end.Command fault) tells cause = absurd tells
 unread_cause name files shelf_old shelf_new sink_old sink_new end.Sink tells cause = absurd tells
+
+-- a line that a session refused so ends the run so
+pub ends_as : {K : Type 0} (taken : K → Option (List ℕ)) (faults : K → ℕ) (old new : K) (file : Option (List ℕ)) (outcome : Bool → Outcome Left) (read_failed : Type 0) (refusal : StepFault) (ending : LineEnd) →
+    EndsAs file refusal ending → EndsBy taken faults old new outcome read_failed (fault_ending file refusal) → EndsBy taken faults old new outcome read_failed (ending_of ending)
+ends_as taken faults old new file outcome read_failed (fault.Command refusal) ending is ends = rw is ends
+ends_as taken faults old new None outcome read_failed fault.Source ending tells ends = absurd ends
+ends_as taken faults old new (Some name) outcome read_failed fault.Source ending tells ends = told_unread taken faults old new name (Some name) outcome read_failed ending refl tells ends
+ends_as taken faults old new file outcome read_failed fault.Sink ending is ends = rw is ends
+ends_as taken faults old new file outcome read_failed fault.NoMemory ending is ends = rw is ends
+
+-- and so the counts rose; where it was not read, the line reads a file
+pub cause_as : (file : Option (List ℕ)) (files : Option (List File)) (shelf_old shelf_new sink_old sink_new : ℕ) (refusal : StepFault) (ending : LineEnd) →
+    (refusal ≡ fault.Source → IsSome file) → EndsAs file refusal ending → EndCause files shelf_old shelf_new sink_old sink_new (fault_ending file refusal) → EndCause files shelf_old shelf_new sink_old sink_new (ending_of ending)
+cause_as file files shelf_old shelf_new sink_old sink_new (fault.Command refusal) ending some is cause = rw is cause
+cause_as None files shelf_old shelf_new sink_old sink_new fault.Source ending some tells cause = absurd (cc (some refl))
+cause_as (Some name) files shelf_old shelf_new sink_old sink_new fault.Source ending some tells cause = unread_cause name files shelf_old shelf_new sink_old sink_new ending tells cause
+cause_as file files shelf_old shelf_new sink_old sink_new fault.Sink ending some is cause = rw is cause
+cause_as file files shelf_old shelf_new sink_old sink_new fault.NoMemory ending some is cause = rw is cause
+
+-- only a line that reads a file has one that was not read
+pub reads_some : (A : Type 0) {B : Type 0} (file : Option (List ℕ)) (outcome : List File → Bool → Outcome B) (refusal : StepFault) → UnreadOnly {A = A} file outcome (Err refusal) → refusal ≡ fault.Source → IsSome file
+reads_some A file outcome (fault.Command refusal) only is = absurd (cc)
+reads_some A None outcome fault.Source only is = absurd only
+reads_some A (Some name) outcome fault.Source only is = refl
+reads_some A file outcome fault.Sink only is = absurd (cc)
+reads_some A file outcome fault.NoMemory only is = absurd (cc)

@@ -1,9 +1,11 @@
 -- What the text of a line does to a world.
-use Rattle.std.specs.Prelude.{ℕ, Bool, List, length, nat_lt, ◌≡◌, if◌then◌else◌, Result, Ok, Err}
+use Rattle.std.specs.Prelude.{ℕ, Bool, List, length, nat_lt, ◌≡◌, if◌then◌else◌, Option, IfSome, Result, Ok, Err}
 use Rattle.layout_io.specs.Files.{File}
 use Rattle.line_grammar.specs.Sentences.{Sentence, deepest}
 use Rattle.line_grammar.specs.declared.version.Version.{Version}
 use Rattle.schema_lang.specs.LineOf.{line_of}
+use Rattle.command_checks.specs.declared.fault.StepFault.{StepFault}
+use Rattle.command_checks.specs.declared.fault.StepFault.TheVariants as fault
 use Rattle.script_runs.specs.declared.fold.LineEnd.{LineEnd}
 use Rattle.script_runs.specs.declared.fold.LineEnd.TheVariants as end
 use Rattle.worlds.specs.Worlds.{World}
@@ -26,3 +28,10 @@ TellsFile file (end.Source told) = told ≡ file
 TellsFile file end.NoMemory = Unit {0}
 TellsFile file (end.Command fault) = ⊥
 TellsFile file end.Sink = ⊥
+
+-- the end of a run at a line that a session refused so; the line reads this file, if it reads one
+abbrev pub EndsAs : Option (List ℕ) → StepFault → LineEnd → Type 0
+EndsAs file (fault.Command refusal) ending = ending ≡ end.Command refusal
+EndsAs file fault.Source ending = IfSome file (λ name. TellsFile name ending)
+EndsAs file fault.Sink ending = ending ≡ end.Sink
+EndsAs file fault.NoMemory ending = ending ≡ end.NoMemory

@@ -1,15 +1,15 @@
 // The lines of a script, done by a session.
-ghost use Rattle.std.specs.Prelude.{◌≡◌, IfOk, List, Some};
+ghost use Rattle.std.specs.Prelude.{◌≡◌, IfOk, IsSome, List, Some};
 ghost use Rattle.layout_io.specs.Faults.{Rose};
 ghost use Rattle.layout_io.specs.Files.{File};
-ghost use Rattle.line_grammar.specs.Sentences.{sentence_of};
+ghost use Rattle.line_grammar.specs.Sentences.{sentence_of, file_of};
 ghost use Rattle.schema_lang.specs.Parsing.{IsWhole};
 ghost use Rattle.script_runs.specs.Steps.{ending_of};
 ghost use Rattle.session.specs.Stands.{Stands};
 ghost use Rattle.worlds.specs.Answers.{StepsTo, StepCause};
 ghost use Rattle.worlds.specs.Step.{step};
 ghost use Rattle.worlds.specs.Worlds.{World};
-ghost use Rattle.session_runs.specs.Steps.{step_text, TellsFile};
+ghost use Rattle.session_runs.specs.Steps.{step_text, EndsAs, TellsFile};
 
 use layout_io::{Shelf, Sink};
 use record_dim::Text;
@@ -107,12 +107,20 @@ fn do_command<H: Shelf, K: Sink, L: Ledger>(
 {
     match session.step(line, shelf, sink, steps) {
         Ok(next) => Ok(next),
-        Err(fault) => match fault {
-            StepFault::Command(fault) => Err(LineEnd::Command(fault)),
-            StepFault::Source => Err(unread_end(alloc, line.file().unwrap())),
-            StepFault::Sink => Err(LineEnd::Sink),
-            StepFault::NoMemory => Err(LineEnd::NoMemory),
-        },
+        Err(fault) => Err(line_end(alloc, line, fault)),
+    }
+}
+
+// The end of the run at a line that is refused so.
+fn line_end(alloc: Global, line: &Line, fault: StepFault) -> LineEnd
+    requires { fault ≡ StepFault.Source → IsSome (file_of (sentence_of line.now)) }
+    ensures { EndsAs (file_of (sentence_of line.now)) fault result }
+{
+    match fault {
+        StepFault::Command(fault) => LineEnd::Command(fault),
+        StepFault::Source => unread_end(alloc, line.file().unwrap()),
+        StepFault::Sink => LineEnd::Sink,
+        StepFault::NoMemory => LineEnd::NoMemory,
     }
 }
 
