@@ -30,7 +30,8 @@ blank_line : (version : Version) (text : List ℕ) → is_blank text ≡ true �
 unfolding line_of line_at
 blank_line version text blank = ap (λ (spots : List Spot). told spots (line_at version (length (tokens_of text spots)) (tokens_of text spots))) (no_spots (spots_in text) blank)
 
-blank_text : (version : Version) (files : List File) (world : World) (text : List ℕ) (unread : Bool) → length text ≤ 4096 → is_blank text ≡ true → step_text version files world text unread ≡ quiet world
+blank_text : (version : Version) (files : List File) (world : World) (text : List ℕ) (unread : Bool) → length text ≤ 4096 → is_blank text ≡ true
+    → step_text version files world text unread ≡ quiet world
 unfolding step
 blank_text version files world text unread short blank =
     let within : ltb 4096 (length text) ≡ false = grind (arith, nat_tests) in

@@ -30,7 +30,8 @@ blank_first line lines short blank =
     ∙ ap (λ (b : Bool). by_first false b (version_of line) (version_line lines)) blank
 
 -- any other
-pub said_first : (line : List ℕ) (lines : List (List ℕ)) (said : Option ℕ) → length line ≤ 4096 → is_blank line ≡ false → version_of line ≡ said → version_line (line ∷ lines) ≡ option_map (λ number. (0, number)) said
+pub said_first : (line : List ℕ) (lines : List (List ℕ)) (said : Option ℕ) → length line ≤ 4096 → is_blank line ≡ false → version_of line ≡ said
+    → version_line (line ∷ lines) ≡ option_map (λ number. (0, number)) said
 said_first line lines said short blank is =
     ap (λ (b : Bool). by_first b (is_blank line) (version_of line) (version_line lines)) (within (length line) short)
     ∙ ap (λ (b : Bool). by_first false b (version_of line) (version_line lines)) blank

@@ -16,7 +16,8 @@ text_of_same first whole read_failed text same is_text = ⊎_elim
     (λ (unread : read_failed × (line : ℕ) × Gives (first (Some line)) text (Unread line)). inr (unread.0, unread.1, same.failed unread.1 text unread.2 ∙ unread.2))
     is_text
 
-same_answer : (first whole : Option ℕ → Output) (read_failed : Type 0) (status : Status) (out : List ℕ) → IsSame first whole → Answers first read_failed status out → Answers whole read_failed status out
+same_answer : (first whole : Option ℕ → Output) (read_failed : Type 0) (status : Status) (out : List ℕ) → IsSame first whole
+    → Answers first read_failed status out → Answers whole read_failed status out
 same_answer first whole read_failed Done out same answer = same.unfailed ∙ answer
 same_answer first whole read_failed CommandFault out same answer = same.unfailed ∙ answer
 same_answer first whole read_failed Usage out same answer = same.unfailed ∙ answer
@@ -25,7 +26,8 @@ same_answer first whole read_failed SourceFault out same answer =
 same_answer first whole read_failed SinkFault out same answer = (answer.0, text_of_same first whole read_failed answer.0 same answer.1, answer.2, answer.3, answer.4)
 same_answer first whole read_failed NoMemory out same answer = (answer.0, text_of_same first whole read_failed answer.0 same answer.1, answer.2, answer.3, answer.4)
 
-pub run_of_same : {K : Type 0} (taken : K → Option (List ℕ)) (old new : K) (first whole : Option ℕ → Output) (read_failed : Type 0) (status : Status) → IsSame first whole → IsRun taken old new first read_failed status → IsRun taken old new whole read_failed status
+pub run_of_same : {K : Type 0} (taken : K → Option (List ℕ)) (old new : K) (first whole : Option ℕ → Output) (read_failed : Type 0) (status : Status)
+    → IsSame first whole → IsRun taken old new first read_failed status → IsRun taken old new whole read_failed status
 run_of_same taken old new first whole read_failed status same run = record { out = run.out; bytes = run.bytes; answer = same_answer first whole read_failed status run.out same run.answer }
 
 -- two runs that are the same wherever reading fails
