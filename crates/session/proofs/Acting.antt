@@ -1,5 +1,6 @@
 -- The parts of an update by actors, and what is done by it.
 use Rattle.std.proofs.Common.{◌≡◌, ℕ, zero, suc, ◌+◌, ◌/◌, ◌%◌, ◌^◌, ◌<◌, ◌≤◌, Bool, true, false, ℤ, nat_le, List, [], ◌∷◌, ◌++◌, length, get_or, set, drop, map, Result, Ok, Err, refl, sym, ap, ◌∙◌, arith}
+use Rattle.std.specs.Result.{IsErrAnd}
 use Rattle.std.specs.Prelude.{◌&&◌, ◌*◌, not, nat_lt, sum_by, slice_set, filter, Option, Some, None}
 use Rattle.std.proofs.Math.Path.{fun_ext}
 use Rattle.std.proofs.lemmas.Bool.{and_parts, leb-true}
@@ -35,6 +36,8 @@ use Rattle.worlds.specs.Outcomes.{Outcome, Goes, Faults, CannotRead, ◌>>=◌, 
 use Rattle.worlds.specs.Show.{small}
 use Rattle.worlds.specs.declared.fault.BadActors.TheVariants.{Cuts, Turns}
 use Rattle.worlds.specs.declared.fault.CommandFault.TheVariants.{BadActors, TooBig}
+use Rattle.command_checks.specs.declared.fault.StepFault.{StepFault}
+use Rattle.command_checks.specs.declared.fault.StepFault.TheVariants as step
 use Rattle.session.specs.Changes.{left_with}
 use Rattle.session.specs.Teams.{Bindings, shared_out, acted}
 use Rattle.session.proofs.Indexing.{read_stored}
@@ -138,6 +141,11 @@ pub acted_goes : (table : Table) (bound : Bindings) (cuts : List ℕ) (seed turn
     → done_to table (acted table bound cuts seed turns)
     ≡ Goes (left_with (after_stores table rows (reads_first (update_log table bound.test bound.settings (length table.rows)))) (memory_text (written_by table bound.test bound.settings cuts seed turns)))
 acted_goes table bound cuts seed turns rows is = rw is refl
+
+-- a write that failed
+pub sink_is : {T : Type 0} (result : Result T StepFault) → IsErrAnd result (λ fault. fault ≡ step.Sink) → result ≡ Err step.Sink
+sink_is (Ok value) is = absurd is
+sink_is (Err fault) is = ap Err is
 
 -- one turn more of a schedule
 pub turn_more : (run : Run) (actors n x : ℕ) → after_turns (after_turns run ((next x / 65536) % actors ∷ [])) (entries actors n (next x)) ≡ after_turns run (entries actors (suc n) x)

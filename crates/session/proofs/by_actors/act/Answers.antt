@@ -8,7 +8,7 @@ use Rattle.worlds.specs.OnView.{done_to}
 use Rattle.worlds.specs.Outcomes.{Goes}
 use Rattle.session.specs.Changes.{left_with}
 use Rattle.session.specs.Teams.{bindings_of, acted}
-use Rattle.session.proofs.Acting.{acted_goes, has_turned, turned_count, stored_back}
+use Rattle.session.proofs.Acting.{acted_goes, sink_is, has_turned, turned_count, stored_back}
 use Rattle.session.proofs.Views.{then_broke, then_wrote}
 use Rattle.session.proofs.by_actors.act.Goals as goal
 
@@ -36,7 +36,7 @@ returns-in_err-write_memory g c =
     let turned = has_turned table bound cuts c.args.seed c.args.turns _ _ _ c.in_ok-run.ensures.run actors c.take_turns.ensures in
     let plain = c.in_ok-run.ensures.updated in
     let left = left_with (after_stores table plain.0 (reads_first (update_log table bound.test bound.settings (length table.rows)))) (memory_text c.take_turns.new.run.state.memory) in
-    then_broke g.K.Sink.taken g.K.Sink.faults c.args.out.now c.write_memory.new.out c.started.new.view _ left _ (search rules)
+    then_broke g.K.Sink.taken g.K.Sink.faults c.args.out.now c.write_memory.new.out c.started.new.view _ left _ (sink_is _ c.from_residual-in_err-write_memory.ensures.1)
     (rw turned.memory (acted_goes table bound cuts c.args.seed c.args.turns plain.0 plain.1)) c.in_err-write_memory.ensures
 
 pub returns : goal.returns
