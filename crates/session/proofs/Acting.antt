@@ -1,7 +1,7 @@
 -- The parts of an update by actors, and what is done by it.
-use Rattle.std.proofs.Common.{◌≡◌, ℕ, zero, suc, ◌+◌, ◌/◌, ◌%◌, ◌^◌, ◌<◌, ◌≤◌, Bool, true, false, ℤ, nat_le, List, [], ◌∷◌, ◌++◌, length, get_or, set, drop, map, Result, Ok, Err, refl, sym, ap, ◌∙◌, arith}
+use Rattle.std.proofs.Common.{◌≡◌, ℕ, suc, ◌+◌, ◌/◌, ◌%◌, ◌^◌, ◌<◌, ◌≤◌, Bool, true, false, ℤ, nat_le, List, [], ◌∷◌, ◌++◌, length, get_or, set, drop, map, Result, Ok, Err, refl, sym, ap, ◌∙◌, arith}
 use Rattle.std.specs.Result.{IsErrAnd}
-use Rattle.std.specs.Prelude.{◌&&◌, ◌*◌, not, nat_lt, sum_by, slice_set, filter, Option, Some, None}
+use Rattle.std.specs.Prelude.{◌*◌, not, nat_lt, sum_by, slice_set, filter, Option, Some, None}
 use Rattle.std.proofs.Math.Path.{fun_ext}
 use Rattle.std.proofs.lemmas.Bool.{and_parts, leb-true}
 use Rattle.std.proofs.lemmas.Bool.Decides.{nat_tests}
@@ -9,7 +9,7 @@ use Rattle.std.proofs.lemmas.List.{length-map, length-set, ext_get_or}
 use Rattle.std.proofs.lemmas.List.FromFn.{get_or-map-range_with_len, length-map-range_with_len}
 use Rattle.std.proofs.Math.Seq.{drop-cons}
 use Rattle.actors.specs.Runs.{Run, uncounted, started_run, after_turns}
-use Rattle.actor_steps.specs.Confluence.{Actor, State, moved, turned, scheduled}
+use Rattle.actor_steps.specs.Confluence.{State, moved, turned}
 use Rattle.actor_steps.specs.Cuts.{AreCuts, actor_of, are_cuts}
 use Rattle.actor_steps.specs.CutsLaws.{are_cuts-are}
 use Rattle.actor_steps.specs.declared.place.Place.{Place}

@@ -1,13 +1,11 @@
-use Rattle.std.proofs.Common.{rules, arith, ◌≡◌, ◌∙◌, ◌+◌, ℕ, List, ℤ, Err, length, refl, sym, ap, subst}
+use Rattle.std.proofs.Common.{arith, ◌≡◌, ◌∙◌, ◌+◌, List, length, ap}
 use Rattle.actors.specs.Runs.{Run}
 use Rattle.places.specs.Layout.{Owner}
 use Rattle.row_updates.specs.Logs.{update_log}
 use Rattle.views.specs.Tables.{Table, owners_of, after_stores}
 use Rattle.worlds.specs.Actors.{memory_text, reads_first}
-use Rattle.worlds.specs.OnView.{done_to}
-use Rattle.worlds.specs.Outcomes.{Goes}
 use Rattle.session.specs.Changes.{left_with}
-use Rattle.session.specs.Teams.{bindings_of, acted}
+use Rattle.session.specs.Teams.{bindings_of}
 use Rattle.session.proofs.Acting.{acted_goes, sink_is, has_turned, turned_count, stored_back}
 use Rattle.session.proofs.Views.{then_broke, then_wrote}
 use Rattle.session.proofs.by_actors.act.Goals as goal

@@ -1,4 +1,3 @@
-use Rattle.std.proofs.Common.{◌≡◌, ◌<◌, ◌≤◌, length}
 use Rattle.session.proofs.Acting.{cuts_fit, small_few, none_shared}
 use Rattle.session.proofs.by_actors.shared_out.Goals as goal
 

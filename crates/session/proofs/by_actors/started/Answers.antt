@@ -1,4 +1,3 @@
-use Rattle.std.proofs.Common.{◌≡◌}
 use Rattle.session.proofs.Sets.{filter_is}
 use Rattle.session.proofs.by_actors.started.Goals as goal
 

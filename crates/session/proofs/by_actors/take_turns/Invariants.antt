@@ -1,4 +1,4 @@
-use Rattle.std.proofs.Common.{◌≡◌, ◌-◌, ◌<◌, ◌^◌, length}
+use Rattle.std.proofs.Common.{◌≡◌, ◌-◌, ◌<◌, ◌^◌}
 use Rattle.actor_steps.specs.Schedules.{entries, schedule_of}
 use Rattle.actors.specs.Runs.{after_turns}
 use Rattle.session.proofs.by_actors.take_turns.Given as goal

@@ -1,9 +1,7 @@
-use Rattle.std.proofs.Common.{rules, arith, ◌≡◌, ◌<◌, ◌≤◌, ℕ, IsErr, List, [], length, get_or, take, ap, sym, ◌∙◌, subst}
-use Rattle.std.proofs.lemmas.List.{take_all}
-use Rattle.layout_io.specs.Writing.{Wrote, Stopped}
+use Rattle.std.proofs.Common.{rules, arith, ◌≡◌, ◌<◌, ℕ, IsErr, List, [], length, get_or, ap, ◌∙◌, subst}
+use Rattle.layout_io.specs.Writing.{Wrote}
 use Rattle.layout_io.specs.WritingLaws.{Stopped-flat_map, Stopped-second, Writes-err, Wrote-append, flat_map_push}
 use Rattle.instrument.specs.BlobTexts.{bytes_text}
-use Rattle.worlds.specs.Actors.{memory_text}
 use Rattle.session.proofs.Acting.{bytes_of_bits}
 use Rattle.session.proofs.by_actors.write_memory.Goals as goal
 

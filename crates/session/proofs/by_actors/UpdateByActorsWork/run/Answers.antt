@@ -1,8 +1,7 @@
 use Rattle.std.proofs.Common.{rules, map, option_map}
 use Rattle.line_grammar.specs.Sentences.{assignment_of}
 use Rattle.expr_lang.specs.Terms.{term_of}
-use Rattle.worlds.specs.OnView.{done_to}
-use Rattle.command_checks.specs.GivesLaws.{GivesUp-then, goes_then}
+use Rattle.command_checks.specs.GivesLaws.{GivesUp-then}
 use Rattle.session.specs.Changes.{IsLeft}
 use Rattle.session.proofs.Acting.{by_parts}
 use Rattle.session.proofs.Exits.{gave_up}
