@@ -15,7 +15,8 @@ use Rattle.views.specs.Tables.{Table, owners_of}
 use Rattle.worlds.specs.Worlds.{World, Entry, found}
 use Rattle.worlds.specs.declared.fault.CommandFault.{CommandFault}
 use Rattle.worlds.specs.Outcomes.{Outcome, Goes, Faults, ◌>>=◌, refused_if, refused_by, ok_or, some_or, known, free}
-use Rattle.worlds.specs.declared.fault.CommandFault.TheVariants.{BadMapping, BadKernel, TooBig, Taken, Unknown}
+use Rattle.worlds.specs.declared.fault.CommandFault.TheVariants.{BadMapping, BadKernel, BadActors, TooBig, Taken, Unknown}
+use Rattle.worlds.specs.declared.fault.BadActors.TheVariants.{Cuts, Turns}
 use Rattle.worlds.specs.declared.fault.BadKernel.TheVariants.{Lanes, Wide, Constant}
 use Rattle.worlds.specs.declared.fault.UnknownName.TheVariants.{Name}
 use Rattle.csv_rows.specs.Datasets.{records_of, rows_of}
@@ -28,6 +29,9 @@ use Rattle.line_grammar.specs.declared.line.ReduceKind.TheVariants.{Sum, Min, Ma
 use Rattle.line_grammar.specs.declared.line.KernelText.{KernelText}
 use Rattle.line_grammar.specs.declared.line.KernelText.TheVariants as text
 use Rattle.lane_kernels.specs.declared.kernel.Kernel.{Kernel}
+use Rattle.actor_steps.specs.Cuts.{actor_of}
+use Rattle.actor_steps.specs.Shared.{shared_byte}
+use Rattle.row_updates.specs.Rows.{updated_of}
 use Rattle.expr_lang.specs.Terms.{Term}
 use Rattle.record_dim.specs.Leaves.{kinds_of}
 use Rattle.map_checks.specs.Mappings.{accepted, leaf_cells, most_slots}
@@ -38,8 +42,8 @@ use Rattle.worlds.specs.View.{view, new_table, named, Named}
 use Rattle.worlds.specs.Load.{load, loaded_table, loaded, filled, read, there}
 use Rattle.worlds.specs.OnView.{Done, with_table, on_view}
 use Rattle.worlds.specs.Assign.{assigned, inside}
-use Rattle.worlds.specs.Actors.{updated_by_actors}
-use Rattle.worlds.specs.Update.{updated}
+use Rattle.worlds.specs.Actors.{updated_by_actors, fit_cuts, shared}
+use Rattle.worlds.specs.Update.{updated, update_fault}
 use Rattle.worlds.specs.Reduce.{reduction, reduced, counting, column}
 use Rattle.worlds.specs.Copy.{copy, relayout, with_rows, copied, laid_anew, all_read}
 use Rattle.worlds.specs.Kernel.{kernel_run, fit_kernel, fits, fit_leaf, run, is_wide, is_factor, is_constant, are_bounds, are_lanes}
@@ -207,15 +211,6 @@ updated_reads table filter sets =
     next (once_reads table.fields [] (leaves_of settings)) (λ once.
     next (answered _ _) (λ rows. goes _))))
 
-by_actors_reads : (table : Table) (filter : Option Value) (sets : List line.Assignment) (cuts : List ℕ) (seed turns : ℕ) → IsReadable (updated_by_actors table filter sets cuts seed turns)
-unfolding updated_by_actors
-by_actors_reads table filter sets cuts seed turns =
-    next (filter_reads table.fields (length table.extents) filter) (λ test.
-    next (sets_reads table.fields (length table.extents) sets) (λ settings.
-    next (once_reads table.fields [] (leaves_of settings)) (λ once.
-    next (tested _ _) (λ fit. next (tested _ _) (λ few. next (tested _ _) (λ shown. next (caused _ _) (λ apart.
-    next (answered _ _) (λ rows. goes _))))))))
-
 reduced_reads : (kind : ReduceKind) (values : List ℤ) → IsReadable (reduced kind values)
 reduced_reads Sum values = goes _
 reduced_reads Min [] = faults _
@@ -313,6 +308,18 @@ showing_reads show.Layout = layout_reads
 bytes_reads : (table : Table) (blob : ℕ) → IsReadable (bytes table blob)
 unfolding bytes
 bytes_reads table blob = next (tested _ _) (λ there. next (small_reads table) (λ few. goes _))
+
+by_actors_reads : (table : Table) (filter : Option Value) (sets : List line.Assignment) (cuts : List ℕ) (seed turns : ℕ) → IsReadable (updated_by_actors table filter sets cuts seed turns)
+unfolding updated_by_actors
+by_actors_reads table filter sets cuts seed turns =
+    next (filter_reads table.fields (length table.extents) filter) (λ test.
+    next (sets_reads table.fields (length table.extents) sets) (λ settings.
+    next (once_reads table.fields [] (leaves_of settings)) (λ once.
+    next (tested (not (fit_cuts cuts (length table.rows))) (BadActors Cuts)) (λ fit.
+    next (tested (nat_lt (2 ^ 20) turns) (BadActors Turns)) (λ few.
+    next (small_reads table) (λ shown.
+    next (caused shared (shared_byte (owners_of table) (actor_of cuts))) (λ apart.
+    next (answered (update_fault table.fields) (updated_of table test settings (length table.rows))) (λ rows. goes _))))))))
 
 save_reads : (table : Table) → IsReadable (save table)
 unfolding save
