@@ -107,8 +107,10 @@ module _ (job : Job) (fresh : Registers) (memory after : List (List ℕ)) (actor
   registers = bytes_shown old.bytes
 
   -- nothing changes where nothing is left
-  same_actors : new ≡ old → map (actor_shown job) (set actors a new) ≡ map (actor_shown job) actors
-  same_actors e = ap (λ (x : Standing). map (actor_shown job) (set actors a x)) (e ∙ is) ∙ ap (map (actor_shown job)) (set-get_or actors a old)
+  same_actors : actor_shown job new ≡ actor_shown job old → map (actor_shown job) (set actors a new) ≡ map (actor_shown job) actors
+  same_actors e =
+      map-set (actor_shown job) actors a new ∙ ap (λ (x : Actor Micro Registers). set (map (actor_shown job) actors) a x) (e ∙ ap (actor_shown job) is)
+      ∙ sym (map-set (actor_shown job) actors a (get_or actors a old)) ∙ ap (map (actor_shown job)) (set-get_or actors a old)
 
   abbrev before : State (List (List ℕ)) Micro Registers
   before = state_shown job memory actors

@@ -58,9 +58,9 @@ IsStepOf layout rows sets (step.Fetch place) = IsByte layout place
 IsStepOf layout rows sets (step.Load place) = IsByte layout place
 IsStepOf layout rows sets (step.Store place row set) = IsByte layout place × (row < rows) × (set < sets)
 
--- the next micro-step of a cursor, and the cursor behind it; where none is left, it stands
+-- the next micro-step of a cursor, and the cursor behind it; where none is left, there is none from there on either
 abbrev pub IsStepNext : Job → Cursor → Option Step → Cursor → Type 0
-IsStepNext job old None new = (cursor_steps job old ≡ []) × (new ≡ old)
+IsStepNext job old None new = (cursor_steps job old ≡ []) × (cursor_steps job new ≡ [])
 IsStepNext job old (Some step) new = cursor_steps job old ≡ step_shown job step ∷ cursor_steps job new
 
 -- the registers of an actor, and all of it by what it has left
@@ -86,6 +86,6 @@ pub record IsFresh (table : Table) (row end : ℕ) (actor : Standing) : Type 0 w
 
 -- what a turn makes of memory and of an actor
 abbrev pub IsTurn : Job → List (List ℕ) → Standing → Bool → List (List ℕ) → Standing → Type 0
-IsTurn job memory actor false after new = (cursor_steps job actor.cursor ≡ []) × (after ≡ memory) × (new ≡ actor)
+IsTurn job memory actor false after new = (cursor_steps job actor.cursor ≡ []) × (after ≡ memory) × (actor_shown job new ≡ actor_shown job actor)
 IsTurn job memory actor true after new = (micro : Micro) × (cursor_steps job actor.cursor ≡ micro ∷ cursor_steps job new.cursor)
     × (after ≡ stored job micro memory (bytes_shown actor.bytes)) × (bytes_shown new.bytes ≡ loaded job micro memory (bytes_shown actor.bytes))

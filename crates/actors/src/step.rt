@@ -64,7 +64,7 @@ pub fn next_step<M: Mapping>(
         cursor.half = false;
         return Some(step);
     }
-    let next = next_in_rows(
+    let Some(next) = next_in_rows(
         mapping,
         targets,
         plans,
@@ -72,7 +72,11 @@ pub fn next_step<M: Mapping>(
         cursor.end,
         cursor.done,
         cursor.from,
-    )?;
+    ) else {
+        // rows that ask for no more are not gone through again
+        cursor.row = cursor.end;
+        return None;
+    };
     cursor.row = next.row;
     cursor.done = next.task;
     if next.task < leaves {

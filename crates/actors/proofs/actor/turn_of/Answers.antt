@@ -4,8 +4,8 @@ use Rattle.map_any.specs.AnyLaws.{length-leaf_cells}
 use Rattle.row_updates.specs.Rows.{setting_of}
 use Rattle.views.specs.Tables.{owners_of, leaf_types_of, leaf_count_of}
 use Rattle.actor_steps.specs.Jobs.{job_of}
-use Rattle.actors.specs.declared.step.Cursor.{Cursor}
-use Rattle.actors.specs.Standing.{step_shown}
+use Rattle.actor_steps.specs.Micro.{Micro}
+use Rattle.actors.specs.Standing.{step_shown, bytes_shown}
 use Rattle.actors.proofs.Laws.{leaf_count}
 use Rattle.actors.proofs.Turns.{cursor_over, targets_inside, plans_told}
 use Rattle.actors.proofs.actor.turn_of.Goals as goal
@@ -35,7 +35,7 @@ returns-in_default-clause-turn c = λ filter plans.
     let told = plans_told table c.laws_of_view.ensures.lawful filter c.args.sets.now c.args.targets.now c.args.plans.now.rows.items _ _ c.args.actor.now.cursor.end
     plans c.requires.targets c.map.ensures.layout count c.laws_of_view.ensures.few c.requires.actor.cursor.rows_in in
     let next = c.in_default.ensures.next job told in
-    (next.0, refl, ap (λ (at : Cursor). record { cursor = at; bytes = c.args.actor.now.bytes }) next.1)
+    (next.0, refl, ap (λ (rest : List Micro). record { rest = rest; registers = bytes_shown c.args.actor.now.bytes }) (next.1 ∙ sym next.0))
 
 pub returns-in_default-clause-standing : goal.returns-in_default-clause-standing
 returns-in_default-clause-standing c =

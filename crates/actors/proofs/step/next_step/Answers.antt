@@ -11,12 +11,12 @@ returns-then-cursor-clause-next g c = λ job are.
 
 pub returns-then-next-leaves-clause-next : goal.returns-then-next-leaves-clause-next
 returns-then-next-leaves-clause-next g c = λ job are.
-    let next = c.in_ok-next.next in
-    fetch_next job (are.each next.row c.in_ok-next.ensures.row_in) c.args.cursor.now next c.if-cursor.false (c.in_ok-next.ensures.next job are) c.place_behind-cursor-then-next-leaves.result
+    let next = c.in-Some.next in
+    fetch_next job (are.each next.row c.in-Some.ensures.row_in) c.args.cursor.now next c.if-cursor.false (c.in-Some.ensures.next job are) c.place_behind-cursor-then-next-leaves.result
     (omega (arith, c.if-next-leaves.true, c.cells-leaves.ensures)) c.place_behind-cursor-then-next-leaves.ensures
 
 pub returns-clause-next : goal.returns-clause-next
 returns-clause-next g c = λ job are.
-    let next = c.in_ok-next.next in
-    load_next job (are.each next.row c.in_ok-next.ensures.row_in) c.args.cursor.now next c.if-cursor.false (c.in_ok-next.ensures.next job are)
-    (omega (arith, c.if-next-leaves.false, c.cells-leaves.ensures)) c.in_ok-next.ensures.task_in
+    let next = c.in-Some.next in
+    load_next job (are.each next.row c.in-Some.ensures.row_in) c.args.cursor.now next c.if-cursor.false (c.in-Some.ensures.next job are)
+    (omega (arith, c.if-next-leaves.false, c.cells-leaves.ensures)) c.in-Some.ensures.task_in
