@@ -121,6 +121,8 @@ MANY = [case(f'of_{name}', script, due) for name, script, due in [
     ('64_cuts_of_a_view_without_rows', P + f'view V : P [0] as aos(packed, row) | {COUNT}actors [{listed([0] * 64)}] schedule 0 turns 0', 'line 4: BadActors Cuts'),
     ('no_turn', NIBBLES + COUNT + 'actors [2] schedule 9 turns 0 | print V', '00 00' + Z6 + ' | a | 1 | 2 | 3 | 4'),
     ('2_to_the_20_turns', NIBBLES + COUNT + f'actors [2] schedule 4 turns {MOST_TURNS}', '21 43' + Z6),
+    ('65536_rows_of_which_one_has_steps_in_2_to_the_20_turns', TWO + 'record P { f:bool } | view V : P [65536] as bitaos(1, row) | '
+        f'update V where i0 == 5 set f = 1 actors [] schedule 1 turns {MOST_TURNS}', ' | '.join(['20' + ' 00' * 15] + ['00' + ' 00' * 15] * 511)),
     ('2_to_the_20_turns_and_one_more', NIBBLES + COUNT + f'actors [2] schedule 4 turns {MOST_TURNS + 1}', 'line 4: BadActors Turns'),
     ('4294967295_turns', NIBBLES + COUNT + 'actors [2] schedule 4 turns 4294967295', 'line 4: BadActors Turns')]]
 
