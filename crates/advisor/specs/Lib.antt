@@ -1,2 +1,4 @@
 pub mod Touched
 pub mod TouchedLaws
+pub mod Warm
+pub mod Passes

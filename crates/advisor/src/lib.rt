@@ -1,6 +1,11 @@
 //! The cheapest layout of some for stated passes over a view.
 #![tactic(auto)]
 
+mod advice;
 mod laws;
+mod pass;
+mod touched;
 
+pub use advice::{Advice, AdviseFault, Best, CostList};
 pub use laws::touched_laws;
+pub use pass::{LeafList, MapExprList, Pass, PassList};
