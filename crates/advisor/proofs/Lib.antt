@@ -1,1 +1,4 @@
 pub mod WarmLaws
+pub mod Chosen
+pub mod JudgedLaws
+pub mod SplitLaws

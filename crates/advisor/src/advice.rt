@@ -1,12 +1,13 @@
 ghost use Rattle.std.specs.Prelude.{◌≡◌};
 ghost use Rattle.advisor.specs.declared.advice.AdviseFault.TheVariants.{NoMemory};
 
+use lists::Sequence;
 use map_expr::{BadMapping, MapExpr};
 use std::alloc::{AllocError, AllocFailed};
 use thiserror::Error;
 
 /// What each listed candidate costs, in order, and None where it does not suit.
-pub type CostList = Vec<Option<u64>>;
+pub type CostList = Sequence<Option<u64>>;
 
 /// The cheapest candidate that suits, and of several the first. Its expression counts nothing.
 #[derive(Drop)]

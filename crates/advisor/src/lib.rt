@@ -2,7 +2,10 @@
 #![tactic(auto)]
 
 mod advice;
+mod candidate;
+mod costs;
 mod laws;
+mod mapped;
 mod pass;
 mod touched;
 
