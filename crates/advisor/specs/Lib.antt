@@ -5,4 +5,5 @@ pub mod Passes
 pub mod Judged
 pub mod Suits
 pub mod Advice
+pub mod Sides
 pub mod Pools

@@ -1,17 +1,12 @@
 -- Candidates of the code, with what is known of each.
-use Rattle.std.specs.Prelude.{ℕ, ◌≡◌, ◌≤◌, ◌^◌, List, All, length, map}
-use Rattle.places.specs.declared.piece.Hold.{Hold}
+use Rattle.std.specs.Prelude.{ℕ, ◌≡◌, List, All, length, map}
 use Rattle.map_expr.specs.Terms.{Term, term_of}
 use Rattle.map_checks.specs.Mappings.{holds_by}
 use Rattle.views.specs.Tables.{Table, leaf_count_of}
 use Rattle.advisor.specs.declared.candidate.Candidate.{Candidate}
 use Rattle.advisor.specs.declared.pass.Pass.{Pass}
 use Rattle.advisor.specs.Advice.{cost_of}
-
--- a way of storing of 1 to 64 bits
-pub record IsHold (hold : Hold) : Type 0 where
-  pub some : 1 ≤ hold.width
-  pub narrow : hold.width ≤ 64
+use Rattle.advisor.specs.Sides.{IsHold}
 
 -- a candidate has the cost of its expression, and how it stores each leaf
 pub record IsPriced (table : Table) (granule : ℕ) (passes : List Pass) (candidate : Candidate) : Type 0 where

@@ -1,4 +1,5 @@
-ghost use Rattle.std.specs.Prelude.{◌≡◌, IfOk};
+ghost use Rattle.std.specs.Prelude.{◌≡◌, All, IfOk};
+ghost use Rattle.advisor.specs.Sides.{IsHold};
 
 use map_checks::HoldList;
 use map_expr::MapExpr;
@@ -15,7 +16,8 @@ pub struct Candidate {
 
 /// How a mapping stores each of its cells.
 pub fn holds_in<M: Mapping>(alloc: Global, mapping: &M) -> Result<HoldList, NoMemory>
-    ensures { IfOk result (λ holds. holds ≡ M.hold_list mapping.now) }
+    ensures holds { IfOk result (λ holds. holds ≡ M.hold_list mapping.now) }
+    ensures each { IfOk result (All IsHold) }
 {
     laws_of(mapping);
     let mut holds = HoldList::new(alloc);

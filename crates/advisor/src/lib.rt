@@ -5,8 +5,12 @@ mod advice;
 mod candidate;
 mod costs;
 mod laws;
+mod listed;
 mod mapped;
 mod pass;
+mod price;
+mod sides;
+mod splits;
 mod touched;
 
 pub use advice::{Advice, AdviseFault, Best, CostList};
