@@ -2,3 +2,4 @@ pub mod WarmLaws
 pub mod Chosen
 pub mod JudgedLaws
 pub mod SplitLaws
+pub mod CostLaws
