@@ -3,3 +3,4 @@ pub mod Chosen
 pub mod JudgedLaws
 pub mod SplitLaws
 pub mod CostLaws
+pub mod Listing

@@ -10,7 +10,6 @@ mod mapped;
 mod pass;
 mod price;
 mod sides;
-mod splits;
 mod touched;
 
 pub use advice::{Advice, AdviseFault, Best, CostList};
