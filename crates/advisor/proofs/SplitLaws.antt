@@ -1,5 +1,5 @@
 -- What a split is where its sides are known: whether it is accepted, its limits and what it costs.
-use Rattle.std.proofs.Common.{◌≡◌, ℕ, ◌+◌, ◌*◌, ◌/◌, ◌^◌, ◌≤◌, Bool, true, false, List, [], ◌∷◌, length, map, get_or, max, None, Some, Ok, Err, refl, sym, ap, ◌∙◌, arith, cond}
+use Rattle.std.proofs.Common.{◌≡◌, ℕ, ◌+◌, ◌*◌, ◌/◌, ◌^◌, ◌≤◌, Bool, true, false, List, [], ◌∷◌, length, map, get_or, max, None, Some, Ok, Err, refl, ap, ◌∙◌, arith, cond}
 use Rattle.std.specs.Prelude.{◌||◌, not, nat_lt, sum_by, filter, Option, Result, if◌then◌else◌}
 use Rattle.std.specs.List.{enumerate_from}
 use Rattle.std.specs.Option.{option_or}
@@ -23,8 +23,6 @@ use Rattle.map_expr.specs.declared.check.BadMapping.TheVariants.{TooDeep, Counte
 use Rattle.map_checks.specs.Mappings.{layout_of, most_slots, bad_side, bad_field, not_full, else_for, accepted, leaf_cells}
 use Rattle.map_checks.specs.Sides.{side_of, cells_under, cells_beside}
 use Rattle.map_checks.specs.TermLaws.{neither_of}
-use Rattle.map_checks.specs.declared.fault.MakeMap.{MakeMap}
-use Rattle.map_checks.specs.declared.fault.MakeMap.TheVariants.{Bad, TooBig}
 use Rattle.instrument.specs.Counters.{granules_of, granules_in}
 use Rattle.views.specs.Tallies.{blob_lengths}
 use Rattle.advisor.specs.declared.pass.Pass.{Pass}
@@ -124,12 +122,20 @@ module _ (path : List PathStep) (first rest : Term) (fields : Fields) (cells : L
       let named = neither_of (bad_field first fields under) (bad_field rest fields beside) is.named in
       let full = neither_of (not_full first fields under) (not_full rest fields beside) is.full in (
         record {
-          deep = le-ltb 8 (depth_of first) (omega (arith, deep)); counted = counts_none first counts.0; numbers = numbers.0;
-          sides = sides.0; named = named.0; full = full.0;
+          deep = le-ltb 8 (depth_of first) (omega (arith, deep));
+          counted = counts_none first counts.0;
+          numbers = numbers.0;
+          sides = sides.0;
+          named = named.0;
+          full = full.0;
         },
         record {
-          deep = le-ltb 8 (depth_of rest) (omega (arith, deep)); counted = counts_none rest counts.1; numbers = numbers.1;
-          sides = sides.1; named = named.1; full = full.1;
+          deep = le-ltb 8 (depth_of rest) (omega (arith, deep));
+          counted = counts_none rest counts.1;
+          numbers = numbers.1;
+          sides = sides.1;
+          named = named.1;
+          full = full.1;
         },
       )
 
@@ -243,10 +249,14 @@ sum_costs (pass ∷ passes) granule side one two =
     let here : pass.times * touched (reads pass) granule (split side one two) ≡ pass.times * a + pass.times * b =
     ap (λ (n : ℕ). pass.times * n) (touched_split (reads pass) granule side one two) ∙ mul-add pass.times a b in
     let later = sum_costs passes granule side one two in
-    omega (arith, here, later,
+    omega (
+      arith,
+      here,
+      later,
       sum_by-cons (λ (p : Pass). p.times * touched (reads p) granule (split side one two)) pass passes,
       sum_by-cons (λ (p : Pass). p.times * touched (λ cell. reads p (get_or (numbers_of side) cell 0)) granule one) pass passes,
-      sum_by-cons (λ (p : Pass). p.times * touched (λ cell. reads p (get_or (numbers_of (map not side)) cell 0)) granule two) pass passes)
+      sum_by-cons (λ (p : Pass). p.times * touched (λ cell. reads p (get_or (numbers_of (map not side)) cell 0)) granule two) pass passes,
+    )
 
 -- a split costs what its sides cost
 pub split_cost : (passes : List Pass) (granule : ℕ) (path : List PathStep) (first rest : Term) (extents : List ℕ) (fields : Fields) (kinds : List LeafType)

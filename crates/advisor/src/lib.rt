@@ -13,5 +13,9 @@ mod sides;
 mod touched;
 
 pub use advice::{Advice, AdviseFault, Best, CostList};
+pub use candidate::Candidate;
 pub use laws::touched_laws;
+pub use listed::{listed_candidates, uncounted};
 pub use pass::{LeafList, MapExprList, Pass, PassList};
+pub use price::Price;
+pub use sides::side_costs;
