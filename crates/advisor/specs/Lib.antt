@@ -7,3 +7,4 @@ pub mod Suits
 pub mod Advice
 pub mod Sides
 pub mod Pools
+pub mod Trials

@@ -10,6 +10,8 @@ mod mapped;
 mod pass;
 mod price;
 mod sides;
+mod splits;
+mod suits;
 mod touched;
 
 pub use advice::{Advice, AdviseFault, Best, CostList};
