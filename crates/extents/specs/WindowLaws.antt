@@ -1,0 +1,220 @@
+-- The indices of a window are those of an array of its own, moved.
+use Rattle.std.proofs.Common.{◌≡◌, ℕ, zero, suc, ◌+◌, ◌-◌, ◌<◌, ◌≤◌, Bool, true, false, List, [], ◌∷◌, ◌++◌, map, filter, refl, sym, ap, ◌∙◌, arith}
+use Rattle.std.specs.Prelude.{◌&&◌, nat_le, nat_lt, length, slice_get, Some, if◌then◌else◌}
+use Rattle.std.specs.Option.{option_map}
+use Rattle.std.proofs.lemmas.Option.{slice_get-map}
+use Rattle.std.proofs.lemmas.Nat.{mul-le}
+use Rattle.std.specs.List.{flat_map, range_with_len, enumerate_from}
+use Rattle.std.proofs.lemmas.Bool.{and_from, le-leb, lt-leb, lt-ltb, le-ltb}
+use Rattle.std.proofs.lemmas.List.{append-nil, length-map}
+use Rattle.std.proofs.lemmas.List.Concat.{flat_map-append}
+use Rattle.extents.specs.Indices.{indices, product, IsInside}
+use Rattle.extents.specs.IndicesLaws.{same_row}
+use Rattle.extents.specs.Windows.{Span, IsWindow, holds, held, rows_in, sizes, moved}
+
+range_cut : (a m n : ℕ) → range_with_len a (m + n) ≡ range_with_len a m ++ range_with_len (a + m) n
+range_cut a zero n = (let one : 0 + n ≡ n = omega arith in let two : a ≡ a + 0 = omega arith in ap (range_with_len a) one ∙ ap (λ (w : ℕ). range_with_len w n) two)
+range_cut a (suc m) n =
+    (let one : suc m + n ≡ suc (m + n) = omega arith in
+    let two : a + 1 + m ≡ a + suc m = omega arith in
+    ap (range_with_len a) one ∙ ap (λ (w : List ℕ). a ∷ w) (range_cut (a + 1) m n ∙ ap (λ (w : ℕ). range_with_len (a + 1) m ++ range_with_len w n) two))
+
+filter-append : {X : Type 0} (test : X → Bool) (xs ys : List X) → filter test (xs ++ ys) ≡ filter test xs ++ filter test ys
+filter-append test [] ys = refl
+filter-append {X} test (x ∷ xs) ys = ap (λ (w : List X). if test x then x ∷ w else w) (filter-append test xs ys) ∙ by_test (test x) where
+  by_test : (t : Bool) → (if t then x ∷ (filter test xs ++ filter test ys) else (filter test xs ++ filter test ys)) ≡ (if t then x ∷ filter test xs else filter test xs) ++ filter test ys
+  by_test true = refl
+  by_test false = refl
+
+filter-lists : {X : Type 0} (test : X → Bool) (f : ℕ → List X) (xs : List ℕ) → filter test (flat_map f xs) ≡ flat_map (λ x. filter test (f x)) xs
+filter-lists test f [] = refl
+filter-lists {X} test f (x ∷ xs) = filter-append test (f x) (flat_map f xs) ∙ ap (λ (w : List X). filter test (f x) ++ w) (filter-lists test f xs)
+
+map-lists : {X Y : Type 0} (g : X → Y) (f : ℕ → List X) (xs : List ℕ) → map g (flat_map f xs) ≡ flat_map (λ x. map g (f x)) xs
+map-lists g f [] = refl
+map-lists {X} {Y} g f (x ∷ xs) = both (f x) (flat_map f xs) ∙ ap (λ (w : List Y). map g (f x) ++ w) (map-lists g f xs) where
+  both : (one two : List X) → map g (one ++ two) ≡ map g one ++ map g two
+  both [] two = refl
+  both (y ∷ ys) two = ap (λ (w : List Y). g y ∷ w) (both ys two)
+
+-- the indices with this first component that a window holds
+inside-first : (span : Span) (spans : List Span) (i : ℕ) (xs : List (List ℕ)) → (nat_le span.from i && nat_lt i span.end) ≡ true
+    → filter (holds (span ∷ spans)) (map (λ rest. i ∷ rest) xs) ≡ map (λ rest. i ∷ rest) (filter (holds spans) xs)
+inside-first span spans i [] e = refl
+inside-first span spans i (x ∷ xs) e =
+    ap (λ (t : Bool). if t && holds spans x then (i ∷ x) ∷ filter (holds (span ∷ spans)) (map (λ rest. i ∷ rest) xs) else filter (holds (span ∷ spans)) (map (λ rest. i ∷ rest) xs)) e
+    ∙ ap (λ (w : List (List ℕ)). if holds spans x then (i ∷ x) ∷ w else w) (inside-first span spans i xs e) ∙ by_test (holds spans x) where
+      by_test : (t : Bool) → (if t then (i ∷ x) ∷ map (λ rest. i ∷ rest) (filter (holds spans) xs) else map (λ rest. i ∷ rest) (filter (holds spans) xs))
+          ≡ map (λ rest. i ∷ rest) (if t then x ∷ filter (holds spans) xs else filter (holds spans) xs)
+      by_test true = refl
+      by_test false = refl
+
+outside-first : (span : Span) (spans : List Span) (i : ℕ) (xs : List (List ℕ)) → (nat_le span.from i && nat_lt i span.end) ≡ false
+    → filter (holds (span ∷ spans)) (map (λ rest. i ∷ rest) xs) ≡ []
+outside-first span spans i [] e = refl
+outside-first span spans i (x ∷ xs) e =
+    ap (λ (t : Bool). if t && holds spans x then (i ∷ x) ∷ filter (holds (span ∷ spans)) (map (λ rest. i ∷ rest) xs) else filter (holds (span ∷ spans)) (map (λ rest. i ∷ rest) xs)) e
+    ∙ outside-first span spans i xs e
+
+-- so of all first components of a range
+none-of : (f g : ℕ → List (List ℕ)) (a n : ℕ) → ((i : ℕ) → a ≤ i → i < a + n → f i ≡ []) → flat_map f (range_with_len a n) ≡ []
+none-of f g a zero none = refl
+none-of f g a (suc n) none =
+    ap (λ (w : List (List ℕ)). w ++ flat_map f (range_with_len (a + 1) n)) (none a (omega arith) (omega arith)) ∙ none-of f g (a + 1) n (λ i low high. none i (omega (arith, low)) (omega (arith, high)))
+
+all-of : (f g : ℕ → List (List ℕ)) (a b n : ℕ) → ((k : ℕ) → k < n → f (a + k) ≡ g (b + k)) → flat_map f (range_with_len a n) ≡ flat_map g (range_with_len b n)
+all-of f g a b zero same = refl
+all-of f g a b (suc n) same =
+    (let here : f a ≡ g b = (let one : a ≡ a + 0 = omega arith in let two : b + 0 ≡ b = omega arith in ap f one ∙ same 0 (omega arith) ∙ ap g two) in
+    ap (λ (w : List (List ℕ)). w ++ flat_map f (range_with_len (a + 1) n)) here
+    ∙ ap (λ (w : List (List ℕ)). g b ++ w) (all-of f g (a + 1) (b + 1) n (λ k low. (let one : a + 1 + k ≡ a + (k + 1) = omega arith in let two : b + (k + 1) ≡ b + 1 + k = omega arith in ap f one ∙ same (k + 1) (omega (arith, low)) ∙ ap g two))))
+
+test-in : (span : Span) (i : ℕ) → span.from ≤ i → i < span.end → (nat_le span.from i && nat_lt i span.end) ≡ true
+test-in span i low high = and_from (nat_le span.from i) (nat_lt i span.end) (le-leb span.from i low) (lt-ltb i span.end high)
+
+test-below : (span : Span) (i : ℕ) → i < span.from → (nat_le span.from i && nat_lt i span.end) ≡ false
+test-below span i low = ap (λ (t : Bool). t && nat_lt i span.end) (lt-leb span.from i low)
+
+test-above : (span : Span) (i : ℕ) → span.end ≤ i → (nat_le span.from i && nat_lt i span.end) ≡ false
+test-above span i high = by_test (nat_le span.from i) where
+  by_test : (t : Bool) → (t && nat_lt i span.end) ≡ false
+  by_test true = le-ltb i span.end high
+  by_test false = refl
+
+-- the indices that a window holds, in the order of rows, are those of an array of its sizes, moved
+pub windows_are_moved : (extents : List ℕ) (spans : List Span) → IsWindow extents spans → held extents spans ≡ map (moved spans) (indices (sizes spans))
+unfolding indices
+windows_are_moved [] [] is = refl
+windows_are_moved (extent ∷ extents) (span ∷ spans) is =
+    let from = span.from in
+    let size = span.end - span.from in
+    let past = extent - span.end in
+    let whole : extent ≡ from + (size + past) = omega (arith, is.0.0, is.0.1) in
+    let rows : ℕ → List (List ℕ) = λ i. map (λ rest. i ∷ rest) (indices extents) in
+    let f : ℕ → List (List ℕ) = λ i. filter (holds (span ∷ spans)) (rows i) in
+    let g : ℕ → List (List ℕ) = λ i. map (moved (span ∷ spans)) (map (λ rest. i ∷ rest) (indices (sizes spans))) in
+    let rest = windows_are_moved extents spans is.1 in
+    let cut : range_with_len 0 extent ≡ range_with_len 0 from ++ (range_with_len (0 + from) size ++ range_with_len (0 + from + size) past) =
+    ap (range_with_len 0) whole ∙ range_cut 0 from (size + past) ∙ ap (λ (w : List ℕ). range_with_len 0 from ++ w) (range_cut (0 + from) size past) in
+    let before : flat_map f (range_with_len 0 from) ≡ [] = none-of f g 0 from (λ i low high. outside-first span spans i (indices extents) (test-below span i (omega (arith, high)))) in
+    let behind : flat_map f (range_with_len (0 + from + size) past) ≡ [] =
+    none-of f g (0 + from + size) past (λ i low high. outside-first span spans i (indices extents) (test-above span i (omega (arith, low, is.0.0)))) in
+    let within : flat_map f (range_with_len (0 + from) size) ≡ flat_map g (range_with_len 0 size) =
+    all-of f g (0 + from) 0 size
+    (λ k low.
+    (let at : 0 + from + k ≡ from + k = omega arith in
+    let back : from + k ≡ from + (0 + k) = omega arith in
+    inside-first span spans (0 + from + k) (indices extents) (test-in span (0 + from + k) (omega arith) (omega (arith, low)))
+    ∙ ap (map (λ rest. (0 + from + k) ∷ rest)) rest
+    ∙ ap (λ (w : ℕ). map (λ rest. w ∷ rest) (map (moved spans) (indices (sizes spans)))) (at ∙ back)
+    ∙ twice span spans (0 + k) (indices (sizes spans)))) in
+    filter-lists (holds (span ∷ spans)) rows (range_with_len 0 extent) ∙ ap (flat_map f) cut
+    ∙ flat_map-append f (range_with_len 0 from) (range_with_len (0 + from) size ++ range_with_len (0 + from + size) past)
+    ∙ ap (λ (w : List (List ℕ)). w ++ flat_map f (range_with_len (0 + from) size ++ range_with_len (0 + from + size) past)) before
+    ∙ flat_map-append f (range_with_len (0 + from) size) (range_with_len (0 + from + size) past)
+    ∙ ap (λ (w : List (List ℕ)). flat_map f (range_with_len (0 + from) size) ++ w) behind ∙ append-nil (flat_map f (range_with_len (0 + from) size)) ∙ within
+    ∙ sym (map-lists (moved (span ∷ spans)) (λ i. map (λ rest. i ∷ rest) (indices (sizes spans))) (range_with_len 0 size)) where
+      twice : (span : Span) (spans : List Span) (i : ℕ) (xs : List (List ℕ)) → map (λ rest. (span.from + i) ∷ rest) (map (moved spans) xs) ≡ map (moved (span ∷ spans)) (map (λ rest. i ∷ rest) xs)
+      twice span spans i [] = refl
+      twice span spans i (x ∷ xs) = ap (λ (w : List (List ℕ)). ((span.from + i) ∷ moved spans x) ∷ w) (twice span spans i xs)
+windows_are_moved [] (span ∷ spans) is = absurd is
+windows_are_moved (extent ∷ extents) [] is = absurd is
+
+-- ---- the rows of a window
+
+-- the numbers of the elements that meet a test, counted from n
+abbrev pub numbers_of : {X : Type 0} → (X → Bool) → ℕ → List X → List ℕ
+numbers_of test n xs = map (λ e. e.0) (filter (λ e. test e.1) (enumerate_from n xs))
+
+-- there are as many as such elements
+length_numbers : {X : Type 0} (test : X → Bool) (n : ℕ) (xs : List X) → length (numbers_of test n xs) ≡ length (filter test xs)
+length_numbers test n [] = refl
+length_numbers test n (x ∷ xs) = by_test (test x) refl where
+  by_test : (t : Bool) → test x ≡ t → length (map (λ e. e.0) (if t then (n, x) ∷ filter (λ e. test e.1) (enumerate_from (n + 1) xs) else filter (λ e. test e.1) (enumerate_from (n + 1) xs)))
+      ≡ length (if t then x ∷ filter test xs else filter test xs)
+  by_test true e = ap suc (length_numbers test (n + 1) xs)
+  by_test false e = length_numbers test (n + 1) xs
+
+-- each is the number of the element at this place
+number_at : {X : Type 0} (test : X → Bool) (n : ℕ) (xs : List X) (k : ℕ) (x : X) → slice_get (filter test xs) k ≡ Some x
+    → (r : ℕ) × (slice_get (numbers_of test n xs) k ≡ Some (n + r)) × (slice_get xs r ≡ Some x)
+number_at test n [] k x at = absurd (cc)
+number_at {X} test n (y ∷ xs) k x at = by_test (test y) k at where
+  List_of : Bool → List X
+  List_of t = if t then y ∷ filter test xs else filter test xs
+  Numbers_of : Bool → List ℕ
+  Numbers_of t = map (λ e. e.0) (if t then (n, y) ∷ filter (λ e. test e.1) (enumerate_from (n + 1) xs) else filter (λ e. test e.1) (enumerate_from (n + 1) xs))
+  behind : (k : ℕ) → slice_get (filter test xs) k ≡ Some x → (r : ℕ) × (slice_get (numbers_of test (n + 1) xs) k ≡ Some (n + r)) × (slice_get (y ∷ xs) r ≡ Some x)
+  behind k at =
+      let found = number_at test (n + 1) xs k x at in
+      let one : n + 1 + found.0 ≡ n + suc found.0 = omega arith in
+      (suc found.0, found.1.0 ∙ ap (λ (m : ℕ). Some m) one, found.1.1)
+  by_test : (t : Bool) (k : ℕ) → slice_get (List_of t) k ≡ Some x → (r : ℕ) × (slice_get (Numbers_of t) k ≡ Some (n + r)) × (slice_get (y ∷ xs) r ≡ Some x)
+  by_test true zero at = let none : n ≡ n + 0 = omega arith in (0, ap (λ (m : ℕ). Some m) none, at)
+  by_test true (suc k) at = behind k at
+  by_test false k at = behind k at
+
+-- none is below the first number
+number_low : {X : Type 0} (test : X → Bool) (n : ℕ) (xs : List X) (k r : ℕ) → slice_get (numbers_of test n xs) k ≡ Some r → n ≤ r
+number_low test n [] k r at = absurd (cc)
+number_low {X} test n (x ∷ xs) k r at = by_test (test x) k at where
+  by_test : (t : Bool) (k : ℕ) → slice_get (map (λ e. e.0) (if t then (n, x) ∷ filter (λ e. test e.1) (enumerate_from (n + 1) xs) else filter (λ e. test e.1) (enumerate_from (n + 1) xs))) k ≡ Some r → n ≤ r
+  by_test true zero at = let same : n ≡ r = cc in omega (arith, same)
+  by_test true (suc k) at = omega (arith, number_low test (n + 1) xs k r at)
+  by_test false k at = omega (arith, number_low test (n + 1) xs k r at)
+
+-- a number has one place
+number_once : {X : Type 0} (test : X → Bool) (n : ℕ) (xs : List X) (j k r : ℕ) → slice_get (numbers_of test n xs) j ≡ Some r → slice_get (numbers_of test n xs) k ≡ Some r → j ≡ k
+number_once test n [] j k r one two = absurd (cc)
+number_once {X} test n (x ∷ xs) j k r one two = by_test (test x) j k one two where
+  Numbers_of : Bool → List ℕ
+  Numbers_of t = map (λ e. e.0) (if t then (n, x) ∷ filter (λ e. test e.1) (enumerate_from (n + 1) xs) else filter (λ e. test e.1) (enumerate_from (n + 1) xs))
+  by_test : (t : Bool) (j k : ℕ) → slice_get (Numbers_of t) j ≡ Some r → slice_get (Numbers_of t) k ≡ Some r → j ≡ k
+  by_test true zero zero one two = refl
+  by_test true zero (suc k) one two = let same : n ≡ r = cc in absurd (omega (arith, same, number_low test (n + 1) xs k r two))
+  by_test true (suc j) zero one two = let same : n ≡ r = cc in absurd (omega (arith, same, number_low test (n + 1) xs j r one))
+  by_test true (suc j) (suc k) one two = ap suc (number_once test (n + 1) xs j k r one two)
+  by_test false j k one two = number_once test (n + 1) xs j k r one two
+
+-- a window has as many rows as an array of its sizes
+pub window_count : (extents : List ℕ) (spans : List Span) → IsWindow extents spans → length (rows_in extents spans) ≡ length (indices (sizes spans))
+window_count extents spans is =
+    length_numbers (holds spans) 0 (indices extents) ∙ ap (λ (xs : List (List ℕ)). length xs) (windows_are_moved extents spans is) ∙ length-map (indices (sizes spans)) (moved spans)
+
+-- the row of the whole array that is a row of a window: that of its index, moved
+pub window_row : (extents : List ℕ) (spans : List Span) → IsWindow extents spans → (row : ℕ) (index : List ℕ) (outer : ℕ)
+    → slice_get (indices (sizes spans)) row ≡ Some index → slice_get (indices extents) outer ≡ Some (moved spans index) → slice_get (rows_in extents spans) row ≡ Some outer
+window_row extents spans is row index outer at there =
+    let in_held : slice_get (held extents spans) row ≡ Some (moved spans index) =
+    ap (λ (xs : List (List ℕ)). slice_get xs row) (windows_are_moved extents spans is) ∙ slice_get-map (moved spans) (indices (sizes spans)) row ∙ ap (option_map (moved spans)) at in
+    let found = number_at (holds spans) 0 (indices extents) row (moved spans index) in_held in
+    let same : 0 + found.0 ≡ outer = omega (arith, same_row extents (moved spans index) found.0 outer found.1.1 there) in
+    found.1.0 ∙ ap (λ (m : ℕ). Some m) same
+
+-- different rows of a window are different rows of the array
+pub window_once : (extents : List ℕ) (spans : List Span) (j k outer : ℕ) → slice_get (rows_in extents spans) j ≡ Some outer → slice_get (rows_in extents spans) k ≡ Some outer → j ≡ k
+window_once extents spans j k outer one two = number_once (holds spans) 0 (indices extents) j k outer one two
+
+-- a moved index is inside the extents
+pub moved_inside : (extents : List ℕ) (spans : List Span) (index : List ℕ) → IsWindow extents spans → IsInside (sizes spans) index → IsInside extents (moved spans index)
+moved_inside [] [] [] is inside = tt
+moved_inside [] [] (i ∷ index) is inside = absurd inside
+moved_inside [] (span ∷ spans) index is inside = absurd is
+moved_inside (extent ∷ extents) [] index is inside = absurd is
+moved_inside (extent ∷ extents) (span ∷ spans) [] is inside = absurd inside
+moved_inside (extent ∷ extents) (span ∷ spans) (i ∷ index) is inside =
+    (omega (arith, inside.0, is.0.0, is.0.1), moved_inside extents spans index is.1 inside.1)
+
+-- the sizes of a window are extents too
+product_le : (extents : List ℕ) (spans : List Span) → IsWindow extents spans → product (sizes spans) ≤ product extents
+product_le [] [] is = omega arith
+product_le [] (span ∷ spans) is = absurd is
+product_le (extent ∷ extents) [] is = absurd is
+product_le (extent ∷ extents) (span ∷ spans) is =
+    (let low : span.end - span.from ≤ extent = omega (arith, is.0.1) in mul-le (span.end - span.from) (product (sizes spans)) extent (product extents) low (product_le extents spans is.1))
+
+same_rank : (extents : List ℕ) (spans : List Span) → IsWindow extents spans → length spans ≡ length extents
+same_rank [] [] is = refl
+same_rank [] (span ∷ spans) is = absurd is
+same_rank (extent ∷ extents) [] is = absurd is
+same_rank (extent ∷ extents) (span ∷ spans) is = ap suc (same_rank extents spans is.1)
