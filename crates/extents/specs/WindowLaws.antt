@@ -1,12 +1,12 @@
 -- The indices of a window are those of an array of its own, moved.
-use Rattle.std.proofs.Common.{◌≡◌, ℕ, zero, suc, ◌+◌, ◌-◌, ◌<◌, ◌≤◌, Bool, true, false, List, [], ◌∷◌, ◌++◌, map, filter, refl, sym, ap, ◌∙◌, arith}
+use Rattle.std.proofs.Common.{◌≡◌, ℕ, zero, suc, ◌+◌, ◌-◌, ◌<◌, ◌≤◌, Bool, true, false, List, [], ◌∷◌, ◌++◌, map, filter, refl, sym, ap, ◌∙◌, ◌⊎◌, ⊎_elim, arith}
 use Rattle.std.specs.Prelude.{◌&&◌, nat_le, nat_lt, length, slice_get, Some, if◌then◌else◌}
 use Rattle.std.specs.Option.{option_map}
 use Rattle.std.proofs.lemmas.Option.{slice_get-map}
 use Rattle.std.proofs.lemmas.Nat.{mul-le}
 use Rattle.std.specs.List.{flat_map, range_with_len, enumerate_from}
 use Rattle.std.proofs.lemmas.Bool.{and_from, le-leb, lt-leb, lt-ltb, le-ltb}
-use Rattle.std.proofs.lemmas.List.{append-nil, length-map}
+use Rattle.std.proofs.lemmas.List.{append-nil, append_assoc, length-map}
 use Rattle.std.proofs.lemmas.List.Concat.{flat_map-append}
 use Rattle.extents.specs.Indices.{indices, product, IsInside}
 use Rattle.extents.specs.IndicesLaws.{same_row}
@@ -129,52 +129,58 @@ numbers_of test n xs = map (λ e. e.0) (filter (λ e. test e.1) (enumerate_from 
 -- there are as many as such elements
 length_numbers : {X : Type 0} (test : X → Bool) (n : ℕ) (xs : List X) → length (numbers_of test n xs) ≡ length (filter test xs)
 length_numbers test n [] = refl
-length_numbers test n (x ∷ xs) = by_test (test x) refl where
-  by_test : (t : Bool) → test x ≡ t → length (map (λ e. e.0) (if t then (n, x) ∷ filter (λ e. test e.1) (enumerate_from (n + 1) xs) else filter (λ e. test e.1) (enumerate_from (n + 1) xs)))
+length_numbers test n (x ∷ xs) = by_test (test x) (length_numbers test (n + 1) xs) where
+  by_test : (t : Bool) → length (numbers_of test (n + 1) xs) ≡ length (filter test xs)
+      → length (map (λ e. e.0) (if t then (n, x) ∷ filter (λ e. test e.1) (enumerate_from (n + 1) xs) else filter (λ e. test e.1) (enumerate_from (n + 1) xs)))
       ≡ length (if t then x ∷ filter test xs else filter test xs)
-  by_test true e = ap suc (length_numbers test (n + 1) xs)
-  by_test false e = length_numbers test (n + 1) xs
+  by_test true rest = ap suc rest
+  by_test false rest = rest
+
+-- a number at a place of a list, and the element that has it
+pub record IsNumber {X : Type 0} (numbers : List ℕ) (xs : List X) (n k : ℕ) (x : X) : Type 0 where
+  pub place : ℕ
+  pub number : slice_get numbers k ≡ Some (n + place)
+  pub element : slice_get xs place ≡ Some x
+
+number_behind : {X : Type 0} (numbers : List ℕ) (y : X) (xs : List X) (n k : ℕ) (x : X) → IsNumber numbers xs (n + 1) k x → IsNumber numbers (y ∷ xs) n k x
+number_behind numbers y xs n k x at =
+    (let one : n + 1 + at.place ≡ n + suc at.place = omega arith in
+    record { place = suc at.place; number = at.number ∙ ap (λ (m : ℕ). Some m) one; element = at.element })
 
 -- each is the number of the element at this place
-number_at : {X : Type 0} (test : X → Bool) (n : ℕ) (xs : List X) (k : ℕ) (x : X) → slice_get (filter test xs) k ≡ Some x
-    → (r : ℕ) × (slice_get (numbers_of test n xs) k ≡ Some (n + r)) × (slice_get xs r ≡ Some x)
-number_at test n [] k x at = absurd (cc)
-number_at {X} test n (y ∷ xs) k x at = by_test (test y) k at where
-  List_of : Bool → List X
-  List_of t = if t then y ∷ filter test xs else filter test xs
-  Numbers_of : Bool → List ℕ
-  Numbers_of t = map (λ e. e.0) (if t then (n, y) ∷ filter (λ e. test e.1) (enumerate_from (n + 1) xs) else filter (λ e. test e.1) (enumerate_from (n + 1) xs))
-  behind : (k : ℕ) → slice_get (filter test xs) k ≡ Some x → (r : ℕ) × (slice_get (numbers_of test (n + 1) xs) k ≡ Some (n + r)) × (slice_get (y ∷ xs) r ≡ Some x)
-  behind k at =
-      let found = number_at test (n + 1) xs k x at in
-      let one : n + 1 + found.0 ≡ n + suc found.0 = omega arith in
-      (suc found.0, found.1.0 ∙ ap (λ (m : ℕ). Some m) one, found.1.1)
-  by_test : (t : Bool) (k : ℕ) → slice_get (List_of t) k ≡ Some x → (r : ℕ) × (slice_get (Numbers_of t) k ≡ Some (n + r)) × (slice_get (y ∷ xs) r ≡ Some x)
-  by_test true zero at = let none : n ≡ n + 0 = omega arith in (0, ap (λ (m : ℕ). Some m) none, at)
-  by_test true (suc k) at = behind k at
-  by_test false k at = behind k at
+number_at : {X : Type 0} (test : X → Bool) (n : ℕ) (xs : List X) (k : ℕ) (x : X) → slice_get (filter test xs) k ≡ Some x → IsNumber (numbers_of test n xs) xs n k x
+number_at test n [] k x at = cc
+number_at {X} test n (y ∷ xs) k x at = by_test (test y) k (λ k at. number_behind (numbers_of test (n + 1) xs) y xs n k x (number_at test (n + 1) xs k x at)) at where
+  by_test : (t : Bool) (k : ℕ) → ((k : ℕ) → slice_get (filter test xs) k ≡ Some x → IsNumber (numbers_of test (n + 1) xs) (y ∷ xs) n k x)
+      → slice_get (if t then y ∷ filter test xs else filter test xs) k ≡ Some x
+      → IsNumber (map (λ e. e.0) (if t then (n, y) ∷ filter (λ e. test e.1) (enumerate_from (n + 1) xs) else filter (λ e. test e.1) (enumerate_from (n + 1) xs))) (y ∷ xs) n k x
+  by_test true zero rest at = (let none : n ≡ n + 0 = omega arith in record { place = 0; number = ap (λ (m : ℕ). Some m) none; element = at })
+  by_test true (suc k) rest at = (let there = rest k at in record { place = there.place; number = there.number; element = there.element })
+  by_test false k rest at = rest k at
 
 -- none is below the first number
 number_low : {X : Type 0} (test : X → Bool) (n : ℕ) (xs : List X) (k r : ℕ) → slice_get (numbers_of test n xs) k ≡ Some r → n ≤ r
-number_low test n [] k r at = absurd (cc)
-number_low {X} test n (x ∷ xs) k r at = by_test (test x) k at where
-  by_test : (t : Bool) (k : ℕ) → slice_get (map (λ e. e.0) (if t then (n, x) ∷ filter (λ e. test e.1) (enumerate_from (n + 1) xs) else filter (λ e. test e.1) (enumerate_from (n + 1) xs))) k ≡ Some r → n ≤ r
-  by_test true zero at = let same : n ≡ r = cc in omega (arith, same)
-  by_test true (suc k) at = omega (arith, number_low test (n + 1) xs k r at)
-  by_test false k at = omega (arith, number_low test (n + 1) xs k r at)
+number_low test n [] k r at = cc
+number_low {X} test n (x ∷ xs) k r at = by_test (test x) k (λ k at. number_low test (n + 1) xs k r at) at where
+  by_test : (t : Bool) (k : ℕ) → ((k : ℕ) → slice_get (numbers_of test (n + 1) xs) k ≡ Some r → n + 1 ≤ r)
+      → slice_get (map (λ e. e.0) (if t then (n, x) ∷ filter (λ e. test e.1) (enumerate_from (n + 1) xs) else filter (λ e. test e.1) (enumerate_from (n + 1) xs))) k ≡ Some r → n ≤ r
+  by_test true zero rest at = (let same : n ≡ r = cc in omega (arith, same))
+  by_test true (suc k) rest at = omega (arith, rest k at)
+  by_test false k rest at = omega (arith, rest k at)
 
 -- a number has one place
 number_once : {X : Type 0} (test : X → Bool) (n : ℕ) (xs : List X) (j k r : ℕ) → slice_get (numbers_of test n xs) j ≡ Some r → slice_get (numbers_of test n xs) k ≡ Some r → j ≡ k
-number_once test n [] j k r one two = absurd (cc)
-number_once {X} test n (x ∷ xs) j k r one two = by_test (test x) j k one two where
-  Numbers_of : Bool → List ℕ
-  Numbers_of t = map (λ e. e.0) (if t then (n, x) ∷ filter (λ e. test e.1) (enumerate_from (n + 1) xs) else filter (λ e. test e.1) (enumerate_from (n + 1) xs))
-  by_test : (t : Bool) (j k : ℕ) → slice_get (Numbers_of t) j ≡ Some r → slice_get (Numbers_of t) k ≡ Some r → j ≡ k
-  by_test true zero zero one two = refl
-  by_test true zero (suc k) one two = let same : n ≡ r = cc in absurd (omega (arith, same, number_low test (n + 1) xs k r two))
-  by_test true (suc j) zero one two = let same : n ≡ r = cc in absurd (omega (arith, same, number_low test (n + 1) xs j r one))
-  by_test true (suc j) (suc k) one two = ap suc (number_once test (n + 1) xs j k r one two)
-  by_test false j k one two = number_once test (n + 1) xs j k r one two
+number_once test n [] j k r one two = cc
+number_once {X} test n (x ∷ xs) j k r one two = by_test (test x) j k (λ j k. number_once test (n + 1) xs j k r) (λ k. number_low test (n + 1) xs k r) one two where
+  by_test : (t : Bool) (j k : ℕ) → ((j k : ℕ) → slice_get (numbers_of test (n + 1) xs) j ≡ Some r → slice_get (numbers_of test (n + 1) xs) k ≡ Some r → j ≡ k)
+      → ((k : ℕ) → slice_get (numbers_of test (n + 1) xs) k ≡ Some r → n + 1 ≤ r)
+      → slice_get (map (λ e. e.0) (if t then (n, x) ∷ filter (λ e. test e.1) (enumerate_from (n + 1) xs) else filter (λ e. test e.1) (enumerate_from (n + 1) xs))) j ≡ Some r
+      → slice_get (map (λ e. e.0) (if t then (n, x) ∷ filter (λ e. test e.1) (enumerate_from (n + 1) xs) else filter (λ e. test e.1) (enumerate_from (n + 1) xs))) k ≡ Some r → j ≡ k
+  by_test true zero zero same low one two = refl
+  by_test true zero (suc k) same low one two = (let here : n ≡ r = cc in absurd (omega (arith, here, low k two)))
+  by_test true (suc j) zero same low one two = (let here : n ≡ r = cc in absurd (omega (arith, here, low j one)))
+  by_test true (suc j) (suc k) same low one two = ap suc (same j k one two)
+  by_test false j k same low one two = same j k one two
 
 -- a window has as many rows as an array of its sizes
 pub window_count : (extents : List ℕ) (spans : List Span) → IsWindow extents spans → length (rows_in extents spans) ≡ length (indices (sizes spans))
@@ -188,8 +194,8 @@ window_row extents spans is row index outer at there =
     let in_held : slice_get (held extents spans) row ≡ Some (moved spans index) =
     ap (λ (xs : List (List ℕ)). slice_get xs row) (windows_are_moved extents spans is) ∙ slice_get-map (moved spans) (indices (sizes spans)) row ∙ ap (option_map (moved spans)) at in
     let found = number_at (holds spans) 0 (indices extents) row (moved spans index) in_held in
-    let same : 0 + found.0 ≡ outer = omega (arith, same_row extents (moved spans index) found.0 outer found.1.1 there) in
-    found.1.0 ∙ ap (λ (m : ℕ). Some m) same
+    let same : 0 + found.place ≡ outer = omega (arith, same_row extents (moved spans index) found.place outer found.element there) in
+    found.number ∙ ap (λ (m : ℕ). Some m) same
 
 -- different rows of a window are different rows of the array
 pub window_once : (extents : List ℕ) (spans : List Span) (j k outer : ℕ) → slice_get (rows_in extents spans) j ≡ Some outer → slice_get (rows_in extents spans) k ≡ Some outer → j ≡ k
@@ -206,15 +212,26 @@ moved_inside (extent ∷ extents) (span ∷ spans) (i ∷ index) is inside =
     (omega (arith, inside.0, is.0.0, is.0.1), moved_inside extents spans index is.1 inside.1)
 
 -- the sizes of a window are extents too
-product_le : (extents : List ℕ) (spans : List Span) → IsWindow extents spans → product (sizes spans) ≤ product extents
+pub product_le : (extents : List ℕ) (spans : List Span) → IsWindow extents spans → product (sizes spans) ≤ product extents
 product_le [] [] is = omega arith
 product_le [] (span ∷ spans) is = absurd is
 product_le (extent ∷ extents) [] is = absurd is
 product_le (extent ∷ extents) (span ∷ spans) is =
     (let low : span.end - span.from ≤ extent = omega (arith, is.0.1) in mul-le (span.end - span.from) (product (sizes spans)) extent (product extents) low (product_le extents spans is.1))
 
-same_rank : (extents : List ℕ) (spans : List Span) → IsWindow extents spans → length spans ≡ length extents
+pub same_rank : (extents : List ℕ) (spans : List Span) → IsWindow extents spans → length spans ≡ length extents
 same_rank [] [] is = refl
 same_rank [] (span ∷ spans) is = absurd is
 same_rank (extent ∷ extents) [] is = absurd is
 same_rank (extent ∷ extents) (span ∷ spans) is = ap suc (same_rank extents spans is.1)
+
+-- one step of a loop over spans and an index
+pub moved_step : (spans spans' : List Span) (index index' : List ℕ) (span : Span) (i : ℕ) (done whole : List ℕ) → spans ≡ span ∷ spans' → index ≡ i ∷ index'
+    → whole ≡ done ++ moved spans index → whole ≡ (done ++ (span.from + i) ∷ []) ++ moved spans' index'
+moved_step spans spans' index index' span i done whole one two so =
+    so ∙ ap (λ (xs : List Span). done ++ moved xs index) one ∙ ap (λ (xs : List ℕ). done ++ moved (span ∷ spans') xs) two ∙ sym (append_assoc done ((span.from + i) ∷ []) (moved spans' index'))
+
+pub moved_end : (spans : List Span) (index : List ℕ) → (length index ≡ 0) ⊎ (length spans ≡ 0) → moved spans index ≡ []
+moved_end [] index none = refl
+moved_end (span ∷ spans) [] none = refl
+moved_end (span ∷ spans) (i ∷ index) none = ⊎_elim (λ (z : length (i ∷ index) ≡ 0). absurd (omega arith)) (λ (z : length (span ∷ spans) ≡ 0). absurd (omega arith)) none
