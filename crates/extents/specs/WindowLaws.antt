@@ -1,5 +1,5 @@
 -- The indices of a window are those of an array of its own, moved.
-use Rattle.std.proofs.Common.{◌≡◌, ℕ, zero, suc, ◌+◌, ◌-◌, ◌<◌, ◌≤◌, Bool, true, false, List, [], ◌∷◌, ◌++◌, map, filter, refl, sym, ap, ◌∙◌, ◌⊎◌, ⊎_elim, arith}
+use Rattle.std.proofs.Common.{◌≡◌, ℕ, zero, suc, subst, get_or, length-append, All, ◌*◌, ◌^◌, ◌+◌, ◌-◌, ◌<◌, ◌≤◌, Bool, true, false, List, [], ◌∷◌, ◌++◌, map, filter, refl, sym, ap, ◌∙◌, ◌⊎◌, ⊎_elim, arith}
 use Rattle.std.specs.Prelude.{◌&&◌, nat_le, nat_lt, length, slice_get, Some, if◌then◌else◌}
 use Rattle.std.specs.Option.{option_map}
 use Rattle.std.proofs.lemmas.Option.{slice_get-map}
@@ -10,6 +10,9 @@ use Rattle.std.proofs.lemmas.List.{append-nil, append_assoc, length-map}
 use Rattle.std.proofs.lemmas.List.Concat.{flat_map-append}
 use Rattle.extents.specs.Indices.{indices, product, IsInside}
 use Rattle.extents.specs.IndicesLaws.{same_row}
+use Rattle.extents.specs.declared.words.ExtentWord.{ExtentWord}
+use Rattle.extents.specs.declared.words.ExtentWord.TheVariants.{Fixed}
+use Rattle.extents.specs.Shapes.{extent_of}
 use Rattle.extents.specs.Windows.{Span, IsWindow, holds, held, rows_in, sizes, moved}
 
 range_cut : (a m n : ℕ) → range_with_len a (m + n) ≡ range_with_len a m ++ range_with_len (a + m) n
@@ -231,7 +234,62 @@ pub moved_step : (spans spans' : List Span) (index index' : List ℕ) (span : Sp
 moved_step spans spans' index index' span i done whole one two so =
     so ∙ ap (λ (xs : List Span). done ++ moved xs index) one ∙ ap (λ (xs : List ℕ). done ++ moved (span ∷ spans') xs) two ∙ sym (append_assoc done ((span.from + i) ∷ []) (moved spans' index'))
 
-pub moved_end : (spans : List Span) (index : List ℕ) → (length index ≡ 0) ⊎ (length spans ≡ 0) → moved spans index ≡ []
+moved_end : (spans : List Span) (index : List ℕ) → (length index ≡ 0) ⊎ (length spans ≡ 0) → moved spans index ≡ []
 moved_end [] index none = refl
 moved_end (span ∷ spans) [] none = refl
 moved_end (span ∷ spans) (i ∷ index) none = ⊎_elim (λ (z : length (i ∷ index) ≡ 0). absurd (omega arith)) (λ (z : length (span ∷ spans) ≡ 0). absurd (omega arith)) none
+
+-- the size of a span as a word of a shape
+abbrev pub fixed_size : Span → ExtentWord
+fixed_size span = Fixed (span.end - span.from)
+
+-- components below 2 ^ 32, as those inside of extents are
+abbrev pub AreNarrow : List ℕ → Type 0
+AreNarrow [] = Unit {0}
+AreNarrow (i ∷ index) = (i < 2 ^ 32) × AreNarrow index
+
+pub inside_narrow : (extents index : List ℕ) → All (λ n. n < 2 ^ 32) extents → IsInside extents index → AreNarrow index
+inside_narrow [] [] narrow inside = tt
+inside_narrow [] (i ∷ index) narrow inside = absurd inside
+inside_narrow (extent ∷ extents) [] narrow inside = absurd inside
+inside_narrow (extent ∷ extents) (i ∷ index) narrow inside =
+    (let first : extent < 2 ^ 32 = narrow 0 0 (omega arith) in
+    (omega (arith, inside.0, first), inside_narrow extents index (λ k d low. narrow (suc k) d (omega (arith, low))) inside.1))
+
+pub narrow_step : (spans spans' : List Span) (index index' : List ℕ) (span : Span) (i : ℕ) → spans ≡ span ∷ spans' → index ≡ i ∷ index'
+    → AreNarrow (moved spans index) → (span.from + i < 2 ^ 32) × AreNarrow (moved spans' index')
+narrow_step spans spans' index index' span i one two narrow =
+    subst (λ (xs : List ℕ). AreNarrow (moved (span ∷ spans') xs)) two (subst (λ (xs : List Span). AreNarrow (moved xs index)) one narrow)
+
+pub inside_length : (extents index : List ℕ) → IsInside extents index → length index ≡ length extents
+inside_length [] [] inside = refl
+inside_length [] (i ∷ index) inside = absurd inside
+inside_length (extent ∷ extents) [] inside = absurd inside
+inside_length (extent ∷ extents) (i ∷ index) inside = ap suc (inside_length extents index inside.1)
+
+-- what was pushed is shorter than the whole where something is left
+pub push_room : (done : List ℕ) (spans spans' : List Span) (index index' : List ℕ) (span : Span) (i : ℕ) (whole : List ℕ) → spans ≡ span ∷ spans' → index ≡ i ∷ index'
+    → whole ≡ done ++ moved spans index → length done < length whole
+push_room done spans spans' index index' span i whole one two so =
+    let next = moved_step spans spans' index index' span i done whole one two so in
+    omega (arith, ap (λ (xs : List ℕ). length xs) next, length-append (done ++ (span.from + i) ∷ []) (moved spans' index'), length-append done ((span.from + i) ∷ []))
+
+-- the words of a window are all fixed, so its rows are their product
+pub fixed_rows : (spans : List Span) (size : ℕ) → product (map (extent_of size) (map fixed_size spans)) ≡ product (sizes spans)
+fixed_rows [] size = refl
+fixed_rows (span ∷ spans) size = ap (λ (p : ℕ). (span.end - span.from) * p) (fixed_rows spans size)
+
+pub fixed_extents : (spans : List Span) (size : ℕ) → map (extent_of size) (map fixed_size spans) ≡ sizes spans
+fixed_extents [] size = refl
+fixed_extents (span ∷ spans) size = ap (λ (xs : List ℕ). (span.end - span.from) ∷ xs) (fixed_extents spans size)
+
+-- a span of a window does not end before it begins
+pub span_ordered : (extents : List ℕ) (spans : List Span) (k : ℕ) (other : Span) → IsWindow extents spans → k < length spans → (get_or spans k other).from ≤ (get_or spans k other).end
+span_ordered [] [] k other is low = absurd (omega (arith, low))
+span_ordered [] (span ∷ spans) k other is low = absurd is
+span_ordered (extent ∷ extents) [] k other is low = absurd is
+span_ordered (extent ∷ extents) (span ∷ spans) zero other is low = is.0.0
+span_ordered (extent ∷ extents) (span ∷ spans) (suc k) other is low = span_ordered extents spans k other is.1 (omega (arith, low))
+
+pub moved_whole : (done : List ℕ) (whole spans : List Span) (all index : List ℕ) → moved whole all ≡ done ++ moved spans index → (length index ≡ 0) ⊎ (length spans ≡ 0) → done ≡ moved whole all
+moved_whole done whole spans all index so none = sym (so ∙ ap (λ (xs : List ℕ). done ++ xs) (moved_end spans index none) ∙ append-nil done)

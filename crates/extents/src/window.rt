@@ -38,13 +38,14 @@ pub struct Window {
 // Clauses see the extents of the whole array, and the spans.
 impl Model for Window {
     ghost use Rattle.std.specs.Prelude.{◌≡◌, List, ℕ};
+    ghost use Rattle.extents.specs.Indices.{IsExtents};
     ghost use Rattle.extents.specs.Windows.{Span, IsWindow, sizes};
 
     ghost Value = { List ℕ × List Span };
 
     ghost view = { λ w. (w.extents, w.spans.items) };
 
-    ghost invariant = { λ w. IsWindow w.extents w.spans.items × (w.inner ≡ sizes w.spans.items) };
+    ghost invariant = { λ w. IsWindow w.extents w.spans.items × (w.inner ≡ sizes w.spans.items) × IsExtents w.extents };
 }
 
 impl Window {
