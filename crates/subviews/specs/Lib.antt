@@ -1,0 +1,2 @@
+pub mod SubViews
+pub mod Stencils
