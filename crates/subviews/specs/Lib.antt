@@ -1,2 +1,3 @@
 pub mod SubViews
 pub mod Stencils
+pub mod Plans
