@@ -1,17 +1,18 @@
 -- From each row of a window a term reads as far away.
-use Rattle.std.proofs.Common.{◌≡◌, ℕ, zero, suc, ◌+◌, ◌*◌, ◌-◌, ◌<◌, ◌≤◌, Bool, true, false, ℤ, pos, ◌+ℤ◌, ◌-ℤ◌, List, [], ◌∷◌, length, map, take, get_or, filter, Contains, Some, refl, ap, sym, ◌∙◌, arith}
+use Rattle.std.proofs.Common.{◌≡◌, ℕ, zero, suc, ◌+◌, ◌*◌, ◌-◌, ◌<◌, ◌≤◌, Bool, true, false, ℤ, pos, ◌+ℤ◌, ◌-ℤ◌, List, [], ◌∷◌, length, map, take, get_or, filter, ◌^◌, All, Contains, Some, refl, ap, sym, ◌∙◌, arith}
 use Rattle.std.specs.Prelude.{◌&&◌, ◌==◌, nat_lt, slice_get, if◌then◌else◌}
 use Rattle.std.specs.List.{list_all, enumerate_from, position_or_len}
 use Rattle.std.specs.Ordering.{int_eq}
 use Rattle.std.specs.Cmp.Rules.{signed_items}
 use Rattle.std.proofs.lemmas.Bool.{and_parts, ltb-true}
 use Rattle.std.proofs.lemmas.Int.{ints}
+use Rattle.std.proofs.lemmas.List.{take_all}
 use Rattle.std.proofs.lemmas.List.Sums.{AllPass-from_list_all, passes_at_first}
 use Rattle.std.proofs.lemmas.Option.{slice_get-get_or}
-use Rattle.extents.specs.Indices.{indices, product, IsInside}
+use Rattle.extents.specs.Indices.{indices, product, IsInside, IsExtents}
 use Rattle.extents.specs.IndicesLaws.{place, entry_at}
 use Rattle.extents.specs.Windows.{holds}
-use Rattle.extents.specs.WindowLaws.{numbers_of}
+use Rattle.extents.specs.WindowLaws.{numbers_of, inside_length}
 use Rattle.linearize.specs.Slots.{index_at}
 use Rattle.linearize.specs.SlotsLaws.{entry_of_row, index_at_inside}
 use Rattle.subviews.specs.SubViews.{WindowOf, rows_of}
@@ -99,3 +100,36 @@ away_at (i ∷ index) (j ∷ to) [] d is small = absurd (cc)
 away_at (i ∷ index) (j ∷ to) (offset ∷ offsets) zero is small = cc
 away_at (i ∷ index) (j ∷ to) (offset ∷ offsets) (suc d) is small =
     let rest : map pos to ≡ away index offsets = cc in away_at index to offsets d rest (omega (arith, small))
+
+-- the index that is so far away from that of a row
+abbrev pub target : WindowOf → List ℤ → ℕ → List ℕ
+target window offsets first = index_at window.0 (row_from window.0 first offsets)
+
+inside_small : (e index : List ℕ) (d : ℕ) → All (λ n. n < 2 ^ 32) e → IsInside e index → d < length e → get_or index d 0 < 2 ^ 32
+inside_small [] index d narrow inside small = absurd (omega (arith, small))
+inside_small (n ∷ ns) [] d narrow inside small = absurd inside
+inside_small (n ∷ ns) (i ∷ index) zero narrow inside small = (let first : n < 2 ^ 32 = narrow 0 0 (omega arith) in omega (arith, inside.0, first))
+inside_small (n ∷ ns) (i ∷ index) (suc d) narrow inside small = inside_small ns index d (λ k other low. narrow (suc k) other (omega (arith, low))) inside.1 (omega (arith, small))
+
+-- a component of it: the row's, so far away, and both are small
+pub record IsStep (window : WindowOf) (offsets : List ℤ) (first d : ℕ) : Type 0 where
+  pub away : pos (get_or (target window offsets first) d 0) ≡ pos (get_or (index_at window.0 first) d 0) +ℤ get_or offsets d (pos 0)
+  pub small : get_or (target window offsets first) d 0 < 2 ^ 32
+  pub near : get_or (index_at window.0 first) d 0 < 2 ^ 32
+
+pub step_at : (window : WindowOf) (offsets : List ℤ) (first d : ℕ) → IsExtents window.0 → reaches window offsets ≡ true → Contains (rows_of window) first → d < length window.0 → IsStep window offsets first d
+step_at window offsets first d extents reach held small =
+    let e = window.0 in
+    let to = reach_inside window offsets first reach held in
+    let inside = index_at_inside e (row_from e first offsets) to in
+    record {
+      away = away_at (index_at e first) (target window offsets first) offsets d (found e first offsets to) (omega (arith, small, inside_length e (target window offsets first) inside));
+      small = inside_small e (target window offsets first) d extents.narrow inside small;
+      near = inside_small e (index_at e first) d extents.narrow (index_at_inside e first (row_inside window first held)) small;
+    }
+
+-- its front is the whole of it
+pub whole_target : (window : WindowOf) (offsets : List ℤ) (first d : ℕ) → reaches window offsets ≡ true → Contains (rows_of window) first → length window.0 ≤ d → take d (target window offsets first) ≡ target window offsets first
+whole_target window offsets first d reach held past =
+    let e = window.0 in
+    take_all d (target window offsets first) (omega (arith, past, inside_length e (target window offsets first) (index_at_inside e (row_from e first offsets) (reach_inside window offsets first reach held))))

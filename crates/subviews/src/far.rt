@@ -1,5 +1,6 @@
 // How far away the entries of terms lie, in rows.
-ghost use Rattle.std.specs.Prelude.{◌≡◌, ◌<◌, ◌≤◌, ℕ, true, pos, All, length, slice_index_or};
+ghost use Rattle.std.specs.Prelude.{◌≡◌, ◌<◌, ◌≤◌, ◌^◌, ℕ, true, pos, length, slice_index_or};
+ghost use Rattle.extents.specs.Indices.{indices};
 ghost use Rattle.subviews.specs.SubViews.{rows_of};
 ghost use Rattle.subviews.specs.Stencils.{reaches};
 ghost use Rattle.subviews.specs.Plans.{IsFar};
@@ -10,12 +11,14 @@ use extents::Window;
 
 /// How far away each term reads, the same for each row of the window.
 pub fn all_far(window: &Window, terms: &[Term]) -> [i64; 64]
-    requires reach { All (λ term. reaches window.now term.offsets.items ≡ true) terms.now }
+    requires reach { (place : ℕ) (other : Term) → place < length terms.now → reaches window.now (slice_index_or terms.now place other).offsets.items ≡ true }
     requires few { length terms.now ≤ 64 }
-    ensures { (place : ℕ) (other : Term) → place < length terms.now
+    ensures rows { length (indices window.now.0) ≤ 2 ^ 24 }
+    ensures far { (place : ℕ) (other : Term) → place < length terms.now
         → IsFar window.now (slice_index_or terms.now place other).offsets.items (slice_index_or result place (pos 0)) }
 {
     let mut far = [0; 64];
+    let _rank = window.extents().rank();
     if window.count() == 0 {
         return far;
     }
@@ -35,7 +38,7 @@ fn far_of(window: &Window, offsets: &ArrayVec<i64, 4>) -> i64
     let first = window.outer(0);
     let from = extents.index_of(first);
     let mut index = ArrayVec::<u64, 4>::new();
-    for dimension in 0..from.len() {
+    for dimension in 0..extents.rank() {
         index.push((from[dimension] as i64 + offsets[dimension]) as u64);
     }
     extents.row_of(&index) as i64 - first as i64

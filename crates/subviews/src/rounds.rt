@@ -29,7 +29,7 @@ pub fn stencil<L: Ledger>(
 ) -> Result<(), StencilFault>
     requires window { window.now.0 ≡ view.old.extents }
     requires leaf_in { leaf < leaf_count_of view.old }
-    requires terms { All (IsTermOf view.old window.now) terms.now }
+    requires terms { All (IsTermOf (leaf_count_of view.old) window.now) terms.now }
     requires few { length terms.now ≤ 64 }
     requires divisor { 0 < divisor }
     requires buffer { IsBufferOf view.old buffer.old }
@@ -73,7 +73,7 @@ fn fill<L: Ledger>(
     plan: &Plan<'_>,
     steps: &mut Steps<L>,
 ) -> Result<(), StencilFault>
-    requires plan { IsPlanOf view.old plan.now }
+    requires plan { IsPlanOf (leaf_count_of view.old) view.old.extents plan.now }
     requires buffer { IsBufferOf view.old buffer.old }
     ensures fits { OnOk result (values_fault (answer_of view.old) (planned plan.now) view.old.rows (rows_of plan.now.window.now) ≡ Ok tt) }
     ensures refused { IfErr result (λ fault. values_fault (answer_of view.old) (planned plan.now) view.old.rows (rows_of plan.now.window.now) ≡ Err fault) }
@@ -83,8 +83,8 @@ fn fill<L: Ledger>(
         → entry buffer.new.rows row plan.now.leaf ≡ new_entry (answer_of view.old) (planned plan.now) view.old.rows row) }
     ensures buffer { buffer.new ≡ record buffer.old { rows = buffer.new.rows; tally = buffer.new.tally } }
 {
-    laws_of_table(view);
     for row in 0..plan.window.count() {
+        laws_of_table(buffer);
         let outer = plan.window.outer(row);
         let value = value_at(view, plan, outer, steps);
         if let Err(fault) = buffer.set(outer, plan.leaf, value, steps) {
@@ -97,7 +97,7 @@ fn fill<L: Ledger>(
 // The value of a stencil at a row of its window.
 #[inline(always)]
 fn value_at<L: Ledger>(view: &mut View, plan: &Plan<'_>, row: u64, steps: &mut Steps<L>) -> i128
-    requires plan { IsPlanOf view.old plan.now }
+    requires plan { IsPlanOf (leaf_count_of view.old) view.old.extents plan.now }
     requires row_in { Contains (rows_of plan.now.window.now) row }
     ensures value { result ≡ stencil_value (planned plan.now) view.old.rows row }
     ensures read { view.new ≡ after_log view.old (term_reads (planned plan.now) row) }
@@ -117,7 +117,7 @@ fn store_back<L: Ledger>(
     plan: &Plan<'_>,
     steps: &mut Steps<L>,
 )
-    requires plan { IsPlanOf view.old plan.now }
+    requires plan { IsPlanOf (leaf_count_of view.old) view.old.extents plan.now }
     requires buffer { IsBufferOf view.old buffer.old }
     ensures stored { view.new ≡ after_stores view.old
         (with_column plan.now.leaf (λ row. entry buffer.old.rows row plan.now.leaf) (rows_of plan.now.window.now) view.old.rows)
@@ -125,6 +125,8 @@ fn store_back<L: Ledger>(
     ensures buffer { buffer.new ≡ record buffer.old { tally = buffer.new.tally } }
 {
     for row in 0..plan.window.count() {
+        laws_of_table(view);
+        laws_of_table(buffer);
         let outer = plan.window.outer(row);
         let value = buffer.get(outer, plan.leaf, steps);
         let _stored = view.set(outer, plan.leaf, value, steps);
