@@ -102,6 +102,7 @@ fn value_at<L: Ledger>(view: &mut View, plan: &Plan<'_>, row: u64, steps: &mut S
     ensures value { result ≡ stencil_value (planned plan.now) view.old.rows row }
     ensures read { view.new ≡ after_log view.old (term_reads (planned plan.now) row) }
 {
+    laws_of_table(view);
     let mut sum = 0;
     for (place, term) in plan.terms.iter().enumerate() {
         let at = (row as i64 + plan.far[place]) as u64;

@@ -23,3 +23,24 @@ overflow_add-at g c =
     let inside = far_inside leaves c.args.view.now.extents plan c.args.row c.loop-place.place c.term-item.result c.requires.plan c.requires.row_in c.loop-place-test.true c.term-item.is in
     let low = row_inside plan.window.now c.args.row c.requires.row_in in
     omega (arith, ints, at, inside, low, c.requires.plan.rows, fits)
+
+pub overflow_cast-at-in-loop-place : goal.overflow_cast-at-in-loop-place
+overflow_cast-at-in-loop-place g c =
+    let plan = c.args.plan.now in
+    let leaves = leaf_count_of c.args.view.now in
+    let fits : FitsSigned w64 (get_or plan.far c.loop-place.place (pos 0)) = search rules in
+    let at = far_at leaves c.args.view.now.extents plan c.args.row c.loop-place.place c.term-item.result c.requires.plan c.requires.row_in c.loop-place-test.true c.term-item.is in
+    let inside = far_inside leaves c.args.view.now.extents plan c.args.row c.loop-place.place c.term-item.result c.requires.plan c.requires.row_in c.loop-place-test.true c.term-item.is in
+    let low = row_inside plan.window.now c.args.row c.requires.row_in in
+    omega (arith, ints, at, inside, low, c.requires.plan.rows, fits)
+
+pub get-requires-clause-row_in : goal.get-requires-clause-row_in
+get-requires-clause-row_in g c =
+    let plan = c.args.plan.now in
+    let leaves = leaf_count_of c.args.view.now in
+    let fits : FitsSigned w64 (get_or plan.far c.loop-place.place (pos 0)) = search rules in
+    let at = far_at leaves c.args.view.now.extents plan c.args.row c.loop-place.place c.term-item.result c.requires.plan c.requires.row_in c.loop-place-test.true c.term-item.is in
+    let inside = far_inside leaves c.args.view.now.extents plan c.args.row c.loop-place.place c.term-item.result c.requires.plan c.requires.row_in c.loop-place-test.true c.term-item.is in
+    let low = row_inside plan.window.now c.args.row c.requires.row_in in
+    let rows : length (indices plan.window.now.0) ≡ length c.args.view.now.rows = ap (λ (e : List ℕ). length (indices e)) c.requires.plan.window ∙ sym c.laws_of_table.ensures.table.rows in
+    omega (arith, ints, at, inside, low, c.requires.plan.rows, fits, rows, ap (λ (t : Table). length t.rows) c.loop-place.invariant.read)
