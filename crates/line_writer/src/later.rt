@@ -130,30 +130,33 @@ pub(crate) fn write_advise(
     write_named(text, Command::Advise, view)?;
     push(text, "granule")?;
     push_count(text, granule)?;
-    write_passes(text, passes.as_slice())?;
+    write_each(text, passes.as_slice())?;
     push(text, "among")?;
     write_maps(text, maps.as_slice())?;
     write_flag(text, "splits", splits)
 }
 
+// Items one behind another.
 #[tactic(auto, using(crate::proofs::Behind::behind_append))]
-fn write_passes(text: &mut Text, passes: &[PassText]) -> Result<(), NoMemory>
-    ensures { OnOk result (text.new ≡ behind text.old (flat_map pass_tokens passes.now)) }
+fn write_each<T: Part>(text: &mut Text, parts: &[T]) -> Result<(), NoMemory>
+    ensures { OnOk result (text.new ≡ behind text.old (flat_map T.tokens parts.now)) }
 {
-    for pass in passes {
-        write_pass(text, pass)?;
+    for part in parts {
+        part.write_part(text)?;
     }
     Ok(())
 }
 
-#[tactic(auto, using(crate::proofs::Behind::behind_append))]
-fn write_pass(text: &mut Text, pass: &PassText) -> Result<(), NoMemory>
-    ensures { OnOk result (text.new ≡ behind text.old (pass_tokens pass.now)) }
-{
-    push(text, "pass")?;
-    write_parts(text, pass.paths.as_slice())?;
-    push(text, "times")?;
-    push_count(text, pass.times)
+impl Part for PassText {
+    ghost tokens = { pass_tokens };
+
+    #[tactic(auto, using(crate::proofs::Behind::behind_append))]
+    fn write_part(&self, text: &mut Text) -> Result<(), NoMemory> {
+        push(text, "pass")?;
+        write_parts(text, self.paths.as_slice())?;
+        push(text, "times")?;
+        push_count(text, self.times)
+    }
 }
 
 impl Part for Path {
