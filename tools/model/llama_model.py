@@ -21,6 +21,7 @@ from kernels import bad_kernel, leaves_of as leaves_of_kernel, number_of, stored
 from layouts import digit, image, product
 from mappings import (Cell, bad_alone, bad_mapping, blobs_of, counters_of, full, granules_of, holds_of, inner_of, lengths_of, most_slots,
                       range_of)
+from stencils import bad_stencil, indices_in, is_window, leaf_behind_a_round
 from values import ValueFault, value_of
 
 USAGE = b'usage: llama run FILE | llama gen N\n'
@@ -77,6 +78,12 @@ class View:
             row //= extent
         return index
 
+    def row_of(self, index):
+        row = 0
+        for at, extent in zip(index, self.extents):
+            row = row * extent + at
+        return row
+
     def lengths(self):
         return lengths_of(self.mapping, self.leaves, self.extents)
 
@@ -94,6 +101,11 @@ class View:
     def touch(self, row, leaf, reads, writes):
         if self.log is not None:
             self.log.add(row, leaf, reads, writes)
+
+    def touch_row(self, row, reads, writes):
+        """So many accesses of each leaf of a row."""
+        for leaf in range(len(self.leaves)):
+            self.touch(row, leaf, reads, writes)
 
     def touch_leaf(self, leaf, reads, writes):
         """So many accesses of a leaf in each row."""
@@ -375,20 +387,13 @@ def load(world, line):
 
 # the other commands
 
-def row_of_index(extents, index):
-    if len(index) != len(extents) or any(at >= extent for at, extent in zip(index, extents)):
-        raise Fault('BadIndex')
-    row = 0
-    for at, extent in zip(index, extents):
-        row = row * extent + at
-    return row
-
-
 def assign(world, line):
     view = known(line['name'], world.views)
     leaf = leaf_of(view, line['path'])
     expr = bound(view, line['value'])
-    row = row_of_index(view.extents, line['index'])
+    if len(line['index']) != len(view.extents) or any(at >= extent for at, extent in zip(line['index'], view.extents)):
+        raise Fault('BadIndex')
+    row = view.row_of(line['index'])
     value = value_on(view, row, view.row(row), expr)
     store(view, row, leaf, value)
 
@@ -464,6 +469,24 @@ def update_by_actors(view, where, sets, cuts, seed, turns):
     return text
 
 
+def stencil(world, line):
+    view = known(line['name'], world.views)
+    leaf = leaf_of(view, line['path'])
+    terms = [(weight, leaf_of(view, path), offsets) for weight, path, offsets in line['terms']]
+    refuse_window(view, line['window'])
+    fault = bad_stencil(line['window'], view.extents, terms, line['divisor'], line['rounds'])
+    if fault:
+        raise Fault('BadStencil', fault)
+    refuse_live_bytes(world, view)
+    rows = rows_in(view, line['window'])
+    for _ in range(line['rounds']):
+        new = leaf_behind_a_round(view, line['window'], terms, line['divisor'])
+        for row, value in zip(rows, new):
+            storable(view, row, leaf, value)
+        for row, value in zip(rows, new):
+            store(view, row, leaf, value)
+
+
 def bound_kernel(view, kernel):
     """The kernel with numbers of leaves for its paths."""
     return tuple(leaf_of(view, part) if isinstance(part, tuple) else part for part in kernel)
@@ -534,8 +557,20 @@ def relayout(world, line):
 
 def print_view(world, line):
     view = known(line['name'], world.views)
-    view.touch_all(1, 0)
-    return text_of([[leaf.path for leaf in view.leaves], *view.rows()])
+    rows = range(view.count()) if line['window'] is None else rows_in(view, line['window'])
+    for row in rows:
+        view.touch_row(row, 1, 0)
+    return text_of([[leaf.path for leaf in view.leaves], *map(view.row, rows)])
+
+
+def rows_in(view, window):
+    refuse_window(view, window)
+    return list(map(view.row_of, indices_in(window)))
+
+
+def refuse_window(view, window):
+    if not is_window(window, view.extents):
+        raise Fault('BadWindow')
 
 
 def text_of(lines):
@@ -663,7 +698,7 @@ def is_settled(view, leaf, value):
 DOES = {
     'record': record, 'mapping': mapping, 'view': new_view, 'load': load, 'set': assign, 'update': update,
     'kernel': kernel, 'reduce': reduce, 'copy': copy, 'relayout': relayout, 'print': print_view, 'counts': counts, 'heat': heat,
-    'layout': layout, 'bytes': bytes_of, 'drop': drop, 'save': save, 'open': open_file,
+    'layout': layout, 'bytes': bytes_of, 'drop': drop, 'save': save, 'open': open_file, 'stencil': stencil,
 }
 assert set(DOES) == set(COMMANDS)
 

@@ -307,6 +307,42 @@ class Script:
             return self.dice.choice([-2 ** 31 - 1, -2 ** 31, 2 ** 31 - 1, 2 ** 31, 2 ** 32 - 1, 2 ** 32, 2 ** 127 - 1, -2 ** 127 + 1, 2 ** 127])
         return usual
 
+    # windows and stencils
+
+    def spans(self, table):
+        """A window of a table, rarely one that is none."""
+        dice, spans = self.dice, []
+        for extent in table.extents:
+            begin = dice.randrange(extent + 1) if one_in(dice, 6) else dice.randrange(max(extent, 1))
+            spans.append((begin, dice.randint(begin, extent) if one_in(dice, 8) else dice.randint(min(begin + 1, extent), extent)))
+        if one_in(dice, 40):
+            spans[dice.randrange(len(spans))] = dice.choice([(0, table.extents[0] + 1), (2, 1), (0, 2 ** 32 - 1), (0, 2 ** 32), (99, 99)])
+        return spans + [(0, 1)] if one_in(dice, 80) else spans
+
+    def window(self, spans):
+        return f'window [{", ".join(f"{begin} : {end}" for begin, end in spans)}]'
+
+    def offsets(self, table, spans):
+        """Offsets by which a window mostly stays inside of the table."""
+        dice = self.dice
+        if one_in(dice, 150):
+            return dice.choice([[0] * (len(spans) + 1), [2 ** 32] * len(spans), [-2 ** 32 - 1] * len(spans), [TOO_GREAT] * len(spans), [1] * len(spans), [-1] * len(spans)])
+        return [dice.randint(-begin, max(extent - end, -begin)) for (begin, end), extent in zip(spans, table.extents)]
+
+    def weight(self, usual):
+        return self.dice.choice([2 ** 31 - 1, -2 ** 31, 2 ** 31, -2 ** 31 - 1, TOO_GREAT - 1, TOO_GREAT]) if one_in(self.dice, 250) else usual
+
+    def stencil(self, name, table):
+        """A stencil that mostly keeps within the numbers that it reads, or keeps low bits."""
+        dice, spans, path = self.dice, self.spans(table), self.path(table)
+        calm = not table.wrap and dice.randrange(20)
+        weights = [dice.randint(0, 5) if calm else dice.choice([1, -1, 3, -300, 2 ** 31 - 1, -2 ** 31]) for _ in range(dice.choice([1, 2, 3, 5] if dice.randrange(60) else [64, 65]))]
+        terms = [f'{self.weight(weight)} * {path if calm else self.path(table)} at [{", ".join(map(str, self.offsets(table, spans)))}]' for weight in weights]
+        divisor = max(sum(weights), 1) if calm else dice.choice([1, 2, 7, 2 ** 31])
+        divisor = dice.choice([0, 2 ** 31 + 1, 2 ** 32]) if one_in(dice, 100) else divisor
+        rounds = dice.choice([0, 1, 1, 2, 3, 10] if dice.randrange(80) else [1001, 2 ** 32 - 1] if len(weights) > 9 else [1000, 1001])
+        self.add(f'stencil {name} {self.window(spans)} set {path} = ({", ".join(terms)}) / {divisor} rounds {rounds}')
+
     def kernel(self, name, table):
         dice = self.dice
         narrow = [leaf.path for leaf in table.leaves if not leaf.kind.endswith('64')]
@@ -345,6 +381,8 @@ class Script:
         if command == 'bytes':
             blobs = len(lengths_of(table.mapping, table.leaves, table.extents))
             self.add(f'bytes {name} {self.dice.randrange(blobs if self.dice.randrange(60) else 70)}')
+        elif command == 'print' and one_in(self.dice, 2 if self.version == 2 else 200):
+            self.add(f'print {name} {self.window(self.spans(table))}')
         else:
             self.add(f'{command} {name}')
 
@@ -371,10 +409,11 @@ class Script:
         if one_in(dice, 12) if self.version == 2 else one_in(dice, 400):
             return self.open()
         if one_in(dice, 20):
-            return self.add(dice.choice(['', '', '# note', '   ', '\t#', 'nothing', 'print', 'print V V', 'drop 5', '}', '"', 'version 2', 'version 1', 'save', 'open V', 'open V from f']) if one_in(dice, 4) else '')
+            return self.add(dice.choice(['', '', '# note', '   ', '\t#', 'nothing', 'print', 'print V V', 'drop 5', '}', '"', 'version 2', 'version 1', 'save', 'open V', 'open V from f', 'stencil V', 'print V window']) if one_in(dice, 4) else '')
         name = dice.choice(sorted(self.tables))
         act = dice.choice([self.set, self.set, self.update, self.update, self.update, self.kernel, self.kernel, self.reduce, self.reduce, self.copy, self.relayout,
-                           self.show, self.show, self.show] + [self.save] * (self.version == 2 or one_in(dice, 20)) + [self.update] * 2 * (self.version == 2) + [self.drop] * one_in(dice, 2))
+                           self.show, self.show, self.show] + [self.save] * (self.version == 2 or one_in(dice, 20)) + [self.update] * 2 * (self.version == 2) +
+                          [self.stencil] * (2 if self.version == 2 else one_in(dice, 20)) + [self.drop] * one_in(dice, 2))
         return act(name, self.tables[name])
 
     def rendered(self):
