@@ -531,13 +531,33 @@ def read_open(reader):
     return {'name': name, 'file': reader.text()}
 
 
+def read_pass(reader):
+    reader.word('pass')
+    paths = listed(reader, read_path)
+    reader.word('times')
+    return (paths, reader.count())
+
+
+def read_advise(reader):
+    name = reader.name()
+    reader.word('granule')
+    granule, passes = reader.count(), [read_pass(reader)]
+    while reader.stands('word', ['pass']):
+        passes.append(read_pass(reader))
+    reader.word('among')
+    maps, splits = listed(reader, read_map), reader.stands('word', ['splits'])
+    if splits:
+        reader.take()
+    return {'name': name, 'granule': granule, 'passes': passes, 'maps': maps, 'splits': splits}
+
+
 FIRST = {
     'record': read_record, 'mapping': read_mapping, 'view': read_view, 'load': read_load, 'set': read_set,
     'update': read_update, 'kernel': read_kernel, 'reduce': read_reduce, 'copy': read_copy,
     'relayout': read_relayout, 'print': read_print, 'counts': read_one, 'heat': read_one, 'layout': read_one,
     'drop': read_one, 'bytes': read_bytes,
 }
-COMMANDS = FIRST | {'save': read_one, 'open': read_open, 'stencil': read_stencil}
+COMMANDS = FIRST | {'save': read_one, 'open': read_open, 'stencil': read_stencil, 'advise': read_advise}
 
 
 def read_line(text, version):

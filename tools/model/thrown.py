@@ -9,9 +9,11 @@ from collections import namedtuple
 from blob_files import file_of, texts_of
 from grammar import SyntaxFault, read_line
 from layouts import product
-from llama_model import Fault, View, declared_range, leaves_of, nameless, record_depth
+from llama_model import Fault, nameless
 from mappings import bad_mapping, blobs_of, holds_of, lengths_of, range_of
+from records import leaves_of, record_depth
 from thrown_texts import TOO_GREAT, Exprs, damaged, damaged_file, deep_expr, one_in, respaced, thrown_dataset, thrown_number, with_comment
+from views import View, declared_range
 
 Thrown = namedtuple('Thrown', 'words files')
 Table = namedtuple('Table', 'record leaves extents limits mapping wrap')
@@ -343,6 +345,15 @@ class Script:
         rounds = dice.choice([0, 1, 1, 2, 3, 10] if dice.randrange(80) else [1001, 2 ** 32 - 1] if len(weights) > 9 else [1000, 1001])
         self.add(f'stencil {name} {self.window(spans)} set {path} = ({", ".join(terms)}) / {divisor} rounds {rounds}')
 
+    def advise(self, name, table):
+        """Advice on layouts that are mostly accepted, for passes over leaves and what they stand under."""
+        dice, paths = self.dice, [leaf.path for leaf in table.leaves]
+        granule = dice.choice([1, 2, 4, 8, 64, 4096] if dice.randrange(60) else [0, 3, 8192])
+        passes = [f'pass {", ".join(self.under(paths) if dice.randrange(150) else "q" for _ in range(dice.choice([1, 1, 2, 3])))} times {dice.choice([0, 1, 1, 2, 10, 2 ** 32 - 1])}'
+                  for _ in range(dice.choice([1, 2, 3] if dice.randrange(80) else [16, 17]))]
+        maps = [self.layout_for(table.leaves)[0] for _ in range(dice.choice([1, 2, 3, 4] if dice.randrange(80) else [16, 17]))]
+        self.add(f'advise {name} granule {granule} {" ".join(passes)} among {", ".join(maps)}{" splits" if len(maps) < 5 and one_in(dice, 2) else ""}')
+
     def kernel(self, name, table):
         dice = self.dice
         narrow = [leaf.path for leaf in table.leaves if not leaf.kind.endswith('64')]
@@ -409,11 +420,11 @@ class Script:
         if one_in(dice, 12) if self.version == 2 else one_in(dice, 400):
             return self.open()
         if one_in(dice, 20):
-            return self.add(dice.choice(['', '', '# note', '   ', '\t#', 'nothing', 'print', 'print V V', 'drop 5', '}', '"', 'version 2', 'version 1', 'save', 'open V', 'open V from f', 'stencil V', 'print V window']) if one_in(dice, 4) else '')
+            return self.add(dice.choice(['', '', '# note', '   ', '\t#', 'nothing', 'print', 'print V V', 'drop 5', '}', '"', 'version 2', 'version 1', 'save', 'open V', 'open V from f', 'stencil V', 'print V window', 'advise V']) if one_in(dice, 4) else '')
         name = dice.choice(sorted(self.tables))
         act = dice.choice([self.set, self.set, self.update, self.update, self.update, self.kernel, self.kernel, self.reduce, self.reduce, self.copy, self.relayout,
                            self.show, self.show, self.show] + [self.save] * (self.version == 2 or one_in(dice, 20)) + [self.update] * 2 * (self.version == 2) +
-                          [self.stencil] * (2 if self.version == 2 else one_in(dice, 20)) + [self.drop] * one_in(dice, 2))
+                          [self.stencil] * (2 if self.version == 2 else one_in(dice, 20)) + [self.advise] * (2 if self.version == 2 else one_in(dice, 20)) + [self.drop] * one_in(dice, 2))
         return act(name, self.tables[name])
 
     def rendered(self):

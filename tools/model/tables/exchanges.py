@@ -46,6 +46,8 @@ CASES = [
           'blob,granule,accesses | 0,0,1 | 0,1,1'),
     *pair('actors', 'version 2 | ' + PAIR + 'view V : P [1] as {} | update V set b = 258 actors [] schedule 0 turns 2', PACKED, '00 02 00 00 00', 'byteswap(aos(packed, row))', '00 00 00 00 00'),
     *pair('shared_byte', 'version 2 | record P { a:u8 } | view V : P [2] as {} | update V set a = 7 actors [1] schedule 0 turns 0', 'bitaos(8, row)', '00' + 7 * ' 00', 'bitaos(4, row)', 'line 4: SharedByte blob 0 byte 0'),
+    *pair('advice', 'version 2 | record P { a:u8, b:u64 } | view V : P [64] as aos(packed, row) | advise V granule 64 pass a times 10 pass b times 1 among {}', PACKED, 'candidate,cost | 1,99 | best 99 aos ( packed , row )',
+          'soa(multi, row)', 'candidate,cost | 1,18 | best 18 soa ( multi , row )'),
     # a line past its limit
     *pair('long_line', SET, PACKED, TABLE, PACKED.replace(', ', ',' + (LINE_ROOM + 2) * ' '), 'line 2: LineTooLong'),
     # scripts of different versions, and of a version that is none

@@ -24,6 +24,7 @@ FULL_CASES = [Case(f'full_output_of_{name}', VIEW + line, due, into=FULL) for na
 SAVED = file_of('a:u8, b:i32', '[3] as count(heat(64, aos(packed, row)))', '01 00 00 00 00 02 ff ff ff ff 03 fe ff ff ff')
 FULL_CASES += [Case('full_output_of_an_update_by_actors', 'version 2 | ' + VIEW + 'update V set a = 9 actors [1] schedule 0 turns 4', '09 00 00 00 00 02 ff ff ff ff 03 fe ff ff ff', into=FULL)]
 FULL_CASES += [Case('full_output_of_a_window', 'version 2 | ' + VIEW + 'stencil V window [0 : 2] set a = (1 * a at [1]) / 1 rounds 1 | print V window [1 : 3]', 'a,b | 3,-1 | 3,-2', into=FULL)]
+FULL_CASES += [Case('full_output_of_advice', 'version 2 | ' + VIEW + 'advise V granule 4 pass a times 2 among soa(multi, row), aos(packed, row)', 'candidate,cost | 1,2 | 2,6 | best 2 soa ( multi , row )', into=FULL)]
 FULL_CASES += [Case('full_output_of_save', 'version 2 | ' + VIEW + 'save V', SAVED, into=FULL)]
 # a later command would have a fault, or a result: the run is over at the first write that fails
 LATER = [

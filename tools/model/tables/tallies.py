@@ -9,6 +9,7 @@ import itertools
 from .addresses import BYTES, good_cuts, laid, runs, touched
 from .case import Case
 from .copies import shown as shown_bytes
+from .files import spelled
 from .nested import cells_of, Dice, EXTENTS, RECORDS, text_of, thrown_form, written
 
 GRANULES = [1, 1, 2, 2, 4, 8, 16, 64, 4096]
@@ -187,6 +188,19 @@ def thrown_stencil(dice, tally):
             tally.writes += [(row, leaf)] * rounds
     sums = ', '.join(f'{dice.below(9) - 4} * {tally.cells[of][0]} at {written(offsets)}' for of, offsets in terms)
     return f'stencil {tally.name} {span_text(window)} set {tally.cells[leaf][0]} = ({sums}) / {1 + dice.below(9)} rounds {rounds}', []
+
+
+def thrown_advice(dice, tally):
+    """Advice on two layouts, for which each entry is read once."""
+    granule, leaf, times = dice.of(GRANULES), dice.below(len(tally.cells)), dice.below(5)
+    maps, found = [('aos', dice.of(['packed', 'min']), 'row'), ('soa', dice.of(['single', 'multi']), 'morton')], []
+    for mapping in maps:
+        _, at = laid(mapping, tally.cells, tally.extents)
+        found.append((times * len({there for index in tally.indices for there in touched(granule, at(index, leaf))}), spelled(text_of(mapping))))
+    tally.reads += tally.entries
+    best, text = min(found, key=lambda pair: pair[0])
+    return (f'advise {tally.name} granule {granule} pass {tally.cells[leaf][0]} times {times} among {", ".join(map(text_of, maps))}',
+            ['candidate,cost', *(f'{number},{cost}' for number, (cost, _) in enumerate(found, 1)), f'best {best} {text}'])
 
 
 def thrown_bytes(dice, tally):
