@@ -25,7 +25,8 @@ use Rattle.equal_runs.specs.EqualRuns.{DoesLines}
 use Rattle.equal_runs.specs.Logs.{SoFar, at_first, one_more, logs_after, Comes, there, further, log_of}
 use Rattle.equal_runs.specs.Entries.{ShowsCounts, ShowsHeat, ShowsEntries}
 use Rattle.equal_runs.proofs.Entries.{none}
-use Rattle.equal_runs.proofs.Logs.{IfGoes, to, bind, behind, gone, AreCounted, counted_at, step_keeps, known_found}
+use Rattle.equal_runs.specs.GoesLaws.{IfGoes, to, bind, behind, gone, known_found}
+use Rattle.equal_runs.proofs.Logs.{AreCounted, counted_at, step_keeps}
 
 -- the accesses are those that the tables have counted, as far as a run comes
 comes_counted : (files : List File) (unread : Option ℕ) (number : ℕ) (now last : SoFar) (lines : List Sentence) → Comes files unread number now lines last → AreCounted now.world.views now.logs → AreCounted last.world.views last.logs
