@@ -112,10 +112,11 @@ fn near_entry(map: &AnyMap, blobs: &[Blob], row: u64, leaf: usize) -> Option<i12
     laws_of(map);
     let short = &map.short(leaf).short;
     let start = short.near_start(row)?;
-    if !is_one_piece(short.word) {
-        return None;
+    if is_one_piece(short.word) {
+        Some(read_word(&blobs[short.blob], start, short.word, &short.field))
+    } else {
+        None
     }
-    Some(read_word(&blobs[short.blob], start, short.word, &short.field))
 }
 
 // Whether what stands at a place is one piece: no bytes in reverse order, and none by itself.

@@ -66,10 +66,6 @@ pub fn read_header(alloc: Global, bytes: &[u8]) -> Result<(FileHeader, &[u8]), F
     };
     let dim = read_record(alloc, first)?;
     let shown = read_view(alloc, second)?;
-    let expected = size_of(first, second);
-    if !is_same(size, &expected) {
-        return Err(FileFault::Header);
-    }
     let ShownView { words, wrap, expr } = shown;
     let header = FileHeader {
         dim,
@@ -77,7 +73,13 @@ pub fn read_header(alloc: Global, bytes: &[u8]) -> Result<(FileHeader, &[u8]), F
         wrap,
         expr,
     };
-    Ok((header, body))
+    let expected = size_of(first, second);
+    if is_same(size, &expected) {
+        Ok((header, body))
+    } else {
+        drop(header);
+        Err(FileFault::Header)
+    }
 }
 
 // The tree of the record `R` of which a text is the canonical one.

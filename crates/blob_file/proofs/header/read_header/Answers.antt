@@ -35,8 +35,8 @@ returns-in_err-shown-clause-refused c =
     let is : c.from_residual-in_err-shown.result ≡ Err c.in_err-shown.field-0.0 = search rules in
     rw is (refused_on fault.Header c.in_err-shown.field-0.0 (no_view c.args.bytes.now first c.in-Some.rest.now one second c.in-Some-cut_line.body.now c.in-Some-cut_line.ensures) c.in_err-shown.ensures.refused)
 
-pub returns-then-not-is_same-clause-refused : goal.returns-then-not-is_same-clause-refused
-returns-then-not-is_same-clause-refused c =
+pub returns-else-is_same-clause-refused : goal.returns-else-is_same-clause-refused
+returns-else-is_same-clause-refused c =
     let bytes = c.args.bytes.now in
     let first = c.in-Some.first.now in
     let second = c.in-Some-cut_line.second.now in
@@ -45,8 +45,8 @@ returns-then-not-is_same-clause-refused c =
     let no : c.is_same.result ≡ false = search rules in
     inr (refl, other_size bytes first c.in-Some.rest.now one second c.in-Some-cut_line.body.now c.in-Some-cut_line.ensures (sym is ∙ no))
 
-pub returns-clause-found : goal.returns-clause-found
-returns-clause-found c =
+pub returns-then-is_same-clause-found : goal.returns-then-is_same-clause-found
+returns-then-is_same-clause-found c =
     let bytes = c.args.bytes.now in
     let first = c.in-Some.first.now in
     let second = c.in-Some-cut_line.second.now in
