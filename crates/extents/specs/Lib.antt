@@ -4,3 +4,5 @@ pub mod Shapes
 pub mod Stored
 pub mod RowLaws
 pub mod ShapeLaws
+pub mod Windows
+pub mod WindowLaws

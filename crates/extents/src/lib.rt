@@ -6,8 +6,10 @@
 
 mod order;
 mod rows;
+mod window;
 mod words;
 
 pub use order::Order;
 pub use rows::Extents;
+pub use window::{Span, Window};
 pub use words::{BadExtents, ExtentWord, Shape};

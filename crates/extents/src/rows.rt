@@ -70,7 +70,7 @@ impl Extents {
         }
     }
 
-    fn sizes(&self) -> &[u32]
+    pub(crate) fn sizes(&self) -> &[u32]
         ensures value { result.now ≡ self.now }
         ensures extents { IsExtents self.now }
     {

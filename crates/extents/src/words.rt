@@ -196,7 +196,7 @@ fn has_zero(words: &[ExtentWord]) -> bool
 }
 
 /// The product of the fixed extents, exact, since 128 bits hold four factors of 32.
-fn fixed_product(words: &[ExtentWord]) -> u128
+pub(crate) fn fixed_product(words: &[ExtentWord]) -> u128
     requires { length words.now ≤ 4 }
     ensures { result ≡ fixed_product words.now }
 {

@@ -16,7 +16,7 @@ pub use arrays::{ArraySlots, BytePlace, BytePlaces};
 pub use cell_map::CellMap;
 pub use leaf_rule::{LeafRule, RuleList};
 pub use map_checks::{HoldList, MakeMap};
-pub use map_expr::{BadMapping, MapExpr};
+pub use map_expr::{BadMapping, MapExpr, MapExprList};
 pub use map_plans::{LengthList, Rule};
 pub use short_rules::{Field, ShortRule, Walk, Wide, Word};
 pub use strategy::Strategy;

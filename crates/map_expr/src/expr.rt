@@ -1,7 +1,11 @@
 use crate::WidthList;
 use extents::Order;
+use lists::Sequence;
 use places::{AosForm, SoaForm};
 use record_dim::{LeafType, Name, Path};
+
+/// Mapping expressions, in order.
+pub type MapExprList = Sequence<MapExpr>;
 
 /// How the cells of an array's records are to lie in blobs.
 #[derive(Drop)]

@@ -8,5 +8,5 @@ mod same;
 mod widths;
 
 pub use check::BadMapping;
-pub use expr::MapExpr;
+pub use expr::{MapExpr, MapExprList};
 pub use widths::{FieldWidth, WidthList};

@@ -1,0 +1,14 @@
+use Rattle.std.proofs.Common.{◌≡◌, ◌++◌}
+use Rattle.std.specs.Iterator.Adapters.{zip_first, zip_second}
+use Rattle.std.specs.Slice.Iter.{iter_rest}
+use Rattle.extents.specs.Windows.{moved}
+use Rattle.extents.specs.WindowLaws.{AreNarrow}
+use Rattle.extents.proofs.window.Window.outer.Given as goal
+
+abbrev pub invariant-loop-component : goal.invariant-loop-component
+invariant-loop-component l =
+    (goal.iterator-loop-component).can_next l.component-iterator ×
+    (goal.iterator-loop-component).is_finite l.component-iterator ×
+    (moved (iter_rest (zip_second l.initial.component-iterator)) (iter_rest (zip_first l.initial.component-iterator))
+    ≡ l.index.items ++ moved (iter_rest (zip_second l.component-iterator)) (iter_rest (zip_first l.component-iterator))) ×
+    AreNarrow (moved (iter_rest (zip_second l.component-iterator)) (iter_rest (zip_first l.component-iterator)))

@@ -1,0 +1,7 @@
+use Rattle.std.proofs.Common.{arith}
+use Rattle.extents.specs.WindowLaws.{same_rank}
+use Rattle.extents.proofs.window.is_window.Goals as goal
+
+pub returns-then-extents-spans : goal.returns-then-extents-spans
+returns-then-extents-spans c =
+    (λ none. cc, λ is. absurd (omega (arith, same_rank c.args.extents.now c.args.spans.now is, c.if-extents-spans.true)))
