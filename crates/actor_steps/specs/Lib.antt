@@ -12,7 +12,6 @@ pub mod Shared
 pub mod Schedules
 pub mod CutsLaws
 pub mod SharedLaws
-pub mod ScanLaws
 pub mod ActorLaws
 pub mod LaidLaws
 pub mod MemoryLaws

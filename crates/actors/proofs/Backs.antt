@@ -22,13 +22,12 @@ use Rattle.row_updates.specs.Rows.{Setting, setting_of, each, ◌>>=◌, in_row,
 use Rattle.row_updates.specs.TriedLaws.{updated_as_tried}
 use Rattle.views.specs.Stores.{Answer, Keeping}
 use Rattle.views.specs.Tables.{Table, owners_of, leaf_types_of, leaf_type_of, leaf_count_of, table_holds, answer_of, kept_of, after_stores}
-use Rattle.views.specs.Tallies.{Access, Write}
+use Rattle.views.specs.Tallies.{Access, Write, is_write, writes_in}
 use Rattle.views.specs.TallyLaws.{after_stores-append, after_log-none, logs_more}
 use Rattle.actor_steps.specs.Jobs.{job_of, memory_of}
 use Rattle.actor_steps.specs.Micro.{Job, is_in, number_in, row_of, test_of, lets_through}
 use Rattle.actor_steps.specs.UpdateLaws.{length-with_values, updated_at}
 use Rattle.actors.specs.Rows.{row_held, with_held}
-use Rattle.actors.specs.Updates.{is_write, writes_in}
 use Rattle.actors.proofs.Tried.{row_writes}
 
 -- one leaf more

@@ -2,7 +2,7 @@
 use Rattle.std.specs.Prelude.{ℕ, ◌≡◌, Bool, true, false, ℤ, List, [], ◌∷◌, length, drop, Option, None, Ok, slice_index_or}
 use Rattle.expr_lang.specs.Terms.{Term}
 use Rattle.views.specs.Tables.{Table, after_stores}
-use Rattle.actors.specs.Updates.{writes_in}
+use Rattle.views.specs.Tallies.{writes_in}
 use Rattle.row_updates.specs.Logs.{update_log}
 use Rattle.row_updates.specs.Rows.{Setting, updated_of}
 use Rattle.actor_steps.specs.Confluence.{State}

@@ -8,7 +8,8 @@ ghost use Rattle.views.specs.Tables.{answer_of, kept_of, after_log, leaf_count_o
 ghost use Rattle.actor_steps.specs.Jobs.{job_of, memory_of};
 ghost use Rattle.actor_steps.specs.Micro.{test_of, filter_reads, set_reads};
 ghost use Rattle.actors.specs.Rows.{IsPlanOf, ArePlans, marked};
-ghost use Rattle.actors.specs.Updates.{IsUpdated, IsUpdatedRow, IsMet, reads_in};
+ghost use Rattle.actors.specs.Updates.{IsUpdated, IsUpdatedRow, IsMet};
+ghost use Rattle.views.specs.Tallies.{reads_in};
 
 use crate::fault::ActorFault;
 use crate::memory::{laws_of_view, read_held};

@@ -9,7 +9,8 @@ ghost use Rattle.actor_steps.specs.Schedules.{turns_left};
 ghost use Rattle.actor_steps.specs.Shared.{shared_byte};
 ghost use Rattle.actors.specs.Kept.{IsReached};
 ghost use Rattle.actors.specs.Runs.{IsDone, IsPlain, IsStoredBack, uncounted, started_run, after_turns, finished_from, rest_in, has_any};
-ghost use Rattle.actors.specs.Updates.{IsMet, IsUpdated, reads_in};
+ghost use Rattle.actors.specs.Updates.{IsMet, IsUpdated};
+ghost use Rattle.views.specs.Tallies.{reads_in};
 
 use crate::actor::{Actor, turn_of};
 use crate::back::store_rows;

@@ -1,5 +1,4 @@
 pub mod Entries
-pub mod Rounding
 pub mod Warming
 pub mod Touches
 pub mod Numbered

@@ -9,7 +9,7 @@ use Rattle.places.specs.declared.piece.Piece.{Piece}
 use Rattle.places.specs.Touched.{is_in_granule, is_touched}
 use Rattle.instrument.specs.Counters.{HeatCounts, raised, counted_times, warmed_times, heated_times}
 use Rattle.instrument.specs.Touching.{warmed_at, heated_besides}
-use Rattle.instrument.proofs.Rounding.{reaches, row_begin}
+use Rattle.instrument.specs.RoundingLaws.{reaches, row_begin}
 use Rattle.instrument.proofs.Warming.{warmed-same, warmed-none, warmed-besides, warmed-more}
 
 -- a count that is written back into its list

@@ -5,3 +5,4 @@ pub mod TimesLaws
 pub mod WarmingLaws
 pub mod CounterLaws
 pub mod CounterTexts
+pub mod RoundingLaws

@@ -27,9 +27,8 @@ use Rattle.row_updates.specs.Rows.{Setting, updated_of}
 use Rattle.expr_lang.specs.Terms.{Term}
 use Rattle.row_updates.specs.Logs.{update_log}
 use Rattle.views.specs.Tables.{Table, owners_of, after_log, after_stores}
-use Rattle.views.specs.Tallies.{Access, Read, Write}
-use Rattle.actors.specs.Updates.{is_read as reads, is_write as writes, reads_in, writes_in}
-use Rattle.worlds.specs.Actors.{updated_by_actors, fit_cuts, shared, is_read, reads_first, memory_text}
+use Rattle.views.specs.Tallies.{reads_in, writes_in, reads_first}
+use Rattle.worlds.specs.Actors.{updated_by_actors, fit_cuts, shared, memory_text}
 use Rattle.worlds.specs.Names.{bound_filter, bound_sets, each_once, leaves_of}
 use Rattle.worlds.specs.OnView.{Done, done_to}
 use Rattle.worlds.specs.Outcomes.{Outcome, Goes, Faults, CannotRead, ◌>>=◌, refused_if, refused_by}
@@ -197,20 +196,6 @@ turned_count table bound cuts seed turns run has =
     ∙ blob_count (job_of table bound.test bound.settings) (fresh_of table) (schedule_of (length cuts + 1) seed turns) (start_of table bound.test bound.settings cuts)
     ∙ length-memory_of table
 
--- the reads and the writes of a list of accesses
-same_test : (access : Access) → reads access ≡ is_read access
-same_test (Read row leaf) = refl
-same_test (Write row leaf) = refl
-
-other_test : (access : Access) → writes access ≡ not (is_read access)
-other_test (Read row leaf) = refl
-other_test (Write row leaf) = refl
-
-both_in : (log : List Access) → reads_in log ++ writes_in log ≡ reads_first log
-both_in log =
-    ap (λ (test : Access → Bool). filter test log ++ writes_in log) (fun_ext same_test)
-    ∙ ap (λ (test : Access → Bool). filter is_read log ++ filter test log) (fun_ext other_test)
-
 -- a table that is read, and then stored in as the plain update has it
 pub stored_back : (table now view : Table) (bound : Bindings) (rows : List (List ℤ)) (test : Option (Term ℕ)) (settings : List Setting) → test ≡ bound.test → settings ≡ bound.settings
     → now ≡ after_log table (reads_in (update_log table bound.test bound.settings (length table.rows)))
@@ -220,7 +205,7 @@ stored_back table now view bound rows test settings test_is settings_are read up
     let log = update_log table bound.test bound.settings (length table.rows) in
     let goes : updated_of table bound.test bound.settings (length table.rows) ≡ Ok rows = rw (test_is, settings_are, read) at updated in
     let left : view ≡ after_stores (after_log table (reads_in log)) rows (writes_in log) = rw (test_is, settings_are, read) at stored in
-    (goes, left ∙ sym (read_stored table rows (reads_in log) (writes_in log)) ∙ ap (after_stores table rows) (both_in log))
+    (goes, left ∙ sym (read_stored table rows (reads_in log) (writes_in log)))
 
 -- the bytes of the bits of bytes
 bits_long : (bytes : List ℕ) → length (bits_of bytes) ≡ 8 * length bytes

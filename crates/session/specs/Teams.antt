@@ -9,7 +9,8 @@ use Rattle.line_grammar.specs.Sentences.{Value, Assignment}
 use Rattle.row_updates.specs.Rows.{Setting, IsOver, IsSetOf, setting_of, updated_of}
 use Rattle.row_updates.specs.Logs.{update_log}
 use Rattle.views.specs.Tables.{Table, owners_of}
-use Rattle.worlds.specs.Actors.{fit_cuts, shared, reads_first, memory_text}
+use Rattle.worlds.specs.Actors.{fit_cuts, shared, memory_text}
+use Rattle.views.specs.Tallies.{reads_first}
 use Rattle.worlds.specs.Names.{bound_filter, bound_sets, each_once, leaves_of}
 use Rattle.worlds.specs.OnView.{Done}
 use Rattle.worlds.specs.Outcomes.{Outcome, Goes, ◌>>=◌, refused_if, refused_by, ok_or}

@@ -6,8 +6,6 @@ pub mod AccessLaws
 pub mod WideLaws
 pub mod NearLaws
 pub mod Counted
-pub mod CountLaws
-pub mod Repeats
 pub mod TouchLaws
 pub mod RowLaws
 pub mod ColumnLaws

@@ -33,7 +33,7 @@ use Rattle.kept_tables.specs.declared.mode.StoreMode.TheVariants.{Strict}
 use Rattle.kept_tables.specs.Modes.{IsSettled}
 use Rattle.kept_tables.specs.EntryLaws.{raw_held, stays_declared}
 use Rattle.views.specs.Kept.{IsKept, IsMappingOf, IsTallied, HasSign, raw_under, table_under}
-use Rattle.views.proofs.CountLaws.{idle_logged}
+use Rattle.views.specs.CountLaws.{idle_logged}
 use Rattle.views.proofs.KeptLaws.{kind_count, row_count, kept_shape, kept_stays, hold_some, entry_is_declared, entry_stays, sign_entry, strict_raw, kept_set, table_set}
 
 -- as many cells as leaves

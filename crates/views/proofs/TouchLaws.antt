@@ -13,7 +13,7 @@ use Rattle.views.specs.Tallies.{Access, Read, Write, Tally, counts_touched, heat
 use Rattle.views.specs.Repeated.{counts_after, heat_after, leaf_raised, leaves_raised, granules_raised, row_raised, rows_raised}
 use Rattle.views.specs.TallyLaws.{tallied-counts, tallied-heat}
 use Rattle.views.specs.OrderLaws.{leaves_both, heated_both}
-use Rattle.views.proofs.Repeats.{copies, copies_add, copies_copies, fold-same, fold-flat_map, many, fold-copies}
+use Rattle.views.specs.RepeatLaws.{copies, copies_add, copies_copies, fold-same, fold-flat_map, many, fold-copies}
 
 -- the counters after one access
 pub touched_both : (layout : List (List Owner)) (write : Bool) (row leaf : ℕ) (tally : Tally) (counts : Option LeafCounts) (heat : Option HeatCounts)

@@ -18,3 +18,5 @@ pub mod NearStores
 pub mod Pieces
 pub mod SpanLaws
 pub mod CutLaws
+pub mod CountLaws
+pub mod RepeatLaws

@@ -1,5 +1,5 @@
 -- What is counted of the accesses to a view.
-use Rattle.std.specs.Prelude.{ℕ, ◌/◌, Bool, true, false, List, length, map, fold, ◌++◌, Option, Some, None, option_map, if◌then◌else◌}
+use Rattle.std.specs.Prelude.{ℕ, ◌/◌, Bool, true, false, List, length, map, fold, ◌++◌, filter, Option, Some, None, option_map, if◌then◌else◌}
 use Rattle.std.specs.List.{flat_map, range_with_len}
 use Rattle.map_expr.specs.Terms.{Term}
 use Rattle.map_any.specs.Counters.{has_count, granule_of}
@@ -11,6 +11,25 @@ use Rattle.instrument.specs.Counters.{LeafCounts, HeatCounts, counted, warmed, n
 pub data Access : Type 0 where
   Read : (row leaf : ℕ) → Access
   Write : (row leaf : ℕ) → Access
+
+abbrev pub is_read : Access → Bool
+is_read (Read row leaf) = true
+is_read (Write row leaf) = false
+
+abbrev pub is_write : Access → Bool
+is_write (Read row leaf) = false
+is_write (Write row leaf) = true
+
+-- the reads of some accesses, and the writes, in order
+abbrev pub reads_in : List Access → List Access
+reads_in log = filter is_read log
+
+abbrev pub writes_in : List Access → List Access
+writes_in log = filter is_write log
+
+-- the same accesses, all reads before all writes
+abbrev pub reads_first : List Access → List Access
+reads_first log = reads_in log ++ writes_in log
 
 -- the counts by leaf and those by granule, each where the expression has such a node
 pub record Tally : Type 0 where

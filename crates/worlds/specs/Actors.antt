@@ -1,9 +1,9 @@
 -- `update V where .. set .. = .., .. actors [..] schedule S turns N` shares the rows of an update out among actors.
-use Rattle.std.specs.Prelude.{ℕ, ◌^◌, ◌++◌, ◌&&◌, Bool, true, false, not, nat_le, nat_lt, List, [], length, filter, flat_map, Option}
+use Rattle.std.specs.Prelude.{ℕ, ◌^◌, ◌&&◌, Bool, not, nat_le, nat_lt, List, [], length, flat_map, Option}
 use Rattle.line_grammar.specs.Sentences.{Value, Assignment}
 use Rattle.instrument.specs.BlobTexts.{bytes_text}
 use Rattle.views.specs.Tables.{Table, owners_of}
-use Rattle.views.specs.Tallies.{Access, Read, Write}
+use Rattle.views.specs.Tallies.{reads_first}
 use Rattle.row_updates.specs.Rows.{updated_of}
 use Rattle.row_updates.specs.Logs.{update_log}
 use Rattle.actor_steps.specs.declared.place.Place.{Place}
@@ -26,14 +26,6 @@ fit_cuts cuts rows = nat_le (length cuts) 63 && are_cuts 0 cuts rows
 -- the fault of a byte that holds bits of rows of two actors
 abbrev pub shared : Place → CommandFault
 shared place = SharedByte place.blob place.byte
-
-abbrev pub is_read : Access → Bool
-is_read (Read row leaf) = true
-is_read (Write row leaf) = false
-
--- the same accesses, all reads before all writes
-abbrev pub reads_first : List Access → List Access
-reads_first log = filter is_read log ++ filter (λ access. not (is_read access)) log
 
 -- the bytes of all blobs
 abbrev pub memory_text : List (List ℕ) → List ℕ

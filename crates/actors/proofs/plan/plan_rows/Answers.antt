@@ -7,7 +7,8 @@ use Rattle.views.specs.Tables.{Table, answer_of, kept_of, after_log}
 use Rattle.actor_steps.specs.Jobs.{job_of}
 use Rattle.actors.specs.declared.fault.ActorFault.TheVariants.{Update}
 use Rattle.actors.specs.Rows.{IsPlanOf, ArePlans}
-use Rattle.actors.specs.Updates.{IsUpdatedRow, reads_in}
+use Rattle.actors.specs.Updates.{IsUpdatedRow}
+use Rattle.views.specs.Tallies.{reads_in}
 use Rattle.actors.proofs.Marks.{no_plans, one_plan}
 use Rattle.actors.proofs.Tried.{none_tried, one_tried, stop_tried}
 use Rattle.actors.proofs.plan.plan_rows.Goals as goal

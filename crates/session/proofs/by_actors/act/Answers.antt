@@ -3,7 +3,8 @@ use Rattle.actors.specs.Runs.{Run}
 use Rattle.places.specs.Layout.{Owner}
 use Rattle.row_updates.specs.Logs.{update_log}
 use Rattle.views.specs.Tables.{Table, owners_of, after_stores}
-use Rattle.worlds.specs.Actors.{memory_text, reads_first}
+use Rattle.worlds.specs.Actors.{memory_text}
+use Rattle.views.specs.Tallies.{reads_first}
 use Rattle.session.specs.Changes.{left_with}
 use Rattle.session.specs.Teams.{bindings_of}
 use Rattle.session.proofs.Acting.{acted_goes, sink_is, has_turned, turned_count, stored_back}

@@ -2,7 +2,7 @@ use Rattle.std.proofs.Common.{arith, ◌≡◌, ◌+◌, ◌-◌, ◌*◌, ◌/�
 use Rattle.places.specs.Touched.{is_touched}
 use Rattle.instrument.specs.Counters.{HeatCounts, heat_counts}
 use Rattle.instrument.specs.Touching.{warmed_at}
-use Rattle.instrument.proofs.Rounding.{place_rises}
+use Rattle.instrument.specs.RoundingLaws.{place_rises}
 use Rattle.instrument.specs.WarmingLaws.{length-warmed, length-heated}
 use Rattle.instrument.proofs.Touches.{is_anew, heated_until, until-start, until-touched, until-more, until-end, granule_inside}
 use Rattle.instrument.proofs.heat.Heat.touch_piece.Goals as goal

@@ -7,7 +7,7 @@ use Rattle.map_any.specs.Counters.{is_counted}
 use Rattle.views.specs.Kept.{tally_of}
 use Rattle.views.specs.Tables.{leaf_type_of}
 use Rattle.views.specs.Tallies.{Read}
-use Rattle.views.proofs.CountLaws.{idle_tallied}
+use Rattle.views.specs.CountLaws.{idle_tallied}
 use Rattle.views.proofs.Opened.{rows_seen, leaf_seen, cell_count, laid_here, sign_seen, declared_seen, seen_touched}
 use Rattle.views.proofs.view.View.far_value.Goals as goal
 

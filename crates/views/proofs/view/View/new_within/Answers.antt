@@ -8,7 +8,7 @@ use Rattle.piece_bits.specs.Tables.{zeros}
 use Rattle.map_checks.specs.Mappings.{layout_by}
 use Rattle.views.specs.Kept.{IsTallied, tally_of}
 use Rattle.views.specs.Tallies.{Tally, no_tally}
-use Rattle.views.proofs.CountLaws.{new_tally, no_tally-tallied}
+use Rattle.views.specs.CountLaws.{new_tally, no_tally-tallied}
 use Rattle.views.proofs.KeptLaws.{kind_count, kept_zeros, zero_table}
 use Rattle.views.proofs.Opened.{mapping_copied, within_copied, lawful_there, paired_there, laid_there}
 use Rattle.views.proofs.view.View.new_within.Goals as goal

@@ -11,7 +11,7 @@ use Rattle.piece_bits.specs.Tables.{hold_at, with_entry}
 use Rattle.views.specs.Kept.{raw_under, tally_of}
 use Rattle.views.specs.Tables.{Table, IsSettledIn}
 use Rattle.views.specs.Tallies.{Write}
-use Rattle.views.proofs.CountLaws.{idle_tallied}
+use Rattle.views.specs.CountLaws.{idle_tallied}
 use Rattle.views.proofs.Opened.{rows_seen, leaf_seen, cell_count, held_seen, kept_after, table_after, raw_same, laid_there, seen_from, seen_written}
 use Rattle.views.proofs.view.View.store_far.Goals as goal
 use Rattle.views.proofs.view.View.store_far.Goals.{After-short_write}

@@ -5,7 +5,7 @@ use Rattle.map_expr.specs.Terms.{term_of}
 use Rattle.map_checks.specs.Mappings.{layout_by}
 use Rattle.views.specs.Kept.{IsTallied, tally_of}
 use Rattle.views.specs.Tallies.{Tally, touched, access_to}
-use Rattle.views.proofs.CountLaws.{tallied_kept, tallied-one}
+use Rattle.views.specs.CountLaws.{tallied_kept, tallied-one}
 use Rattle.views.proofs.KeptLaws.{kind_count}
 use Rattle.views.proofs.Opened.{tallied_here, touched_there, seen_touched, rows_seen, leaf_seen, cell_count}
 use Rattle.views.proofs.TouchLaws.{touched_both, leaf_inside}

@@ -10,7 +10,7 @@ use Rattle.views.specs.Kept.{IsTallied, tally_of}
 use Rattle.views.specs.Repeated.{counts_after}
 use Rattle.views.specs.Tables.{after_log, leaf_count_of}
 use Rattle.views.specs.Tallies.{Tally, tallied, access_to, times_accesses, all_touches}
-use Rattle.views.proofs.CountLaws.{log_kept}
+use Rattle.views.specs.CountLaws.{log_kept}
 use Rattle.views.proofs.KeptLaws.{kind_count}
 use Rattle.views.proofs.Opened.{cell_count, tallied_here, touches_there, rows_seen, seen_logged}
 use Rattle.views.proofs.TouchLaws.{tallied_both}

@@ -6,8 +6,8 @@ use Rattle.instrument.specs.Counters.{HeatCounts, heat_counts, warmed_times}
 use Rattle.places.specs.TouchedLaws.{touched_same}
 use Rattle.views.specs.Kept.{HasGranules}
 use Rattle.views.specs.Repeated.{granules_raised}
-use Rattle.views.proofs.CountLaws.{piece_inside, raised_granules}
-use Rattle.views.proofs.Repeats.{fold_range_more}
+use Rattle.views.specs.CountLaws.{piece_inside, raised_granules}
+use Rattle.views.specs.RepeatLaws.{fold_range_more}
 use Rattle.views.proofs.view.touch.raise_row.Goals as goal
 
 pub touch_times-requires : goal.touch_times-requires

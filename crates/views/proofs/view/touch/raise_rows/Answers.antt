@@ -5,7 +5,7 @@ use Rattle.record_dim.specs.Schemas.{schema_fields}
 use Rattle.record_dim.specs.Leaves.{kinds_of}
 use Rattle.instrument.specs.Counters.{HeatCounts, heat_counts}
 use Rattle.views.specs.Repeated.{row_raised}
-use Rattle.views.proofs.Repeats.{fold_range_more}
+use Rattle.views.specs.RepeatLaws.{fold_range_more}
 use Rattle.views.proofs.view.touch.raise_rows.Goals as goal
 
 pub loop-row-preserved : goal.loop-row-preserved

@@ -8,7 +8,7 @@ use Rattle.instrument.specs.declared.heat.Heat.{Heat}
 use Rattle.views.specs.Kept.{HasGranules}
 use Rattle.views.specs.Tallies.{granules_touched}
 use Rattle.places.specs.TouchedLaws.{touched_same}
-use Rattle.views.proofs.CountLaws.{piece_inside}
+use Rattle.views.specs.CountLaws.{piece_inside}
 use Rattle.views.proofs.view.touch.touch_heat.Goals as goal
 
 pub touch-requires : goal.touch-requires
