@@ -1,7 +1,8 @@
 -- The sum of the terms at a row.
-use Rattle.std.proofs.Common.{◌≡◌, ℕ, zero, suc, ◌+◌, ◌*◌, ◌^◌, ◌<◌, ◌≤◌, true, ℤ, pos, negsuc, neg_ℤ, ◌+ℤ◌, ◌-ℤ◌, ◌*ℤ◌, ◌≤ℤ◌, ◌<ℤ◌, List, [], ◌∷◌, ◌++◌, length, map, take, get_or, fold, Contains, FitsSigned, refl, ap, sym, subst, ◌∙◌, arith}
+use Rattle.std.proofs.Common.{◌≡◌, ℕ, zero, suc, ◌+◌, ◌*◌, ◌^◌, ◌<◌, ◌≤◌, true, ℤ, pos, negsuc, neg_ℤ, ◌+ℤ◌, ◌-ℤ◌, ◌*ℤ◌, ◌≤ℤ◌, ◌<ℤ◌, List, [], ◌∷◌, ◌++◌, length, map, take, get_or, fold, Contains, FitsSigned, to_z, of_z, refl, ap, sym, subst, ◌∙◌, arith}
 use Rattle.std.specs.Prelude.{unsigned_abs, All}
-use Rattle.std.proofs.lemmas.Int.{ints, unsigned_abs-mul}
+use Rattle.std.specs.Int.{w128}
+use Rattle.std.proofs.lemmas.Int.{ints, unsigned_abs-mul, to_z-of_z, fits_signed_from_abs}
 use Rattle.std.proofs.lemmas.Nat.{mul-le}
 use Rattle.std.proofs.lemmas.List.{length-map, get_or-map, take_more, map-append}
 use Rattle.std.proofs.lemmas.List.Sums.{fold_more}
@@ -61,6 +62,24 @@ product_small weight value low high =
 pub sum_small : (sum term : ℤ) (k : ℕ) → unsigned_abs sum ≤ k * 2 ^ 95 → unsigned_abs term ≤ 2 ^ 95 → unsigned_abs (sum +ℤ term) ≤ (k + 1) * 2 ^ 95
 sum_small sum term k small one = omega (arith, abs_sum sum term, small, one)
 
+-- as the code has them, a product and a sum with it fit
+pub product_fits : (weight from value : ℤ) → from ≡ weight → unsigned_abs weight ≤ 2 ^ 31 → unsigned_abs value ≤ 2 ^ 64
+    → (to_z w128 (of_z w128 from) *ℤ to_z w128 (of_z w128 value) ≡ weight *ℤ value) × FitsSigned w128 (weight *ℤ value)
+product_fits weight from value is low high =
+    let one = fits_signed_from_abs w128 weight (omega (arith, low)) in
+    let two = fits_signed_from_abs w128 value (omega (arith, high)) in (
+      ap (λ (z : ℤ). to_z w128 (of_z w128 z) *ℤ to_z w128 (of_z w128 value)) is ∙ ap (λ (z : ℤ). z *ℤ to_z w128 (of_z w128 value)) (to_z-of_z w128 weight one) ∙ ap (λ (z : ℤ). weight *ℤ z) (to_z-of_z w128 value two),
+      fits_signed_from_abs w128 (weight *ℤ value) (omega (arith, product_small weight value low high)),
+    )
+
+pub sum_fits : (sum weight from value : ℤ) (k : ℕ) → from ≡ weight → k < 64 → unsigned_abs sum ≤ k * 2 ^ 95 → unsigned_abs weight ≤ 2 ^ 31 → unsigned_abs value ≤ 2 ^ 64
+    → (sum +ℤ to_z w128 (of_z w128 (to_z w128 (of_z w128 from) *ℤ to_z w128 (of_z w128 value))) ≡ sum +ℤ weight *ℤ value) × FitsSigned w128 (sum +ℤ weight *ℤ value)
+sum_fits sum weight from value k is few small low high =
+    let both = product_fits weight from value is low high in (
+      ap (λ (z : ℤ). sum +ℤ z) (ap (λ (z : ℤ). to_z w128 (of_z w128 z)) both.0 ∙ to_z-of_z w128 (weight *ℤ value) both.1),
+      fits_signed_from_abs w128 (sum +ℤ weight *ℤ value) (omega (arith, few, sum_small sum (weight *ℤ value) k small (product_small weight value low high))),
+    )
+
 -- ---- the terms so far
 
 abbrev pub added : Plan → Table → ℕ → ℤ → Weighted → ℤ
@@ -76,9 +95,9 @@ term_in : (plan : Plan) (place : ℕ) (term : Term) → place < length plan.term
 term_in plan place term small is = get_or-map weighted plan.terms.now place term (weighted term) small ∙ ap weighted (sym is)
 
 pub summed_more : (old view after : Table) (plan : Plan) (row place : ℕ) (sum : ℤ) (term : Term) (at : ℕ) (value : ℤ) (kind : LeafType) → place < length plan.terms.now → term ≡ get_or plan.terms.now place term
-    → is_weight term.weight ≡ true → IsDeclared kind value → at ≡ row_from plan.window.now.0 row term.offsets.items → value ≡ entry view.rows at term.leaf → after ≡ after_read view at term.leaf
+    → is_weight term.weight ≡ true → IsDeclared kind value → value ≡ entry view.rows at term.leaf → after ≡ after_read view at term.leaf → at ≡ row_from plan.window.now.0 row term.offsets.items
     → IsSummed old view plan row place sum → IsSummed old after plan row (place + 1) (sum +ℤ term.weight *ℤ value)
-summed_more old view after plan row place sum term at value kind small is light declared here reads last so_far =
+summed_more old view after plan row place sum term at value kind small is light declared reads last here so_far =
     let e = plan.window.now.0 in
     let terms = map weighted plan.terms.now in
     let within : place < length terms = omega (arith, small, length-map plan.terms.now weighted) in
