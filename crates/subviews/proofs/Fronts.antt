@@ -4,7 +4,6 @@ use Rattle.std.proofs.lemmas.List.{append-nil, take_more, map-append}
 use Rattle.std.proofs.lemmas.List.Concat.{flat_map-append}
 use Rattle.piece_bits.specs.Tables.{with_entry}
 use Rattle.views.specs.declared.fault.StoreFault.{StoreFault}
-use Rattle.subviews.specs.declared.fault.StencilFault.{StencilFault}
 use Rattle.subviews.specs.Stencils.{at_row, first_fault, with_column}
 
 -- the logs of a row more

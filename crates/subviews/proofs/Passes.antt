@@ -1,5 +1,5 @@
 -- The two passes of a round, row by row, and rounds one after another.
-use Rattle.std.proofs.Common.{◌≡◌, ℕ, zero, suc, ◌+◌, ◌<◌, ◌≤◌, ℤ, List, [], ◌∷◌, ◌++◌, length, map, take, get_or, fold, flat_map, Contains, Result, Ok, Err, Some, refl, ap, sym, subst, ◌∙◌, ⊎_elim, arith}
+use Rattle.std.proofs.Common.{◌≡◌, ℕ, zero, suc, ◌+◌, ◌<◌, ◌≤◌, ℤ, List, [], ◌∷◌, ◌++◌, length, take, get_or, Contains, Result, Ok, Err, Some, refl, ap, sym, subst, ◌∙◌, ⊎_elim, arith}
 use Rattle.std.specs.Prelude.{slice_get}
 use Rattle.std.proofs.lemmas.Bool.{cases_eq, cases_lt}
 use Rattle.std.proofs.lemmas.List.{length-map}
@@ -17,13 +17,13 @@ use Rattle.piece_bits.specs.Tables.{HasShape, hold_at, with_entry}
 use Rattle.piece_bits.specs.TableLaws.{with_entry_same, with_entry_other}
 use Rattle.views.specs.AnswerLaws.{stays_answer, told_err, told_kept}
 use Rattle.views.specs.UncountedLaws.{holds_uncounted}
-use Rattle.views.specs.Stores.{Answer, kind_at, store_answer, told, kept_or}
-use Rattle.views.specs.Tallies.{Access, Write, Tally, tallied}
+use Rattle.views.specs.Stores.{kind_at, store_answer, told, kept_or}
+use Rattle.views.specs.Tallies.{Write, Tally, tallied}
 use Rattle.views.specs.TallyLaws.{after_log-none, after_log-append, after_stores-append, tallied-none, logs_more}
-use Rattle.views.specs.Tables.{Table, IsTable, owners_of, leaf_count_of, leaf_types_of, leaf_type_of, table_holds, answer_of, kept_of, after_log, after_stores, after_write}
+use Rattle.views.specs.Tables.{Table, IsTable, owners_of, leaf_count_of, leaf_type_of, table_holds, answer_of, kept_of, after_log, after_stores, after_write}
 use Rattle.views.specs.declared.fault.StoreFault.{StoreFault}
 use Rattle.subviews.specs.SubViews.{rows_of}
-use Rattle.subviews.specs.Stencils.{Stencil, values_fault, stencil_value, new_entry, with_column, if_fits, round, next_round, after_rounds, stenciled, term_reads, round_reads, round_writes, round_log, rounds_log}
+use Rattle.subviews.specs.Stencils.{Stencil, values_fault, stencil_value, new_entry, with_column, if_fits, round, next_round, stenciled, term_reads, round_reads, round_writes, round_log, rounds_log}
 use Rattle.subviews.specs.declared.fault.StencilFault.{StencilFault}
 use Rattle.subviews.specs.declared.rounds.Plan.{Plan}
 use Rattle.subviews.specs.Plans.{IsBufferOf, IsPlanOf, planned}
@@ -49,8 +49,11 @@ refused_here answer result fault is refused = told_err answer fault (sym is ∙ 
 pub taken_here : (value : ℤ) (answer : Result ℤ StoreFault) (result : Result Unit StoreFault) → result ≡ told answer → result ≡ Ok tt → answer ≡ Ok (kept_or value answer)
 taken_here value answer result is taken = told_kept value answer (sym is ∙ taken)
 
-pub same_but : (table old : Table) (rows : List (List ℤ)) (tally : Tally) → table ≡ record old { rows = rows; tally = tally } → table ≡ record old { rows = table.rows; tally = table.tally }
+same_but : (table old : Table) (rows : List (List ℤ)) (tally : Tally) → table ≡ record old { rows = rows; tally = tally } → table ≡ record old { rows = table.rows; tally = table.tally }
 same_but table old rows tally is = is ∙ ap (λ (t : Table). record old { rows = t.rows; tally = t.tally }) (sym is)
+
+pub told_taken : (value : ℤ) (answer : Result ℤ StoreFault) (result : Result Unit StoreFault) → result ≡ told answer → answer ≡ Ok value → result ≡ Ok tt
+told_taken value answer result is taken = is ∙ ap told taken
 
 -- ---- the rows of a window, as a loop goes over them
 
@@ -193,6 +196,13 @@ pub record IsAfter (old view first buffer : Table) (stencil : Stencil) (count : 
 pub no_round : (old first : Table) (stencil : Stencil) → IsAfter old old first first stencil 0
 no_round old first stencil = record { rounds = refl; counted = ap (λ (tally : Tally). record old { tally = tally }) (sym (tallied-none (owners_of old) old.tally)); same = refl }
 
+pub same_after : (old view first buffer : Table) (stencil : Stencil) (count : ℕ) → IsAfter old view first buffer stencil count → view ≡ record old { rows = view.rows; tally = view.tally }
+same_after old view first buffer stencil count is = same_but view old view.rows (tallied (owners_of old) old.tally (rounds_log stencil count)) is.counted
+
+-- the buffer behind both passes of a round
+pub buffer_same : (buffer filled after : Table) → filled ≡ record buffer { rows = filled.rows; tally = filled.tally } → after ≡ record filled { tally = after.tally } → after ≡ record buffer { rows = after.rows; tally = after.tally }
+buffer_same buffer filled after fill read = same_but after buffer filled.rows after.tally (read ∙ ap (λ (t : Table). record t { tally = after.tally }) fill)
+
 -- a round with its two passes
 pub round_done : (old view read after filled : Table) (plan : Plan) → view ≡ record old { rows = view.rows; tally = view.tally }
     → values_fault (answer_of view) (planned plan) view.rows (rows_of plan.window.now) ≡ Ok tt → read ≡ after_log view (round_reads (planned plan) (rows_of plan.window.now))
@@ -209,8 +219,8 @@ round_done old view read after filled plan from fits reads fill stores =
     ap (λ (r : Result Unit StencilFault). if_fits r (with_column plan.leaf (new_entry (answer_of view) (planned plan) view.rows) numbers view.rows)) fits ∙ ap (λ (r : List (List ℤ)). Ok r) (sym after_rows) in (
       sym (ap (λ (t : Table). round (answer_of t) (planned plan) view.rows) from) ∙ one,
       stores ∙ ap (λ (r : List (List ℤ)). after_stores read r (round_writes (planned plan) numbers)) (column ∙ sym after_rows)
-      ∙ ap (λ (t : Table). after_stores t after.rows (round_writes (planned plan) numbers)) reads
-      ∙ after_stores-append view view.rows after.rows (round_reads (planned plan) numbers) (round_writes (planned plan) numbers),
+          ∙ ap (λ (t : Table). after_stores t after.rows (round_writes (planned plan) numbers)) reads
+          ∙ after_stores-append view view.rows after.rows (round_reads (planned plan) numbers) (round_writes (planned plan) numbers),
     )
 
 pub after_more : (old view after first buffer buffer' : Table) (stencil : Stencil) (count : ℕ) → IsAfter old view first buffer stencil count

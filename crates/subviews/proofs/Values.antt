@@ -1,6 +1,6 @@
 -- The sum of the terms at a row.
-use Rattle.std.proofs.Common.{◌≡◌, ℕ, zero, suc, ◌+◌, ◌*◌, ◌^◌, ◌<◌, ◌≤◌, true, ℤ, pos, negsuc, neg_ℤ, ◌+ℤ◌, ◌-ℤ◌, ◌*ℤ◌, ◌≤ℤ◌, ◌<ℤ◌, List, [], ◌∷◌, ◌++◌, length, map, take, get_or, fold, Contains, FitsSigned, to_z, of_z, refl, ap, sym, subst, ◌∙◌, arith}
-use Rattle.std.specs.Prelude.{unsigned_abs, All}
+use Rattle.std.proofs.Common.{◌≡◌, ℕ, ◌+◌, ◌*◌, ◌^◌, ◌<◌, ◌≤◌, true, ℤ, pos, negsuc, neg_ℤ, ◌+ℤ◌, ◌-ℤ◌, ◌*ℤ◌, ◌≤ℤ◌, List, [], ◌∷◌, ◌++◌, length, map, take, get_or, fold, Contains, FitsSigned, to_z, of_z, ap, sym, subst, ◌∙◌, arith}
+use Rattle.std.specs.Prelude.{unsigned_abs}
 use Rattle.std.specs.Int.{w128}
 use Rattle.std.proofs.lemmas.Int.{ints, unsigned_abs-mul, to_z-of_z, fits_signed_from_abs}
 use Rattle.std.proofs.lemmas.Nat.{mul-le}
@@ -12,7 +12,6 @@ use Rattle.record_dim.specs.declared.leaf_type.LeafType.{LeafType}
 use Rattle.record_dim.specs.declared.leaf_type.LeafType.TheVariants.{Bool as Truth, U8, U16, U32, U64, I8, I16, I32, I64}
 use Rattle.record_dim.specs.LeafTypes.{IsDeclared}
 use Rattle.views.specs.StrictLaws.{between_true}
-use Rattle.views.specs.Tallies.{Access}
 use Rattle.views.specs.TallyLaws.{after_log-append}
 use Rattle.views.specs.Tables.{Table, after_log, after_read}
 use Rattle.subviews.specs.SubViews.{rows_of}
@@ -20,7 +19,7 @@ use Rattle.subviews.specs.Stencils.{Weighted, weighted, row_from, term_value, te
 use Rattle.subviews.specs.declared.term.Term.{Term}
 use Rattle.subviews.specs.declared.rounds.Plan.{Plan}
 use Rattle.subviews.specs.Plans.{IsPlanOf, IsTermOf}
-use Rattle.subviews.proofs.Ways.{row_inside, reach_inside}
+use Rattle.subviews.proofs.Ways.{reach_inside}
 
 -- ---- how great numbers are
 

@@ -1,10 +1,8 @@
-use Rattle.std.proofs.Common.{rules, arith, ◌≡◌, ◌<◌, ◌≤◌, ◌∙◌, ℕ, ℤ, List, Ok, Err, FitsSigned, Contains, length, ap, sym, subst, refl}
+use Rattle.std.proofs.Common.{rules, arith, FitsSigned, ap}
 use Rattle.std.specs.Int.{w128}
 use Rattle.std.proofs.lemmas.Int.{to_z-of_z}
-use Rattle.views.specs.Stores.{told}
-use Rattle.views.specs.Tables.{Table, answer_of, leaf_count_of, kept_of}
-use Rattle.subviews.specs.SubViews.{rows_of}
-use Rattle.subviews.proofs.Passes.{IsFilled, none_filled, refused_here, taken_here, fill_stopped, filled_more, filled_all, buffer_row, buffer_leaf}
+use Rattle.views.specs.Tables.{Table, answer_of, kept_of}
+use Rattle.subviews.proofs.Passes.{none_filled, refused_here, taken_here, fill_stopped, filled_more, filled_all, buffer_row, buffer_leaf}
 use Rattle.subviews.proofs.Ways.{row_held}
 use Rattle.subviews.proofs.rounds.fill.Goals as goal
 

@@ -1,9 +1,8 @@
-use Rattle.std.proofs.Common.{rules, arith, ◌≡◌, ◌<◌, ◌∙◌, ℕ, ℤ, List, Ok, FitsSigned, length, ap, sym, refl}
+use Rattle.std.proofs.Common.{rules, ◌∙◌, FitsSigned, ap, sym}
 use Rattle.std.specs.Int.{w128}
 use Rattle.std.proofs.lemmas.Int.{to_z-of_z}
-use Rattle.views.specs.Stores.{told}
 use Rattle.views.specs.Tables.{Table, answer_of}
-use Rattle.subviews.proofs.Passes.{none_stored, taken_as_is, stored_more, buffer_row, buffer_leaf}
+use Rattle.subviews.proofs.Passes.{told_taken, none_stored, taken_as_is, stored_more, buffer_row, buffer_leaf}
 use Rattle.subviews.proofs.rounds.store_back.Goals as goal
 
 pub loop-row-init : goal.loop-row-init
@@ -25,6 +24,6 @@ loop-row-preserved g c =
     let taken = taken_as_is old view first buffer plan c.loop-row.row outer value c.requires.buffer c.loop-row.invariant c.outer-outer.ensures.entry c.get-value.ensures.value table row_in leaf_in in
     let fits : FitsSigned w128 value = search rules in
     let answer = rw (to_z-of_z w128 value fits) at c.set-stored.ensures.answer in
-    let stored = rw (answer ∙ ap told taken, to_z-of_z w128 value fits) at c.set-stored.ensures.stored in
+    let stored = rw (told_taken value (answer_of view plan.leaf value) c.set-stored.result answer taken, to_z-of_z w128 value fits) at c.set-stored.ensures.stored in
     stored_more old view first buffer plan c.loop-row.row outer value c.requires.buffer c.loop-row.invariant c.outer-outer.ensures.entry c.get-value.ensures.value
     c.set-stored.new.self c.get-value.new.self taken stored (c.get-value.ensures.same ∙ ap (λ (t : Table). record buffer { tally = t.tally }) (sym c.get-value.ensures.same))

@@ -1,4 +1,4 @@
-use Rattle.std.proofs.Common.{rules, arith, ◌≡◌, ◌<◌, ◌≤◌, ◌∙◌, ◌^◌, ℕ, ℤ, pos, List, FitsSigned, length, get_or, map, ap, sym, subst, refl, to_z, of_z, ◌+◌, ◌+ℤ◌, ◌*ℤ◌, w64}
+use Rattle.std.proofs.Common.{rules, arith, ◌≡◌, ◌∙◌, ℕ, ℤ, pos, List, FitsSigned, length, get_or, ap, sym, subst, refl, to_z, of_z, ◌+◌, ◌+ℤ◌, ◌*ℤ◌, w64}
 use Rattle.std.specs.Int.{w128}
 use Rattle.std.proofs.lemmas.Int.{ints, to_z-of_z}
 use Rattle.extents.specs.Indices.{indices}
