@@ -19,7 +19,7 @@ use Rattle.subviews.specs.Stencils.{Weighted, weighted, row_from, term_value, te
 use Rattle.subviews.specs.declared.term.Term.{Term}
 use Rattle.subviews.specs.declared.rounds.Plan.{Plan}
 use Rattle.subviews.specs.Plans.{IsPlanOf, IsTermOf}
-use Rattle.subviews.proofs.Ways.{reach_inside}
+use Rattle.subviews.proofs.Ways.{row_inside, reach_inside}
 
 -- ---- how great numbers are
 
@@ -116,18 +116,23 @@ summed_more old view after plan row place sum term at value kind small is light 
           ∙ ap (after_log old) (sym (map-append (term_read e row) (take place terms) (get_or terms place (weighted term) ∷ [])) ∙ ap (map (term_read e row)) (sym (take_more terms place (weighted term) within)));
     }
 
--- where it is read
-pub far_at : (leaves : ℕ) (extents : List ℕ) (plan : Plan) (row place : ℕ) (term : Term) → IsPlanOf leaves extents plan → Contains (rows_of plan.window.now) row → place < length plan.terms.now
-    → term ≡ get_or plan.terms.now place term → pos (row_from plan.window.now.0 row term.offsets.items) ≡ pos row +ℤ get_or plan.far place (pos 0)
-far_at leaves extents plan row place term is held small at =
-    subst (λ (t : Term). pos (row_from plan.window.now.0 row t.offsets.items) ≡ pos row +ℤ get_or plan.far place (pos 0)) (sym at) (is.far place term small row held)
-
 -- a term of a plan
 pub plan_term : (leaves : ℕ) (extents : List ℕ) (plan : Plan) (place : ℕ) (term : Term) → IsPlanOf leaves extents plan → place < length plan.terms.now → term ≡ get_or plan.terms.now place term
     → IsTermOf leaves plan.window.now term
 plan_term leaves extents plan place term is small at = subst (λ (t : Term). IsTermOf leaves plan.window.now t) (sym at) (is.terms place term small)
 
--- it is read inside the array
-pub far_inside : (leaves : ℕ) (extents : List ℕ) (plan : Plan) (row place : ℕ) (term : Term) → IsPlanOf leaves extents plan → Contains (rows_of plan.window.now) row → place < length plan.terms.now
-    → term ≡ get_or plan.terms.now place term → row_from plan.window.now.0 row term.offsets.items < length (indices plan.window.now.0)
-far_inside leaves extents plan row place term is held small at = reach_inside plan.window.now term.offsets.items row (plan_term leaves extents plan place term is small at).reach held
+-- where a term of a plan is read from a row: so far away, and inside the array
+pub record IsReached (plan : Plan) (row place : ℕ) (term : Term) : Type 0 where
+  pub away : pos (row_from plan.window.now.0 row term.offsets.items) ≡ pos row +ℤ get_or plan.far place (pos 0)
+  pub inside : row_from plan.window.now.0 row term.offsets.items < length (indices plan.window.now.0)
+  pub here : row < length (indices plan.window.now.0)
+  pub few : length (indices plan.window.now.0) ≤ 2 ^ 24
+
+pub reached : (leaves : ℕ) (extents : List ℕ) (plan : Plan) (row place : ℕ) (term : Term) → IsPlanOf leaves extents plan → Contains (rows_of plan.window.now) row → place < length plan.terms.now
+    → term ≡ get_or plan.terms.now place term → IsReached plan row place term
+reached leaves extents plan row place term is held small at = record {
+  away = subst (λ (t : Term). pos (row_from plan.window.now.0 row t.offsets.items) ≡ pos row +ℤ get_or plan.far place (pos 0)) (sym at) (is.far place term small row held);
+  inside = reach_inside plan.window.now term.offsets.items row (plan_term leaves extents plan place term is small at).reach held;
+  here = row_inside plan.window.now row held;
+  few = is.rows;
+}
