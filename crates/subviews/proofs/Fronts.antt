@@ -26,9 +26,6 @@ fault_behind answer (row ∷ rows) more fits = of_row (answer row) fits (fault_b
   of_row (Ok kept) fits rest = rest fits
   of_row (Err fault) fits rest = absurd (cc)
 
-fault_of_one : (answer : ℕ → Result ℤ StoreFault) (row : ℕ) → first_fault answer (row ∷ []) ≡ at_row row (answer row) (Ok tt)
-fault_of_one answer row = refl
-
 pub fits_more : (answer : ℕ → Result ℤ StoreFault) (rows : List ℕ) (k d : ℕ) (kept : ℤ) → k < length rows → first_fault answer (take k rows) ≡ Ok tt → answer (get_or rows k d) ≡ Ok kept
     → first_fault answer (take (k + 1) rows) ≡ Ok tt
 fits_more answer rows k d kept small fits taken =

@@ -36,10 +36,6 @@ row_inside window row held =
 
 -- ---- what a reach says
 
-pub reach_rank : (window : WindowOf) (offsets : List ℤ) → reaches window offsets ≡ true → (length offsets == length window.0) ≡ true
-reach_rank window offsets reach =
-    (and_parts (length offsets == length window.0) (list_all is_offset offsets && list_all (λ row. nat_lt (row_from window.0 row offsets) (length (indices window.0))) (rows_of window)) reach).0
-
 pub reach_inside : (window : WindowOf) (offsets : List ℤ) (row : ℕ) → reaches window offsets ≡ true → Contains (rows_of window) row → row_from window.0 row offsets < length (indices window.0)
 reach_inside window offsets row reach held =
     let test : ℕ → Bool = λ row. nat_lt (row_from window.0 row offsets) (length (indices window.0)) in
@@ -111,7 +107,7 @@ inside_small (n ∷ ns) [] d narrow inside small = absurd inside
 inside_small (n ∷ ns) (i ∷ index) zero narrow inside small = (let first : n < 2 ^ 32 = narrow 0 0 (omega arith) in omega (arith, inside.0, first))
 inside_small (n ∷ ns) (i ∷ index) (suc d) narrow inside small = inside_small ns index d (λ k other low. narrow (suc k) other (omega (arith, low))) inside.1 (omega (arith, small))
 
--- the first row of a window is one of its rows
+-- what stands at a place among the rows of a window is one of them
 pub row_held : (window : WindowOf) (k row : ℕ) → slice_get (rows_of window) k ≡ Some row → Contains (rows_of window) row
 row_held window k row at = (k, slice_get_within (rows_of window) k row at, get_or_from_slice_get (rows_of window) k row row at)
 
