@@ -4,3 +4,4 @@ pub mod JudgedLaws
 pub mod SplitLaws
 pub mod CostLaws
 pub mod Listing
+pub mod PoolLaws

@@ -16,4 +16,5 @@ mod touched;
 
 pub use advice::{Advice, AdviseFault, Best, CostList};
 pub use laws::touched_laws;
-pub use pass::{LeafList, MapExprList, Pass, PassList};
+pub use map_expr::MapExprList;
+pub use pass::{LeafList, Pass, PassList};
