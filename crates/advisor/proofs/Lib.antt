@@ -4,3 +4,5 @@ pub mod JudgedLaws
 pub mod SplitLaws
 pub mod CostLaws
 pub mod Listing
+pub mod Cheapest
+pub mod Tried

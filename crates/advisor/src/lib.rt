@@ -3,6 +3,7 @@
 
 mod advice;
 mod candidate;
+mod choice;
 mod costs;
 mod laws;
 mod listed;
@@ -13,6 +14,7 @@ mod sides;
 mod splits;
 mod suits;
 mod touched;
+mod trials;
 
 pub use advice::{Advice, AdviseFault, Best, CostList};
 pub use laws::touched_laws;
