@@ -16,7 +16,7 @@ use Rattle.advisor.specs.Choices.{costs_in, cost_at, is_marked, AreMarked, under
 use Rattle.advisor.specs.Pools.{terms_in}
 
 -- images by functions that agree on each item
-same_images : {X Y : Type 0} (f g : X → Y) (xs : List X) → All (λ x. f x ≡ g x) xs → map f xs ≡ map g xs
+pub same_images : {X Y : Type 0} (f g : X → Y) (xs : List X) → All (λ x. f x ≡ g x) xs → map f xs ≡ map g xs
 same_images f g [] same = refl
 same_images f g (x ∷ xs) same = rw (same 0 x (omega arith), same_images f g xs (λ k d l. same (suc k) d (omega (arith, l)))) refl
 

@@ -1,11 +1,11 @@
 // Which candidates the values of a view suit.
-ghost use Rattle.std.specs.Prelude.{◌≡◌, All, IfOk, OnOk, OnErr, length, map};
+ghost use Rattle.std.specs.Prelude.{◌≡◌, ◌<◌, All, IfOk, OnOk, OnErr, length, map};
 ghost use Rattle.map_expr.specs.Terms.{term_of};
 ghost use Rattle.views.specs.Tables.{leaf_count_of, after_log};
 ghost use Rattle.views.specs.Tallies.{Read, all_accesses};
 ghost use Rattle.advisor.specs.Pools.{IsStored};
 ghost use Rattle.advisor.specs.Suits.{suits};
-ghost use Rattle.advisor.specs.Trials.{IsTrial, tried_all, none_failed};
+ghost use Rattle.advisor.specs.Trials.{IsTrial, IsFresh, HasTrials, tried_all, none_failed};
 
 use crate::candidate::Candidate;
 use crate::trials::{Trial, none_failed, trials_of, try_row};
@@ -27,21 +27,54 @@ pub fn suiting<L: Ledger>(
     ensures unread { OnErr result (view.new ≡ view.old) }
 {
     let mut marks = vec![in alloc; false; pool.len()]?;
+    let mut values = vec![in alloc; 0; view.schema().leaf_count()]?;
     let mut trials = trials_of(alloc, view.schema(), pool)?;
-    try_rows(view, trials.as_mut_slice(), steps);
-    mark(trials.as_slice(), pool, marks.as_mut_slice());
+    mark_suiting(
+        view,
+        pool,
+        values.as_mut_slice(),
+        trials.as_mut_slice(),
+        marks.as_mut_slice(),
+        steps,
+    );
     Ok(marks)
 }
 
-// Tries the values of all rows.
-fn try_rows<L: Ledger>(view: &mut View, trials: &mut [Trial], steps: &mut Steps<L>)
-    requires { All (IsTrial view.old.fields) trials.old }
+// Tries the values of all rows, and marks the candidates that they suit.
+fn mark_suiting<L: Ledger>(
+    view: &mut View,
+    pool: &[Candidate],
+    values: &mut [i128],
+    trials: &mut [Trial],
+    marks: &mut [bool],
+    steps: &mut Steps<L>,
+)
+    requires stored { All (IsStored view.old) pool.now }
+    requires values { length values.old ≡ leaf_count_of view.old }
+    requires trials { All (IsTrial view.old.fields) trials.old }
+    requires fresh { All IsFresh trials.old }
+    requires all { All (λ candidate. HasTrials trials.old candidate.holds (length candidate.holds)) pool.now }
+    requires marks { length marks.old ≡ length pool.now }
+    ensures marks { marks.new ≡ map (λ candidate. suits view.old (term_of candidate.expr)) pool.now }
+    ensures read { view.new ≡ after_log view.old (all_accesses Read (leaf_count_of view.old) (length view.old.rows)) }
+{
+    try_rows(view, values, trials, steps);
+    mark(trials, pool, marks);
+}
+
+// Tries the values of all rows. The values of one after another come into `values`.
+fn try_rows<L: Ledger>(
+    view: &mut View,
+    values: &mut [i128],
+    trials: &mut [Trial],
+    steps: &mut Steps<L>,
+)
+    requires each { length values.old ≡ leaf_count_of view.old }
+    requires trials { All (IsTrial view.old.fields) trials.old }
     ensures tried { trials.new ≡ map (tried_all view.old.mode view.old.rows) trials.old }
     ensures read { view.new ≡ after_log view.old (all_accesses Read (leaf_count_of view.old) (length view.old.rows)) }
 {
     let mode = view.mode();
-    let mut room = [0; 64];
-    let values = &mut room[..view.schema().leaf_count()];
     for row in 0..view.extents().count() {
         view.read_row(row, values, steps);
         try_row(mode, values, trials);
