@@ -2,7 +2,7 @@
 #![tactic(auto)]
 
 mod advice;
-mod advise;
+mod adviser;
 mod candidate;
 mod choice;
 mod costs;
@@ -18,6 +18,6 @@ mod touched;
 mod trials;
 
 pub use advice::{Advice, AdviseFault, Best, CostList};
-pub use advise::advise;
+pub use adviser::advise;
 pub use laws::touched_laws;
 pub use pass::{LeafList, MapExprList, Pass, PassList};
