@@ -6,3 +6,4 @@ pub mod CostLaws
 pub mod Listing
 pub mod Cheapest
 pub mod Tried
+pub mod Advising
