@@ -1,9 +1,9 @@
 -- The cheapest candidate, one after another, and that it is the best.
-use Rattle.std.proofs.Common.{◌≡◌, ℕ, suc, ◌+◌, ◌<◌, ◌≤◌, ◌⊎◌, ⊎_elim, Bool, true, false, List, [], ◌∷◌, All, length, map, get_or, Option, Some, None, refl, sym, ap, ◌∙◌, arith}
+use Rattle.std.proofs.Common.{◌≡◌, ℕ, suc, ◌<◌, ◌≤◌, Bool, true, false, List, [], ◌∷◌, All, length, map, get_or, Option, Some, None, refl, sym, ap, ◌∙◌, arith}
 use Rattle.std.specs.Prelude.{◌&&◌, ◌||◌, not, nat_le, if◌then◌else◌, slice_get}
 use Rattle.std.specs.Bool.{then_some}
 use Rattle.std.specs.List.{find, list_all, position_or_len}
-use Rattle.std.proofs.lemmas.Bool.{true≢false, and_from, cases_eq, ltb-true, ltb-false, le-leb, lt-leb}
+use Rattle.std.proofs.lemmas.Bool.{true≢false, and_from, le-leb, lt-leb}
 use Rattle.std.proofs.lemmas.List.{length-map, get_or-map, get_or_default}
 use Rattle.std.proofs.lemmas.Option.{slice_get-get_or, slice_get_past}
 use Rattle.std.proofs.lemmas.Simd.{map-map}
@@ -12,7 +12,7 @@ use Rattle.std.proofs.lemmas.List.Sums.{position_or_len_is, list_all-from_AllPas
 use Rattle.map_expr.specs.Terms.{Term, Named, term_of}
 use Rattle.advisor.specs.declared.candidate.Candidate.{Candidate}
 use Rattle.advisor.specs.Advice.{is_best, Advised}
-use Rattle.advisor.specs.Choices.{costs_in, cost_at, is_marked, AreMarked, undercuts, IsLeast, IsCheapest}
+use Rattle.advisor.specs.Choices.{costs_in, cost_at, is_marked, AreMarked, IsLeast, IsCheapest}
 use Rattle.advisor.specs.Pools.{terms_in}
 
 -- images by functions that agree on each item

@@ -27,11 +27,7 @@ pub struct Trial {
 }
 
 /// The different ways in which candidates store the leaves of a schema. No value was tried yet.
-pub fn trials_of(
-    alloc: Global,
-    schema: &Schema,
-    pool: &[Candidate],
-) -> Result<Vec<Trial>, NoMemory>
+pub fn trials_of(alloc: Global, schema: &Schema, pool: &[Candidate]) -> Result<Vec<Trial>, NoMemory>
     requires each { All (λ candidate. length candidate.holds ≡ length (leaves (schema_fields schema.now))) pool.now }
     requires holds { All (λ candidate. All IsHold candidate.holds) pool.now }
     ensures trials { IfOk result (λ trials. All (IsTrial (schema_fields schema.now)) trials.items) }

@@ -1,7 +1,7 @@
-use Rattle.std.proofs.Common.{rules, ◌≡◌, ◌≤◌, ◌⊎◌, ⊎_elim, inl, inr, ℕ, List, All, Some, Ok, Err, length, map, sym, ap, ◌∙◌, subst, arith}
+use Rattle.std.proofs.Common.{rules, ◌≡◌, ◌⊎◌, ⊎_elim, inl, inr, List, All, Some, Ok, Err, length, map, sym, ap, ◌∙◌, subst, arith}
 use Rattle.std.proofs.lemmas.List.{length-map}
 use Rattle.map_expr.specs.declared.expr.MapExpr.{MapExpr}
-use Rattle.map_expr.specs.Terms.{Term, term_of, uncounted}
+use Rattle.map_expr.specs.Terms.{term_of, uncounted}
 use Rattle.advisor.specs.declared.advice.AdviseFault.TheVariants.{NoMemory}
 use Rattle.advisor.specs.declared.candidate.Candidate.{Candidate}
 use Rattle.advisor.specs.declared.pass.Pass.{Pass}

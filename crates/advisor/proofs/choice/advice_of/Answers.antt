@@ -1,4 +1,4 @@
-use Rattle.std.proofs.Common.{◌≡◌, ℕ, Option, sym, ap, ◌∙◌}
+use Rattle.std.proofs.Common.{Option, sym, ap, ◌∙◌}
 use Rattle.std.specs.Prelude.{option_map}
 use Rattle.map_expr.specs.Terms.{Term, term_of}
 use Rattle.advisor.specs.declared.advice.Best.{Best}
@@ -14,7 +14,7 @@ returns c = λ suit price so.
     let show = λ (term : Option Term). option_map (λ term. (price term, term)) term in
     same_advice (c.in_ok-costs.ensures suit price so)
     (elim c.match-cheapest.branch [
-      in-Some+in_ok-best_of-in-Some w ↦
+      | in-Some+in_ok-best_of-in-Some w ↦
           ap tell w.best-is
           ∙ chosen_is suit price pool marks so w.in-Some.at w.index-pool-at.result _ _ w.in-Some.ensures.inside w.index-pool-at.is w.in_ok-best_of-in-Some.ensures.cost w.in_ok-best_of-in-Some.ensures.term
           ∙ sym (ap show (found suit price pool marks so w.in-Some.at w.in-Some.ensures))

@@ -1,4 +1,3 @@
-use Rattle.std.proofs.Common.{ℕ}
 use Rattle.advisor.specs.Choices.{costs_in, IsCheapest}
 use Rattle.advisor.proofs.choice.cheapest.Given as goal
 

@@ -1,5 +1,4 @@
-use Rattle.std.proofs.Common.{◌≡◌, All, List, map, ap, ◌∙◌, sym, subst, arith}
-use Rattle.map_expr.specs.Terms.{term_of}
+use Rattle.std.proofs.Common.{All, List, map, ap, ◌∙◌, sym, subst, arith}
 use Rattle.advisor.specs.declared.candidate.Candidate.{Candidate}
 use Rattle.advisor.specs.declared.trials.Trial.{Trial}
 use Rattle.advisor.specs.Trials.{IsTrial, none_failed}

@@ -1,7 +1,7 @@
-use Rattle.std.proofs.Common.{rules, ◌≡◌, ◌+◌, ◌<◌, ◌++◌, ◌∷◌, [], ℕ, ℤ, List, All, get_or, take, length, map, sym, ap, ◌∙◌, subst, arith}
-use Rattle.std.proofs.lemmas.List.{take_more, take_all}
+use Rattle.std.proofs.Common.{◌≡◌, ◌<◌, [], ℕ, ℤ, List, All, get_or, take, length, map, sym, ap, ◌∙◌, subst, arith}
+use Rattle.std.proofs.lemmas.List.{take_more}
 use Rattle.extents.specs.Indices.{indices}
-use Rattle.views.specs.Tables.{Table, leaf_count_of, after_log}
+use Rattle.views.specs.Tables.{leaf_count_of, after_log}
 use Rattle.views.specs.Tallies.{Access, Read, row_accesses, all_accesses}
 use Rattle.views.specs.TallyLaws.{after_log-none, after_log-append, logs_more}
 use Rattle.advisor.specs.declared.trials.Trial.{Trial}

@@ -1,8 +1,7 @@
-use Rattle.std.proofs.Common.{◌≡◌, ◌+◌, ◌++◌, ◌∷◌, [], ℕ, List, true, get_or, sym, ap, ◌∙◌, refl, subst, arith}
+use Rattle.std.proofs.Common.{◌≡◌, ◌+◌, List, sym, ap, ◌∙◌, refl, subst, arith}
 use Rattle.std.proofs.lemmas.Option.{get_or_from_slice_get}
 use Rattle.record_dim.specs.Leaves.{kinds_of}
 use Rattle.record_dim.specs.Schemas.{schema_fields}
-use Rattle.kept_tables.specs.Modes.{kind_at}
 use Rattle.piece_bits.specs.Tables.{hold_at}
 use Rattle.places.specs.declared.piece.Hold.{Hold}
 use Rattle.advisor.specs.declared.trials.Trial.{Trial}
@@ -22,7 +21,7 @@ loop-leaf-preserved c =
     let here : hold_at holds leaf ≡ c.hold_at-hold.result = get_or_from_slice_get holds leaf c.hold_at-hold.result _ c.hold_at-hold.ensures in
     let items = c.as_slice.ensures.value in
     elim c.if-not-has_trial.branch [
-      then-not-has_trial+in_ok-push w ↦ rw w.trials-is
+      | then-not-has_trial+in_ok-push w ↦ rw w.trials-is
           (subst (λ (ts : List Trial). ArePushed fields before holds (leaf + 1) ts) (sym w.in_ok-push.ensures.items)
           (one_pushed fields before holds leaf trials c.loop-leaf.invariant _
           (record {

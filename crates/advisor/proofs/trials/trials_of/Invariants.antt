@@ -1,4 +1,4 @@
-use Rattle.std.proofs.Common.{◌≡◌, ℕ, true, All, take, length}
+use Rattle.std.proofs.Common.{All, take, length}
 use Rattle.record_dim.specs.Schemas.{schema_fields}
 use Rattle.advisor.specs.Trials.{IsTrial, IsFresh, HasTrials}
 use Rattle.advisor.proofs.trials.trials_of.Given as goal
