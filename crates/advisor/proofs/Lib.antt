@@ -5,3 +5,6 @@ pub mod SplitLaws
 pub mod CostLaws
 pub mod Listing
 pub mod PoolLaws
+pub mod Cheapest
+pub mod Tried
+pub mod Advising
