@@ -1,13 +1,11 @@
 // Ways of storing leaves, each tried with the values of all rows.
 ghost use Rattle.std.specs.Prelude.{ℕ, ◌&&◌, ◌≡◌, ◌<◌, All, true, IfOk, OnOk, length, map};
-ghost use Rattle.kept_tables.specs.Modes.{kind_at};
 ghost use Rattle.record_dim.specs.Leaves.{leaves};
 ghost use Rattle.record_dim.specs.Schemas.{schema_fields};
-ghost use Rattle.piece_bits.specs.Tables.{hold_at};
-ghost use Rattle.advisor.specs.Sides.{IsHold};
 ghost use Rattle.views.specs.Stores.{is_between};
+ghost use Rattle.advisor.specs.Sides.{IsHold};
 ghost use Rattle.advisor.specs.Suits.{stays};
-ghost use Rattle.advisor.specs.Trials.{IsTrial, IsFresh, is_for, has_trial, HasTrials, takes, tried, has_not_failed, none_failed};
+ghost use Rattle.advisor.specs.Trials.{IsTrial, IsFresh, has_trial, HasTrials, takes, tried, has_not_failed, none_failed};
 
 use crate::candidate::Candidate;
 use kept_numbers::kept;
