@@ -215,10 +215,10 @@ marks_right table trials each fresh pool stored all =
     none_failed_law table trials each fresh it.holds have ∙ ap (λ (holds : List Hold). all_stay table holds) is.holds_are))
 
 -- rows that were tried leave what a trial is of
-pub still_trials : (fields : Fields) (mode : StoreMode) (rows : List (List ℤ)) (trials : List Trial) → All (IsTrial fields) trials → All (IsTrial fields) (map (tried_all mode rows) trials)
-still_trials fields mode rows trials each =
-    All-map (IsTrial fields) (tried_all mode rows) trials
-    (λ k d l. (let is = each k d l in record { inside = is.inside; kind_is = is.kind_is; hold = is.hold }))
+pub trials_now : (fields : Fields) (mode : StoreMode) (rows : List (List ℤ)) (before trials : List Trial) → All (IsTrial fields) before → trials ≡ map (tried_all mode rows) before → All (IsTrial fields) trials
+trials_now fields mode rows before trials each so =
+    subst (λ (ts : List Trial). All (IsTrial fields) ts) {x = map (tried_all mode rows) before} (sym so)
+    (All-map (IsTrial fields) (tried_all mode rows) before (λ k d l. (let is = each k d l in record { inside = is.inside; kind_is = is.kind_is; hold = is.hold })))
 
 and_all : (b : Bool) → (b && true) ≡ b
 and_all true = refl

@@ -1,12 +1,12 @@
-use Rattle.std.proofs.Common.{◌≡◌, ◌<◌, [], ℕ, ℤ, List, All, get_or, take, length, map, sym, ap, ◌∙◌, subst, arith}
+use Rattle.std.proofs.Common.{◌≡◌, ◌<◌, [], ℕ, ℤ, List, get_or, take, length, map, sym, ap, ◌∙◌, arith}
 use Rattle.std.proofs.lemmas.List.{take_more}
 use Rattle.extents.specs.Indices.{indices}
 use Rattle.views.specs.Tables.{leaf_count_of, after_log}
 use Rattle.views.specs.Tallies.{Access, Read, row_accesses, all_accesses}
 use Rattle.views.specs.TallyLaws.{after_log-none, after_log-append, logs_more}
 use Rattle.advisor.specs.declared.trials.Trial.{Trial}
-use Rattle.advisor.specs.Trials.{IsTrial, tried, tried_all}
-use Rattle.advisor.proofs.Tried.{trials_more, still_trials, none_tried}
+use Rattle.advisor.specs.Trials.{tried, tried_all}
+use Rattle.advisor.proofs.Tried.{trials_more, trials_now, none_tried}
 use Rattle.advisor.proofs.suits.try_rows.Goals as goal
 
 pub loop-row-init : goal.loop-row-init
@@ -15,15 +15,13 @@ loop-row-init g c = record { size = c.requires.each; view = sym (after_log-none 
 pub try_row-requires-clause-inside : goal.try_row-requires-clause-inside
 try_row-requires-clause-inside g c =
     let v = c.args.view.now in
-    let each : All (IsTrial v.fields) c.loop-row.trials =
-    subst (λ (ts : List Trial). All (IsTrial v.fields) ts) (sym c.loop-row.invariant.trials) (still_trials v.fields v.mode (take c.loop-row.row v.rows) c.args.trials.now c.requires.trials) in
+    let each = trials_now v.fields v.mode (take c.loop-row.row v.rows) c.args.trials.now c.loop-row.trials c.requires.trials c.loop-row.invariant.trials in
     λ k d l. (let is = each k d l in omega (arith, is.inside, c.loop-row.invariant.size, c.read_row.auto.values))
 
 pub try_row-requires-clause-holds : goal.try_row-requires-clause-holds
 try_row-requires-clause-holds g c =
     let v = c.args.view.now in
-    let each : All (IsTrial v.fields) c.loop-row.trials =
-    subst (λ (ts : List Trial). All (IsTrial v.fields) ts) (sym c.loop-row.invariant.trials) (still_trials v.fields v.mode (take c.loop-row.row v.rows) c.args.trials.now c.requires.trials) in
+    let each = trials_now v.fields v.mode (take c.loop-row.row v.rows) c.args.trials.now c.loop-row.trials c.requires.trials c.loop-row.invariant.trials in
     λ k d l. (each k d l).hold
 
 pub loop-row-preserved : goal.loop-row-preserved
