@@ -1,9 +1,10 @@
 -- Ways of storing leaves that are tried, and what they say of candidates.
-use Rattle.std.proofs.Common.{◌≡◌, ℕ, ◌+◌, ◌<◌, Bool, true, false, ℤ, List, [], ◌∷◌, ◌++◌, All, length, map, get_or, refl, sym, ap, ◌∙◌, ⊎_elim, subst, arith}
+use Rattle.std.proofs.Common.{◌≡◌, ℕ, ◌+◌, ◌<◌, Bool, true, false, ℤ, List, [], ◌∷◌, ◌++◌, All, length, map, get_or, take, refl, sym, ap, ◌∙◌, ⊎_elim, subst, arith}
 use Rattle.std.specs.Prelude.{◌==◌, ◌&&◌, ◌||◌, not, Ok, Err, if◌then◌else◌}
 use Rattle.std.specs.List.{list_all, range_with_len}
 use Rattle.std.proofs.lemmas.Cmp.{int_eq_equiv}
 use Rattle.std.proofs.lemmas.Bool.{true≢false, cases_eq, eq-eqb, eqb-true, and_parts, and_from}
+use Rattle.std.proofs.lemmas.List.{take_more}
 use Rattle.std.proofs.lemmas.List.Folds.{list_any-append, list_all-append, list_all-map, Any-from_list_any}
 use Rattle.std.proofs.lemmas.List.Sums.{AllPass-from_list_all, list_all-from_AllPass}
 use Rattle.std.proofs.lemmas.List.FromFn.{get_or-range_with_len, length-range_with_len}
@@ -133,6 +134,16 @@ tried_more mode rows row trial =
 pub trials_more : (mode : StoreMode) (rows : List (List ℤ)) (row : List ℤ) (trials : List Trial)
     → map (tried mode row) (map (tried_all mode rows) trials) ≡ map (tried_all mode (rows ++ row ∷ [])) trials
 trials_more mode rows row trials = map-map (tried mode row) (tried_all mode rows) trials ∙ ap (λ f. map f trials) (fun_ext (λ trial. tried_more mode rows row trial))
+
+pub row_tried : (mode : StoreMode) (rows : List (List ℤ)) (row : ℕ) (before now next : List Trial) (used : StoreMode) (values : List ℤ) → row < length rows
+    → next ≡ map (tried used values) now → used ≡ mode → values ≡ get_or rows row [] → now ≡ map (tried_all mode (take row rows)) before → next ≡ map (tried_all mode (take (row + 1) rows)) before
+row_tried mode rows row before now next used values l step modes read so =
+    step
+    ∙ ap (λ (m : StoreMode). map (tried m values) now) modes
+    ∙ ap (λ (numbers : List ℤ). map (tried mode numbers) now) read
+    ∙ ap (λ (trials : List Trial). map (tried mode (get_or rows row [])) trials) so
+    ∙ trials_more mode (take row rows) (get_or rows row []) before
+    ∙ ap (λ (some : List (List ℤ)). map (tried_all mode some) before) (sym (take_more rows row [] l))
 
 must_stay : (stays same : Bool) → (stays || not same) ≡ true → same ≡ true → stays ≡ true
 must_stay true same passed is = refl

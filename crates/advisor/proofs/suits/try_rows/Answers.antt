@@ -6,7 +6,7 @@ use Rattle.views.specs.Tallies.{Access, Read, row_accesses, all_accesses}
 use Rattle.views.specs.TallyLaws.{after_log-none, after_log-append, logs_more}
 use Rattle.advisor.specs.declared.trials.Trial.{Trial}
 use Rattle.advisor.specs.Trials.{tried, tried_all}
-use Rattle.advisor.proofs.Tried.{trials_more, trials_now, none_tried}
+use Rattle.advisor.proofs.Tried.{row_tried, trials_now, none_tried}
 use Rattle.advisor.proofs.suits.try_rows.Goals as goal
 
 pub loop-row-init : goal.loop-row-init
@@ -36,10 +36,6 @@ loop-row-preserved g c =
     record {
       size = omega (arith, c.loop-row.invariant.size, c.read_row.auto.values);
       view = same ∙ after_log-append v (all_accesses Read leaves row) (row_accesses Read leaves row) ∙ ap (λ (log : List Access). after_log v log) (sym (logs_more (row_accesses Read leaves) row));
-      trials = c.try_row.ensures
-          ∙ ap (λ (values : List ℤ). map (tried c.mode-mode.result values) c.loop-row.trials) read
-          ∙ ap (λ mode. map (tried mode (get_or v.rows row [])) c.loop-row.trials) c.mode-mode.ensures
-          ∙ ap (λ (ts : List Trial). map (tried v.mode (get_or v.rows row [])) ts) c.loop-row.invariant.trials
-          ∙ trials_more v.mode (take row v.rows) (get_or v.rows row []) c.args.trials.now
-          ∙ ap (λ (rows : List (List ℤ)). map (tried_all v.mode rows) c.args.trials.now) (sym (take_more v.rows row [] small));
+      trials = row_tried v.mode v.rows row c.args.trials.now c.loop-row.trials c.try_row.new.trials c.mode-mode.result c.read_row.new.values small
+          c.try_row.ensures c.mode-mode.ensures read c.loop-row.invariant.trials;
     }
