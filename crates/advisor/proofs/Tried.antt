@@ -20,7 +20,9 @@ use Rattle.views.specs.Stores.{is_between}
 use Rattle.views.specs.declared.fault.StoreFault.{StoreFault}
 use Rattle.views.specs.declared.fault.StoreFault.TheVariants.{Range, Narrow}
 use Rattle.views.specs.Columns.{in_leaf}
-use Rattle.views.specs.Tables.{Table, leaf_count_of, leaf_type_of}
+use Rattle.views.specs.Tables.{Table, leaf_count_of, leaf_type_of, after_log}
+use Rattle.views.specs.Tallies.{Access, Read, row_accesses, all_accesses}
+use Rattle.views.specs.TallyLaws.{after_log-append, logs_more}
 use Rattle.advisor.specs.Suits.{keeps, stays, leaf_stays, all_stay, suits}
 use Rattle.kept_tables.specs.declared.mode.StoreMode.{StoreMode}
 use Rattle.piece_bits.specs.Tables.{hold_at}
@@ -134,6 +136,15 @@ tried_more mode rows row trial =
 pub trials_more : (mode : StoreMode) (rows : List (List ℤ)) (row : List ℤ) (trials : List Trial)
     → map (tried mode row) (map (tried_all mode rows) trials) ≡ map (tried_all mode (rows ++ row ∷ [])) trials
 trials_more mode rows row trials = map-map (tried mode row) (tried_all mode rows) trials ∙ ap (λ f. map f trials) (fun_ext (λ trial. tried_more mode rows row trial))
+
+pub row_read : (seen now next : Table) (row : ℕ) → next ≡ after_log now (row_accesses Read (leaf_count_of now) row) → now ≡ after_log seen (all_accesses Read (leaf_count_of seen) row)
+    → next ≡ after_log seen (all_accesses Read (leaf_count_of seen) (row + 1))
+row_read seen now next row step so =
+    let leaves = leaf_count_of seen in
+    step
+    ∙ ap (λ (table : Table). after_log table (row_accesses Read (leaf_count_of table) row)) so
+    ∙ after_log-append seen (all_accesses Read leaves row) (row_accesses Read leaves row)
+    ∙ ap (λ (log : List Access). after_log seen log) (sym (logs_more (row_accesses Read leaves) row))
 
 pub row_tried : (mode : StoreMode) (rows : List (List ℤ)) (row : ℕ) (before now next : List Trial) (used : StoreMode) (values : List ℤ) → row < length rows
     → next ≡ map (tried used values) now → used ≡ mode → values ≡ get_or rows row [] → now ≡ map (tried_all mode (take row rows)) before → next ≡ map (tried_all mode (take (row + 1) rows)) before

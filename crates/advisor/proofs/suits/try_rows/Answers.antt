@@ -1,12 +1,8 @@
-use Rattle.std.proofs.Common.{◌≡◌, ◌<◌, [], ℕ, ℤ, List, get_or, take, length, map, sym, ap, ◌∙◌, arith}
-use Rattle.std.proofs.lemmas.List.{take_more}
+use Rattle.std.proofs.Common.{◌≡◌, ◌<◌, [], ℕ, List, get_or, take, length, sym, ap, ◌∙◌, arith}
 use Rattle.extents.specs.Indices.{indices}
-use Rattle.views.specs.Tables.{leaf_count_of, after_log}
-use Rattle.views.specs.Tallies.{Access, Read, row_accesses, all_accesses}
-use Rattle.views.specs.TallyLaws.{after_log-none, after_log-append, logs_more}
-use Rattle.advisor.specs.declared.trials.Trial.{Trial}
-use Rattle.advisor.specs.Trials.{tried, tried_all}
-use Rattle.advisor.proofs.Tried.{row_tried, trials_now, none_tried}
+use Rattle.views.specs.Tables.{Table}
+use Rattle.views.specs.TallyLaws.{after_log-none}
+use Rattle.advisor.proofs.Tried.{row_read, row_tried, trials_now, none_tried}
 use Rattle.advisor.proofs.suits.try_rows.Goals as goal
 
 pub loop-row-init : goal.loop-row-init
@@ -28,14 +24,12 @@ pub loop-row-preserved : goal.loop-row-preserved
 loop-row-preserved g c =
     let v = c.args.view.now in
     let row = c.loop-row.row in
-    let leaves = leaf_count_of v in
     let count : length (indices c.extents.result) ≡ length v.rows = ap (λ (e : List ℕ). length (indices e)) c.extents.ensures.value ∙ sym c.extents.ensures.table.rows in
     let small : row < length v.rows = omega (arith, count, c.count-row-end.ensures.rows) in
-    let same = rw c.loop-row.invariant.view at c.read_row.ensures.same in
-    let read = rw c.loop-row.invariant.view at c.read_row.ensures.read in
+    let read : c.read_row.new.values ≡ get_or v.rows row [] = c.read_row.ensures.read ∙ ap (λ (table : Table). get_or table.rows row []) c.loop-row.invariant.view in
     record {
       size = omega (arith, c.loop-row.invariant.size, c.read_row.auto.values);
-      view = same ∙ after_log-append v (all_accesses Read leaves row) (row_accesses Read leaves row) ∙ ap (λ (log : List Access). after_log v log) (sym (logs_more (row_accesses Read leaves) row));
+      view = row_read v c.loop-row.view c.read_row.new.self row c.read_row.ensures.same c.loop-row.invariant.view;
       trials = row_tried v.mode v.rows row c.args.trials.now c.loop-row.trials c.try_row.new.trials c.mode-mode.result c.read_row.new.values small
           c.try_row.ensures c.mode-mode.ensures read c.loop-row.invariant.trials;
     }
