@@ -1,9 +1,10 @@
 -- Ways of storing leaves that are tried, and what they say of candidates.
-use Rattle.std.proofs.Common.{◌≡◌, ℕ, ◌+◌, ◌<◌, Bool, true, false, ℤ, List, [], ◌∷◌, ◌++◌, All, length, map, get_or, refl, sym, ap, ◌∙◌, ⊎_elim, subst, arith}
+use Rattle.std.proofs.Common.{◌≡◌, ℕ, ◌+◌, ◌<◌, Bool, true, false, ℤ, List, [], ◌∷◌, ◌++◌, All, length, map, get_or, take, refl, sym, ap, ◌∙◌, ⊎_elim, subst, arith}
 use Rattle.std.specs.Prelude.{◌==◌, ◌&&◌, ◌||◌, not, Ok, Err, if◌then◌else◌}
 use Rattle.std.specs.List.{list_all, range_with_len}
 use Rattle.std.proofs.lemmas.Cmp.{int_eq_equiv}
 use Rattle.std.proofs.lemmas.Bool.{true≢false, cases_eq, eq-eqb, eqb-true, and_parts, and_from}
+use Rattle.std.proofs.lemmas.List.{take_more}
 use Rattle.std.proofs.lemmas.List.Folds.{list_any-append, list_all-append, list_all-map, Any-from_list_any}
 use Rattle.std.proofs.lemmas.List.Sums.{AllPass-from_list_all, list_all-from_AllPass}
 use Rattle.std.proofs.lemmas.List.FromFn.{get_or-range_with_len, length-range_with_len}
@@ -19,7 +20,9 @@ use Rattle.views.specs.Stores.{is_between}
 use Rattle.views.specs.declared.fault.StoreFault.{StoreFault}
 use Rattle.views.specs.declared.fault.StoreFault.TheVariants.{Range, Narrow}
 use Rattle.views.specs.Columns.{in_leaf}
-use Rattle.views.specs.Tables.{Table, leaf_count_of, leaf_type_of}
+use Rattle.views.specs.Tables.{Table, leaf_count_of, leaf_type_of, after_log}
+use Rattle.views.specs.Tallies.{Access, Read, row_accesses, all_accesses}
+use Rattle.views.specs.TallyLaws.{after_log-append, logs_more}
 use Rattle.advisor.specs.Suits.{keeps, stays, leaf_stays, all_stay, suits}
 use Rattle.kept_tables.specs.declared.mode.StoreMode.{StoreMode}
 use Rattle.piece_bits.specs.Tables.{hold_at}
@@ -134,6 +137,25 @@ pub trials_more : (mode : StoreMode) (rows : List (List ℤ)) (row : List ℤ) (
     → map (tried mode row) (map (tried_all mode rows) trials) ≡ map (tried_all mode (rows ++ row ∷ [])) trials
 trials_more mode rows row trials = map-map (tried mode row) (tried_all mode rows) trials ∙ ap (λ f. map f trials) (fun_ext (λ trial. tried_more mode rows row trial))
 
+pub row_read : (seen now next : Table) (row : ℕ) → next ≡ after_log now (row_accesses Read (leaf_count_of now) row) → now ≡ after_log seen (all_accesses Read (leaf_count_of seen) row)
+    → next ≡ after_log seen (all_accesses Read (leaf_count_of seen) (row + 1))
+row_read seen now next row step so =
+    let leaves = leaf_count_of seen in
+    step
+    ∙ ap (λ (table : Table). after_log table (row_accesses Read (leaf_count_of table) row)) so
+    ∙ after_log-append seen (all_accesses Read leaves row) (row_accesses Read leaves row)
+    ∙ ap (λ (log : List Access). after_log seen log) (sym (logs_more (row_accesses Read leaves) row))
+
+pub row_tried : (mode : StoreMode) (rows : List (List ℤ)) (row : ℕ) (before now next : List Trial) (used : StoreMode) (values : List ℤ) → row < length rows
+    → next ≡ map (tried used values) now → used ≡ mode → values ≡ get_or rows row [] → now ≡ map (tried_all mode (take row rows)) before → next ≡ map (tried_all mode (take (row + 1) rows)) before
+row_tried mode rows row before now next used values l step modes read so =
+    step
+    ∙ ap (λ (m : StoreMode). map (tried m values) now) modes
+    ∙ ap (λ (numbers : List ℤ). map (tried mode numbers) now) read
+    ∙ ap (λ (trials : List Trial). map (tried mode (get_or rows row [])) trials) so
+    ∙ trials_more mode (take row rows) (get_or rows row []) before
+    ∙ ap (λ (some : List (List ℤ)). map (tried_all mode some) before) (sym (take_more rows row [] l))
+
 must_stay : (stays same : Bool) → (stays || not same) ≡ true → same ≡ true → stays ≡ true
 must_stay true same passed is = refl
 must_stay false true passed is = absurd (true≢false (sym passed))
@@ -215,10 +237,10 @@ marks_right table trials each fresh pool stored all =
     none_failed_law table trials each fresh it.holds have ∙ ap (λ (holds : List Hold). all_stay table holds) is.holds_are))
 
 -- rows that were tried leave what a trial is of
-pub still_trials : (fields : Fields) (mode : StoreMode) (rows : List (List ℤ)) (trials : List Trial) → All (IsTrial fields) trials → All (IsTrial fields) (map (tried_all mode rows) trials)
-still_trials fields mode rows trials each =
-    All-map (IsTrial fields) (tried_all mode rows) trials
-    (λ k d l. (let is = each k d l in record { inside = is.inside; kind_is = is.kind_is; hold = is.hold }))
+pub trials_now : (fields : Fields) (mode : StoreMode) (rows : List (List ℤ)) (before trials : List Trial) → All (IsTrial fields) before → trials ≡ map (tried_all mode rows) before → All (IsTrial fields) trials
+trials_now fields mode rows before trials each so =
+    subst (λ (ts : List Trial). All (IsTrial fields) ts) {x = map (tried_all mode rows) before} (sym so)
+    (All-map (IsTrial fields) (tried_all mode rows) before (λ k d l. (let is = each k d l in record { inside = is.inside; kind_is = is.kind_is; hold = is.hold })))
 
 and_all : (b : Bool) → (b && true) ≡ b
 and_all true = refl
