@@ -1,0 +1,6 @@
+pub mod WarmLaws
+pub mod Chosen
+pub mod JudgedLaws
+pub mod SplitLaws
+pub mod CostLaws
+pub mod Listing

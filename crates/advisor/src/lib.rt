@@ -1,0 +1,19 @@
+//! The cheapest layout of some for stated passes over a view.
+#![tactic(auto)]
+
+mod advice;
+mod candidate;
+mod costs;
+mod laws;
+mod listed;
+mod mapped;
+mod pass;
+mod price;
+mod sides;
+mod splits;
+mod suits;
+mod touched;
+
+pub use advice::{Advice, AdviseFault, Best, CostList};
+pub use laws::touched_laws;
+pub use pass::{LeafList, MapExprList, Pass, PassList};
