@@ -4,3 +4,6 @@ pub mod JudgedLaws
 pub mod SplitLaws
 pub mod CostLaws
 pub mod Listing
+pub mod Cheapest
+pub mod Tried
+pub mod Advising
