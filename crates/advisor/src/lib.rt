@@ -20,4 +20,5 @@ mod trials;
 pub use advice::{Advice, AdviseFault, Best, CostList};
 pub use adviser::advise;
 pub use laws::touched_laws;
-pub use pass::{LeafList, MapExprList, Pass, PassList};
+pub use map_expr::MapExprList;
+pub use pass::{LeafList, Pass, PassList};
