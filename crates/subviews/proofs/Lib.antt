@@ -1,4 +1,5 @@
 pub mod Fronts
+pub mod Growth
 pub mod Passes
 pub mod Printed
 pub mod Values

@@ -1,5 +1,5 @@
 -- What the calls of a stencil are given.
-use Rattle.std.specs.Prelude.{ℕ, ◌≡◌, ◌<◌, ◌≤◌, ◌^◌, true, ℤ, pos, ◌+ℤ◌, ◌<ℤ◌, List, length, map, All, Contains, slice_index_or}
+use Rattle.std.specs.Prelude.{ℕ, ◌≡◌, ◌+◌, ◌<◌, ◌≤◌, ◌^◌, true, ℤ, pos, ◌+ℤ◌, ◌<ℤ◌, List, length, map, All, Contains, Some, slice_get, slice_index_or}
 use Rattle.extents.specs.Indices.{indices}
 use Rattle.map_expr.specs.Terms.{uncounted}
 use Rattle.views.specs.Tables.{Table}
@@ -7,6 +7,7 @@ use Rattle.subviews.specs.SubViews.{WindowOf, rows_of}
 use Rattle.subviews.specs.Stencils.{Stencil, weighted, row_from, reaches, is_weight}
 use Rattle.subviews.specs.declared.term.Term.{Term}
 use Rattle.subviews.specs.declared.rounds.Plan.{Plan}
+use Rattle.subviews.specs.declared.runs.Walk.{Walk}
 
 abbrev pub stencil_by : WindowOf → ℕ → List Term → ℕ → Stencil
 stencil_by window leaf terms divisor = record { window = window; leaf = leaf; terms = map weighted terms; divisor = pos divisor }
@@ -42,3 +43,14 @@ pub record IsPlanOf (leaves : ℕ) (extents : List ℕ) (plan : Plan) : Type 0 w
   pub divisor : pos 0 <ℤ plan.divisor
   pub far : (place : ℕ) (other : Term) → place < length plan.terms.now
       → IsFar plan.window.now (slice_index_or plan.terms.now place other).offsets.items (slice_index_or plan.far place (pos 0))
+
+-- from this place on, so many numbers are one behind another
+abbrev pub IsRun : List ℕ → ℕ → ℕ → ℕ → Type 0
+IsRun numbers place first count = (k : ℕ) → k < count → slice_get numbers (place + k) ≡ Some (first + k)
+
+-- a walk over a window that comes to this row next
+pub record IsWalk (window : WindowOf) (walk : Walk) (row : ℕ) : Type 0 where
+  pub rows : length (indices window.0) ≤ 2 ^ 24
+  pub some : 0 < walk.width
+  pub narrow : walk.width < 2 ^ 33
+  pub run : IsRun (rows_of window) row walk.next walk.left

@@ -5,6 +5,7 @@ mod far;
 mod fault;
 mod print;
 mod rounds;
+mod runs;
 mod sub_view;
 mod term;
 

@@ -1,5 +1,5 @@
 // Rounds of a stencil over a window.
-ghost use Rattle.std.specs.Prelude.{◌≡◌, ◌<◌, ◌≤◌, ℕ, true, pos, All, Contains, Ok, Err, OnOk, IfErr, length, map};
+ghost use Rattle.std.specs.Prelude.{◌≡◌, ◌<◌, ◌≤◌, ℕ, true, pos, ◌<ℤ◌, int_div, All, Contains, Ok, Err, OnOk, IfErr, length, map};
 ghost use Rattle.places.specs.Image.{entry};
 ghost use Rattle.views.specs.Tables.{leaf_count_of, answer_of, after_log, after_stores};
 ghost use Rattle.subviews.specs.SubViews.{rows_of};
@@ -8,6 +8,7 @@ ghost use Rattle.subviews.specs.Plans.{IsTermOf, IsBufferOf, IsPlanOf, stencil_b
 
 use crate::far::all_far;
 use crate::fault::StencilFault;
+use crate::runs::Walk;
 use crate::term::Term;
 use extents::Window;
 use std::sync::ledger::Ledger;
@@ -47,7 +48,7 @@ pub fn stencil<L: Ledger>(
         leaf,
         terms,
         far: all_far(window, terms),
-        divisor: i128::from(divisor),
+        divisor: i64::from(divisor),
     };
     for _round in 0..rounds {
         fill(view, buffer, &plan, steps)?;
@@ -63,7 +64,7 @@ struct Plan<'a> {
     leaf: usize,
     terms: &'a [Term],
     far: [i64; 64],
-    divisor: i128,
+    divisor: i64,
 }
 
 // Puts what is kept of each value of a round into the buffer. The table stands.
@@ -83,9 +84,10 @@ fn fill<L: Ledger>(
         → entry buffer.new.rows row plan.now.leaf ≡ new_entry (answer_of view.old) (planned plan.now) view.old.rows row) }
     ensures buffer { buffer.new ≡ record buffer.old { rows = buffer.new.rows; tally = buffer.new.tally } }
 {
+    let mut walk = Walk::new(plan.window);
     for row in 0..plan.window.count() {
         laws_of_table(buffer);
-        let outer = plan.window.outer(row);
+        let outer = walk.outer(plan.window, row);
         let value = value_at(view, plan, outer, steps);
         if let Err(fault) = buffer.set(outer, plan.leaf, value, steps) {
             return Err(StencilFault { row: outer, fault });
@@ -108,7 +110,19 @@ fn value_at<L: Ledger>(view: &mut View, plan: &Plan<'_>, row: u64, steps: &mut S
         let at = (row as i64 + plan.far[place]) as u64;
         sum += i128::from(term.weight) * view.get(at, term.leaf, steps);
     }
-    sum / plan.divisor
+    quotient(sum, plan.divisor)
+}
+
+// A quotient, cut toward zero. Most sums fit an i64, which the processor divides by itself.
+#[inline(always)]
+fn quotient(sum: i128, divisor: i64) -> i128
+    requires { pos 0 <ℤ divisor }
+    ensures { result ≡ int_div sum divisor }
+{
+    match i64::try_from(sum) {
+        Ok(near) => i128::from(near / divisor),
+        Err(_) => sum / i128::from(divisor),
+    }
 }
 
 // Stores in each row of the window what the buffer holds there.
@@ -120,10 +134,11 @@ fn store_back<L: Ledger>(view: &mut View, buffer: &mut View, plan: &Plan<'_>, st
         (round_writes (planned plan.now) (rows_of plan.now.window.now)) }
     ensures buffer { buffer.new ≡ record buffer.old { tally = buffer.new.tally } }
 {
+    let mut walk = Walk::new(plan.window);
     for row in 0..plan.window.count() {
         laws_of_table(view);
         laws_of_table(buffer);
-        let outer = plan.window.outer(row);
+        let outer = walk.outer(plan.window, row);
         let value = buffer.get(outer, plan.leaf, steps);
         let _stored = view.set(outer, plan.leaf, value, steps);
     }
