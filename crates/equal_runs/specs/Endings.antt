@@ -3,9 +3,8 @@ use Rattle.std.specs.Prelude.{ℕ, ◌+◌, ◌&&◌, Bool, true, false, is_some
 use Rattle.layout_io.specs.Files.{File}
 use Rattle.line_grammar.specs.Sentences.{Sentence, Mapping, View, Load, Relayout, Advise}
 use Rattle.worlds.specs.Worlds.{World, found}
-use Rattle.worlds.specs.Outcomes.{Outcome, Goes, Faults, CannotRead, Left}
+use Rattle.worlds.specs.Outcomes.{Outcome, Goes, Faults, CannotRead, each, Left}
 use Rattle.worlds.specs.Names.{nameless}
-use Rattle.worlds.specs.Advise.{all_nameless}
 use Rattle.worlds.specs.Step.{step}
 use Rattle.worlds.specs.declared.fault.CommandFault.{CommandFault}
 use Rattle.worlds.specs.declared.fault.CommandFault.TheVariants.{BadMapping, TooBig, Narrow, NotCounted, Unknown}
@@ -23,7 +22,7 @@ misses_mapping world (Mapping name term) = is_refused (nameless world.mappings t
 misses_mapping world (View new) = is_some (found new.schema world.records) && is_refused (nameless world.mappings new.term)
 misses_mapping world (Load new file) = is_some (found new.schema world.records) && is_refused (nameless world.mappings new.term)
 misses_mapping world (Relayout view term) = is_some (found view world.views) && is_refused (nameless world.mappings term)
-misses_mapping world (Advise view granule passes terms splits) = is_some (found view world.views) && is_refused (all_nameless world.mappings terms)
+misses_mapping world (Advise view granule passes terms splits) = is_some (found view world.views) && is_refused (each (nameless world.mappings) terms)
 misses_mapping world line = false
 
 -- a fault of how tables lie; that of a name is one where it `misses` a mapping

@@ -15,7 +15,7 @@ use Rattle.kept_tables.specs.declared.mode.StoreMode.{StoreMode}
 use Rattle.views.specs.Tables.{Table, owners_of}
 use Rattle.worlds.specs.Worlds.{World, Entry, found}
 use Rattle.worlds.specs.declared.fault.CommandFault.{CommandFault}
-use Rattle.worlds.specs.Outcomes.{Outcome, Goes, Faults, ◌>>=◌, refused_if, refused_by, ok_or, some_or, known, free}
+use Rattle.worlds.specs.Outcomes.{Outcome, Goes, Faults, ◌>>=◌, each, refused_if, refused_by, ok_or, some_or, known, free}
 use Rattle.worlds.specs.declared.fault.CommandFault.TheVariants.{BadMapping, BadKernel, BadActors, BadWindow, BadStencil, BadAdvice, TooBig, Taken, Unknown}
 use Rattle.worlds.specs.declared.fault.BadActors.TheVariants.{Cuts, Turns}
 use Rattle.worlds.specs.declared.fault.BadAdvice.TheVariants.{Granule, Passes, Candidates}
@@ -35,7 +35,7 @@ use Rattle.line_grammar.specs.declared.line.KernelText.TheVariants as text
 use Rattle.line_grammar.specs.declared.line.TermText.{TermText}
 use Rattle.lane_kernels.specs.declared.kernel.Kernel.{Kernel}
 use Rattle.advisor.specs.Advice.{advice}
-use Rattle.subviews.specs.Stencils.{Weighted, stenciled, is_divisor}
+use Rattle.subviews.specs.Stencils.{stenciled, is_divisor}
 use Rattle.subviews.specs.SubViews.{WindowOf}
 use Rattle.actor_steps.specs.Cuts.{actor_of}
 use Rattle.actor_steps.specs.Shared.{shared_byte}
@@ -52,8 +52,8 @@ use Rattle.worlds.specs.Load.{load, loaded_table, loaded, filled, read, there}
 use Rattle.worlds.specs.OnView.{Done, with_table, on_view}
 use Rattle.worlds.specs.Assign.{assigned, inside}
 use Rattle.worlds.specs.Actors.{updated_by_actors, fit_cuts, shared}
-use Rattle.worlds.specs.Advise.{all_nameless, leaves_at, leaves_under, bound_pass, bound_passes, fit_advice, advise_fault, asked, advise}
-use Rattle.worlds.specs.Stencil.{bound_term, bound_terms, all_reach, all_weigh, fit_terms, fit_stencil, stencil_fault, stencil_run}
+use Rattle.worlds.specs.Advise.{leaves_at, leaves_under, bound_pass, fit_advice, advise_fault, asked, advise}
+use Rattle.worlds.specs.Stencil.{bound_term, all_reach, all_weigh, fit_terms, fit_stencil, stencil_fault, stencil_run}
 use Rattle.worlds.specs.Windows.{are_inside, windowed, print_window}
 use Rattle.worlds.specs.Update.{updated, update_fault}
 use Rattle.worlds.specs.Reduce.{reduction, reduced, counting, column}
@@ -95,6 +95,10 @@ answered fault (Err e) = faults (fault e)
 given : {A : Type 0} (fault : CommandFault) (answer : Option A) → IsReadable (some_or fault answer)
 given fault (Some x) = goes x
 given fault None = faults fault
+
+each_reads : {A B : Type 0} (outcome : A → Outcome B) → ((x : A) → IsReadable (outcome x)) → (xs : List A) → IsReadable (each outcome xs)
+each_reads outcome reads [] = goes _
+each_reads outcome reads (x ∷ xs) = next (reads x) (λ y. next (each_reads outcome reads xs) (λ ys. goes _))
 
 free_reads : {A : Type 0} (name : List ℕ) (entries : List (Entry A)) → IsReadable (free name entries)
 free_reads name entries = tested (is_some (found name entries)) (Taken name)
@@ -361,22 +365,18 @@ print_window_reads table spans = next (window_reads table.extents spans) (λ win
 term_reads : (fields : Fields) (term : TermText) → IsReadable (bound_term fields term)
 term_reads fields term = next (leaf_reads fields term.path) (λ leaf. goes _)
 
-terms_reads : (fields : Fields) (terms : List TermText) → IsReadable (bound_terms fields terms)
-terms_reads fields [] = goes _
-terms_reads fields (term ∷ terms) = next (term_reads fields term) (λ one. next (terms_reads fields terms) (λ others. goes _))
-
-fit_terms_reads : (window : WindowOf) (terms : List Weighted) (divisor : ℕ) → IsReadable (fit_terms window terms divisor)
-fit_terms_reads window terms divisor =
+fit_terms_reads : (window : WindowOf) (terms : List TermText) (divisor rounds : ℕ) → IsReadable (fit_terms window terms divisor rounds)
+fit_terms_reads window terms divisor rounds =
     next (tested (not (all_reach window terms)) (BadStencil Reach)) (λ near.
-    next (tested (not (all_weigh terms && is_divisor (pos divisor))) (BadStencil Weight)) (λ light. tested (nat_lt 64 (length terms)) (BadStencil Terms)))
+    next (tested (not (all_weigh terms && is_divisor (pos divisor))) (BadStencil Weight)) (λ light.
+    next (tested (nat_lt 64 (length terms)) (BadStencil Terms)) (λ few. tested (nat_lt 1000 rounds) (BadStencil Rounds))))
 
 fit_stencil_reads : (table : Table) (spans : List Span) (path : List PathStep) (terms : List TermText) (divisor rounds : ℕ) → IsReadable (fit_stencil table spans path terms divisor rounds)
 fit_stencil_reads table spans path terms divisor rounds =
     next (leaf_reads table.fields path) (λ leaf.
-    next (terms_reads table.fields terms) (λ weighted.
+    next (each_reads (bound_term table.fields) (term_reads table.fields) terms) (λ bound_to.
     next (window_reads table.extents spans) (λ window.
-    next (fit_terms_reads window weighted divisor) (λ fit.
-    next (tested (nat_lt 1000 rounds) (BadStencil Rounds)) (λ few. goes _)))))
+    next (fit_terms_reads window terms divisor rounds) (λ fit. goes _))))
 
 stencil_reads : (live : ℕ) (table : Table) (spans : List Span) (path : List PathStep) (terms : List TermText) (divisor rounds : ℕ) → IsReadable (stencil_run live table spans path terms divisor rounds)
 unfolding stencil_run
@@ -385,23 +385,14 @@ stencil_reads live table spans path terms divisor rounds =
     next (tested (nat_lt (8 * 2 ^ 30) (live + blob_bits table)) TooBig) (λ room.
     next (answered (stencil_fault table.fields stencil.leaf) (stenciled table stencil rounds)) (λ rows. goes _)))
 
-all_nameless_reads : (mappings : List (Entry MapTerm)) (terms : List MapTerm) → IsReadable (all_nameless mappings terms)
-all_nameless_reads mappings [] = goes _
-all_nameless_reads mappings (term ∷ terms) = next (nameless_reads mappings term) (λ whole. next (all_nameless_reads mappings terms) (λ others. goes _))
-
 leaves_at_reads : (fields : Fields) (path : List PathStep) → IsReadable (leaves_at fields path)
 leaves_at_reads fields path = next (given _ _) (λ node. goes _)
 
 leaves_under_reads : (fields : Fields) (paths : List (List PathStep)) → IsReadable (leaves_under fields paths)
-leaves_under_reads fields [] = goes _
-leaves_under_reads fields (path ∷ paths) = next (leaves_at_reads fields path) (λ first. next (leaves_under_reads fields paths) (λ others. goes _))
+leaves_under_reads fields paths = next (each_reads (leaves_at fields) (leaves_at_reads fields) paths) (λ lists. goes _)
 
 pass_reads : (fields : Fields) (pass : PassText) → IsReadable (bound_pass fields pass)
 pass_reads fields pass = next (leaves_under_reads fields pass.paths) (λ leaves. goes _)
-
-passes_reads : (fields : Fields) (passes : List PassText) → IsReadable (bound_passes fields passes)
-passes_reads fields [] = goes _
-passes_reads fields (pass ∷ passes) = next (pass_reads fields pass) (λ one. next (passes_reads fields passes) (λ others. goes _))
 
 fit_advice_reads : (granule passes candidates : ℕ) → IsReadable (fit_advice granule passes candidates)
 fit_advice_reads granule passes candidates =
@@ -410,8 +401,8 @@ fit_advice_reads granule passes candidates =
 
 asked_reads : (mappings : List (Entry MapTerm)) (table : Table) (granule : ℕ) (passes : List PassText) (terms : List MapTerm) → IsReadable (asked mappings table granule passes terms)
 asked_reads mappings table granule passes terms =
-    next (all_nameless_reads mappings terms) (λ whole.
-    next (passes_reads table.fields passes) (λ bound.
+    next (each_reads (nameless mappings) (nameless_reads mappings) terms) (λ whole.
+    next (each_reads (bound_pass table.fields) (pass_reads table.fields) passes) (λ bound_to.
     next (fit_advice_reads granule (length passes) (length terms)) (λ fit. goes _)))
 
 advise_reads : (mappings : List (Entry MapTerm)) (table : Table) (granule : ℕ) (passes : List PassText) (terms : List MapTerm) (splits : Bool) → IsReadable (advise mappings table granule passes terms splits)
