@@ -1,2 +1,4 @@
 pub mod Limits
 pub mod NameTables
+pub mod Each
+pub mod Reaches
