@@ -11,7 +11,7 @@ question_of question = record { passes = question.passes; terms = map term_of qu
 
 -- granules of so many bytes, at most 16 passes, and at most 16 expressions without names
 pub record IsQuestion (granule : ℕ) (question : Question) : Type 0 where
-  pub granule : bad_granule granule ≡ None
+  pub grain : bad_granule granule ≡ None
   pub passes : length question.passes ≤ 16
   pub exprs : length question.exprs ≤ 16
   pub nameless : All (λ expr. is_nameless (term_of expr) ≡ true) question.exprs

@@ -1,5 +1,5 @@
 // Stencils that may be made.
-ghost use Rattle.std.specs.Prelude.{◌≡◌, ◌<◌, ◌≤◌, All, IfOk, true, length, map};
+ghost use Rattle.std.specs.Prelude.{◌≡◌, ◌<◌, ◌≤◌, All, IfOk, true, pos, length, map};
 ghost use Rattle.std.specs.List.{list_all};
 ghost use Rattle.extents.specs.Windows.{IsWindow};
 ghost use Rattle.subviews.specs.Plans.{IsTermOf};
@@ -62,7 +62,7 @@ pub fn fit_stencil(
     let leaves = leaves_of(alloc, view, texts)?;
     let window = windowed(view, spans)?;
     check_terms(&window, spans, texts, divisor, rounds)?;
-    let terms = terms_at(alloc, texts, leaves.as_slice())?;
+    let terms = terms_at(alloc, &window, texts, leaves.as_slice())?;
     Ok(FitStencil {
         window,
         leaf,
@@ -191,19 +191,24 @@ fn is_weight(weight: i128) -> bool
 }
 
 fn is_divisor(divisor: u32) -> bool
-    ensures { result ≡ is_divisor divisor }
+    ensures { result ≡ is_divisor (pos divisor) }
 {
     1 <= divisor && i128::from(divisor) <= WEIGHTS
 }
 
 // Terms that were tested, with the leaves that they read.
-fn terms_at(alloc: Global, texts: &[TermText], leaves: &[usize]) -> Result<Vec<Term>, NoMemory>
+fn terms_at(
+    alloc: Global,
+    window: &Window,
+    texts: &[TermText],
+    leaves: &[usize],
+) -> Result<Vec<Term>, NoMemory>
+    requires reach { all_reach window.now texts.now ≡ true }
     requires weigh { all_weigh texts.now ≡ true }
-    requires near { All (λ text. list_all is_offset text.offsets ≡ true) texts.now }
-    requires ranked { All (λ text. length text.offsets ≤ 4) texts.now }
     requires paired { length leaves.now ≡ length texts.now }
-    ensures terms { IfOk result (λ terms. map weighted terms.items ≡ weighted_at texts.now leaves.now) }
+    ensures { IfOk result (λ terms. map weighted terms.items ≡ weighted_at texts.now leaves.now) }
 {
+    let _rank = window.extents().rank();
     let mut terms = Vec::new(alloc);
     for (place, text) in texts.iter().enumerate() {
         terms.push(term_at(text, leaves[place]))?;
