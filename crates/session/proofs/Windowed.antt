@@ -11,6 +11,9 @@ use Rattle.worlds.specs.OnView.{done_to}
 use Rattle.worlds.specs.Outcomes.{Goes, Faults}
 use Rattle.worlds.specs.Stencil.{stencil_fault, stencil_rounds}
 use Rattle.worlds.specs.Windows.{windowed, print_window}
+use Rattle.command_checks.specs.Gives.{GivesUp}
+use Rattle.command_checks.specs.GivesLaws.{GivesUp-then}
+use Rattle.command_checks.specs.declared.fault.StepFault.{StepFault}
 use Rattle.session.specs.Changes.{left_with}
 
 pub printed : (table : Table) (spans : List Span) (window : WindowOf) → windowed table.extents spans ≡ Goes window
@@ -18,6 +21,10 @@ pub printed : (table : Table) (spans : List Span) (window : WindowOf) → window
     ≡ Goes (left_with (after_log table (sub_reads window (leaf_count_of table))) (print_text (texts_of table.fields) (sub_table window table.rows)))
 unfolding print_window
 printed table spans window is = rw is refl
+
+pub window_gives_up : (table : Table) (spans : List Span) (fault : StepFault) → GivesUp (windowed table.extents spans) fault → GivesUp (done_to table (print_window table spans)) fault
+unfolding print_window
+window_gives_up table spans fault gives = GivesUp-then _ _ fault (GivesUp-then _ _ fault gives)
 
 pub rounds_go : (table view : Table) (rounds : ℕ) (stencil : Stencil) → stenciled table stencil rounds ≡ Ok view.rows → view ≡ after_stores table view.rows (rounds_log stencil rounds)
     → done_to table (stencil_rounds table rounds stencil) ≡ Goes (left_with view [])
