@@ -1,8 +1,9 @@
 -- The commands that change or read a table, done to alike worlds.
 use Rattle.std.proofs.Common.{◌≡◌, ℕ, Bool, true, false, ℤ, List, [], ◌∷◌, ◌++◌, length, Option, Some, None, Result, Ok, refl, sym, ap, subst, ◌∙◌}
-use Rattle.std.specs.Prelude.{not}
+use Rattle.std.specs.Prelude.{◌+◌, ◌*◌, ◌^◌, not, nat_lt}
 use Rattle.std.specs.List.{slice_index_or}
 use Rattle.extents.specs.Indices.{indices}
+use Rattle.extents.specs.declared.window.Span.{Span}
 use Rattle.linearize.specs.Slots.{place_in}
 use Rattle.record_dim.specs.declared.path.PathStep.{PathStep}
 use Rattle.record_dim.specs.Leaves.{kinds_of, texts_of}
@@ -21,6 +22,7 @@ use Rattle.line_grammar.specs.declared.line.KernelText.{KernelText}
 use Rattle.line_grammar.specs.declared.line.ReduceKind.{ReduceKind}
 use Rattle.line_grammar.specs.declared.line.ShowKind.{ShowKind}
 use Rattle.line_grammar.specs.declared.line.ShowKind.TheVariants as show
+use Rattle.line_grammar.specs.declared.line.TermText.{TermText}
 use Rattle.views.specs.Tables.{Table, leaf_count_of, answer_of, kept_of, after_stores}
 use Rattle.row_updates.specs.Rows.{Setting, updated_rows, counted}
 use Rattle.row_updates.specs.Logs.{value_log, rows_log}
@@ -32,6 +34,8 @@ use Rattle.lane_kernels.specs.declared.fault.KernelFault.TheVariants as kernel_f
 use Rattle.lane_kernels.specs.declared.kernel.Kernel.{Kernel}
 use Rattle.lane_kernels.specs.Kernels as kernels
 use Rattle.lane_kernels.specs.Logs as kernel_logs
+use Rattle.subviews.specs.Stencils.{Stencil, stenciled, rounds_log}
+use Rattle.subviews.specs.declared.fault.StencilFault.{StencilFault}
 use Rattle.worlds.specs.Worlds.{World, found}
 use Rattle.worlds.specs.OnView.{Done, stores, tells, done_to, with_table, on_view}
 use Rattle.worlds.specs.Outcomes.{Outcome, Goes, ◌>>=◌, LeftOf, Left, known, some_or, refused_if, refused_by, ok_or}
@@ -43,13 +47,17 @@ use Rattle.worlds.specs.Reduce.{reduction, reduced, column, counting}
 use Rattle.worlds.specs.Copy.{are_alike, all_read, copied, copy}
 use Rattle.worlds.specs.Kernel.{run, fit_kernel, kernel_run, number_text, run_fault}
 use Rattle.worlds.specs.Show.{print, counts, showing, drop_view}
-use Rattle.worlds.specs.declared.fault.CommandFault.TheVariants.{Mismatch, NotCounted}
+use Rattle.worlds.specs.Stencil.{fit_stencil, room_beside, stencil_fault, stencil_rounds, stencil_run}
+use Rattle.worlds.specs.Windows.{windowed, print_window}
+use Rattle.worlds.specs.Tables.{blob_bits}
+use Rattle.worlds.specs.declared.fault.CommandFault.TheVariants.{Mismatch, NotCounted, TooBig}
 use Rattle.equal_runs.specs.Endings.{is_of_layout}
 use Rattle.equal_runs.specs.Lines.{shows_layout}
-use Rattle.equal_runs.proofs.Agreeing.{Agree, go, first, second, bind, before, both_told, Both}
+use Rattle.equal_runs.proofs.Agreeing.{Agree, go, first, second, bind, before, both_told, told_if, Any, Both}
 use Rattle.equal_runs.proofs.Answers.{Answers, is_narrow, store_answers, Given, ok_agree, by_agree}
 use Rattle.equal_runs.proofs.Entries.{At, known_agree, entries_replaced, entries_removed}
 use Rattle.equal_runs.proofs.Kernels.{is_narrow_kernel, kernel_causes}
+use Rattle.equal_runs.proofs.Stencils.{is_narrow_stencil, stencil_answers}
 use Rattle.equal_runs.proofs.Tables.{AlikeTables, AlikeWorlds, AlikeAlways, of_mapping, of_both, rewritten_alike, with_written, written_under, rows_told}
 use Rattle.equal_runs.proofs.TallyCounts.{SameCounts}
 use Rattle.equal_runs.proofs.Updates.{is_narrow_update, rows_answers, fit_rows, rows_are}
@@ -74,6 +82,9 @@ narrow_run : (table : Table) (n : Bool) (e : KernelFault) → is_narrow_kernel e
 narrow_run table n (kernel_fault.Narrow row leaf) is = refl
 narrow_run table n kernel_fault.Empty is = absurd (cc)
 narrow_run table n (kernel_fault.Range row leaf) is = absurd (cc)
+
+narrow_stencil : (table : Table) (leaf : ℕ) (n : Bool) (e : StencilFault) → is_narrow_stencil e ≡ true → is_of_layout n (stencil_fault table.fields leaf e) ≡ true
+narrow_stencil table leaf n e is = narrow_store e.row (text_of_leaf table.fields leaf) n e.fault is
 
 -- what both do is the same, where neither is refused
 abbrev SameDone : Done → Done → Type 0
@@ -173,6 +184,30 @@ module _ (m o : Bool) (table : Table) (mapping : MapTerm) (tally : Tally) (same 
       before m o SameDone (bound table.fields (length table.extents) filter) _ _ (λ term.
       before m o SameDone (ok_or (update_fault table.fields) (counted term table.extents table.rows)) _ _ (λ rows. go _ _ refl))
 
+  -- only whether there is room for a buffer depends on how the tables lie
+  pub stencil_agree : (live others : ℕ) (spans : List Span) (path : List PathStep) (texts : List TermText) (divisor rounds : ℕ)
+      → Same m o (stencil_run live table spans path texts divisor rounds) (stencil_run others (under table mapping tally) spans path texts divisor rounds)
+  unfolding stencil_run
+  stencil_agree live others spans path texts divisor rounds =
+      let many = nat_lt (8 * 2 ^ 30) (live + blob_bits table) in
+      let many_others = nat_lt (8 * 2 ^ 30) (others + blob_bits (under table mapping tally)) in
+      before m o SameDone (fit_stencil table spans path texts divisor rounds) _ _ (λ stencil.
+      bind m o Both SameDone (room_beside live table) (room_beside others (under table mapping tally)) _ _
+      (both_told m o Any Any Both (room_beside live table) (room_beside others (under table mapping tally)) (told_if m many TooBig refl) (told_if o many_others TooBig refl) (λ a b p q. tt))
+      (λ room room_other p. rounds_agree stencil))
+    where
+      rounds_agree : (stencil : Stencil) → Same m o (stencil_rounds table rounds stencil) (stencil_rounds (under table mapping tally) rounds stencil)
+      rounds_agree stencil =
+          bind m o (Given (Unit {0}) _ _) SameDone (ok_or (stencil_fault table.fields stencil.leaf) (stenciled table stencil rounds))
+          (ok_or (stencil_fault table.fields stencil.leaf) (stenciled (under table mapping tally) stencil rounds)) _ _
+          (ok_agree m o is_narrow_stencil (stencil_fault table.fields stencil.leaf) _ _ (narrow_stencil table stencil.leaf)
+          (stencil_answers (answer_of table) (answer_of (under table mapping tally)) answers_under same.kept stencil rounds table.rows))
+          (λ rows others given. go _ _ (ap (λ (r : List (List ℤ)). stores r (rounds_log stencil rounds)) (given.same tt)))
+
+  pub print_window_agree : (spans : List Span) → Same m o (print_window table spans) (print_window (under table mapping tally) spans)
+  unfolding print_window
+  print_window_agree spans = before m o SameDone (windowed table.extents spans) _ _ (λ window. go _ _ refl)
+
   print_agree : Same m o (print table) (print (under table mapping tally))
   unfolding print
   print_agree = go _ _ refl
@@ -196,10 +231,9 @@ module _ (m o : Bool) (table : Table) (mapping : MapTerm) (tally : Tally) (same 
   showing_agree show.Layout name plain = absurd (cc)
 
   -- the same is done to both
-  done_agree : (command : Table → Outcome Done) → Same m o (command table) (command (under table mapping tally))
-      → Agree m o AlikeDone (done_to table (command table)) (done_to (under table mapping tally) (command (under table mapping tally)))
-  done_agree command agree =
-      bind m o SameDone AlikeDone (command table) (command (under table mapping tally)) _ _ agree
+  done_agree : (x y : Outcome Done) → Same m o x y → Agree m o AlikeDone (done_to table x) (done_to (under table mapping tally) y)
+  done_agree x y agree =
+      bind m o SameDone AlikeDone x y _ _ agree
       (λ a b is. go _ _ (subst (λ (d : Done). AlikeDone (record { held = after_stores table a.rows a.log; text = a.text }) (record { held = after_stores (under table mapping tally) d.rows d.log; text = d.text }))
       (sym is) (record { tables = rewritten_alike table mapping tally same a.rows a.log; text = refl })))
 
@@ -234,15 +268,15 @@ module _ (m o : Bool) (world other : World) (alike : AlikeWorlds world other) wh
       bind m o (At AlikeTables (found name world.views) (found name other.views)) AlikeAlways _ _ f g (known_agree m o AlikeTables name world.views other.views alike.views)
       (λ a b at. of_mapping (λ (t : Table). Agree m o AlikeAlways (f a) (g t)) a b at.alike (each a))
 
-  -- a command on a view agrees where it does the same to a table and to that table under another mapping
-  pub view_agree : (name : List ℕ) (command : Table → Outcome Done)
-      → ((table : Table) (mapping : MapTerm) (tally : Tally) → AlikeTables table (under table mapping tally) → Same m o (command table) (command (under table mapping tally)))
-      → Agree m o AlikeAlways (on_view world name command) (on_view other name command)
+  -- a command on a view agrees with another where it does to a table what the other does to that table under another mapping
+  pub view_agree : (name : List ℕ) (command changed : Table → Outcome Done)
+      → ((table : Table) (mapping : MapTerm) (tally : Tally) → AlikeTables table (under table mapping tally) → Same m o (command table) (changed (under table mapping tally)))
+      → Agree m o AlikeAlways (on_view world name command) (on_view other name changed)
   unfolding on_view
-  view_agree name command each =
+  view_agree name command changed each =
       on_table name _ _ (λ table mapping tally same.
-      bind m o AlikeDone AlikeAlways (done_to table (command table)) (done_to (under table mapping tally) (command (under table mapping tally))) _ _
-      (done_agree m o table mapping tally same command (each table mapping tally same))
+      bind m o AlikeDone AlikeAlways (done_to table (command table)) (done_to (under table mapping tally) (changed (under table mapping tally))) _ _
+      (done_agree m o table mapping tally same (command table) (changed (under table mapping tally)) (each table mapping tally same))
       (λ a b done. go _ _ (record { worlds = λ always also. with_agree world other alike name a.held b.held done.tables; text = done.text })))
 
   pub drop_agree : (name : List ℕ) → Agree m o AlikeAlways (drop_view world name) (drop_view other name)

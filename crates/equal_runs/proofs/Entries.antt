@@ -1,7 +1,6 @@
 -- Entries of the same names, and what is looked up among them.
-use Rattle.std.proofs.Common.{◌≡◌, ℕ, suc, Bool, true, false, List, [], ◌∷◌, length, Option, Some, None, refl, ap, arith}
-use Rattle.std.specs.Prelude.{if◌then◌else◌, is_some, nat_eq}
-use Rattle.std.proofs.lemmas.Bool.Decides.{nat_tests}
+use Rattle.std.proofs.Common.{◌≡◌, ℕ, suc, Bool, true, false, List, [], ◌∷◌, length, Option, Some, None, refl, ap}
+use Rattle.std.specs.Prelude.{if◌then◌else◌, is_some}
 use Rattle.worlds.specs.Worlds.{Entry, same_name, found, added, replaced, removed}
 use Rattle.worlds.specs.Outcomes.{known, free, some_or, refused_if}
 use Rattle.worlds.specs.declared.fault.CommandFault.{CommandFault}
@@ -72,27 +71,6 @@ entries_removed {A} {B} R name xs ys (more other c d us vs s rest) = of_test (sa
       → Entries R (if test then us else record { name = other; held = c } ∷ removed name us) (if test then vs else record { name = other; held = d } ∷ removed name vs)
   of_test true later = rest
   of_test false later = more other c d (removed name us) (removed name vs) s later
-
--- another thing under a name is found there, and so is one thing more
-pub found_replaced : {A : Type 0} (name : List ℕ) (new old : A) (entries : List (Entry A)) → found name entries ≡ Some old → found name (replaced name new entries) ≡ Some new
-found_replaced name new old [] is = absurd (cc)
-found_replaced {A} name new old (entry ∷ entries) is = of_test (same_name entry.name name) refl is (found_replaced name new old entries) where
-  of_test : (test : Bool) → same_name entry.name name ≡ test → (if test then Some entry.held else found name entries) ≡ Some old
-      → (found name entries ≡ Some old → found name (replaced name new entries) ≡ Some new) → found name (if test then record { name = entry.name; held = new } ∷ entries else entry ∷ replaced name new entries) ≡ Some new
-  of_test true same is below = rw same refl
-  of_test false same is below = rw same (below is)
-
-same_self : (name : List ℕ) → same_name name name ≡ true
-same_self [] = refl
-same_self (byte ∷ bytes) = let one : nat_eq byte byte ≡ true = grind (arith, nat_tests) in rw one (same_self bytes)
-
-pub found_added : {A : Type 0} (name : List ℕ) (new : A) (entries : List (Entry A)) → found name entries ≡ None → found name (added name new entries) ≡ Some new
-found_added name new [] is = rw (same_self name) refl
-found_added {A} name new (entry ∷ entries) is = of_test (same_name entry.name name) refl is (found_added name new entries) where
-  of_test : (test : Bool) → same_name entry.name name ≡ test → (if test then Some entry.held else found name entries) ≡ None
-      → (found name entries ≡ None → found name (added name new entries) ≡ Some new) → (if same_name entry.name name then Some entry.held else found name (added name new entries)) ≡ Some new
-  of_test true same is below = absurd (cc)
-  of_test false same is below = rw same (below is)
 
 pub length-entries : {A B : Type 0} (R : A → B → Type 0) (xs : List (Entry A)) (ys : List (Entry B)) → Entries R xs ys → length xs ≡ length ys
 length-entries R xs ys none = refl

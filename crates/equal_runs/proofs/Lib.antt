@@ -4,6 +4,7 @@ pub mod Answers
 pub mod Updates
 pub mod Loads
 pub mod Kernels
+pub mod Stencils
 pub mod TallyCounts
 pub mod Tables
 pub mod Names

@@ -1,6 +1,6 @@
 -- What is counted of a view are the accesses to it, line after line.
 use Rattle.std.proofs.Common.{◌≡◌, ℕ, Bool, false, List, [], ◌++◌, length, Option, Some, None, refl, sym, ap, subst, ◌∙◌}
-use Rattle.std.specs.Prelude.{◌+◌, ◌*◌, ◌^◌, is_some, nat_lt, not, ℤ}
+use Rattle.std.specs.Prelude.{◌+◌, ◌*◌, ◌^◌, nat_lt, not, ℤ}
 use Rattle.std.proofs.lemmas.List.{length-map}
 use Rattle.layout_io.specs.Files.{File}
 use Rattle.extents.specs.Indices.{indices}
@@ -27,29 +27,24 @@ use Rattle.worlds.specs.Files.{bad_file, open_view, opened_beside, opened_table}
 use Rattle.worlds.specs.Load.{load, loaded_table, loaded, filled, read, row_fault}
 use Rattle.worlds.specs.Mapping.{mapping}
 use Rattle.worlds.specs.OnView.{Done, Work, done_to, on_view, worked}
-use Rattle.worlds.specs.Outcomes.{Outcome, Goes, Faults, CannotRead, ◌>>=◌, LeftOf, Left, quiet, known, free, some_or, refused_if, ok_or}
+use Rattle.worlds.specs.Outcomes.{Outcome, Goes, ◌>>=◌, LeftOf, Left, quiet, known, free, refused_if, ok_or}
 use Rattle.worlds.specs.Show.{drop_view}
 use Rattle.worlds.specs.Step.{step, work_of}
 use Rattle.worlds.specs.Tables.{made, resolved, room, shaped, zeros_of, blob_bits, live_bits}
 use Rattle.worlds.specs.Names.{nameless}
 use Rattle.worlds.specs.View.{view, new_table, with_view, named, Named}
-use Rattle.worlds.specs.declared.fault.CommandFault.{CommandFault}
 use Rattle.worlds.specs.declared.fault.CommandFault.TheVariants.{BadMapping, TooBig, Mismatch}
-use Rattle.equal_runs.specs.GoesLaws.{IfGoes, to, refused, unread, bind, behind, gone, known_found}
+use Rattle.equal_runs.specs.EntryLaws.{found_added, found_replaced}
+use Rattle.equal_runs.specs.GoesLaws.{IfGoes, to, refused, unread, bind, behind, known_found, free_found}
 use Rattle.equal_runs.specs.Logs.{log_in, logged, reads_of, writes_of, fills_of, done_log, work_logs, logs_after}
 use Rattle.equal_runs.proofs.Agreeing.{Told, goes, told}
-use Rattle.equal_runs.proofs.Entries.{Entries, Finds, some, nothing, finds, entries_added, entries_replaced, entries_removed, found_added, found_replaced}
+use Rattle.equal_runs.proofs.Entries.{Entries, Finds, some, nothing, finds, entries_added, entries_replaced, entries_removed}
 use Rattle.equal_runs.proofs.Tables.{with_written, anew_of, made_told, rows_told, anew_told}
 
 -- what is told goes there
 of_told : {A : Type 0} (P : A → Type 0) (x : Outcome A) → Told false P x → IfGoes P x
 of_told P x (goes a p) = to a p
 of_told P x (told fault of) = refused fault
-
--- a name that is free stands for nothing
-free_found : {A : Type 0} (fault : CommandFault) (x : Option A) → refused_if (is_some x) fault ≡ Goes tt → x ≡ None
-free_found fault None is = refl
-free_found fault (Some a) is = absurd (cc)
 
 -- the tally of a table is that of a list of accesses
 abbrev pub IsCounted : Table → List Access → Type 0
@@ -305,4 +300,4 @@ module _ (world : World) (logs : List (Entry (List Access))) (all : AreCounted w
   step_keeps files fails (line.Copy name target) = copy_keeps name target
   step_keeps files fails (line.Relayout name term) = relayout_keeps name term
   step_keeps files fails (line.Drop name) = drop_keeps name
-  step_keeps files fails sentence = work_keeps (work_of sentence)
+  step_keeps files fails sentence = work_keeps (work_of world sentence)

@@ -29,10 +29,11 @@ use Rattle.worlds.specs.Copy.{laid_anew, relayout}
 use Rattle.worlds.specs.Files.{bad_file, opened_beside, opened_table, open_view}
 use Rattle.worlds.specs.declared.fault.CommandFault.TheVariants.{BadMapping, TooBig, TooManyViews}
 use Rattle.equal_runs.specs.Endings.{is_refused, is_of_layout}
+use Rattle.equal_runs.specs.EntryLaws.{found_added, found_replaced}
 use Rattle.equal_runs.specs.Widths.{MakesWide}
 use Rattle.equal_runs.proofs.Agreeing.{Agree, go, bind, before, alone, weaker, both_told, Any, Both, told_if, told_ok, told_misses}
 use Rattle.equal_runs.proofs.Answers.{Given, ok_agree}
-use Rattle.equal_runs.proofs.Entries.{At, known_agree, Neither, free_agree, entries_added, entries_replaced, found_added, found_replaced, length-entries}
+use Rattle.equal_runs.proofs.Entries.{At, known_agree, Neither, free_agree, entries_added, entries_replaced, length-entries}
 use Rattle.equal_runs.proofs.Loads.{is_narrow_row, dataset_answers}
 use Rattle.equal_runs.proofs.Names.{nameless_told}
 use Rattle.equal_runs.proofs.Tables.{AlikeTables, AlikeIfWide, AlikeWorlds, AlikeLefts, AlikeAlways, self_alike, of_both, rewritten_alike, zeros_alike, anew_of, anew_alike, made_told, anew_told}

@@ -5,11 +5,12 @@ use Rattle.map_expr.specs.Terms.{Term as MapTerm}
 use Rattle.line_grammar.specs.Sentences as line
 use Rattle.worlds.specs.Worlds.{World}
 use Rattle.worlds.specs.Step.{step}
+use Rattle.worlds.specs.Tables.{live_bits}
 use Rattle.equal_runs.specs.Lines.{with_term, shows_layout}
 use Rattle.equal_runs.specs.Endings.{misses_mapping}
 use Rattle.equal_runs.specs.Widths.{MakesWide}
 use Rattle.equal_runs.proofs.Agreeing.{Agree, go}
-use Rattle.equal_runs.proofs.Commands.{view_agree, assigned_agree, updated_agree, reduction_agree, counting_agree, ran_agree, copy_agree, showing_agree, drop_agree}
+use Rattle.equal_runs.proofs.Commands.{view_agree, assigned_agree, updated_agree, reduction_agree, counting_agree, ran_agree, copy_agree, showing_agree, print_window_agree, stencil_agree, drop_agree}
 use Rattle.equal_runs.proofs.News.{define_agree, mapping_agree, view_agree as new_agree, load_agree, open_agree, relayout_agree}
 use Rattle.equal_runs.proofs.Tables.{AlikeWorlds, AlikeLefts}
 
@@ -23,16 +24,21 @@ module _ (world other : World) (alike : AlikeWorlds world other) (term : MapTerm
   step_agree (line.Mapping name old) plain = mapping_agree world other alike name old term
   step_agree (line.View new) plain = new_agree world other alike new term
   step_agree (line.Load new file) plain = load_agree world other alike new term file files unread
-  step_agree (line.Assign name index path value) plain = view_agree false false world other alike name _ (λ table mapping tally same. assigned_agree false false table mapping tally same index path value)
-  step_agree (line.Update name filter sets) plain = view_agree false false world other alike name _ (λ table mapping tally same. updated_agree false false table mapping tally same filter sets)
-  step_agree (line.Kernel name text lanes) plain = view_agree false false world other alike name _ (λ table mapping tally same. ran_agree false false table mapping tally same text lanes)
-  step_agree (line.Reduce name kind path) plain = view_agree false false world other alike name _ (λ table mapping tally same. reduction_agree false false table mapping tally same kind path)
-  step_agree (line.Count name filter) plain = view_agree false false world other alike name _ (λ table mapping tally same. counting_agree false false table mapping tally same filter)
+  step_agree (line.Assign name index path value) plain = view_agree false false world other alike name _ _ (λ table mapping tally same. assigned_agree false false table mapping tally same index path value)
+  step_agree (line.Update name filter sets) plain = view_agree false false world other alike name _ _ (λ table mapping tally same. updated_agree false false table mapping tally same filter sets)
+  step_agree (line.Kernel name text lanes) plain = view_agree false false world other alike name _ _ (λ table mapping tally same. ran_agree false false table mapping tally same text lanes)
+  step_agree (line.Reduce name kind path) plain = view_agree false false world other alike name _ _ (λ table mapping tally same. reduction_agree false false table mapping tally same kind path)
+  step_agree (line.Count name filter) plain = view_agree false false world other alike name _ _ (λ table mapping tally same. counting_agree false false table mapping tally same filter)
   step_agree (line.Copy name target) plain = copy_agree false false world other alike name target
   step_agree (line.Relayout name old) plain = relayout_agree world other alike name old term
-  step_agree (line.Show kind name) plain = view_agree false false world other alike name _ (λ table mapping tally same. showing_agree false false table mapping tally same kind name plain)
+  step_agree (line.Show kind name) plain = view_agree false false world other alike name _ _ (λ table mapping tally same. showing_agree false false table mapping tally same kind name plain)
   step_agree (line.Drop name) plain = drop_agree false false world other alike name
   step_agree (line.Open name file) plain = open_agree world other alike false false name file files unread
   step_agree (line.Bytes name blob) plain = absurd (cc)
   step_agree (line.Save name) plain = absurd (cc)
   step_agree (line.Actors name filter sets cuts seed turns) plain = absurd (cc)
+  step_agree (line.PrintWindow name spans) plain = view_agree false false world other alike name _ _ (λ table mapping tally same. print_window_agree false false table mapping tally same spans)
+  step_agree (line.Stencil name spans path terms divisor rounds) plain =
+      view_agree false false world other alike name _ _ (λ table mapping tally same.
+      stencil_agree false false table mapping tally same (live_bits world.views) (live_bits other.views) spans path terms divisor rounds)
+  step_agree (line.Advise name granule passes terms splits) plain = absurd (cc)

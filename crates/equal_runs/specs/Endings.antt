@@ -1,9 +1,9 @@
 -- The runs that end with a fault of how their tables lie.
 use Rattle.std.specs.Prelude.{ℕ, ◌+◌, ◌&&◌, Bool, true, false, is_some, List, [], ◌∷◌, Option}
 use Rattle.layout_io.specs.Files.{File}
-use Rattle.line_grammar.specs.Sentences.{Sentence, Mapping, View, Load, Relayout}
+use Rattle.line_grammar.specs.Sentences.{Sentence, Mapping, View, Load, Relayout, Advise}
 use Rattle.worlds.specs.Worlds.{World, found}
-use Rattle.worlds.specs.Outcomes.{Outcome, Goes, Faults, CannotRead, Left}
+use Rattle.worlds.specs.Outcomes.{Outcome, Goes, Faults, CannotRead, each, Left}
 use Rattle.worlds.specs.Names.{nameless}
 use Rattle.worlds.specs.Step.{step}
 use Rattle.worlds.specs.declared.fault.CommandFault.{CommandFault}
@@ -16,12 +16,13 @@ abbrev pub is_refused : {A : Type 0} → Outcome A → Bool
 is_refused (Goes x) = false
 is_refused _ = true
 
--- some name in the mapping expression of a line names no mapping, and the name before it, of a record or a view, is known
+-- some name in the mapping expressions of a line names no mapping, and the name before them, of a record or a view, is known
 abbrev pub misses_mapping : World → Sentence → Bool
 misses_mapping world (Mapping name term) = is_refused (nameless world.mappings term)
 misses_mapping world (View new) = is_some (found new.schema world.records) && is_refused (nameless world.mappings new.term)
 misses_mapping world (Load new file) = is_some (found new.schema world.records) && is_refused (nameless world.mappings new.term)
 misses_mapping world (Relayout view term) = is_some (found view world.views) && is_refused (nameless world.mappings term)
+misses_mapping world (Advise view granule passes terms splits) = is_some (found view world.views) && is_refused (each (nameless world.mappings) terms)
 misses_mapping world line = false
 
 -- a fault of how tables lie; that of a name is one where it `misses` a mapping

@@ -1,6 +1,7 @@
 -- What holds of what an outcome goes to.
 use Rattle.std.proofs.Common.{◌≡◌, ℕ, List, Option, Some, None, refl, ap, subst}
-use Rattle.worlds.specs.Outcomes.{Outcome, Goes, Faults, CannotRead, ◌>>=◌, some_or}
+use Rattle.std.specs.Prelude.{is_some}
+use Rattle.worlds.specs.Outcomes.{Outcome, Goes, Faults, CannotRead, ◌>>=◌, some_or, refused_if}
 use Rattle.worlds.specs.declared.fault.CommandFault.{CommandFault}
 
 -- where it goes, it goes to a thing of which this holds
@@ -29,3 +30,8 @@ gone P x a (unread name) is = absurd (cc)
 pub known_found : {A : Type 0} (fault : CommandFault) (x : Option A) (a : A) → some_or fault x ≡ Goes a → x ≡ Some a
 known_found fault (Some b) a is = let same : b ≡ a = cc in ap Some same
 known_found fault None a is = absurd (cc)
+
+-- a name that is free stands for nothing
+pub free_found : {A : Type 0} (fault : CommandFault) (x : Option A) → refused_if (is_some x) fault ≡ Goes tt → x ≡ None
+free_found fault None is = refl
+free_found fault (Some a) is = absurd (cc)

@@ -5,3 +5,4 @@ pub mod EqualRuns
 pub mod Logs
 pub mod Entries
 pub mod GoesLaws
+pub mod EntryLaws

@@ -1,12 +1,12 @@
 -- Lines that differ in their mapping expressions alone, and the texts that are lines.
 use Rattle.std.specs.Prelude.{ℕ, ◌≡◌, ◌≤◌, ⊤, Bool, true, false, List, [], ◌∷◌, length, Ok}
 use Rattle.map_expr.specs.Terms.{Term as MapTerm}
-use Rattle.line_grammar.specs.Sentences.{Sentence, Mapping, View, Load, Relayout, Show, Bytes, Save, Actors, deepest}
+use Rattle.line_grammar.specs.Sentences.{Sentence, Mapping, View, Load, Relayout, Show, Bytes, Save, Actors, Advise, deepest}
 use Rattle.line_grammar.specs.declared.line.ShowKind.TheVariants as show
 use Rattle.line_grammar.specs.declared.version.Version.{Version}
 use Rattle.schema_lang.specs.LineOf.{line_of}
 
--- the line with this mapping expression in place of its own, where it has one
+-- the line with this mapping expression in place of its own, where it has one; the candidates of an advice stay
 abbrev pub with_term : MapTerm → Sentence → Sentence
 with_term term (Mapping name old) = Mapping name term
 with_term term (View new) = View (record new { term = term })
@@ -20,13 +20,14 @@ AgreeButTerms [] [] = ⊤
 AgreeButTerms (line ∷ lines) (other ∷ others) = ((term : MapTerm) × (other ≡ with_term term line)) × AgreeButTerms lines others
 AgreeButTerms _ _ = ⊥
 
--- the commands that write how a table lies
+-- the commands that write how a table lies, or what it costs to lie so
 abbrev pub shows_layout : Sentence → Bool
 shows_layout (Show show.Heat view) = true
 shows_layout (Show show.Layout view) = true
 shows_layout (Bytes view blob) = true
 shows_layout (Save view) = true
 shows_layout (Actors view filter sets cuts seed turns) = true
+shows_layout (Advise view granule passes terms splits) = true
 shows_layout _ = false
 
 -- in a version of the language, the text is this line, and both are within the limits on lines

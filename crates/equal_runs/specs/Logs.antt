@@ -51,7 +51,7 @@ logs_after world (Open name file) next logs = added name (fills_of (found name n
 logs_after world (Copy name target) next logs = logged target (writes_of (found target next.views)) (logged name (reads_of (found name world.views)) logs)
 logs_after world (Relayout name term) next logs = replaced name (writes_of (found name next.views)) logs
 logs_after world (Drop name) next logs = removed name logs
-logs_after world sentence next logs = work_logs world (work_of sentence) logs
+logs_after world sentence next logs = work_logs world (work_of world sentence) logs
 
 -- a run that came this far: its world, the accesses to each view, and what was written
 pub record SoFar : Type 0 where

@@ -1,7 +1,7 @@
 -- Which lines read no file, by their first token.
 use Rattle.std.proofs.Common.{◌≡◌, ℕ, Bool, true, false, List, [], ◌∷◌, length, Option, Some, None, Result, Ok, Err, codes, refl}
 use Rattle.std.specs.Prelude.{if◌then◌else◌}
-use Rattle.phrases.specs.Reading.{◌>>=◌, item_at, past, starts, item_or, then_at, give_at, behind_at, either_at}
+use Rattle.phrases.specs.Reading.{◌>>=◌, item_at, past, starts, item_or, then_at, give_at, behind_at, either_at, which_at}
 use Rattle.phrases.specs.Ended.{ended}
 use Rattle.line_grammar.specs.Sentences.{Sentence, Value, Assignment}
 use Rattle.line_grammar.specs.Sentences as line
@@ -9,15 +9,19 @@ use Rattle.line_grammar.specs.Tokens.{is_sign, is_word, name_of, count_of, reduc
 use Rattle.line_grammar.specs.declared.token.Token.{Token}
 use Rattle.line_grammar.specs.declared.line.Command.{Command}
 use Rattle.line_grammar.specs.declared.line.Command.TheVariants as command
+use Rattle.line_grammar.specs.declared.line.ShowKind.{ShowKind}
 use Rattle.line_grammar.specs.declared.version.Version.{Version}
 use Rattle.line_grammar.specs.declared.version.Version.TheVariants.{One, Two}
-use Rattle.schema_lang.specs.Bodies.{line_at, command_at, body_at, define_at, mapping_at, new_at, view_at, assign_at, update_at, kernel_line_at, reduce_at, copy_at, relayout_at, bytes_at}
-use Rattle.line_tokens.specs.declared.sign.Sign.TheVariants.{Dot, Equals}
+use Rattle.line_grammar.specs.Versions.{may_have_window}
+use Rattle.schema_lang.specs.Bodies.{line_at, command_at, body_at, define_at, mapping_at, new_at, view_at, assign_at, update_at, kernel_line_at, reduce_at, copy_at, relayout_at, flag_at, show_at, bytes_at, advise_at, stencil_at}
+use Rattle.line_tokens.specs.declared.sign.Sign.TheVariants.{Dot, Equals, Slash}
 use Rattle.line_phrases.specs.Exprs.{expr_at}
 use Rattle.line_phrases.specs.Fields.{fields_at}
 use Rattle.line_phrases.specs.Lists.{bracket_list_at, cuts_at, fixed_at, listed_at}
 use Rattle.line_phrases.specs.Maps.{map_at}
+use Rattle.line_phrases.specs.Passes.{passes_at}
 use Rattle.line_phrases.specs.Paths.{path_at}
+use Rattle.line_phrases.specs.Stencils.{terms_at, window_at}
 use Rattle.schema_lang.specs.Kernels.{kernel_at}
 use Rattle.schema_lang.specs.Updates.{actors_at, assignment_at, filter_at, update_end_at}
 use Rattle.line_grammar.specs.Sentences.{file_of as file_in}
@@ -62,6 +66,15 @@ either test {read} {other} one two = record { reads = λ tokens. of_test (starts
   of_test true tokens = one.reads tokens
   of_test false tokens = two.reads tokens
 
+which : (test : Bool) {read other : List Token → Result (Sentence × List Token) ℕ} → NoneRead read → NoneRead other → NoneRead (which_at test read other)
+which true one two = record { reads = λ tokens. one.reads tokens }
+which false one two = record { reads = λ tokens. two.reads tokens }
+
+show_none : (version : Version) (kind : ShowKind) → NoneRead (show_at version kind)
+unfolding show_at
+show_none version kind = next (item_at name_of) (λ view. which (may_have_window version kind)
+    (either (is_word (codes "window")) (next window_at (λ window. given _ refl)) (given _ refl)) (given _ refl))
+
 update_end_none : (version : Version) (view : List ℕ) (filter : Option Value) (sets : List Assignment) → NoneRead (update_end_at version view filter sets)
 unfolding update_end_at actors_at
 update_end_none One view filter sets = given _ refl
@@ -71,7 +84,7 @@ update_end_none Two view filter sets = either (is_word (codes "actors"))
     (given _ refl)
 
 body_none : (version : Version) (n : ℕ) (c : Command) → is_reader (Some c) ≡ false → NoneRead (body_at version n c)
-unfolding body_at define_at mapping_at view_at assign_at update_at kernel_line_at reduce_at copy_at relayout_at bytes_at
+unfolding body_at define_at mapping_at view_at assign_at update_at kernel_line_at reduce_at copy_at relayout_at bytes_at advise_at stencil_at
 body_none version n command.Record other = next (item_at name_of) (λ name. next (fields_at n) (λ fields. given _ refl))
 body_none version n command.Mapping other = next (item_at name_of) (λ name. behind (is_sign Equals) (next (map_at version n) (λ map. given _ refl)))
 body_none version n command.View other = next (new_at version fixed_at n) (λ new. given _ refl)
@@ -90,6 +103,14 @@ body_none version n command.Reduce other = next (item_at name_of) (λ name. eith
 body_none version n command.Copy other = next (item_at name_of) (λ name. behind (is_word (codes "to")) (next (item_at name_of) (λ target. given _ refl)))
 body_none version n command.Relayout other = next (item_at name_of) (λ name. behind (is_word (codes "as")) (next (map_at version n) (λ map. given _ refl)))
 body_none version n command.Bytes other = next (item_at name_of) (λ name. next (item_at count_of) (λ blob. given _ refl))
+body_none version n (command.Show kind) other = show_none version kind
+body_none version n command.Advise other =
+    next (item_at name_of) (λ name. behind (is_word (codes "granule")) (next (item_at count_of) (λ granule. next passes_at (λ passes.
+    behind (is_word (codes "among")) (next (listed_at (map_at version n)) (λ maps. next (flag_at (codes "splits")) (λ splits. given _ refl)))))))
+body_none version n command.Stencil other =
+    next (item_at name_of) (λ name. next window_at (λ window. behind (is_word (codes "set")) (next path_at (λ path.
+    behind (is_sign Equals) (next terms_at (λ terms. behind (is_sign Slash) (next (item_at count_of) (λ divisor.
+    behind (is_word (codes "rounds")) (next (item_at count_of) (λ rounds. given _ refl))))))))))
 body_none version n _ other = next (item_at name_of) (λ name. given _ refl)
 
 ended_none : (read : Result (Sentence × List Token) ℕ) → ReadsNone read → ReadsNone (read >>= λ x. ended x.0 x.1)

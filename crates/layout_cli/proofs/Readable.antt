@@ -1,10 +1,11 @@
 -- Lines that can read what they read.
-use Rattle.std.proofs.Common.{◌≡◌, ℕ, ◌+◌, ◌*◌, ◌^◌, not, nat_lt, Bool, true, false, List, [], ◌∷◌, ◌++◌, length, Option, Some, None, is_some, nat_eq, ◌||◌, Result, Ok, Err, ℤ, sym, subst}
-use Rattle.std.specs.Prelude.{IfSome, if◌then◌else◌}
+use Rattle.std.proofs.Common.{◌≡◌, ℕ, ◌+◌, ◌*◌, ◌^◌, not, nat_lt, Bool, true, false, pos, List, [], ◌∷◌, ◌++◌, length, Option, Some, None, is_some, nat_eq, ◌||◌, Result, Ok, Err, ℤ, sym, subst}
+use Rattle.std.specs.Prelude.{IfSome, if◌then◌else◌, ◌&&◌}
 use Rattle.std.specs.List.{list_any, slice_index_or}
 use Rattle.extents.specs.Indices.{indices}
 use Rattle.linearize.specs.Slots.{place_in}
 use Rattle.layout_io.specs.Files.{File, file_of}
+use Rattle.extents.specs.declared.window.Span.{Span}
 use Rattle.extents.specs.declared.words.ExtentWord.{ExtentWord}
 use Rattle.record_dim.specs.Trees.{Tree, Fields}
 use Rattle.map_expr.specs.Terms.{Term as MapTerm, Aos, Soa, Aosoa, BitAos, BitSoa, Split, Byteswap, Bytesplit, Change, Count, Heat, Named as NamedTerm}
@@ -14,26 +15,34 @@ use Rattle.kept_tables.specs.declared.mode.StoreMode.{StoreMode}
 use Rattle.views.specs.Tables.{Table, owners_of}
 use Rattle.worlds.specs.Worlds.{World, Entry, found}
 use Rattle.worlds.specs.declared.fault.CommandFault.{CommandFault}
-use Rattle.worlds.specs.Outcomes.{Outcome, Goes, Faults, ◌>>=◌, refused_if, refused_by, ok_or, some_or, known, free}
-use Rattle.worlds.specs.declared.fault.CommandFault.TheVariants.{BadMapping, BadKernel, BadActors, TooBig, Taken, Unknown}
+use Rattle.worlds.specs.Outcomes.{Outcome, Goes, Faults, ◌>>=◌, each, refused_if, refused_by, ok_or, some_or, known, free}
+use Rattle.worlds.specs.declared.fault.CommandFault.TheVariants.{BadMapping, BadKernel, BadActors, BadWindow, BadStencil, BadAdvice, TooBig, Taken, Unknown}
 use Rattle.worlds.specs.declared.fault.BadActors.TheVariants.{Cuts, Turns}
+use Rattle.worlds.specs.declared.fault.BadAdvice.TheVariants.{Granule, Passes, Candidates}
 use Rattle.worlds.specs.declared.fault.BadKernel.TheVariants.{Lanes, Wide, Constant}
+use Rattle.worlds.specs.declared.fault.BadStencil.TheVariants.{Reach, Weight, Terms, Rounds}
 use Rattle.worlds.specs.declared.fault.UnknownName.TheVariants.{Name}
 use Rattle.csv_rows.specs.Datasets.{records_of, rows_of}
 use Rattle.record_dim.specs.declared.path.PathStep.{PathStep}
 use Rattle.line_grammar.specs.Sentences.{Value}
+use Rattle.line_grammar.specs.declared.line.PassText.{PassText}
 use Rattle.line_grammar.specs.declared.line.ShowKind.{ShowKind}
 use Rattle.line_grammar.specs.declared.line.ShowKind.TheVariants as show
 use Rattle.line_grammar.specs.declared.line.ReduceKind.{ReduceKind}
 use Rattle.line_grammar.specs.declared.line.ReduceKind.TheVariants.{Sum, Min, Max}
 use Rattle.line_grammar.specs.declared.line.KernelText.{KernelText}
 use Rattle.line_grammar.specs.declared.line.KernelText.TheVariants as text
+use Rattle.line_grammar.specs.declared.line.TermText.{TermText}
 use Rattle.lane_kernels.specs.declared.kernel.Kernel.{Kernel}
+use Rattle.advisor.specs.Advice.{advice}
+use Rattle.subviews.specs.Stencils.{stenciled, is_divisor}
+use Rattle.subviews.specs.SubViews.{WindowOf}
 use Rattle.actor_steps.specs.Cuts.{actor_of}
 use Rattle.actor_steps.specs.Shared.{shared_byte}
 use Rattle.row_updates.specs.Rows.{updated_of}
 use Rattle.expr_lang.specs.Terms.{Term}
 use Rattle.record_dim.specs.Leaves.{kinds_of}
+use Rattle.map_expr.specs.Checks.{bad_granule}
 use Rattle.map_checks.specs.Mappings.{accepted, leaf_cells, most_slots}
 use Rattle.views.specs.Tallies.{granules_for}
 use Rattle.worlds.specs.Define.{define, fit}
@@ -43,6 +52,9 @@ use Rattle.worlds.specs.Load.{load, loaded_table, loaded, filled, read, there}
 use Rattle.worlds.specs.OnView.{Done, with_table, on_view}
 use Rattle.worlds.specs.Assign.{assigned, inside}
 use Rattle.worlds.specs.Actors.{updated_by_actors, fit_cuts, shared}
+use Rattle.worlds.specs.Advise.{leaves_at, leaves_under, bound_pass, fit_advice, advise_fault, asked, advise}
+use Rattle.worlds.specs.Stencil.{bound_term, all_reach, all_weigh, fit_terms, fit_stencil, stencil_fault, stencil_run}
+use Rattle.worlds.specs.Windows.{are_inside, windowed, print_window}
 use Rattle.worlds.specs.Update.{updated, update_fault}
 use Rattle.worlds.specs.Reduce.{reduction, reduced, counting, column}
 use Rattle.worlds.specs.Copy.{copy, relayout, with_rows, copied, laid_anew, all_read}
@@ -83,6 +95,10 @@ answered fault (Err e) = faults (fault e)
 given : {A : Type 0} (fault : CommandFault) (answer : Option A) → IsReadable (some_or fault answer)
 given fault (Some x) = goes x
 given fault None = faults fault
+
+each_reads : {A B : Type 0} (outcome : A → Outcome B) → ((x : A) → IsReadable (outcome x)) → (xs : List A) → IsReadable (each outcome xs)
+each_reads outcome reads [] = goes _
+each_reads outcome reads (x ∷ xs) = next (reads x) (λ y. next (each_reads outcome reads xs) (λ ys. goes _))
 
 free_reads : {A : Type 0} (name : List ℕ) (entries : List (Entry A)) → IsReadable (free name entries)
 free_reads name entries = tested (is_some (found name entries)) (Taken name)
@@ -339,6 +355,62 @@ assigned_reads table index path value =
     next (value_reads row (slice_index_or table.rows row []) index term) (λ number.
     next (store_reads table row leaf number) (λ kept. goes _)))))
 
+window_reads : (extents : List ℕ) (spans : List Span) → IsReadable (windowed extents spans)
+window_reads extents spans = next (tested (not (are_inside extents spans)) BadWindow) (λ inside. goes _)
+
+print_window_reads : (table : Table) (spans : List Span) → IsReadable (print_window table spans)
+unfolding print_window
+print_window_reads table spans = next (window_reads table.extents spans) (λ window. goes _)
+
+term_reads : (fields : Fields) (term : TermText) → IsReadable (bound_term fields term)
+term_reads fields term = next (leaf_reads fields term.path) (λ leaf. goes _)
+
+fit_terms_reads : (window : WindowOf) (terms : List TermText) (divisor rounds : ℕ) → IsReadable (fit_terms window terms divisor rounds)
+fit_terms_reads window terms divisor rounds =
+    next (tested (not (all_reach window terms)) (BadStencil Reach)) (λ near.
+    next (tested (not (all_weigh terms && is_divisor (pos divisor))) (BadStencil Weight)) (λ light.
+    next (tested (nat_lt 64 (length terms)) (BadStencil Terms)) (λ few. tested (nat_lt 1000 rounds) (BadStencil Rounds))))
+
+fit_stencil_reads : (table : Table) (spans : List Span) (path : List PathStep) (terms : List TermText) (divisor rounds : ℕ) → IsReadable (fit_stencil table spans path terms divisor rounds)
+fit_stencil_reads table spans path terms divisor rounds =
+    next (leaf_reads table.fields path) (λ leaf.
+    next (each_reads (bound_term table.fields) (term_reads table.fields) terms) (λ bound_to.
+    next (window_reads table.extents spans) (λ window.
+    next (fit_terms_reads window terms divisor rounds) (λ fit. goes _))))
+
+stencil_reads : (live : ℕ) (table : Table) (spans : List Span) (path : List PathStep) (terms : List TermText) (divisor rounds : ℕ) → IsReadable (stencil_run live table spans path terms divisor rounds)
+unfolding stencil_run
+stencil_reads live table spans path terms divisor rounds =
+    next (fit_stencil_reads table spans path terms divisor rounds) (λ stencil.
+    next (tested (nat_lt (8 * 2 ^ 30) (live + blob_bits table)) TooBig) (λ room.
+    next (answered (stencil_fault table.fields stencil.leaf) (stenciled table stencil rounds)) (λ rows. goes _)))
+
+leaves_at_reads : (fields : Fields) (path : List PathStep) → IsReadable (leaves_at fields path)
+leaves_at_reads fields path = next (given _ _) (λ node. goes _)
+
+leaves_under_reads : (fields : Fields) (paths : List (List PathStep)) → IsReadable (leaves_under fields paths)
+leaves_under_reads fields paths = next (each_reads (leaves_at fields) (leaves_at_reads fields) paths) (λ lists. goes _)
+
+pass_reads : (fields : Fields) (pass : PassText) → IsReadable (bound_pass fields pass)
+pass_reads fields pass = next (leaves_under_reads fields pass.paths) (λ leaves. goes _)
+
+fit_advice_reads : (granule passes candidates : ℕ) → IsReadable (fit_advice granule passes candidates)
+fit_advice_reads granule passes candidates =
+    next (tested (is_some (bad_granule granule)) (BadAdvice Granule)) (λ grain.
+    next (tested (nat_lt 16 passes) (BadAdvice Passes)) (λ short. tested (nat_lt 16 candidates) (BadAdvice Candidates)))
+
+asked_reads : (mappings : List (Entry MapTerm)) (table : Table) (granule : ℕ) (passes : List PassText) (terms : List MapTerm) → IsReadable (asked mappings table granule passes terms)
+asked_reads mappings table granule passes terms =
+    next (each_reads (nameless mappings) (nameless_reads mappings) terms) (λ whole.
+    next (each_reads (bound_pass table.fields) (pass_reads table.fields) passes) (λ bound_to.
+    next (fit_advice_reads granule (length passes) (length terms)) (λ fit. goes _)))
+
+advise_reads : (mappings : List (Entry MapTerm)) (table : Table) (granule : ℕ) (passes : List PassText) (terms : List MapTerm) (splits : Bool) → IsReadable (advise mappings table granule passes terms splits)
+unfolding advise
+advise_reads mappings table granule passes terms splits =
+    next (asked_reads mappings table granule passes terms) (λ question.
+    next (answered advise_fault (advice table granule question.passes question.terms splits)) (λ advised. goes _))
+
 -- a command on a view
 view_works : (world : World) (name : List ℕ) (command : Table → Outcome Done) → ((table : Table) → IsReadable (command table)) → IsReadable (on_view world name command)
 unfolding on_view
@@ -365,3 +437,6 @@ step_reads world (line.Bytes name blob) files dataset is = view_works world name
 step_reads world (line.Drop name) files dataset is = drop_reads world name
 step_reads world (line.Save name) files dataset is = view_works world name _ save_reads
 step_reads world (line.Open name file) files dataset is = open_reads world name file dataset files is
+step_reads world (line.PrintWindow name spans) files dataset is = view_works world name _ (λ table. print_window_reads table spans)
+step_reads world (line.Stencil name spans path terms divisor rounds) files dataset is = view_works world name _ (λ table. stencil_reads (live_bits world.views) table spans path terms divisor rounds)
+step_reads world (line.Advise name granule passes terms splits) files dataset is = view_works world name _ (λ table. advise_reads world.mappings table granule passes terms splits)

@@ -9,6 +9,7 @@ mod Headers
 mod Extents
 mod Rows
 mod Changes
+mod Stencils
 mod Loads
 mod Worlds
 mod Tables

@@ -4,7 +4,7 @@ use Rattle.std.proofs.lemmas.Bool.{ltb-true}
 use Rattle.line_tokens.specs.Signs.{opens, closes}
 use Rattle.line_tokens.specs.Spots.{brackets_after}
 use Rattle.line_tokens.specs.Spelled.{HasRoom, AreSpelled}
-use Rattle.line_tokens.specs.declared.sign.Sign.TheVariants.{OpenBracket, CloseBracket, Colon, Comma, Dot, Equals}
+use Rattle.line_tokens.specs.declared.sign.Sign.TheVariants.{OpenBracket, CloseBracket, Colon, Comma, Dot, Equals, Slash}
 use Rattle.line_tokens.specs.declared.token.TokenKind.{TokenKind}
 use Rattle.line_tokens.specs.declared.token.TokenKind.TheVariants as kind
 use Rattle.record_dim.specs.Trees.{Tree, Fields, Record}
@@ -15,9 +15,11 @@ use Rattle.line_grammar.specs.declared.token.Token.TheVariants.{Word, Number, Te
 use Rattle.line_grammar.specs.declared.version.Version.TheVariants.{Two}
 use Rattle.line_grammar.specs.declared.line.Command.{Command}
 use Rattle.line_grammar.specs.declared.line.Command.TheVariants as command
+use Rattle.line_grammar.specs.declared.line.ShowKind.{ShowKind}
+use Rattle.line_grammar.specs.declared.line.ShowKind.TheVariants as show
 use Rattle.line_grammar.specs.Tokens.{count_of}
-use Rattle.line_grammar.specs.Sentences.{Sentence, New, Blank, Define, Mapping, View, Load, Assign, Update, Actors, Kernel, Reduce, Count, Copy, Relayout, Show, Drop, Bytes, Save, Open}
-use Rattle.line_grammar.specs.Grammar.{Phrase, IsCount, IsListed, IsFixed, IsExtent, IsBracketList, IsFields, IsNew, IsBody, IsLine, IsSentence}
+use Rattle.line_grammar.specs.Sentences.{Sentence, New, Blank, Define, Mapping, View, Load, Assign, Update, Actors, Kernel, Reduce, Count, Copy, Relayout, Show, Drop, Bytes, Save, Open, Advise, PrintWindow, Stencil}
+use Rattle.line_grammar.specs.Grammar.{Phrase, IsCount, IsListed, IsFixed, IsExtent, IsBracketList, IsFields, IsNew, IsShowEnd, IsBody, IsLine, IsSentence}
 use Rattle.line_writer.specs.Texts.{written}
 use Rattle.line_writer.proofs.Gives.{Each, each_append}
 use Rattle.saved_runs.proofs.Maps.{HasTokens, map_says}
@@ -120,6 +122,13 @@ new_says n one =
     says_joined (says_any _) (λ wrap c. says_behind (Word (codes "as")) (says_joined (map_says n) (λ term has.
     says_nothing IsNewSaid (record { name = name; schema = schema; words = words; wrap = wrap; term = term }) (record { term = has; words = low }))))))))
 
+-- only what is printed may have a window
+show_end_says : (kind : ShowKind) (view : List ℕ) → Says (IsShowEnd Two kind view) IsSaid
+show_end_says show.Print view = says_either (says_joined (says_any _) (λ window a. says_nothing IsSaid (PrintWindow view window) tt)) (says_nothing IsSaid (Show show.Print view) tt)
+show_end_says show.Counts view = says_nothing IsSaid (Show show.Counts view) tt
+show_end_says show.Heat view = says_nothing IsSaid (Show show.Heat view) tt
+show_end_says show.Layout view = says_nothing IsSaid (Show show.Layout view) tt
+
 body_says : (n : ℕ) (word : Command) → Says (IsBody Two n word) IsSaid
 body_says n command.Record = says_joined (says_any _) (λ name a. says_joined (fields_say n) (λ fields are. says_nothing IsSaid (Define name (Record fields)) (record { fields = fields; is = refl; are = are })))
 body_says n command.Mapping = says_joined (says_any _) (λ name a. says_behind (Sign Equals) (says_joined (map_says n) (λ term has. says_nothing IsSaid (Mapping name term) has)))
@@ -138,11 +147,16 @@ body_says n command.Reduce = says_joined (says_any _) (λ view a. says_either
     (says_joined (says_any _) (λ kind b. says_joined (says_any _) (λ path c. says_nothing IsSaid (Reduce view kind path) tt))))
 body_says n command.Copy = says_joined (says_any _) (λ source a. says_behind (Word (codes "to")) (says_joined (says_any _) (λ target b. says_nothing IsSaid (Copy source target) tt)))
 body_says n command.Relayout = says_joined (says_any _) (λ view a. says_behind (Word (codes "as")) (says_joined (map_says n) (λ term has. says_nothing IsSaid (Relayout view term) has)))
-body_says n (command.Show kind) = says_joined (says_any _) (λ view a. says_nothing IsSaid (Show kind view) tt)
+body_says n (command.Show kind) = says_joined (says_any _) (λ view a. show_end_says kind view)
 body_says n command.Drop = says_joined (says_any _) (λ view a. says_nothing IsSaid (Drop view) tt)
 body_says n command.Bytes = says_joined (says_any _) (λ view a. says_joined (says_any _) (λ blob b. says_nothing IsSaid (Bytes view blob) tt))
 body_says n command.Save = says_joined (says_any _) (λ view a. says_nothing IsSaid (Save view) tt)
 body_says n command.Open = says_joined (says_any _) (λ name a. says_behind (Word (codes "from")) (says_joined (says_any _) (λ file b. says_nothing IsSaid (Open name file) tt)))
+body_says n command.Advise = says_joined (says_any _) (λ view a. says_behind (Word (codes "granule")) (says_joined (says_any _) (λ granule b. says_joined (says_any _) (λ passes c.
+    says_behind (Word (codes "among")) (says_joined (says_any _) (λ terms d. says_joined (says_any _) (λ splits e. says_nothing IsSaid (Advise view granule passes terms splits) tt)))))))
+body_says n command.Stencil = says_joined (says_any _) (λ view a. says_joined (says_any _) (λ window b. says_behind (Word (codes "set")) (says_joined (says_any _) (λ path c.
+    says_behind (Sign Equals) (says_joined (says_any _) (λ terms d. says_behind (Sign Slash) (says_joined (says_any _) (λ divisor e. says_behind (Word (codes "rounds")) (says_joined (says_any _) (λ rounds f.
+    says_nothing IsSaid (Stencil view window path terms divisor rounds) tt))))))))))
 
 line_says : (n : ℕ) → Says (IsLine Two n) IsSaid
 line_says n = says_either (says_nothing IsSaid Blank tt) (says_joined (says_any _) (λ word a. body_says n word))

@@ -21,8 +21,10 @@ use Rattle.worlds.specs.Files.{is_long, save, open_view, opened_table, opened_be
 use Rattle.worlds.specs.Step.{step}
 use Rattle.worlds.specs.declared.fault.CommandFault.TheVariants.{Taken, TooBig, Unknown}
 use Rattle.worlds.specs.declared.fault.UnknownName.TheVariants.{Name}
+use Rattle.equal_runs.specs.EntryLaws.{found_added}
+use Rattle.equal_runs.specs.GoesLaws.{free_found}
 use Rattle.saved_runs.specs.SavedRuns.{IsSavable, SavesBack, OpenedSaves}
-use Rattle.saved_runs.proofs.Went.{went, same_things, unrefused, answered, unused, was_read, found_added, replaced_same}
+use Rattle.saved_runs.proofs.Went.{went, same_things, answered, was_read, replaced_same}
 
 -- what was opened of a file: its table stands under the name, where there was none
 pub record WasOpened (world : World) (name file : List ℕ) (files : List File) (table : Table) : Type 0 where
@@ -46,7 +48,7 @@ table_opened world name file files fails table goes =
     record {
       bytes = c.thing;
       there = was_read files fails file c.thing c.first;
-      new = unused (found name world.views) (unrefused _ (Taken name) a.thing a.first);
+      new = free_found (Taken name) (found name world.views) a.first;
       saved = e.thing;
       opens = answered bad_file (opened c.thing) e.thing e.first;
       is = sym (same_things (table_of e.thing) table f.next);

@@ -225,4 +225,4 @@ module _ (holds_bits : HoldsBits) where
     step_good opens_files holds_rows files fails (line.Relayout name term) said = relayout_good name term said
     step_good opens_files holds_rows files fails (line.Drop name) said = drop_good name
     step_good opens_files holds_rows files fails (line.Open name file) said = open_good opens_files holds_rows name file files fails
-    step_good opens_files holds_rows files fails sentence said = work_good (work_of sentence) (λ table one. work_keeps holds_bits table one sentence)
+    step_good opens_files holds_rows files fails sentence said = work_good (work_of world sentence) (λ table one. work_keeps holds_bits table one world sentence)

@@ -1,9 +1,8 @@
 -- What goes went at each of its steps, and a step that goes leads to the next.
 use Rattle.std.proofs.Common.{◌≡◌, ℕ, Bool, true, false, List, [], ◌∷◌, Option, Some, None, Result, Ok, Err, refl, ap, ◌∙◌}
-use Rattle.std.specs.Prelude.{if◌then◌else◌, is_some}
-use Rattle.std.proofs.lemmas.Bool.{eq-eqb}
+use Rattle.std.specs.Prelude.{if◌then◌else◌}
 use Rattle.layout_io.specs.Files.{File, file_of}
-use Rattle.worlds.specs.Worlds.{Entry, same_name, found, added, replaced}
+use Rattle.worlds.specs.Worlds.{Entry, same_name, found, replaced}
 use Rattle.worlds.specs.Outcomes.{Outcome, Goes, Faults, CannotRead, ◌>>=◌, refused_if, ok_or}
 use Rattle.worlds.specs.Load.{there, read}
 use Rattle.worlds.specs.declared.fault.CommandFault.{CommandFault}
@@ -34,10 +33,6 @@ pub answered : {A E : Type 0} (fault : E → CommandFault) (x : Result A E) (a :
 answered fault (Ok b) a is = let same : b ≡ a = cc in ap Ok same
 answered fault (Err e) a is = absurd (cc is)
 
-pub unused : {A : Type 0} (x : Option A) → is_some x ≡ false → x ≡ None
-unused None is = refl
-unused (Some a) is = absurd (cc is)
-
 pub was_read : (files : List File) (fails : Bool) (file bytes : List ℕ) → read files fails file ≡ Goes bytes → file_of files file ≡ Some bytes
 was_read files true file bytes is = absurd (cc is)
 was_read files false file bytes is = of_option (file_of files file) is
@@ -46,20 +41,7 @@ was_read files false file bytes is = of_option (file_of files file) is
     of_option None is = absurd (cc is)
     of_option (Some found) is = let same : found ≡ bytes = cc in ap Some same
 
--- entries
-same_self : (name : List ℕ) → same_name name name ≡ true
-same_self [] = refl
-same_self (byte ∷ bytes) = rw (eq-eqb byte byte refl) (same_self bytes)
-
-pub found_added : {A : Type 0} (name : List ℕ) (new : A) (entries : List (Entry A)) → found name entries ≡ None → found name (added name new entries) ≡ Some new
-found_added name new [] is = rw (same_self name) refl
-found_added {A} name new (entry ∷ entries) is = of_test (same_name entry.name name) is (found_added name new entries)
-  where
-    of_test : (test : Bool) → (if test then Some entry.held else found name entries) ≡ None → (found name entries ≡ None → found name (added name new entries) ≡ Some new)
-        → (if test then Some entry.held else found name (added name new entries)) ≡ Some new
-    of_test true is below = absurd (cc is)
-    of_test false is below = below is
-
+-- the thing that a name has, under its name again
 pub replaced_same : {A : Type 0} (name : List ℕ) (held : A) (entries : List (Entry A)) → found name entries ≡ Some held → replaced name held entries ≡ entries
 replaced_same name held [] is = absurd (cc is)
 replaced_same {A} name held (entry ∷ entries) is = of_test (same_name entry.name name) is (replaced_same name held entries)

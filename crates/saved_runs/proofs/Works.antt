@@ -1,18 +1,24 @@
 -- A command on one view leaves rows that the view may hold.
-use Rattle.std.proofs.Common.{ℕ, ◌<◌, ◌≤◌, List, [], length, get_or, Option, Some, None}
+use Rattle.std.proofs.Common.{ℕ, ◌<◌, ◌≤◌, Bool, List, [], length, get_or, Option, Some, None}
 use Rattle.std.specs.Prelude.{◌^◌, not, nat_le, nat_lt}
 use Rattle.extents.specs.Indices.{indices}
+use Rattle.extents.specs.declared.window.Span.{Span}
 use Rattle.record_dim.specs.declared.path.PathStep.{PathStep}
 use Rattle.record_dim.specs.Leaves.{kinds_of}
+use Rattle.map_expr.specs.Terms.{Term as MapTerm}
 use Rattle.map_checks.specs.Mappings.{holds_by}
 use Rattle.piece_bits.specs.Tables.{hold_at}
 use Rattle.linearize.specs.Slots.{place_in}
 use Rattle.line_grammar.specs.Sentences.{Sentence, Value, Assignment}
 use Rattle.line_grammar.specs.Sentences as line
 use Rattle.line_grammar.specs.declared.line.KernelText.{KernelText}
+use Rattle.line_grammar.specs.declared.line.PassText.{PassText}
 use Rattle.line_grammar.specs.declared.line.ReduceKind.{ReduceKind}
 use Rattle.line_grammar.specs.declared.line.ShowKind.{ShowKind}
 use Rattle.line_grammar.specs.declared.line.ShowKind.TheVariants as show
+use Rattle.line_grammar.specs.declared.line.TermText.{TermText}
+use Rattle.advisor.specs.Advice.{advice}
+use Rattle.subviews.specs.Stencils.{stenciled}
 use Rattle.lane_kernels.specs.Kernels.{kernel_fault}
 use Rattle.actor_steps.specs.Cuts.{actor_of}
 use Rattle.actor_steps.specs.Shared.{shared_byte}
@@ -21,7 +27,9 @@ use Rattle.views.specs.Tables.{Table, owners_of, answer_of, kept_of}
 use Rattle.blob_file.specs.Files.{AreRows}
 use Rattle.blob_file.specs.Saving.{header_of}
 use Rattle.blob_file.specs.Statements.{HoldsBits}
+use Rattle.worlds.specs.Worlds.{World, Entry}
 use Rattle.worlds.specs.Actors.{updated_by_actors, fit_cuts, shared}
+use Rattle.worlds.specs.Advise.{advise, asked, advise_fault}
 use Rattle.worlds.specs.Assign.{assigned, inside}
 use Rattle.worlds.specs.Files.{save, is_long}
 use Rattle.worlds.specs.Kernel.{kernel_run, fit_kernel, run_fault}
@@ -30,9 +38,12 @@ use Rattle.worlds.specs.OnView.{Done, Work}
 use Rattle.worlds.specs.Outcomes.{some_or, refused_if, refused_by, ok_or}
 use Rattle.worlds.specs.Reduce.{reduction, reduced, column, counting}
 use Rattle.worlds.specs.Show.{print, counts, heat, layout, bytes, showing, small, image_of}
+use Rattle.worlds.specs.Stencil.{stencil_run, fit_stencil, room_beside, stencil_fault}
 use Rattle.worlds.specs.Step.{work_of}
+use Rattle.worlds.specs.Tables.{live_bits}
 use Rattle.worlds.specs.Update.{updated, update_fault}
 use Rattle.worlds.specs.Values.{value_on, storable, store_fault}
+use Rattle.worlds.specs.Windows.{windowed, print_window}
 use Rattle.worlds.specs.declared.fault.BadActors.TheVariants.{Cuts, Turns}
 use Rattle.worlds.specs.declared.fault.CommandFault.TheVariants.{BadActors, BadIndex, NotCounted, TooBig}
 use Rattle.equal_runs.specs.GoesLaws.{IfGoes, to, bind}
@@ -40,6 +51,7 @@ use Rattle.saved_runs.specs.SavedRuns.{IsSavable}
 use Rattle.saved_runs.proofs.Went.{answered}
 use Rattle.saved_runs.proofs.Rows.{entry_rows, answered_stays}
 use Rattle.saved_runs.proofs.Changes.{update_stays, kernel_stays}
+use Rattle.saved_runs.proofs.Stencils.{stencil_stays}
 use Rattle.saved_runs.proofs.Worlds.{uncaused}
 
 -- what a line does to the view that it works on
@@ -125,14 +137,35 @@ module _ (holds_bits : HoldsBits) (table : Table) (good : IsSavable table) where
   unfolding save
   save_keeps = bind Keeps (refused_if (is_long table) TooBig) _ (λ short a. to _ good.rows)
 
-  pub work_keeps : (sentence : Sentence) → WorkKeeps table (work_of sentence)
-  work_keeps (line.Assign name index path value) = assigned_keeps index path value
-  work_keeps (line.Update name filter sets) = updated_keeps filter sets
-  work_keeps (line.Actors name filter sets cuts seed turns) = by_actors_keeps filter sets cuts seed turns
-  work_keeps (line.Kernel name text lanes) = kernel_keeps text lanes
-  work_keeps (line.Reduce name kind path) = reduction_keeps kind path
-  work_keeps (line.Count name filter) = counting_keeps filter
-  work_keeps (line.Show kind name) = showing_keeps kind
-  work_keeps (line.Bytes name blob) = bytes_keep blob
-  work_keeps (line.Save name) = save_keeps
-  work_keeps sentence = tt
+  window_keeps : (spans : List Span) → IfGoes Keeps (print_window table spans)
+  unfolding print_window
+  window_keeps spans = bind Keeps (windowed table.extents spans) _ (λ window a. to _ good.rows)
+
+  stencil_keeps : (live : ℕ) (spans : List Span) (path : List PathStep) (terms : List TermText) (divisor rounds : ℕ) → IfGoes Keeps (stencil_run live table spans path terms divisor rounds)
+  unfolding stencil_run
+  stencil_keeps live spans path terms divisor rounds =
+      bind Keeps (fit_stencil table spans path terms divisor rounds) _ (λ stencil a.
+      bind Keeps (room_beside live table) _ (λ room b.
+      bind Keeps (ok_or (stencil_fault table.fields stencil.leaf) (stenciled table stencil rounds)) _ (λ rows c.
+      to _ (stencil_stays (header_of table) wide stencil rounds table.rows rows good.rows (answered (stencil_fault table.fields stencil.leaf) _ rows c)))))
+
+  advise_keeps : (mappings : List (Entry MapTerm)) (granule : ℕ) (passes : List PassText) (terms : List MapTerm) (splits : Bool) → IfGoes Keeps (advise mappings table granule passes terms splits)
+  unfolding advise
+  advise_keeps mappings granule passes terms splits =
+      bind Keeps (asked mappings table granule passes terms) _ (λ question a.
+      bind Keeps (ok_or advise_fault (advice table granule question.passes question.terms splits)) _ (λ advised b. to _ good.rows))
+
+  pub work_keeps : (world : World) (sentence : Sentence) → WorkKeeps table (work_of world sentence)
+  work_keeps world (line.Assign name index path value) = assigned_keeps index path value
+  work_keeps world (line.Update name filter sets) = updated_keeps filter sets
+  work_keeps world (line.Actors name filter sets cuts seed turns) = by_actors_keeps filter sets cuts seed turns
+  work_keeps world (line.Kernel name text lanes) = kernel_keeps text lanes
+  work_keeps world (line.Reduce name kind path) = reduction_keeps kind path
+  work_keeps world (line.Count name filter) = counting_keeps filter
+  work_keeps world (line.Show kind name) = showing_keeps kind
+  work_keeps world (line.Bytes name blob) = bytes_keep blob
+  work_keeps world (line.Save name) = save_keeps
+  work_keeps world (line.PrintWindow name spans) = window_keeps spans
+  work_keeps world (line.Stencil name spans path terms divisor rounds) = stencil_keeps (live_bits world.views) spans path terms divisor rounds
+  work_keeps world (line.Advise name granule passes terms splits) = advise_keeps world.mappings granule passes terms splits
+  work_keeps world sentence = tt

@@ -1,0 +1,50 @@
+-- What a stencil answers, by the answers to its stores.
+use Rattle.std.proofs.Common.{◌≡◌, ℕ, zero, suc, Bool, ℤ, List, [], ◌∷◌, Result, Ok, sym, ap, subst}
+use Rattle.views.specs.Stores.{Answer, Keeping, kept_by}
+use Rattle.views.specs.declared.fault.StoreFault.{StoreFault}
+use Rattle.subviews.specs.SubViews.{rows_of}
+use Rattle.subviews.specs.Stencils.{Stencil, stencil_value, at_row, first_fault, values_fault, with_column, new_entry, if_fits, round, next_round, after_rounds}
+use Rattle.subviews.specs.declared.fault.StencilFault.{StencilFault}
+use Rattle.equal_runs.proofs.Answers.{Answers, both, fails, equal, first, second, is_narrow}
+
+abbrev pub is_narrow_stencil : StencilFault → Bool
+is_narrow_stencil fault = is_narrow fault.fault
+
+row_answers : {Alike : Type 0} (row : ℕ) (x y : Result ℤ StoreFault) (u v : Result Unit StencilFault) → Answers is_narrow Alike x y → Answers is_narrow_stencil Alike u v
+    → Answers is_narrow_stencil Alike (at_row row x u) (at_row row y v)
+row_answers row x y u v (both a b same) later = later
+row_answers row x y u v (fails e) later = fails (record { row = row; fault = e })
+row_answers row x y u v (first e z is) later = first (record { row = row; fault = e }) (at_row row z v) is
+row_answers row x y u v (second z e is) later = second (at_row row z u) (record { row = row; fault = e }) is
+
+rows_answers : {Alike : Type 0} (x y : ℕ → Result ℤ StoreFault) → ((row : ℕ) → Answers is_narrow Alike (x row) (y row)) → (rows : List ℕ)
+    → Answers is_narrow_stencil Alike (first_fault x rows) (first_fault y rows)
+rows_answers x y alike [] = equal (Ok tt)
+rows_answers x y alike (row ∷ rows) = row_answers row (x row) (y row) (first_fault x rows) (first_fault y rows) (alike row) (rows_answers x y alike rows)
+
+fits_answers : {Alike : Type 0} (x y : Result Unit StencilFault) (rows others : List (List ℤ)) → Answers is_narrow_stencil Alike x y → others ≡ rows
+    → Answers is_narrow_stencil Alike (if_fits x rows) (if_fits y others)
+fits_answers x y rows others (both a b same) is = both rows others (λ alike. is)
+fits_answers x y rows others (fails e) is = fails e
+fits_answers x y rows others (first e z told) is = first e (if_fits z others) told
+fits_answers x y rows others (second z e told) is = second (if_fits z rows) e told
+
+-- two answers to stores that both keep the same number, or of which one says that the value is not held
+module _ (answer other : Answer) (alike : (leaf : ℕ) (value : ℤ) → Answers is_narrow (Unit {0}) (answer leaf value) (other leaf value)) (same : kept_by other ≡ kept_by answer) (stencil : Stencil) where
+  round_answers : (rows : List (List ℤ)) → Answers is_narrow_stencil (Unit {0}) (round answer stencil rows) (round other stencil rows)
+  round_answers rows =
+      fits_answers (values_fault answer stencil rows (rows_of stencil.window)) (values_fault other stencil rows (rows_of stencil.window))
+      (with_column stencil.leaf (new_entry answer stencil rows) (rows_of stencil.window) rows) (with_column stencil.leaf (new_entry other stencil rows) (rows_of stencil.window) rows)
+      (rows_answers (λ row. answer stencil.leaf (stencil_value stencil rows row)) (λ row. other stencil.leaf (stencil_value stencil rows row))
+      (λ row. alike stencil.leaf (stencil_value stencil rows row)) (rows_of stencil.window))
+      (ap (λ (keep : Keeping). with_column stencil.leaf (λ row. keep stencil.leaf (stencil_value stencil rows row)) (rows_of stencil.window) rows) same)
+
+  next_answers : (x y : Result (List (List ℤ)) StencilFault) → Answers is_narrow_stencil (Unit {0}) x y → Answers is_narrow_stencil (Unit {0}) (next_round answer stencil x) (next_round other stencil y)
+  next_answers x y (both rows others is) = subst (λ (r : List (List ℤ)). Answers is_narrow_stencil (Unit {0}) (round answer stencil rows) (round other stencil r)) (sym (is tt)) (round_answers rows)
+  next_answers x y (fails e) = fails e
+  next_answers x y (first e z is) = first e (next_round other stencil z) is
+  next_answers x y (second z e is) = second (next_round answer stencil z) e is
+
+  pub stencil_answers : (count : ℕ) (rows : List (List ℤ)) → Answers is_narrow_stencil (Unit {0}) (after_rounds answer stencil count rows) (after_rounds other stencil count rows)
+  stencil_answers zero rows = equal (Ok rows)
+  stencil_answers (suc count) rows = next_answers (after_rounds answer stencil count rows) (after_rounds other stencil count rows) (stencil_answers count rows)
