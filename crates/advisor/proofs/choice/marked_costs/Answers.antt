@@ -4,7 +4,8 @@ use Rattle.std.proofs.lemmas.List.{take_more, map_push, length-map}
 use Rattle.map_expr.specs.Terms.{Term, Named, term_of}
 use Rattle.advisor.specs.declared.candidate.Candidate.{Candidate}
 use Rattle.advisor.specs.Pools.{terms_in}
-use Rattle.advisor.proofs.Cheapest.{term_at, shown}
+use Rattle.advisor.specs.Sides.{term_at}
+use Rattle.advisor.proofs.Cheapest.{shown}
 use Rattle.advisor.proofs.choice.marked_costs.Goals as goal
 
 pub loop-at-preserved : goal.loop-at-preserved
@@ -15,12 +16,12 @@ loop-at-preserved c = λ suit price so.
     let terms = terms_in pool in
     let show = λ (term : Term). if suit term then Some (price term) else None in
     let inside : at < length terms = omega (arith, small, length-map pool (λ (c : Candidate). term_of c.expr)) in
-    let item : c.then_some.result ≡ (if suit (term_at suit price pool c.args.marks.now so at) then Some (price (term_at suit price pool c.args.marks.now so at)) else None) =
+    let item : c.then_some.result ≡ (if suit (term_at terms at) then Some (price (term_at terms at)) else None) =
     c.then_some.ensures ∙ shown suit price pool c.args.marks.now so at c.index-pool-at.result small in
     c.in_ok-push.ensures.ok
     ∙ ap (λ (costs : List (Option ℕ)). costs ++ c.then_some.result ∷ []) (c.loop-at.invariant suit price so)
     ∙ ap (λ (cost : Option ℕ). map show (take at terms) ++ cost ∷ []) item
-    ∙ sym (ap (map show) (take_more terms at (Named []) inside) ∙ map_push show (take at terms) (term_at suit price pool c.args.marks.now so at)))
+    ∙ sym (ap (map show) (take_more terms at (Named []) inside) ∙ map_push show (take at terms) (term_at terms at)))
 
 pub returns : goal.returns
 returns c = λ suit price so.
