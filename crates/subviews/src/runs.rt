@@ -61,7 +61,7 @@ impl Walk {
     }
 
     // Begins a run at a row.
-    #[inline(never)]
+    #[inline(always)]
     fn begin(&mut self, window: &Window, row: u64)
         requires walk { IsWalk window.now self.old row }
         requires row_in { row < length (rows_of window.now) }
@@ -75,6 +75,7 @@ impl Walk {
 
 // How many rows of a window, from this one on, lie one behind another. The last that shares all components but one is tried: each row comes
 // behind the one before, so those between lie as near as its ends.
+#[inline(never)]
 fn run_length(window: &Window, width: u64, row: u64, outer: u64) -> u64
     requires some { 0 < width }
     requires narrow { width < 2 ^ 33 }
