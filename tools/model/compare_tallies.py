@@ -4,11 +4,11 @@ import sys
 
 import llama_model
 from tables.case import in_version_2
-from tables.tallies import ALONE, thrown_actors, thrown_case
+from tables.tallies import ALONE, thrown_actors, thrown_advice, thrown_case, thrown_stencil, thrown_window
 from tables.widths import thrown_widths
 
 DEPTHS, EACH, EACH_OF_VERSION_2 = range(1, 9), range(100, 125), range(100, 115)
-ALONE_IN_VERSION_2 = ALONE + [thrown_actors] * 4
+ALONE_IN_VERSION_2 = ALONE + [thrown_actors] * 4 + [thrown_window, thrown_window, thrown_stencil, thrown_stencil, thrown_stencil, thrown_advice]
 
 
 def printed(script):

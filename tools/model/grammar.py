@@ -158,6 +158,13 @@ def listed_in_braces(reader, item):
     return items
 
 
+def listed_in_brackets(reader, item):
+    reader.sign('[')
+    items = listed(reader, item)
+    reader.sign(']')
+    return items
+
+
 # records
 
 def read_fields(reader):
@@ -477,6 +484,43 @@ def read_one(reader):
     return {'name': reader.name()}
 
 
+def read_print(reader):
+    name = reader.name()
+    is_windowed = reader.version >= 2 and reader.stands('word', ['window'])
+    return {'name': name, 'window': read_window(reader) if is_windowed else None}
+
+
+def read_span(reader):
+    begin = reader.count()
+    reader.sign(':')
+    return (begin, reader.count())
+
+
+def read_window(reader):
+    reader.word('window')
+    return listed_in_brackets(reader, read_span)
+
+
+def read_term(reader):
+    weight = read_const(reader)
+    reader.sign('*')
+    path = read_path(reader)
+    reader.word('at')
+    return (weight, path, listed_in_brackets(reader, read_const))
+
+
+def read_stencil(reader):
+    name, window = reader.name(), read_window(reader)
+    reader.word('set')
+    path = read_path(reader)
+    reader.sign('=')
+    terms = in_parens(reader, lambda within: listed(within, read_term))
+    reader.sign('/')
+    divisor = reader.count()
+    reader.word('rounds')
+    return {'name': name, 'window': window, 'path': path, 'terms': terms, 'divisor': divisor, 'rounds': reader.count()}
+
+
 def read_bytes(reader):
     return {'name': reader.name(), 'blob': reader.count()}
 
@@ -487,13 +531,33 @@ def read_open(reader):
     return {'name': name, 'file': reader.text()}
 
 
+def read_pass(reader):
+    reader.word('pass')
+    paths = listed(reader, read_path)
+    reader.word('times')
+    return (paths, reader.count())
+
+
+def read_advise(reader):
+    name = reader.name()
+    reader.word('granule')
+    granule, passes = reader.count(), [read_pass(reader)]
+    while reader.stands('word', ['pass']):
+        passes.append(read_pass(reader))
+    reader.word('among')
+    maps, splits = listed(reader, read_map), reader.stands('word', ['splits'])
+    if splits:
+        reader.take()
+    return {'name': name, 'granule': granule, 'passes': passes, 'maps': maps, 'splits': splits}
+
+
 FIRST = {
     'record': read_record, 'mapping': read_mapping, 'view': read_view, 'load': read_load, 'set': read_set,
     'update': read_update, 'kernel': read_kernel, 'reduce': read_reduce, 'copy': read_copy,
-    'relayout': read_relayout, 'print': read_one, 'counts': read_one, 'heat': read_one, 'layout': read_one,
+    'relayout': read_relayout, 'print': read_print, 'counts': read_one, 'heat': read_one, 'layout': read_one,
     'drop': read_one, 'bytes': read_bytes,
 }
-COMMANDS = FIRST | {'save': read_one, 'open': read_open}
+COMMANDS = FIRST | {'save': read_one, 'open': read_open, 'stencil': read_stencil, 'advise': read_advise}
 
 
 def read_line(text, version):

@@ -12,16 +12,19 @@ import sys
 import tempfile
 
 import generator
-from accesses import Log, heat_of, runs_of
+from accesses import heat_of, runs_of
 from actors import Run, bad_actors, entries_of, shared_byte
-from blob_files import MOST_FILE_BYTES, MOST_TEXT_BYTES, FileFault, file_of, parts_of_file, texts_of
+from advice import bad_advice, cost_of, splits_of, uncounted
+from blob_files import MOST_FILE_BYTES, MOST_TEXT_BYTES, FileFault, file_of, parts_of_file, texts_of, tokens_of_map
 from datasets import DatasetFault, records_of, table_of, without_mark
 from grammar import COMMANDS, VERSIONS, SyntaxFault, depth, expressions_of, path_text, read_line, tokens_of, version_in
 from kernels import bad_kernel, leaves_of as leaves_of_kernel, number_of, stored
-from layouts import digit, image, product
-from mappings import (Cell, bad_alone, bad_mapping, blobs_of, counters_of, full, granules_of, holds_of, inner_of, lengths_of, most_slots,
-                      range_of)
+from layouts import digit, product
+from mappings import bad_alone, bad_mapping, granules_of, inner_of, is_under, lengths_of, most_slots
+from records import leaf_count, leaves_of, names_twice, parts_of, record_depth
+from stencils import bad_stencil, indices_in, is_window, leaf_behind_a_round
 from values import ValueFault, value_of
+from views import View
 
 USAGE = b'usage: llama run FILE | llama gen N\n'
 MOST_SCRIPT_BYTES, MOST_LINES, MOST_LINE_BYTES = 2 ** 20, 2 ** 16, 4096
@@ -47,105 +50,6 @@ class World:
     def __init__(self, folder):
         self.folder = folder
         self.records, self.mappings, self.views = {}, {}, {}
-
-
-class View:
-    """A table: its record, extents, mapping and mode, the rows that are not all 0, and its accesses where they can be shown."""
-
-    def __init__(self, record, extents, mapping, wrap):
-        self.record, self.extents, self.mapping, self.wrap = record, extents, mapping, wrap
-        self.leaves = leaves_of(record)
-        self.declared = [declared_range(leaf) for leaf in self.leaves]
-        self.held = [range_of(hold) for hold in holds_of(mapping, self.leaves)]
-        self.kept = {}
-        self.counters = counters_of(mapping)
-        self.log = Log() if self.counters else None
-
-    def count(self):
-        return product(self.extents)
-
-    def row(self, number):
-        return self.kept.get(number, [0] * len(self.leaves))
-
-    def rows(self):
-        return (self.row(number) for number in range(self.count()))
-
-    def index(self, row):
-        index = []
-        for extent in reversed(self.extents):
-            index.insert(0, row % extent)
-            row //= extent
-        return index
-
-    def lengths(self):
-        return lengths_of(self.mapping, self.leaves, self.extents)
-
-    def blobs(self):
-        return blobs_of(self.mapping, self.leaves, self.extents)
-
-    def bytes_of(self, blob):
-        """The bytes of one of the blobs."""
-        return image(blob, lambda row, leaf: self.row(row)[leaf])
-
-    def memory(self):
-        """The bytes of all blobs, one behind the other."""
-        return b''.join(map(self.bytes_of, self.blobs()))
-
-    def touch(self, row, leaf, reads, writes):
-        if self.log is not None:
-            self.log.add(row, leaf, reads, writes)
-
-    def touch_leaf(self, leaf, reads, writes):
-        """So many accesses of a leaf in each row."""
-        if self.log is not None:
-            for row in range(self.count()):
-                self.log.add(row, leaf, reads, writes)
-
-    def touch_all(self, reads, writes):
-        """So many accesses of each leaf of each row."""
-        for leaf in range(len(self.leaves)):
-            self.touch_leaf(leaf, reads, writes)
-
-    def refusal(self, leaf, value):
-        """What refuses a value in a strict view: it is outside of the leaf's type, or of what the mapping holds of it. None where it fits."""
-        if self.wrap:
-            return None
-        if not is_within(value, self.declared[leaf]):
-            return 'Range'
-        return None if is_within(value, self.held[leaf]) else 'Narrow'
-
-    def left(self, leaf, value):
-        """What a store of a value leaves: the value in a strict view, and else the number of the leaf's type that is congruent to it, where the
-        mapping has room for all bits of the type; where it has not, that of its type which is congruent to what the mapping can hold."""
-        if not self.wrap:
-            return value
-        own, held = self.declared[leaf], self.held[leaf]
-        number = congruent(value, own)
-        if self.leaves[leaf].kind == 'bool' or count_of(held) >= count_of(own):
-            return number
-        return congruent(congruent(number, held), own)
-
-    def number_of(self, leaf, low):
-        """The number that the bits of a leaf say, read as the mapping holds it, and that as one of the leaf's type."""
-        return congruent(congruent(low, self.held[leaf]), self.declared[leaf])
-
-
-def count_of(limits):
-    return limits[1] - limits[0] + 1
-
-
-def congruent(value, limits):
-    """The number within the limits that differs from a value by a multiple of how many numbers lie there."""
-    return limits[0] + (value - limits[0]) % count_of(limits)
-
-
-def is_within(value, limits):
-    least, greatest = limits
-    return least <= value <= greatest
-
-
-def declared_range(leaf):
-    return (0, 1) if leaf.kind == 'bool' else range_of(full(leaf))
 
 
 # names, paths and expressions
@@ -210,42 +114,6 @@ def storable(view, row, leaf, value):
 
 
 # records
-
-def parts_of(dim):
-    """The nodes of a record, itself among them."""
-    inner = [field for _, field in dim[1]] if dim[0] == 'fields' else [dim[2]] if dim[0] == 'array' else []
-    return [dim] + [node for part in inner for node in parts_of(part)]
-
-
-def record_depth(dim):
-    if dim[0] == 'leaf':
-        return 0
-    if dim[0] == 'array':
-        return 1 + record_depth(dim[2])
-    return 1 + max(record_depth(field) for _, field in dim[1])
-
-
-def leaf_count(dim):
-    if dim[0] == 'leaf':
-        return 1
-    if dim[0] == 'array':
-        return dim[1] * leaf_count(dim[2])
-    return sum(leaf_count(field) for _, field in dim[1])
-
-
-def leaves_of(dim, path=''):
-    if dim[0] == 'leaf':
-        return [Cell(path, dim[1])]
-    if dim[0] == 'array':
-        return [leaf for at in range(dim[1]) for leaf in leaves_of(dim[2], f'{path}[{at}]')]
-    dot = '.' if path else ''
-    return [leaf for name, field in dim[1] for leaf in leaves_of(field, path + dot + name)]
-
-
-def names_twice(dim):
-    names = [name for name, _ in dim[1]] if dim[0] == 'fields' else []
-    return len(names) != len(set(names))
-
 
 def record(world, line):
     free(line['name'], world.records)
@@ -316,10 +184,14 @@ def zeros(dim, extents, whole, wrap):
     fault = bad_mapping(whole, leaves_of(dim))
     if fault:
         raise Fault('BadMapping', fault)
-    view = View(dim, extents, whole, wrap)
-    if most_slots(whole, extents) > MOST_SLOTS or sum(view.lengths()) > MOST_VIEW_BYTES or granules_of(whole, view.lengths()) > MOST_GRANULES:
+    if is_too_big(whole, leaves_of(dim), extents):
         raise Fault('TooBig')
-    return view
+    return View(dim, extents, whole, wrap)
+
+
+def is_too_big(whole, leaves, extents):
+    lengths = lengths_of(whole, leaves, extents)
+    return most_slots(whole, extents) > MOST_SLOTS or sum(lengths) > MOST_VIEW_BYTES or granules_of(whole, lengths) > MOST_GRANULES
 
 
 def refuse_live_bytes(world, view):
@@ -375,20 +247,13 @@ def load(world, line):
 
 # the other commands
 
-def row_of_index(extents, index):
-    if len(index) != len(extents) or any(at >= extent for at, extent in zip(index, extents)):
-        raise Fault('BadIndex')
-    row = 0
-    for at, extent in zip(index, extents):
-        row = row * extent + at
-    return row
-
-
 def assign(world, line):
     view = known(line['name'], world.views)
     leaf = leaf_of(view, line['path'])
     expr = bound(view, line['value'])
-    row = row_of_index(view.extents, line['index'])
+    if len(line['index']) != len(view.extents) or any(at >= extent for at, extent in zip(line['index'], view.extents)):
+        raise Fault('BadIndex')
+    row = view.row_of(line['index'])
     value = value_on(view, row, view.row(row), expr)
     store(view, row, leaf, value)
 
@@ -464,6 +329,24 @@ def update_by_actors(view, where, sets, cuts, seed, turns):
     return text
 
 
+def stencil(world, line):
+    view = known(line['name'], world.views)
+    leaf = leaf_of(view, line['path'])
+    terms = [(weight, leaf_of(view, path), offsets) for weight, path, offsets in line['terms']]
+    refuse_window(view, line['window'])
+    fault = bad_stencil(line['window'], view.extents, terms, line['divisor'], line['rounds'])
+    if fault:
+        raise Fault('BadStencil', fault)
+    refuse_live_bytes(world, view)
+    rows = rows_in(view, line['window'])
+    for _ in range(line['rounds']):
+        new = leaf_behind_a_round(view, line['window'], terms, line['divisor'])
+        for row, value in zip(rows, new):
+            storable(view, row, leaf, value)
+        for row, value in zip(rows, new):
+            store(view, row, leaf, value)
+
+
 def bound_kernel(view, kernel):
     """The kernel with numbers of leaves for its paths."""
     return tuple(leaf_of(view, part) if isinstance(part, tuple) else part for part in kernel)
@@ -534,8 +417,20 @@ def relayout(world, line):
 
 def print_view(world, line):
     view = known(line['name'], world.views)
-    view.touch_all(1, 0)
-    return text_of([[leaf.path for leaf in view.leaves], *view.rows()])
+    rows = range(view.count()) if line['window'] is None else rows_in(view, line['window'])
+    for row in rows:
+        view.touch_row(row, 1, 0)
+    return text_of([[leaf.path for leaf in view.leaves], *map(view.row, rows)])
+
+
+def rows_in(view, window):
+    refuse_window(view, window)
+    return list(map(view.row_of, indices_in(window)))
+
+
+def refuse_window(view, window):
+    if not is_window(window, view.extents):
+        raise Fault('BadWindow')
 
 
 def text_of(lines):
@@ -592,6 +487,57 @@ def bytes_of(world, line):
 
 def shown_bytes(data):
     return ''.join(data[at:at + 16].hex(' ') + '\n' for at in range(0, len(data), 16)).encode()
+
+
+# advice
+
+def advise(world, line):
+    view, granule = known(line['name'], world.views), line['granule']
+    listed = [uncounted(nameless(world, whole)) for whole in line['maps']]
+    passes = [({leaf for path in paths for leaf in leaves_under(view, path)}, times) for paths, times in line['passes']]
+    fault = bad_advice(granule, passes, listed)
+    if fault:
+        raise Fault('BadAdvice', fault)
+    for whole in listed:
+        refuse_candidate(view, granule, whole)
+    costs = [cost_of(whole, view.leaves, view.extents, passes, granule) if suits(view, whole) else None for whole in listed]
+    view.touch_all(1, 0)
+    found = [(cost, whole) for cost, whole in zip(costs, listed) if cost is not None]
+    for whole in splits_of(view.record, listed) if line['splits'] else []:
+        if is_candidate(view, granule, whole) and suits(view, whole):
+            found.append((cost_of(whole, view.leaves, view.extents, passes, granule), whole))
+    best = min(found, key=lambda pair: pair[0], default=None)
+    return text_of([('candidate', 'cost')] + [(place, 'narrow' if cost is None else cost) for place, cost in enumerate(costs, 1)]
+                   + [(f'best {best[0]} {" ".join(tokens_of_map(best[1]))}' if best else 'best none',)])
+
+
+def leaves_under(view, path):
+    leaves = [leaf for leaf, cell in enumerate(view.leaves) if is_under(path, cell)]
+    if not leaves:
+        raise Fault('Unknown', path_text(path))
+    return leaves
+
+
+def refuse_candidate(view, granule, whole):
+    fault = bad_mapping(whole, view.leaves)
+    if fault:
+        raise Fault('BadMapping', fault)
+    if is_too_big(('heat', granule, whole), view.leaves, view.extents):
+        raise Fault('TooBig')
+
+
+def is_candidate(view, granule, whole):
+    try:
+        refuse_candidate(view, granule, whole)
+    except Fault:
+        return False
+    return True
+
+
+def suits(view, whole):
+    """Whether a view that lay so would hold all the numbers of this one as they are."""
+    other = View(view.record, view.extents, whole, view.wrap)
+    return all(is_settled(other, leaf, value) for values in view.kept.values() for leaf, value in enumerate(values))
 
 
 def drop(world, line):
@@ -663,7 +609,8 @@ def is_settled(view, leaf, value):
 DOES = {
     'record': record, 'mapping': mapping, 'view': new_view, 'load': load, 'set': assign, 'update': update,
     'kernel': kernel, 'reduce': reduce, 'copy': copy, 'relayout': relayout, 'print': print_view, 'counts': counts, 'heat': heat,
-    'layout': layout, 'bytes': bytes_of, 'drop': drop, 'save': save, 'open': open_file,
+    'layout': layout, 'bytes': bytes_of, 'drop': drop, 'save': save, 'open': open_file, 'stencil': stencil,
+    'advise': advise,
 }
 assert set(DOES) == set(COMMANDS)
 

@@ -9,9 +9,11 @@ from collections import namedtuple
 from blob_files import file_of, texts_of
 from grammar import SyntaxFault, read_line
 from layouts import product
-from llama_model import Fault, View, declared_range, leaves_of, nameless, record_depth
+from llama_model import Fault, nameless
 from mappings import bad_mapping, blobs_of, holds_of, lengths_of, range_of
+from records import leaves_of, record_depth
 from thrown_texts import TOO_GREAT, Exprs, damaged, damaged_file, deep_expr, one_in, respaced, thrown_dataset, thrown_number, with_comment
+from views import View, declared_range
 
 Thrown = namedtuple('Thrown', 'words files')
 Table = namedtuple('Table', 'record leaves extents limits mapping wrap')
@@ -307,6 +309,51 @@ class Script:
             return self.dice.choice([-2 ** 31 - 1, -2 ** 31, 2 ** 31 - 1, 2 ** 31, 2 ** 32 - 1, 2 ** 32, 2 ** 127 - 1, -2 ** 127 + 1, 2 ** 127])
         return usual
 
+    # windows and stencils
+
+    def spans(self, table):
+        """A window of a table, rarely one that is none."""
+        dice, spans = self.dice, []
+        for extent in table.extents:
+            begin = dice.randrange(extent + 1) if one_in(dice, 6) else dice.randrange(max(extent, 1))
+            spans.append((begin, dice.randint(begin, extent) if one_in(dice, 8) else dice.randint(min(begin + 1, extent), extent)))
+        if one_in(dice, 40):
+            spans[dice.randrange(len(spans))] = dice.choice([(0, table.extents[0] + 1), (2, 1), (0, 2 ** 32 - 1), (0, 2 ** 32), (99, 99)])
+        return spans + [(0, 1)] if one_in(dice, 80) else spans
+
+    def window(self, spans):
+        return f'window [{", ".join(f"{begin} : {end}" for begin, end in spans)}]'
+
+    def offsets(self, table, spans):
+        """Offsets by which a window mostly stays inside of the table."""
+        dice = self.dice
+        if one_in(dice, 150):
+            return dice.choice([[0] * (len(spans) + 1), [2 ** 32] * len(spans), [-2 ** 32 - 1] * len(spans), [TOO_GREAT] * len(spans), [1] * len(spans), [-1] * len(spans)])
+        return [dice.randint(-begin, max(extent - end, -begin)) for (begin, end), extent in zip(spans, table.extents)]
+
+    def weight(self, usual):
+        return self.dice.choice([2 ** 31 - 1, -2 ** 31, 2 ** 31, -2 ** 31 - 1, TOO_GREAT - 1, TOO_GREAT]) if one_in(self.dice, 250) else usual
+
+    def stencil(self, name, table):
+        """A stencil that mostly keeps within the numbers that it reads, or keeps low bits."""
+        dice, spans, path = self.dice, self.spans(table), self.path(table)
+        calm = not table.wrap and dice.randrange(20)
+        weights = [dice.randint(0, 5) if calm else dice.choice([1, -1, 3, -300, 2 ** 31 - 1, -2 ** 31]) for _ in range(dice.choice([1, 2, 3, 5] if dice.randrange(60) else [64, 65]))]
+        terms = [f'{self.weight(weight)} * {path if calm else self.path(table)} at [{", ".join(map(str, self.offsets(table, spans)))}]' for weight in weights]
+        divisor = max(sum(weights), 1) if calm else dice.choice([1, 2, 7, 2 ** 31])
+        divisor = dice.choice([0, 2 ** 31 + 1, 2 ** 32]) if one_in(dice, 100) else divisor
+        rounds = dice.choice([0, 1, 1, 2, 3, 10] if dice.randrange(80) else [1001, 2 ** 32 - 1] if len(weights) > 9 else [1000, 1001])
+        self.add(f'stencil {name} {self.window(spans)} set {path} = ({", ".join(terms)}) / {divisor} rounds {rounds}')
+
+    def advise(self, name, table):
+        """Advice on layouts that are mostly accepted, for passes over leaves and what they stand under."""
+        dice, paths = self.dice, [leaf.path for leaf in table.leaves]
+        granule = dice.choice([1, 2, 4, 8, 64, 4096] if dice.randrange(60) else [0, 3, 8192])
+        passes = [f'pass {", ".join(self.under(paths) if dice.randrange(150) else "q" for _ in range(dice.choice([1, 1, 2, 3])))} times {dice.choice([0, 1, 1, 2, 10, 2 ** 32 - 1])}'
+                  for _ in range(dice.choice([1, 2, 3] if dice.randrange(80) else [16, 17]))]
+        maps = [self.layout_for(table.leaves)[0] for _ in range(dice.choice([1, 2, 3, 4] if dice.randrange(80) else [16, 17]))]
+        self.add(f'advise {name} granule {granule} {" ".join(passes)} among {", ".join(maps)}{" splits" if len(maps) < 5 and one_in(dice, 2) else ""}')
+
     def kernel(self, name, table):
         dice = self.dice
         narrow = [leaf.path for leaf in table.leaves if not leaf.kind.endswith('64')]
@@ -345,6 +392,8 @@ class Script:
         if command == 'bytes':
             blobs = len(lengths_of(table.mapping, table.leaves, table.extents))
             self.add(f'bytes {name} {self.dice.randrange(blobs if self.dice.randrange(60) else 70)}')
+        elif command == 'print' and one_in(self.dice, 2 if self.version == 2 else 200):
+            self.add(f'print {name} {self.window(self.spans(table))}')
         else:
             self.add(f'{command} {name}')
 
@@ -371,10 +420,11 @@ class Script:
         if one_in(dice, 12) if self.version == 2 else one_in(dice, 400):
             return self.open()
         if one_in(dice, 20):
-            return self.add(dice.choice(['', '', '# note', '   ', '\t#', 'nothing', 'print', 'print V V', 'drop 5', '}', '"', 'version 2', 'version 1', 'save', 'open V', 'open V from f']) if one_in(dice, 4) else '')
+            return self.add(dice.choice(['', '', '# note', '   ', '\t#', 'nothing', 'print', 'print V V', 'drop 5', '}', '"', 'version 2', 'version 1', 'save', 'open V', 'open V from f', 'stencil V', 'print V window', 'advise V']) if one_in(dice, 4) else '')
         name = dice.choice(sorted(self.tables))
         act = dice.choice([self.set, self.set, self.update, self.update, self.update, self.kernel, self.kernel, self.reduce, self.reduce, self.copy, self.relayout,
-                           self.show, self.show, self.show] + [self.save] * (self.version == 2 or one_in(dice, 20)) + [self.update] * 2 * (self.version == 2) + [self.drop] * one_in(dice, 2))
+                           self.show, self.show, self.show] + [self.save] * (self.version == 2 or one_in(dice, 20)) + [self.update] * 2 * (self.version == 2) +
+                          [self.stencil] * (2 if self.version == 2 else one_in(dice, 20)) + [self.advise] * (2 if self.version == 2 else one_in(dice, 20)) + [self.drop] * one_in(dice, 2))
         return act(name, self.tables[name])
 
     def rendered(self):

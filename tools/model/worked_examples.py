@@ -52,6 +52,9 @@ HEATED = ('record P { a:u8, b:u32 } | view V : P [16] as count(heat(64, aosoa(8,
 COPIED = ('record P { a:u8, b:u16 } | view V : P [5] as aosoa(4, row) | update V set a = i0, b = 300 + i0 | view W : P [5] as count(soa(multi, row)) | copy V to W'
           ' | copy W to W | print W | counts W | view X : P [4] as aos(packed, row) | copy V to X')
 ACTED = 'version 2 | record P { a:u8 } | view V : P [4] as bitaos(4, row) | update V set a = i0 + 1 actors [2] schedule 0 turns 6 | bytes V 0'
+ROD = 'version 2 | record P { t:i32 } | view V : P [5] as aosoa(2, row) | set V[2].t = 16 | '
+WARMED = ROD + 'stencil V window [1 : 4] set t = (1 * t at [-1], 2 * t at [0], 1 * t at [1]) / 4 rounds 2 | print V | print V window [1 : 3]'
+ASKED = 'version 2 | record P { a:u8, b:u64 } | view V : P [64] as aos(packed, row) | advise V granule 64 pass a times 10 pass b times 1 among aos(packed, row)'
 CHOSEN = ('record P { a:u16, b:u16, c:u8 } | view V : P [2] as bitaos(8 { a: 12, b: 4 }, row) | set V[0].a = 2748 | set V[0].b = 13 | set V[0].c = 239'
           ' | bytes V 0 | set V[0].b = 16')
 
@@ -140,6 +143,11 @@ EXAMPLES += [
     ('version 2 | ' + CHOSEN.replace('b: 4', 'z: 4'), b'', 'line 3: BadMapping Field', 1),
     (ACTED, b'', '21 03' + 6 * Z + ' | 21 43' + 6 * Z, 0),
     (ACTED.replace('[2]', '[1]'), b'', 'line 4: SharedByte blob 0 byte 0', 1),
+    (WARMED, b'', 't | 0 | 4 | 6 | 4 | 0 | t | 4 | 6', 0),
+    (WARMED.replace('[1 : 4]', '[0 : 4]'), b'', 'line 5: BadStencil Reach', 1),
+    (WARMED.replace('[1 : 4]', '[1 : 6]'), b'', 'line 5: BadWindow', 1),
+    (ASKED + ', soa(multi, row)', b'', 'candidate,cost | 1,99 | 2,18 | best 18 soa ( multi , row )', 0),
+    (ASKED + ' splits', b'', 'candidate,cost | 1,99 | best 18 split ( a , aos ( packed , row ) , aos ( packed , row ) )', 0),
     (COPIED, b'', 'a,b | 0,300 | 1,301 | 2,302 | 3,303 | 4,304 | leaf,reads,writes | a,10,10 | b,10,10 | line 10: Mismatch', 1),
 ]
 

@@ -23,6 +23,8 @@ WRITING = [
 FULL_CASES = [Case(f'full_output_of_{name}', VIEW + line, due, into=FULL) for name, line, due in WRITING]
 SAVED = file_of('a:u8, b:i32', '[3] as count(heat(64, aos(packed, row)))', '01 00 00 00 00 02 ff ff ff ff 03 fe ff ff ff')
 FULL_CASES += [Case('full_output_of_an_update_by_actors', 'version 2 | ' + VIEW + 'update V set a = 9 actors [1] schedule 0 turns 4', '09 00 00 00 00 02 ff ff ff ff 03 fe ff ff ff', into=FULL)]
+FULL_CASES += [Case('full_output_of_a_window', 'version 2 | ' + VIEW + 'stencil V window [0 : 2] set a = (1 * a at [1]) / 1 rounds 1 | print V window [1 : 3]', 'a,b | 3,-1 | 3,-2', into=FULL)]
+FULL_CASES += [Case('full_output_of_advice', 'version 2 | ' + VIEW + 'advise V granule 4 pass a times 2 among soa(multi, row), aos(packed, row)', 'candidate,cost | 1,2 | 2,6 | best 2 soa ( multi , row )', into=FULL)]
 FULL_CASES += [Case('full_output_of_save', 'version 2 | ' + VIEW + 'save V', SAVED, into=FULL)]
 # a later command would have a fault, or a result: the run is over at the first write that fails
 LATER = [
@@ -52,10 +54,15 @@ ROOMS = [
     Case('output_of_heat_ends_in_a_full_file', HOT, HEAT, room=4), Case('output_of_many_prints_ends_in_a_full_file', MANY + 'print V | reduce V sum a | print V',
                                                                        TABLE + f' | {sum(range(10000, 12000))} | ' + TABLE, room=16),
     Case('output_of_an_update_by_actors_ends_in_a_full_file', 'version 2 | ' + MANY + 'update V set a = 0 actors [1000] schedule 0 turns 0', SHOWN, room=4),
+    Case('output_of_a_window_ends_in_a_full_file', 'version 2 | ' + MANY + 'print V window [500 : 1500]', 'a | ' + ' | '.join(str(10500 + row) for row in range(1000)), room=4),
     Case('output_of_saves_ends_in_a_full_file', 'version 2 | ' + MANY + 'save V | save V', FILE + FILE, room=4),
 ]
 
-# 2^28 bytes of blobs in 100,000 KiB of memory
-MEMORY = [Case('memory_is_wanting_for_a_view', 'record P { a:u64[2] } | view V : P [16777216] as soa(multi, row)', '', memory=100000, by_hand=True)]
+# 2^28 bytes of blobs in 100,000 KiB of memory, and twice as many in 400,000
+GREAT = 'record P { a:u64[2] } | view V : P [16777216] as soa(multi, row)'
+MEMORY = [
+    Case('memory_is_wanting_for_a_view', GREAT, '', memory=100000, by_hand=True),
+    Case('memory_is_wanting_for_a_stencil', f'version 2 | {GREAT} | stencil V window [0 : 1] set a[0] = (1 * a[1] at [0]) / 1 rounds 1', '', memory=400000, by_hand=True),
+]
 
 CASES = FULL_CASES + LATER + WORDS + QUIET + ROOMS + MEMORY

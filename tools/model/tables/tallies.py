@@ -9,6 +9,7 @@ import itertools
 from .addresses import BYTES, good_cuts, laid, runs, touched
 from .case import Case
 from .copies import shown as shown_bytes
+from .files import spelled
 from .nested import cells_of, Dice, EXTENTS, RECORDS, text_of, thrown_form, written
 
 GRANULES = [1, 1, 2, 2, 4, 8, 16, 64, 4096]
@@ -151,6 +152,55 @@ def thrown_kernel(dice, tally):
 def thrown_print(dice, tally):
     tally.reads += tally.entries
     return f'print {tally.name}', [','.join(path for path, _ in tally.cells)] + [','.join(['0'] * len(tally.cells))] * len(tally.indices)
+
+
+def within(window, index):
+    return all(begin <= number < end for (begin, end), number in zip(window, index))
+
+
+def span_text(window):
+    return 'window [' + ', '.join(f'{begin} : {end}' for begin, end in window) + ']'
+
+
+def thrown_span(dice, extent):
+    begin = dice.below(extent + 1)
+    return begin, begin + dice.below(extent - begin + 1)
+
+
+def thrown_window(dice, tally):
+    """A print of a window, which may be empty."""
+    window = [thrown_span(dice, extent) for extent in tally.extents]
+    rows = [row for row, index in enumerate(tally.indices) if within(window, index)]
+    tally.reads += [(row, leaf) for row in rows for leaf in range(len(tally.cells))]
+    return f'print {tally.name} {span_text(window)}', [','.join(path for path, _ in tally.cells)] + [','.join(['0'] * len(tally.cells))] * len(rows)
+
+
+def thrown_stencil(dice, tally):
+    """A stencil of zeros: each round has a read of each term at its place, and a write, for each row of the window."""
+    begins = [dice.below(extent) for extent in tally.extents]
+    window = [(begin, begin + 1 + dice.below(extent - begin)) for begin, extent in zip(begins, tally.extents)]
+    terms = [(dice.below(len(tally.cells)), [dice.below(extent - end + begin + 1) - begin for (begin, end), extent in zip(window, tally.extents)]) for _ in range(1 + dice.below(4))]
+    leaf, rounds = dice.below(len(tally.cells)), dice.below(4)
+    for row, index in enumerate(tally.indices):
+        if within(window, index):
+            there = [(tally.indices.index(tuple(map(sum, zip(index, offsets)))), of) for of, offsets in terms]
+            tally.reads += there * rounds
+            tally.writes += [(row, leaf)] * rounds
+    sums = ', '.join(f'{dice.below(9) - 4} * {tally.cells[of][0]} at {written(offsets)}' for of, offsets in terms)
+    return f'stencil {tally.name} {span_text(window)} set {tally.cells[leaf][0]} = ({sums}) / {1 + dice.below(9)} rounds {rounds}', []
+
+
+def thrown_advice(dice, tally):
+    """Advice on two layouts, for which each entry is read once."""
+    granule, leaf, times = dice.of(GRANULES), dice.below(len(tally.cells)), dice.below(5)
+    maps, found = [('aos', dice.of(['packed', 'min']), 'row'), ('soa', dice.of(['single', 'multi']), 'morton')], []
+    for mapping in maps:
+        _, at = laid(mapping, tally.cells, tally.extents)
+        found.append((times * len({there for index in tally.indices for there in touched(granule, at(index, leaf))}), spelled(text_of(mapping))))
+    tally.reads += tally.entries
+    best, text = min(found, key=lambda pair: pair[0])
+    return (f'advise {tally.name} granule {granule} pass {tally.cells[leaf][0]} times {times} among {", ".join(map(text_of, maps))}',
+            ['candidate,cost', *(f'{number},{cost}' for number, (cost, _) in enumerate(found, 1)), f'best {best} {text}'])
 
 
 def thrown_bytes(dice, tally):

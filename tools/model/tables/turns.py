@@ -22,7 +22,7 @@ class Acted:
     """A table under a mapping, and what it counted. Its numbers are what is left of those that it is made of: where it is strict, these themselves."""
 
     def __init__(self, cells, extents, mapping, rows, is_strict=False):
-        self.cells, self.paths, self.is_strict = cells, [path for path, _ in cells], is_strict
+        self.cells, self.extents, self.paths, self.is_strict = cells, extents, [path for path, _ in cells], is_strict
         self.indices = list(itertools.product(*map(range, extents)))
         self.lengths, at = laid(mapping, cells, extents)
         self.places = [[at(index, cell) for cell in range(len(cells))] for index in self.indices]
