@@ -9,7 +9,8 @@ pub found_replaced : {A : Type 0} (name : List ℕ) (new old : A) (entries : Lis
 found_replaced name new old [] is = absurd (cc)
 found_replaced {A} name new old (entry ∷ entries) is = of_test (same_name entry.name name) refl is (found_replaced name new old entries) where
   of_test : (test : Bool) → same_name entry.name name ≡ test → (if test then Some entry.held else found name entries) ≡ Some old
-      → (found name entries ≡ Some old → found name (replaced name new entries) ≡ Some new) → found name (if test then record { name = entry.name; held = new } ∷ entries else entry ∷ replaced name new entries) ≡ Some new
+      → (found name entries ≡ Some old → found name (replaced name new entries) ≡ Some new)
+      → found name (if test then record { name = entry.name; held = new } ∷ entries else entry ∷ replaced name new entries) ≡ Some new
   of_test true same is below = rw same refl
   of_test false same is below = rw same (below is)
 
