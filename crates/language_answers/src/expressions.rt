@@ -38,9 +38,20 @@ pub(crate) fn value_answer(
         return no_form(alloc);
     }
     match parse_line(alloc, text.as_slice(), version) {
-        Ok(Line::Count { view: _, filter }) => bound_answer(alloc, &filter, &place),
-        Ok(_) => no_form(alloc),
+        Ok(line) => {
+            let answer = filter_answer(alloc, &line, &place);
+            drop(line);
+            answer
+        }
         Err(fault) => fault_answer(alloc, fault),
+    }
+}
+
+// The value of the expression that a line counts by.
+fn filter_answer(alloc: Global, line: &Line, place: &Place) -> Result<String, NoMemory> {
+    match line {
+        Line::Count { filter, .. } => bound_answer(alloc, filter, place),
+        _ => no_form(alloc),
     }
 }
 
@@ -92,8 +103,12 @@ fn schema(alloc: Global) -> Result<Option<Schema>, NoMemory> {
 fn schema_of(alloc: Global, line: Line) -> Result<Option<Schema>, NoMemory>
     requires { IsWhole line }
 {
-    let Line::Define { name: _, dim } = line else {
-        return Ok(None);
+    let dim = match line {
+        Line::Define { name: _, dim } => dim,
+        other => {
+            drop(other);
+            return Ok(None);
+        }
     };
     match Schema::new(alloc, dim) {
         Ok(schema) => Ok(Some(schema)),

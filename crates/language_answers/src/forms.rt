@@ -17,7 +17,7 @@ use crate::expressions::value_answer;
 use crate::repeats::{chain_answer, nested_answer, written_answer};
 use crate::tokens::{next_answer, tokens_answer};
 use line_writer::write_line;
-use schema_lang::{LineFault, MAX_LINE_BYTES, Version, is_blank, parse_line, version_of};
+use schema_lang::{Line, LineFault, MAX_LINE_BYTES, Version, is_blank, parse_line, version_of};
 use std::alloc::{AllocError as NoMemory, Global};
 
 /// The answer to a line of stdin.
@@ -66,9 +66,19 @@ pub(crate) fn text_answer(
         return String::from_str(alloc, "LineTooLong");
     }
     match parse_line(alloc, text, version) {
-        Ok(line) => String::from_str(alloc, write_line(alloc, &line)?.as_str()),
+        Ok(line) => {
+            let answer = line_answer(alloc, &line);
+            // One call: at the end of the block a drop for each kind of line would stand here.
+            drop(line);
+            answer
+        }
         Err(fault) => fault_answer(alloc, fault),
     }
+}
+
+// The canonical text of a line.
+fn line_answer(alloc: Global, line: &Line) -> Result<String, NoMemory> {
+    String::from_str(alloc, write_line(alloc, line)?.as_str())
 }
 
 /// The fault of a line.

@@ -68,7 +68,10 @@ fn short_answer(alloc: Global, version: Version, text: &[u8]) -> Result<String, 
         return no_form(alloc);
     }
     match parse_line(alloc, text, version) {
-        Ok(_) => String::from_str(alloc, "line"),
+        Ok(line) => {
+            drop(line);
+            String::from_str(alloc, "line")
+        }
         Err(fault) => fault_answer(alloc, fault),
     }
 }

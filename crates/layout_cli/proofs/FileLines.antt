@@ -15,7 +15,7 @@ use Rattle.map_expr.specs.Terms.{Aos, Count}
 use Rattle.extents.specs.declared.words.ExtentWord.TheVariants.{Rows}
 use Rattle.extents.specs.declared.order.Order.TheVariants.{Row}
 use Rattle.places.specs.declared.forms.AosForm.TheVariants.{Packed}
-use Rattle.schema_lang.specs.Bodies.{line_at, command_at, body_at, new_at, mode_at, load_at}
+use Rattle.schema_lang.specs.Bodies.{line_at, command_at, body_at, new_at, flag_at, load_at}
 use Rattle.line_grammar.specs.declared.version.Version.TheVariants.{One}
 use Rattle.schema_lang.specs.LineOf.{line_of, told, spots_in, spots_within, spots_behind}
 use Rattle.generator.specs.Generated.{generated_lines, generated_files}
@@ -39,7 +39,7 @@ abbrev gen_new : New
 gen_new = record { name = codes "A"; schema = codes "P"; words = Rows ∷ []; wrap = false; term = Count (Aos Packed Row) }
 
 load_line : line_of One (codes "load A : P [?] as count(aos(packed, row)) from \"gen.csv\"") ≡ Ok (Load gen_new (codes "gen.csv"))
-unfolding line_of line_at command_at body_at load_at new_at mode_at bracket_list_at listed_at rest_at steps_at extent_at fixed_at map_at form_or_name_at form_at aos_at
+unfolding line_of line_at command_at body_at load_at new_at flag_at bracket_list_at listed_at rest_at steps_at extent_at fixed_at map_at form_or_name_at form_at aos_at
 load_line = refl
 
 load_reads : (dataset : List ℕ) → ReadsDataset dataset (codes "load A : P [?] as count(aos(packed, row)) from \"gen.csv\"")

@@ -3,11 +3,12 @@
 use Rattle.std.specs.Prelude.{ℕ, zero, suc, Bool, true, false, List, [], ◌∷◌, ◌++◌, Option, Some, None, codes, ℤ, neg_ℤ}
 use Rattle.phrases.specs.Phrases.{IsItem, Behind, Joined, IsEither, IsNothing, Repeats, WhichIs}
 use Rattle.phrases.specs.Column.{IsAny}
-use Rattle.line_tokens.specs.declared.sign.Sign.TheVariants.{OpenBrace, CloseBrace, OpenBracket, CloseBracket, OpenParen, CloseParen, Colon, Comma, Dot, Equals, Minus, Arrow, Question}
+use Rattle.line_tokens.specs.declared.sign.Sign.TheVariants.{OpenBrace, CloseBrace, OpenBracket, CloseBracket, OpenParen, CloseParen, Colon, Comma, Dot, Equals, Minus, Star, Slash, Arrow, Question}
 use Rattle.record_dim.specs.declared.path.PathStep.{PathStep}
 use Rattle.record_dim.specs.declared.path.PathStep.TheVariants as step
 use Rattle.record_dim.specs.Trees.{Tree, Single, Record, Array, Fields, End, Field}
 use Rattle.extents.specs.declared.order.Order.{Order}
+use Rattle.extents.specs.declared.window.Span.{Span}
 use Rattle.extents.specs.declared.words.ExtentWord.{ExtentWord}
 use Rattle.extents.specs.declared.words.ExtentWord.TheVariants as extent
 use Rattle.expr_lang.specs.declared.expr.BinOp.{BinOp}
@@ -24,10 +25,13 @@ use Rattle.line_grammar.specs.declared.line.KernelWord.{KernelWord}
 use Rattle.line_grammar.specs.declared.line.KernelWord.TheVariants as kernel_word
 use Rattle.line_grammar.specs.declared.line.MapWord.{MapWord}
 use Rattle.line_grammar.specs.declared.line.MapWord.TheVariants as form
+use Rattle.line_grammar.specs.declared.line.PassText.{PassText}
+use Rattle.line_grammar.specs.declared.line.ShowKind.{ShowKind}
+use Rattle.line_grammar.specs.declared.line.TermText.{TermText}
 use Rattle.line_grammar.specs.declared.version.Version.{Version}
-use Rattle.line_grammar.specs.Versions.{is_two}
+use Rattle.line_grammar.specs.Versions.{is_two, may_have_window}
 use Rattle.line_grammar.specs.Tokens.{name_of, number_of, count_of, string_of, type_of, integer_type_of, order_of, aos_form_of, soa_form_of, map_word, index_of, choice_of, or_of, and_of, comparison_of, sum_of, product_of, kernel_word_of, reduction_of, command_of}
-use Rattle.line_grammar.specs.Sentences.{Assignment, New, Sentence, Value, Blank, Define, Mapping, View, Load, Assign, Update, Actors, Kernel, Reduce, Count, Copy, Relayout, Show, Drop, Bytes, Save, Open}
+use Rattle.line_grammar.specs.Sentences.{Assignment, New, Sentence, Value, Blank, Define, Mapping, View, Load, Assign, Update, Actors, Kernel, Reduce, Count, Copy, Relayout, Show, Drop, Bytes, Save, Open, Advise, PrintWindow, Stencil}
 
 -- what is said of phrases: a list of tokens, and the value that it has
 abbrev pub Phrase : Type 0 → Type 1
@@ -49,6 +53,10 @@ IsString = IsItem string_of
 -- one phrase more at the end of those found
 abbrev pub IsMore : {A : Type 0} → Phrase A → List A → Phrase (List A)
 IsMore Is found = Joined Is (λ next. IsNothing (found ++ next ∷ []))
+
+-- phrase phrase*
+abbrev pub IsOneOrMore : {A : Type 0} → Phrase A → Phrase (List A)
+IsOneOrMore Is = Joined Is (λ first. Repeats (IsMore Is) (first ∷ []))
 
 -- phrase ("," phrase)*
 abbrev pub IsListed : {A : Type 0} → Phrase A → Phrase (List A)
@@ -262,6 +270,33 @@ abbrev pub IsUpdateEnd : Version → List ℕ → Option Value → List Assignme
 IsUpdateEnd version view filter sets = WhichIs (is_two version)
     (IsEither (IsActors view filter sets) (IsNothing (Update view filter sets))) (IsNothing (Update view filter sets))
 
+-- COUNT ":" COUNT
+abbrev pub IsSpan : Phrase Span
+IsSpan = Joined IsCount (λ from. Behind (Sign Colon) (Joined IsCount (λ end. IsNothing (record { from = from; end = end }))))
+
+-- win = "window" "[" COUNT ":" COUNT ("," COUNT ":" COUNT)* "]"
+abbrev pub IsWindowText : Phrase (List Span)
+IsWindowText = Behind (Word (codes "window")) (IsBracketList IsSpan)
+
+-- nothing, or in the second version the window of what is printed
+abbrev pub IsShowEnd : Version → ShowKind → List ℕ → Phrase Sentence
+IsShowEnd version kind view = WhichIs (may_have_window version kind)
+    (IsEither (Joined IsWindowText (λ window. IsNothing (PrintWindow view window))) (IsNothing (Show kind view))) (IsNothing (Show kind view))
+
+-- term = const "*" path "at" "[" const ("," const)* "]"
+abbrev pub IsTerm : Phrase TermText
+IsTerm = Joined IsConst (λ weight. Behind (Sign Star) (Joined IsPath (λ path. Behind (Word (codes "at")) (Joined (IsBracketList IsConst)
+    (λ offsets. IsNothing (record { weight = weight; path = path; offsets = offsets }))))))
+
+-- "(" term ("," term)* ")"
+abbrev pub IsTerms : Phrase (List TermText)
+IsTerms = Behind (Sign OpenParen) (Joined (IsListed IsTerm) (λ terms. Behind (Sign CloseParen) (IsNothing terms)))
+
+-- pass = "pass" path ("," path)* "times" COUNT
+abbrev pub IsPass : Phrase PassText
+IsPass = Behind (Word (codes "pass")) (Joined (IsListed IsPath) (λ paths. Behind (Word (codes "times")) (Joined IsCount
+    (λ times. IsNothing (record { paths = paths; times = times })))))
+
 -- the inside of a kernel's brackets
 abbrev pub IsKernelInside : KernelWord → Phrase KernelText
 -- const "," path "," path
@@ -279,9 +314,13 @@ IsKernelInside kernel_word.CountWhere = Joined IsPath (λ x. Joined (IsItem comp
 abbrev pub IsKernel : Phrase KernelText
 IsKernel = Joined (IsItem kernel_word_of) (λ word. Behind (Sign OpenParen) (Joined (IsKernelInside word) (λ kernel. Behind (Sign CloseParen) (IsNothing kernel))))
 
+-- a word that may be missing
+abbrev pub IsFlag : List ℕ → Phrase Bool
+IsFlag word = IsEither (Behind (Word word) (IsNothing true)) (IsNothing false)
+
 -- "wrap"?
 abbrev pub IsMode : Phrase Bool
-IsMode = IsEither (Behind (Word (codes "wrap")) (IsNothing true)) (IsNothing false)
+IsMode = IsFlag (codes "wrap")
 
 -- NAME ":" NAME "[" phrase ("," phrase)* "]" "wrap"? "as" map
 abbrev pub IsNew : Version → Phrase ExtentWord → ℕ → Phrase New
@@ -314,8 +353,8 @@ IsBody version n command.Reduce = Joined IsName (λ view. IsEither
 IsBody version n command.Copy = Joined IsName (λ source. Behind (Word (codes "to")) (Joined IsName (λ target. IsNothing (Copy source target))))
 -- "relayout" NAME "as" map
 IsBody version n command.Relayout = Joined IsName (λ view. Behind (Word (codes "as")) (Joined (IsMap version n) (λ map. IsNothing (Relayout view map))))
--- ("print" | "counts" | "heat" | "layout") NAME
-IsBody version n (command.Show kind) = Joined IsName (λ view. IsNothing (Show kind view))
+-- ("print" | "counts" | "heat" | "layout") NAME, and "print" NAME win from the second version on
+IsBody version n (command.Show kind) = Joined IsName (λ view. IsShowEnd version kind view)
 -- "drop" NAME
 IsBody version n command.Drop = Joined IsName (λ view. IsNothing (Drop view))
 -- "bytes" NAME COUNT
@@ -324,6 +363,12 @@ IsBody version n command.Bytes = Joined IsName (λ view. Joined IsCount (λ blob
 IsBody version n command.Save = Joined IsName (λ view. IsNothing (Save view))
 -- "open" NAME "from" STRING, from the second version on
 IsBody version n command.Open = Joined IsName (λ name. Behind (Word (codes "from")) (Joined IsString (λ file. IsNothing (Open name file))))
+-- "advise" NAME "granule" COUNT pass pass* "among" map ("," map)* "splits"?, from the second version on
+IsBody version n command.Advise = Joined IsName (λ view. Behind (Word (codes "granule")) (Joined IsCount (λ granule. Joined (IsOneOrMore IsPass)
+    (λ passes. Behind (Word (codes "among")) (Joined (IsListed (IsMap version n)) (λ maps. Joined (IsFlag (codes "splits")) (λ splits. IsNothing (Advise view granule passes maps splits))))))))
+-- "stencil" NAME win "set" path "=" "(" term ("," term)* ")" "/" COUNT "rounds" COUNT, from the second version on
+IsBody version n command.Stencil = Joined IsName (λ view. Joined IsWindowText (λ window. Behind (Word (codes "set")) (Joined IsPath (λ path. Behind (Sign Equals) (Joined IsTerms
+    (λ terms. Behind (Sign Slash) (Joined IsCount (λ divisor. Behind (Word (codes "rounds")) (Joined IsCount (λ rounds. IsNothing (Stencil view window path terms divisor rounds)))))))))))
 
 -- line = nothing | command
 abbrev pub IsCommand : Version → ℕ → Phrase Sentence

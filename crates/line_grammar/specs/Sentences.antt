@@ -2,16 +2,19 @@
 use Rattle.std.specs.Prelude.{ℕ, max, Bool, List, [], ◌∷◌, map, Option, Some, None, option_map}
 use Rattle.record_dim.specs.declared.path.PathStep.{PathStep}
 use Rattle.record_dim.specs.Trees.{Tree, tree_of}
+use Rattle.extents.specs.declared.window.Span.{Span}
 use Rattle.extents.specs.declared.words.ExtentWord.{ExtentWord}
 use Rattle.expr_lang.specs.Terms.{Term, term_of, depth_of}
 use Rattle.map_expr.specs.Terms.{Term as MapTerm, term_of as map_of}
 use Rattle.line_grammar.specs.declared.line.KernelText.{KernelText}
 use Rattle.line_grammar.specs.declared.line.Line.{Line}
 use Rattle.line_grammar.specs.declared.line.Line.TheVariants as line
+use Rattle.line_grammar.specs.declared.line.PassText.{PassText}
 use Rattle.line_grammar.specs.declared.line.ReduceKind.{ReduceKind}
 use Rattle.line_grammar.specs.declared.line.SetText.{SetText}
 use Rattle.line_grammar.specs.declared.line.ShowKind.{ShowKind}
 use Rattle.line_grammar.specs.declared.line.ShowKind.TheVariants as show
+use Rattle.line_grammar.specs.declared.line.TermText.{TermText}
 
 -- an expression whose leaves are named by their paths
 abbrev pub Value : Type 0
@@ -50,6 +53,9 @@ pub data Sentence : Type 0 where
   Bytes : List ℕ → ℕ → Sentence
   Save : List ℕ → Sentence
   Open : List ℕ → List ℕ → Sentence
+  Advise : List ℕ → ℕ → List PassText → List MapTerm → Bool → Sentence
+  PrintWindow : List ℕ → List Span → Sentence
+  Stencil : List ℕ → List Span → List PathStep → List TermText → ℕ → ℕ → Sentence
 
 -- the line that a value of the code stands for
 abbrev pub assignment_of : SetText → Assignment
@@ -77,6 +83,9 @@ sentence_of (line.Drop view) = Drop view
 sentence_of (line.Bytes view blob) = Bytes view blob
 sentence_of (line.SaveView view) = Save view
 sentence_of (line.OpenFile name file) = Open name file
+sentence_of (line.Advise view granule passes maps splits) = Advise view granule passes (map map_of maps) splits
+sentence_of (line.PrintWindow view window) = PrintWindow view window
+sentence_of (line.Stencil view window path terms divisor rounds) = Stencil view window path terms divisor rounds
 
 -- the depth of the deepest expression, and 0 where there is none
 abbrev pub deepest_set : List Assignment → ℕ

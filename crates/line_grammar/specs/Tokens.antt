@@ -187,7 +187,7 @@ first_commands = command.Record ∷ command.Mapping ∷ command.View ∷ command
 -- those that came with the second version
 abbrev pub later_commands : Version → List Command
 later_commands One = []
-later_commands Two = command.Save ∷ command.Open ∷ []
+later_commands Two = command.Save ∷ command.Open ∷ command.Advise ∷ command.Stencil ∷ []
 
 abbrev pub commands : Version → List Command
 commands version = first_commands ++ later_commands version

@@ -110,6 +110,8 @@ command_word command.Drop = codes "drop"
 command_word command.Bytes = codes "bytes"
 command_word command.Save = codes "save"
 command_word command.Open = codes "open"
+command_word command.Advise = codes "advise"
+command_word command.Stencil = codes "stencil"
 
 -- the sign or the word of an operator
 abbrev pub operator : BinOp → Token

@@ -15,8 +15,9 @@ pub use items::{
     Number, Product, Sum, Symbol, map_word, operator,
 };
 pub use line::{
-    Command, ExtentWords, IndexWords, KernelText, KernelWord, Line, MapWord, ReduceKind, SetList,
-    SetText, ShowKind,
+    Command, ExtentWords, IndexWords, KernelText, KernelWord, Line, MapWord, OffsetTexts, PassText,
+    PassTextList, PathList, ReduceKind, SetList, SetText, ShowKind, TermText, TermTextList,
+    WindowWords,
 };
 pub use quoted::Quoted;
 pub use token::Token;

@@ -3,9 +3,9 @@ ghost use Rattle.line_grammar.specs.Sentences.{Show, file_of, sentence_of, show_
 
 use crate::FileName;
 use expr_lang::{BinOp, Expr};
-use extents::ExtentWord;
+use extents::{ExtentWord, Span};
 use lists::Sequence;
-use map_expr::MapExpr;
+use map_expr::{MapExpr, MapExprList};
 use record_dim::{Dim, Name, Path};
 
 /// The extents of a view, in order.
@@ -16,6 +16,21 @@ pub type IndexWords = Sequence<u32>;
 
 /// The assignments of an update, in order.
 pub type SetList = Sequence<SetText>;
+
+/// Paths, in order.
+pub type PathList = Sequence<Path>;
+
+/// The passes that a layout is chosen for, in order.
+pub type PassTextList = Sequence<PassText>;
+
+/// The spans of a window, in order.
+pub type WindowWords = Sequence<Span>;
+
+/// The terms of a stencil, in order.
+pub type TermTextList = Sequence<TermText>;
+
+/// How far a neighbour is away in each dimension, in order.
+pub type OffsetTexts = Sequence<i128>;
 
 /// One line of a script.
 #[derive(Drop)]
@@ -117,6 +132,29 @@ pub enum Line {
         name: Name,
         file: FileName,
     },
+    /// What the passes cost in granules of `granule` bytes under each of the mappings, and the cheapest; with `splits` also under
+    /// the splits made of two of them.
+    Advise {
+        view: Name,
+        granule: u32,
+        passes: PassTextList,
+        maps: MapExprList,
+        splits: bool,
+    },
+    /// The rows of a window.
+    PrintWindow {
+        view: Name,
+        window: WindowWords,
+    },
+    /// So many times, the leaf becomes in each row of a window the sum of the terms, divided by `divisor`.
+    Stencil {
+        view: Name,
+        window: WindowWords,
+        path: Path,
+        terms: TermTextList,
+        divisor: u32,
+        rounds: u32,
+    },
 }
 
 impl Line {
@@ -161,6 +199,21 @@ impl Line {
 pub struct SetText {
     pub path: Path,
     pub value: Expr,
+}
+
+/// The paths of the leaves that a pass over all rows reads, and how often it is made.
+#[derive(Drop)]
+pub struct PassText {
+    pub paths: PathList,
+    pub times: u32,
+}
+
+/// A term of a stencil: `weight` times the leaf in the row whose index is `offsets` away.
+#[derive(Drop)]
+pub struct TermText {
+    pub weight: i128,
+    pub path: Path,
+    pub offsets: OffsetTexts,
 }
 
 /// What a reduction gives.
@@ -216,6 +269,8 @@ pub enum Command {
     Bytes,
     Save,
     Open,
+    Advise,
+    Stencil,
 }
 
 /// The word that begins a form of a mapping.

@@ -148,7 +148,7 @@ impl Spelled for ShowKind {
 pub(crate) const FIRST_COMMANDS: usize = 16;
 
 // The words that begin a line, those of the first version in front.
-pub(crate) const COMMANDS: [Command; 18] = [
+pub(crate) const COMMANDS: [Command; 20] = [
     Command::Record,
     Command::Mapping,
     Command::View,
@@ -167,6 +167,8 @@ pub(crate) const COMMANDS: [Command; 18] = [
     Command::Bytes,
     Command::Save,
     Command::Open,
+    Command::Advise,
+    Command::Stencil,
 ];
 
 impl Spelled for Command {
@@ -189,6 +191,8 @@ impl Spelled for Command {
             Command::Bytes => "bytes",
             Command::Save => "save",
             Command::Open => "open",
+            Command::Advise => "advise",
+            Command::Stencil => "stencil",
         }
     }
 }

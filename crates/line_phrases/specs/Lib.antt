@@ -5,6 +5,8 @@ pub mod Fields
 pub mod Widths
 pub mod Maps
 pub mod Constants
+pub mod Passes
+pub mod Stencils
 pub mod Exprs
 pub mod BasicsLaws
 pub mod FieldLaws
@@ -12,5 +14,7 @@ pub mod LevelsLaws
 pub mod ListLaws
 pub mod MapLaws
 pub mod NestingLaws
+pub mod PassLaws
 pub mod PathsLaws
+pub mod StencilLaws
 pub mod WidthLaws

@@ -1,7 +1,8 @@
-ghost use Rattle.std.specs.Prelude.{◌≡◌, ◌<◌, length, OnOk, IfErr};
+ghost use Rattle.std.specs.Prelude.{◌≡◌, ◌<◌, length, map, OnOk, IfErr};
 ghost use Rattle.map_expr.specs.Terms.{term_of};
 ghost use Rattle.line_grammar.specs.declared.line.MapWord.TheVariants as form;
 ghost use Rattle.line_phrases.specs.Gives.{Gives, IsSyntax};
+ghost use Rattle.line_phrases.specs.Lists.{listed_at};
 ghost use Rattle.line_phrases.specs.Maps.{aos_at, aosoa_at, bits_at, bits_of, form_at, map_at, soa_at};
 
 use crate::widths::read_field_widths;
@@ -9,10 +10,29 @@ use crate::{ReadError, Tokens, read_path};
 use extents::Order;
 use line_grammar::{Count, IntegerType, MapWord, Version, map_word};
 use line_tokens::Sign;
-use map_expr::MapExpr;
+use map_expr::{MapExpr, MapExprList};
 use places::{AosForm, SoaForm};
 use record_dim::{LeafType, Name};
 use std::alloc::Global;
+
+/// The mappings at the front, behind commas. The brackets of each nest at most `room` deep.
+#[tactic(auto, unfolding(crate::specs::Lists::listed_at), using(crate::proofs::Steps::map_steps))]
+pub fn read_maps(
+    alloc: Global,
+    version: Version,
+    room: usize,
+    tokens: &mut Tokens,
+) -> Result<MapExprList, ReadError>
+    ensures { Gives (λ x. (map term_of x, tokens.new)) result (listed_at (map_at version room) tokens.old) }
+{
+    let mut maps = MapExprList::new(alloc);
+    maps.push(read_map(alloc, version, room, tokens)?)?;
+    while tokens.begins_sign(Sign::Comma) {
+        tokens.sign(Sign::Comma)?;
+        maps.push(read_map(alloc, version, room, tokens)?)?;
+    }
+    Ok(maps)
+}
 
 /// The mapping at the front, in a version of the language. Its brackets nest at most `room` deep.
 #[cycle(map)]

@@ -61,15 +61,27 @@ parts_begun tokens text after (part ∷ parts) first some is e =
     ∙ ap (λ k. behind k (after_commas (map tokens parts))) (e ∙ ap (λ k. behind text (tokens k)) is)
     ∙ sym (behind_append text (tokens part) (after_commas (map tokens parts)))
 
+-- the parts from one on are it and those behind it
+drop_next : {A : Type 0} (parts : List A) (i : ℕ) (next : A) → i < length parts → next ≡ get_or parts i next → drop i parts ≡ next ∷ drop (i + 1) parts
+drop_next {A = A} parts i next inside is = drop-cons parts i next inside ∙ ap (λ (k : A). k ∷ drop (suc i) parts) (sym is) ∙ ap (λ k. next ∷ drop k parts) (sym (add-one i))
+
 pub parts_more : {A : Type 0} (tokens : A → List Token) (text before after : List ℕ) (later : List A) (i : ℕ) (next : A) → i < length later → next ≡ get_or later i next →
     before ≡ text ++ 32 ∷ codes "," → after ≡ behind before (tokens next) →
     behind after (after_commas (map tokens (drop (i + 1) later))) ≡ behind text (after_commas (map tokens (drop i later)))
-parts_more {A = A} tokens text before after later i next inside is e e' =
-    let split : drop i later ≡ next ∷ drop (i + 1) later = drop-cons later i next inside ∙ ap (λ (k : A). k ∷ drop (suc i) later) (sym is) ∙ ap (λ k. next ∷ drop k later) (sym (add-one i)) in
+parts_more tokens text before after later i next inside is e e' =
     let rest : List Token = after_commas (map tokens (drop (i + 1) later)) in
     ap (λ k. behind k rest) (e' ∙ ap (λ k. behind k (tokens next)) e)
     ∙ sym (behind_append (text ++ 32 ∷ codes ",") (tokens next) rest)
-    ∙ ap (λ k. behind text (after_commas (map tokens k))) (sym split)
+    ∙ ap (λ k. behind text (after_commas (map tokens k))) (sym (drop_next later i next inside is))
+
+-- a part right behind the one before it
+pub each_more : {A : Type 0} (tokens : A → List Token) (text after : List ℕ) (parts : List A) (i : ℕ) (next : A) → i < length parts → next ≡ get_or parts i next → after ≡ behind text (tokens next) →
+    behind after (flat_map tokens (drop (i + 1) parts)) ≡ behind text (flat_map tokens (drop i parts))
+each_more tokens text after parts i next inside is e =
+    let rest : List Token = flat_map tokens (drop (i + 1) parts) in
+    ap (λ k. behind k rest) e
+    ∙ sym (behind_append text (tokens next) rest)
+    ∙ ap (λ k. behind text (flat_map tokens k)) (sym (drop_next parts i next inside is))
 
 -- widths stand in braces where there are any
 pub some_widths : (fields : List FieldWidth) → 1 ≤ length fields → widths_tokens fields ≡ Sign OpenBrace ∷ (with_commas (map width_tokens fields) ++ Sign CloseBrace ∷ [])

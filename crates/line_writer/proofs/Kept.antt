@@ -50,10 +50,10 @@ abbrev pub KeptPath : List PathStep → Type 0
 KeptPath path = Kept IsPath path_tokens path
 
 -- one phrase behind another, and the last one
-join : {A B : Type 0} {Is : Phrase A} {Next : A → Phrase B} (front back : List Token) (a : A) (v : B) → Is front a → Next a back v → Joined Is Next (front ++ back) v
+pub join : {A B : Type 0} {Is : Phrase A} {Next : A → Phrase B} (front back : List Token) (a : A) (v : B) → Is front a → Next a back v → Joined Is Next (front ++ back) v
 join front back a v h g = record { first = a; front = front; back = back; whole = refl; begins = h; ends = g }
 
-last : {A B : Type 0} {Is : Phrase A} (f : A → B) (xs : List Token) (a : A) → Is xs a → Joined Is (λ a. IsNothing (f a)) xs (f a)
+pub last : {A B : Type 0} {Is : Phrase A} (f : A → B) (xs : List Token) (a : A) → Is xs a → Joined Is (λ a. IsNothing (f a)) xs (f a)
 last f xs a h = record { first = a; front = xs; back = []; whole = sym (append-nil xs); begins = h; ends = (refl, refl) }
 
 -- a constant
@@ -94,7 +94,7 @@ pub record KeptKernel (word : KernelWord) (text : KernelText) : Type 0 where
   pub reads : IsKernelInside word inside text
   pub fits : Fits 1 inside
 
-path_in : (path : List PathStep) → KeptPath path → Fits 1 (path_tokens path)
+pub path_in : (path : List PathStep) → KeptPath path → Fits 1 (path_tokens path)
 path_in path h = path_fits path h.spelled
 
 const_in : (number : ℤ) → Kept IsConst number_tokens number → Fits 1 (number_tokens number)
@@ -163,7 +163,7 @@ abbrev pub IsKept : Version → Sentence → Type 0
 IsKept version sentence = deepest sentence ≤ 32 → Fits 64 (line_tokens sentence) × IsLine version 32 (line_tokens sentence) sentence
 
 -- the words of such lines
-set_word : IsSpelled (Word (codes "set"))
+pub set_word : IsSpelled (Word (codes "set"))
 set_word = word_spelled (codes "set") refl refl (omega arith)
 
 update_word : IsSpelled (Word (codes "update"))
@@ -210,10 +210,10 @@ kernel_word_back word.Greatest = refl
 kernel_word_back word.CountWhere = refl
 
 -- a command with a word in front
-command_line : (version : Version) (c : Command) (text : List ℕ) (rest : List Token) (s : Sentence) → command_of version (Word text) ≡ Some c → IsBody version 32 c rest s → IsLine version 32 (Word text ∷ rest) s
+pub command_line : (version : Version) (c : Command) (text : List ℕ) (rest : List Token) (s : Sentence) → command_of version (Word text) ≡ Some c → IsBody version 32 c rest s → IsLine version 32 (Word text ∷ rest) s
 command_line version c text rest s e h = inr (join (Word text ∷ []) rest c s (Word text, refl, e) h)
 
-name_in : (name : List ℕ) → KeptName name → IsSpelled (Word name)
+pub name_in : (name : List ℕ) → KeptName name → IsSpelled (Word name)
 name_in name h = h.spelled.0
 
 value_in : (value : Value) → IsGood value → depth_of value ≤ 32 → Fits 32 (value_tokens value)
@@ -248,13 +248,37 @@ kernel_kept version view word text lanes kv k kl = λ small. (
       (refl, last (λ lanes. Kernel view text lanes) (count_token lanes ∷ []) lanes kl.reads))),
 )
 
+-- a list behind commas is read where each of its values is
+abbrev pub IsFull : {A : Type 0} → List A → Type 0
+IsFull [] = ⊥
+IsFull (x ∷ xs) = Unit {0}
+
+module _ {A : Type 0} (Is : Phrase A) (tokens : A → List Token) where
+  later_read : (found vs : List A) → Each (λ v. Is (tokens v) v) vs →
+      Chain (IsMore (Behind (Sign Comma) Is)) (length vs) found (flat_map (λ next. Sign Comma ∷ next) (map tokens vs)) (found ++ vs)
+  later_read found [] each = (refl, append-nil found)
+  later_read found (v ∷ vs) each =
+      let rest = later_read (found ++ v ∷ []) vs each.1 in
+      record {
+        first = found ++ v ∷ [];
+        front = Sign Comma ∷ tokens v;
+        back = flat_map (λ next. Sign Comma ∷ next) (map tokens vs);
+        whole = refl;
+        begins = last (λ next. found ++ next ∷ []) (Sign Comma ∷ tokens v) v (refl, each.0);
+        ends = rw append_assoc at rest;
+      }
+
+  pub listed_read : (vs : List A) → IsFull vs → Each (λ v. Is (tokens v) v) vs → IsListed Is (with_commas (map tokens vs)) vs
+  listed_read [] full each = absurd full
+  listed_read (v ∷ vs) full each = join (tokens v) (flat_map (λ next. Sign Comma ∷ next) (map tokens vs)) v (v ∷ vs) each.0 (length vs, later_read (v ∷ []) vs each.1)
+
 -- set
 spelled_parts : (parts : List (List Token)) → Each IsSpelled (flat_map (λ next. Sign Comma ∷ next) parts) → Each (Each IsSpelled) parts
 spelled_parts [] h = tt
 spelled_parts (part ∷ parts) h =
     (each_front IsSpelled part (flat_map (λ next. Sign Comma ∷ next) parts) h.1, spelled_parts parts (each_back IsSpelled part (flat_map (λ next. Sign Comma ∷ next) parts) h.1))
 
-spelled_commas : (parts : List (List Token)) → Each IsSpelled (with_commas parts) → Each (Each IsSpelled) parts
+pub spelled_commas : (parts : List (List Token)) → Each IsSpelled (with_commas parts) → Each (Each IsSpelled) parts
 spelled_commas [] h = tt
 spelled_commas (part ∷ parts) h =
     (each_front IsSpelled part (flat_map (λ next. Sign Comma ∷ next) parts) h, spelled_parts parts (each_back IsSpelled part (flat_map (λ next. Sign Comma ∷ next) parts) h))
@@ -287,10 +311,6 @@ abbrev pub IsGoodFilter : Option Value → Type 0
 IsGoodFilter None = Unit {0}
 IsGoodFilter (Some filter) = IsGood filter
 
-abbrev pub IsFull : {A : Type 0} → List A → Type 0
-IsFull [] = ⊥
-IsFull (x ∷ xs) = Unit {0}
-
 set_reads : (set : Assignment) → IsGoodSet set → depth_of set.value ≤ 32 → IsAssignment 32 (assignment_tokens set) set
 set_reads set good small = join (path_tokens set.path) (Sign Equals ∷ value_tokens set.value) set.path _ good.0.reads
     (refl, last (λ value. let made : Assignment = record { path = set.path; value = value } in made) (value_tokens set.value) set.value (value_reads set.value good.1 small))
@@ -298,28 +318,13 @@ set_reads set good small = join (path_tokens set.path) (Sign Equals ∷ value_to
 set_fits : (set : Assignment) → IsGoodSet set → depth_of set.value ≤ 32 → Fits 32 (assignment_tokens set)
 set_fits set good small = fits_append 32 (path_tokens set.path) _ (fits_more 1 32 _ (omega arith) (path_in set.path good.0)) (fits_flat 32 (Sign Equals) _ refl refl (value_in set.value good.1 small))
 
+sets_read : (sets : List Assignment) → Each IsGoodSet sets → deepest_set sets ≤ 32 → Each (λ set. IsAssignment 32 (assignment_tokens set) set) sets
+sets_read [] good small = tt
+sets_read (set ∷ sets) good small = (set_reads set good.0 (omega arith), sets_read sets good.1 (omega arith))
+
 sets_fit : (sets : List Assignment) → Each IsGoodSet sets → deepest_set sets ≤ 32 → Each (Fits 32) (map assignment_tokens sets)
 sets_fit [] good small = tt
 sets_fit (set ∷ sets) good small = (set_fits set good.0 (omega arith), sets_fit sets good.1 (omega arith))
-
-later_sets : (found sets : List Assignment) → Each IsGoodSet sets → deepest_set sets ≤ 32 →
-    Chain (IsMore (Behind (Sign Comma) (IsAssignment 32))) (length sets) found (flat_map (λ next. Sign Comma ∷ next) (map assignment_tokens sets)) (found ++ sets)
-later_sets found [] good small = (refl, append-nil found)
-later_sets found (set ∷ sets) good small =
-    let rest = later_sets (found ++ set ∷ []) sets good.1 (omega arith) in
-    record {
-      first = found ++ set ∷ [];
-      front = Sign Comma ∷ assignment_tokens set;
-      back = flat_map (λ next. Sign Comma ∷ next) (map assignment_tokens sets);
-      whole = refl;
-      begins = last (λ next. found ++ next ∷ []) (Sign Comma ∷ assignment_tokens set) set (refl, set_reads set good.0 (omega arith));
-      ends = rw append_assoc at rest;
-    }
-
-sets_read : (sets : List Assignment) → IsFull sets → Each IsGoodSet sets → deepest_set sets ≤ 32 → IsListed (IsAssignment 32) (with_commas (map assignment_tokens sets)) sets
-sets_read [] full good small = absurd full
-sets_read (set ∷ sets) full good small = join (assignment_tokens set) (flat_map (λ next. Sign Comma ∷ next) (map assignment_tokens sets)) set (set ∷ sets) (set_reads set good.0 (omega arith))
-    (length sets, later_sets (set ∷ []) sets good.1 (omega arith))
 
 filter_reads : (filter : Option Value) → IsGoodFilter filter → filter_depth filter ≤ 32 → IsFilter 32 (filter_tokens filter) filter
 filter_reads None good small = inr (refl, refl)
@@ -348,7 +353,7 @@ update_reads version view filter sets end s k small ends =
     let behind : Joined (IsFilter 32) (λ filter. Behind (Word (codes "set")) (Joined (IsListed (IsAssignment 32)) (λ sets. IsUpdateEnd version view filter sets)))
     (filter_tokens filter ++ Word (codes "set") ∷ (commas ++ end)) s =
     join (filter_tokens filter) (Word (codes "set") ∷ (commas ++ end)) filter s (filter_reads filter k.good (omega arith))
-    (refl, join commas end sets s (sets_read sets k.full k.goods (omega arith)) ends) in
+    (refl, join commas end sets s (listed_read (IsAssignment 32) assignment_tokens sets k.full (sets_read sets k.goods (omega arith))) ends) in
     command_line version command.Update (codes "update") _ s refl (join (Word view ∷ []) _ view s k.named.reads (rw append_assoc behind))
 
 update_ends : (version : Version) (view : List ℕ) (filter : Option Value) (sets : List Assignment) → IsUpdateEnd version view filter sets [] (Update view filter sets)

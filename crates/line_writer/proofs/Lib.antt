@@ -5,6 +5,7 @@ pub mod Leaves
 pub mod Levels
 pub mod Rooms
 pub mod Kept
+pub mod Stencils
 pub mod Lines
 pub mod ReadsBack
 pub mod Behind

@@ -1,7 +1,8 @@
 -- A line has its canonical tokens alone, or one with expressions or a kernel, and then its canonical tokens are kept.
-use Rattle.std.proofs.Common.{◌≡◌, ℕ, ◌⊎◌, true, false, List, [], ◌∷◌, ◌++◌, map, Option, Some, None, codes, inl, inr, refl, sym, ap, ◌∙◌, append-nil}
-use Rattle.phrases.specs.Phrases.{Behind, Joined, IsNothing}
-use Rattle.line_tokens.specs.declared.sign.Sign.TheVariants.{OpenParen, CloseParen, Colon, Comma, Dot, Equals}
+use Rattle.std.proofs.Common.{◌≡◌, ℕ, ◌⊎◌, List, [], ◌∷◌, ◌++◌, map, Option, Some, None, codes, inl, inr, refl, sym, ap, ◌∙◌, append-nil}
+use Rattle.std.specs.List.{flat_map}
+use Rattle.phrases.specs.Phrases.{IsItem, Joined, IsNothing}
+use Rattle.line_tokens.specs.declared.sign.Sign.TheVariants.{OpenParen, CloseParen, Colon, Dot, Equals}
 use Rattle.record_dim.specs.Trees.{Record}
 use Rattle.extents.specs.declared.words.ExtentWord.{ExtentWord}
 use Rattle.line_grammar.specs.declared.token.Token.{Token}
@@ -11,15 +12,19 @@ use Rattle.line_grammar.specs.declared.version.Version.TheVariants.{One, Two}
 use Rattle.line_grammar.specs.declared.line.Command.{Command}
 use Rattle.line_grammar.specs.declared.line.Command.TheVariants as command
 use Rattle.line_grammar.specs.declared.line.KernelWord.{KernelWord}
-use Rattle.line_grammar.specs.Sentences.{Assignment, Sentence, Value, Blank, Define, Mapping, View, Load, Assign, Update, Actors, Kernel, Reduce, Count, Copy, Relayout, Show, Drop, Bytes, Save, Open}
-use Rattle.line_grammar.specs.Grammar.{Phrase, IsName, IsMore, IsListed, IsAssignment, IsFilter, IsUpdateEnd, IsKernel, IsMode, IsNew, IsBody, IsLine}
+use Rattle.line_grammar.specs.declared.line.ShowKind.{ShowKind}
+use Rattle.line_grammar.specs.declared.line.ShowKind.TheVariants as show
+use Rattle.line_grammar.specs.Tokens.{command_of}
+use Rattle.line_grammar.specs.Sentences.{Assignment, Sentence, Value, Blank, Define, Mapping, View, Load, Assign, Update, Actors, Kernel, Reduce, Count, Copy, Relayout, Show, Drop, Bytes, Save, Open, Advise, PrintWindow}
+use Rattle.line_grammar.specs.Grammar.{Phrase, IsName, IsAssignment, IsFilter, IsUpdateEnd, IsKernel, IsNew, IsBody, IsLine}
 use Rattle.line_grammar.specs.Words.{reduction_word, show_word, command_word}
-use Rattle.line_writer.specs.Canonical.{count_token, bracket_list, extent_tokens, index_tokens, path_tokens, mode_tokens, new_tokens, line_tokens}
-use Rattle.line_writer.proofs.Gives.{Each, each_append, Gives, nothing_gives, behind_gives, joined_gives, either_gives, repeats_gives, gives_also}
+use Rattle.line_writer.specs.Canonical.{count_token, bracket_list, extent_tokens, index_tokens, path_tokens, flag_tokens, map_tokens, pass_tokens, with_commas, new_tokens, line_tokens}
+use Rattle.line_writer.proofs.Gives.{Gives, nothing_gives, behind_gives, joined_gives, either_gives, gives_also}
 use Rattle.line_writer.proofs.Words.{name_gives, count_gives, string_gives, reduction_gives, command_gives, kernel_word_gives}
-use Rattle.line_writer.proofs.Phrases.{IsWritten, sound, path_gives, fields_give, map_gives, bracket_list_gives, cuts_give, fixed_gives, extent_gives}
+use Rattle.line_writer.proofs.Phrases.{IsWritten, sound, path_gives, fields_give, map_gives, listed_gives, bracket_list_gives, cuts_give, fixed_gives, extent_gives, flag_gives, passes_give, window_gives}
 use Rattle.line_writer.proofs.Leaves.{expr_gives}
-use Rattle.line_writer.proofs.Kept.{kept_from, kept_gives, KeptKernel, kernel_inside_gives, IsGoodSet, IsGoodFilter, IsFull, IsKept, KeptParts, count_kept, kernel_kept, assign_kept, update_kept, actors_kept}
+use Rattle.line_writer.proofs.Kept.{kept_from, kept_gives, KeptKernel, kernel_inside_gives, IsGoodSet, IsGoodFilter, IsKept, KeptParts, count_kept, kernel_kept, assign_kept, update_kept, actors_kept}
+use Rattle.line_writer.proofs.Stencils.{items_give, stencil_body}
 
 -- the tokens are the canonical ones, or the line is kept
 abbrev pub IsDone : Version → List Token → Sentence → Type 0
@@ -75,21 +80,16 @@ open_body version n = joined_gives {Q = IsBehind version (codes "open")} name_gi
     ∙ ap (λ k. Word (codes "open") ∷ (k ++ (Word (codes "from") ∷ (back ++ [])))) same)))))
 
 -- what makes a view
-mode_gives : Gives IsMode (IsWritten mode_tokens)
-mode_gives = either_gives
-    (behind_gives {Q = IsWritten mode_tokens} (Word (codes "wrap")) sound (nothing_gives {Q = λ xs v. mode_tokens v ≡ Word (codes "wrap") ∷ xs} true refl))
-    (nothing_gives {Q = IsWritten mode_tokens} false refl)
-
 new_gives : (version : Version) {IsWord : Phrase ExtentWord} (n : ℕ) → Gives IsWord (IsWritten extent_tokens) → Gives (IsNew version IsWord n) (IsWritten new_tokens)
 new_gives version n one = joined_gives {Q = IsWritten new_tokens} name_gives (λ f name i1 a s1. behind_gives {Q = λ xs v. new_tokens v ≡ f ++ xs} (Sign Colon) sound
     (joined_gives {Q = λ xs v. new_tokens v ≡ f ++ (Sign Colon ∷ xs)} name_gives (λ g schema i2 b s2.
     joined_gives {Q = λ xs v. new_tokens v ≡ f ++ (Sign Colon ∷ (g ++ xs))} (bracket_list_gives extent_tokens one) (λ w words i3 c s3.
-    joined_gives {Q = λ xs v. new_tokens v ≡ f ++ (Sign Colon ∷ (g ++ (w ++ xs)))} mode_gives (λ o wrap i4 d s4.
+    joined_gives {Q = λ xs v. new_tokens v ≡ f ++ (Sign Colon ∷ (g ++ (w ++ xs)))} (flag_gives (codes "wrap")) (λ o wrap i4 d s4.
     behind_gives {Q = λ xs v. new_tokens v ≡ f ++ (Sign Colon ∷ (g ++ (w ++ (o ++ xs))))} (Word (codes "as")) sound
     (joined_gives {Q = λ xs v. new_tokens v ≡ f ++ (Sign Colon ∷ (g ++ (w ++ (o ++ (Word (codes "as") ∷ xs)))))} (map_gives version n) (λ m term i5 e s5.
     nothing_gives {Q = λ xs v. new_tokens v ≡ f ++ (Sign Colon ∷ (g ++ (w ++ (o ++ (Word (codes "as") ∷ (m ++ xs))))))}
     (record { name = name; schema = schema; words = words; wrap = wrap; term = term })
-    (ap (λ k. Word name ∷ Sign Colon ∷ Word schema ∷ (bracket_list (map extent_tokens words) ++ (mode_tokens wrap ++ Word (codes "as") ∷ k))) (e ∙ sym (append-nil m))
+    (ap (λ k. Word name ∷ Sign Colon ∷ Word schema ∷ (bracket_list (map extent_tokens words) ++ (flag_tokens (codes "wrap") wrap ++ Word (codes "as") ∷ k))) (e ∙ sym (append-nil m))
     ∙ ap (λ k. Word name ∷ Sign Colon ∷ Word schema ∷ (bracket_list (map extent_tokens words) ++ (k ++ Word (codes "as") ∷ (m ++ [])))) d
     ∙ ap (λ k. Word name ∷ Sign Colon ∷ Word schema ∷ (k ++ (o ++ Word (codes "as") ∷ (m ++ [])))) c
     ∙ ap (λ k. Word name ∷ Sign Colon ∷ (k ++ (w ++ (o ++ Word (codes "as") ∷ (m ++ []))))) b
@@ -129,17 +129,6 @@ assignment_gives n = joined_gives {Q = λ xs v. IsGoodSet v} (kept_gives path_to
     behind_gives {Q = λ xs v. IsGoodSet v} (Sign Equals) sound (joined_gives {Q = λ xs v. IsGoodSet v} (expr_gives n) (λ g value i2 good s2.
     nothing_gives {Q = λ xs v. IsGoodSet v} (record { path = path; value = value }) (kp, good))))
 
-full_more : (found : List Assignment) (next : Assignment) → IsFull (found ++ next ∷ [])
-full_more [] next = tt
-full_more (set ∷ found) next = tt
-
-sets_give : (n : ℕ) → Gives (IsListed (IsAssignment n)) (λ xs v. IsFull v × Each IsGoodSet v)
-sets_give n = joined_gives {Q = λ xs v. IsFull v × Each IsGoodSet v} (assignment_gives n) (λ f first i1 good s1.
-    repeats_gives {Step = IsMore (Behind (Sign Comma) (IsAssignment n))} {Q = λ xs v. IsFull v × Each IsGoodSet v} (λ before found goods.
-    joined_gives {Q = λ xs v. IsFull v × Each IsGoodSet v} (behind_gives {Q = λ xs v. IsGoodSet v} (Sign Comma) sound (assignment_gives n)) (λ g next i2 good' s2.
-    nothing_gives {Q = λ xs v. IsFull v × Each IsGoodSet v} (found ++ next ∷ []) (full_more found next, each_append IsGoodSet found (next ∷ []) goods.1 (good', tt))))
-    (first ∷ []) (tt, (good, tt)))
-
 update_end_gives : (version : Version) (view : List ℕ) (filter : Option Value) (sets : List Assignment) → KeptParts view filter sets → Gives (IsUpdateEnd version view filter sets) (λ xs v. IsKept version v)
 update_end_gives One view filter sets k = nothing_gives {Q = λ xs v. IsKept One v} (Update view filter sets) (update_kept One view filter sets k)
 update_end_gives Two view filter sets k = either_gives {Q = λ xs v. IsKept Two v}
@@ -152,7 +141,7 @@ update_end_gives Two view filter sets k = either_gives {Q = λ xs v. IsKept Two 
 update_body : (version : Version) (n : ℕ) → Gives (IsBody version n command.Update) (λ xs v. IsKept version v)
 update_body version n = joined_gives {Q = λ xs v. IsKept version v} (kept_gives (λ k. Word k ∷ []) name_gives) (λ f view i1 kv s1.
     joined_gives {Q = λ xs v. IsKept version v} (filter_gives n) (λ g filter i2 good s2.
-    behind_gives {Q = λ xs v. IsKept version v} (Word (codes "set")) sound (joined_gives {Q = λ xs v. IsKept version v} (sets_give n) (λ h sets i3 goods s3.
+    behind_gives {Q = λ xs v. IsKept version v} (Word (codes "set")) sound (joined_gives {Q = λ xs v. IsKept version v} (items_give IsGoodSet (assignment_gives n)) (λ h sets i3 goods s3.
     update_end_gives version view filter sets (record { named = kv; good = good; full = goods.0; goods = goods.1 })))))
 
 kernel_gives : Gives IsKernel (λ xs text. (word : KernelWord) × KeptKernel word text)
@@ -180,22 +169,57 @@ reduce_body version n = joined_gives {Q = IsBehind version (codes "reduce")} nam
     ∙ ap (λ k. Word (codes "reduce") ∷ Word view ∷ (k ++ (h ++ []))) b
     ∙ ap (λ k. Word (codes "reduce") ∷ (k ++ (g ++ (h ++ [])))) a))))))
 
-body_gives : (version : Version) (n : ℕ) (c : Command) → Gives (IsBody version n c) (IsBehind version (command_word c))
-body_gives version n command.Record = record_body version n
-body_gives version n command.Mapping = mapping_body version n
-body_gives version n command.View = view_body version n
-body_gives version n command.Load = load_body version n
-body_gives version n command.Set = kept_behind version (codes "set") (set_body version n)
-body_gives version n command.Update = kept_behind version (codes "update") (update_body version n)
-body_gives version n command.Kernel = kept_behind version (codes "kernel") (kernel_body version n)
-body_gives version n command.Reduce = reduce_body version n
-body_gives version n command.Copy = copy_body version n
-body_gives version n command.Relayout = relayout_body version n
-body_gives version n (command.Show kind) = named_body version (show_word kind) (Show kind) (λ view. refl)
-body_gives version n command.Drop = named_body version (codes "drop") Drop (λ view. refl)
-body_gives version n command.Bytes = bytes_body version n
-body_gives version n command.Save = named_body version (codes "save") Save (λ view. refl)
-body_gives version n command.Open = open_body version n
+-- what is shown of a view
+show_body : (version : Version) (n : ℕ) (kind : ShowKind) → Gives (IsBody version n (command.Show kind)) (IsBehind version (show_word kind))
+show_body One n kind = named_body One (show_word kind) (Show kind) (λ view. refl)
+show_body Two n show.Print = joined_gives {Q = IsBehind Two (codes "print")} name_gives (λ f view i1 a s1. either_gives
+    (joined_gives {Q = λ xs v. IsBehind Two (codes "print") (f ++ xs) v} window_gives (λ w window i2 b s2.
+    nothing_gives {Q = λ xs v. IsBehind Two (codes "print") (f ++ (w ++ xs)) v} (PrintWindow view window)
+    (inl (ap (λ k. Word (codes "print") ∷ Word view ∷ k) (b ∙ sym (append-nil w)) ∙ ap (λ k. Word (codes "print") ∷ (k ++ (w ++ []))) a))))
+    (nothing_gives {Q = λ xs v. IsBehind Two (codes "print") (f ++ xs) v} (Show show.Print view) (inl (ap (λ k. Word (codes "print") ∷ (k ++ [])) a))))
+show_body Two n show.Counts = named_body Two (codes "counts") (Show show.Counts) (λ view. refl)
+show_body Two n show.Heat = named_body Two (codes "heat") (Show show.Heat) (λ view. refl)
+show_body Two n show.Layout = named_body Two (codes "layout") (Show show.Layout) (λ view. refl)
+
+advise_body : (version : Version) (n : ℕ) → Gives (IsBody version n command.Advise) (IsBehind version (codes "advise"))
+advise_body version n =
+    let B = IsBehind version (codes "advise") in let W = Word (codes "advise") in let G = Word (codes "granule") in let A = Word (codes "among") in
+    joined_gives {Q = B} name_gives (λ f view i1 a s1. behind_gives {Q = λ xs v. B (f ++ xs) v} G sound
+    (joined_gives {Q = λ xs v. B (f ++ (G ∷ xs)) v} count_gives (λ g granule i2 b s2.
+    joined_gives {Q = λ xs v. B (f ++ (G ∷ (g ++ xs))) v} passes_give (λ p passes i3 c s3.
+    behind_gives {Q = λ xs v. B (f ++ (G ∷ (g ++ (p ++ xs)))) v} A sound
+    (joined_gives {Q = λ xs v. B (f ++ (G ∷ (g ++ (p ++ (A ∷ xs))))) v} (listed_gives map_tokens (map_gives version n)) (λ m maps i4 d s4.
+    joined_gives {Q = λ xs v. B (f ++ (G ∷ (g ++ (p ++ (A ∷ (m ++ xs)))))) v} (flag_gives (codes "splits")) (λ o splits i5 e s5.
+    nothing_gives {Q = λ xs v. B (f ++ (G ∷ (g ++ (p ++ (A ∷ (m ++ (o ++ xs))))))) v} (Advise view granule passes maps splits)
+    (inl (ap (λ k. W ∷ Word view ∷ G ∷ count_token granule ∷ (flat_map pass_tokens passes ++ A ∷ (with_commas (map map_tokens maps) ++ k))) (e ∙ sym (append-nil o))
+    ∙ ap (λ k. W ∷ Word view ∷ G ∷ count_token granule ∷ (flat_map pass_tokens passes ++ A ∷ (k ++ (o ++ [])))) d
+    ∙ ap (λ k. W ∷ Word view ∷ G ∷ count_token granule ∷ (k ++ A ∷ (m ++ (o ++ [])))) c
+    ∙ ap (λ k. W ∷ Word view ∷ G ∷ (k ++ (p ++ A ∷ (m ++ (o ++ []))))) b
+    ∙ ap (λ k. W ∷ (k ++ (G ∷ (g ++ (p ++ A ∷ (m ++ (o ++ []))))))) a)))))))))
+
+-- what stands behind a word of the version
+body_gives : (version : Version) (n : ℕ) (c : Command) → command_of version (Word (command_word c)) ≡ Some c → Gives (IsBody version n c) (IsBehind version (command_word c))
+body_gives version n command.Record is = record_body version n
+body_gives version n command.Mapping is = mapping_body version n
+body_gives version n command.View is = view_body version n
+body_gives version n command.Load is = load_body version n
+body_gives version n command.Set is = kept_behind version (codes "set") (set_body version n)
+body_gives version n command.Update is = kept_behind version (codes "update") (update_body version n)
+body_gives version n command.Kernel is = kept_behind version (codes "kernel") (kernel_body version n)
+body_gives version n command.Reduce is = reduce_body version n
+body_gives version n command.Copy is = copy_body version n
+body_gives version n command.Relayout is = relayout_body version n
+body_gives version n (command.Show kind) is = show_body version n kind
+body_gives version n command.Drop is = named_body version (codes "drop") Drop (λ view. refl)
+body_gives version n command.Bytes is = bytes_body version n
+body_gives version n command.Save is = named_body version (codes "save") Save (λ view. refl)
+body_gives version n command.Open is = open_body version n
+body_gives version n command.Advise is = advise_body version n
+body_gives version n command.Stencil is = kept_behind version (codes "stencil") (stencil_body version n is)
+
+-- a word of the version stands for its command
+command_back : (version : Version) (front : List Token) (c : Command) → IsItem (command_of version) front c → Word (command_word c) ∷ [] ≡ front → command_of version (Word (command_word c)) ≡ Some c
+command_back version front c i same = (let own : Word (command_word c) ∷ [] ≡ i.0 ∷ [] = same ∙ i.1 in let first : Word (command_word c) ≡ i.0 = cc in ap (command_of version) first ∙ i.2)
 
 done_along : (version : Version) (xs ys : List Token) (v : Sentence) → xs ≡ ys → IsDone version xs v → IsDone version ys v
 done_along version xs ys v e (inl h) = inl (h ∙ e)
@@ -203,4 +227,4 @@ done_along version xs ys v e (inr h) = inr h
 
 pub line_gives : (version : Version) (n : ℕ) → Gives (IsLine version n) (IsDone version)
 line_gives version n = either_gives (nothing_gives {Q = IsDone version} Blank (inl refl))
-    (joined_gives {Q = IsDone version} (command_gives version) (λ front c i same s. gives_also (body_gives version n c) (λ xs v i s h. done_along version _ _ v (ap (λ k. k ++ xs) same) h)))
+    (joined_gives {Q = IsDone version} (command_gives version) (λ front c i same s. gives_also (body_gives version n c (command_back version front c i same)) (λ xs v i s h. done_along version _ _ v (ap (λ k. k ++ xs) same) h)))

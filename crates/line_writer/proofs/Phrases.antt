@@ -1,5 +1,5 @@
 -- A path, a record and a mapping have one list of tokens each: the canonical one.
-use Rattle.std.proofs.Common.{◌≡◌, ℕ, zero, suc, ◌≤◌, List, [], ◌∷◌, ◌++◌, length, Option, Some, None, map, codes, refl, sym, ap, ◌∙◌, append-nil, append_assoc, arith}
+use Rattle.std.proofs.Common.{◌≡◌, ℕ, zero, suc, ◌≤◌, true, false, List, [], ◌∷◌, ◌++◌, length, Option, Some, None, map, codes, refl, sym, ap, ◌∙◌, append-nil, append_assoc, arith}
 use Rattle.std.specs.List.{flat_map}
 use Rattle.std.proofs.lemmas.Grind.{flat_map-append}
 use Rattle.phrases.specs.Phrases.{IsItem, Behind, Joined, IsNothing, Repeats}
@@ -17,9 +17,9 @@ use Rattle.line_grammar.specs.declared.version.Version.TheVariants.{One, Two}
 use Rattle.line_grammar.specs.declared.line.MapWord.{MapWord}
 use Rattle.line_grammar.specs.declared.line.MapWord.TheVariants as form
 use Rattle.line_grammar.specs.Tokens.{map_word, order_of}
-use Rattle.line_grammar.specs.Grammar.{Phrase, IsName, IsCount, IsMore, IsListed, IsPart, IsPath, IsDims, arrays, fields_of_list, IsTyped, IsNested, IsBraced, IsField, IsFields, IsFieldWidth, IsBracedWidths, IsFieldWidths, IsBits, IsForm, IsFormOrName, IsMap, IsExtent, IsBracketList, IsCuts}
+use Rattle.line_grammar.specs.Grammar.{Phrase, IsName, IsCount, IsMore, IsListed, IsPart, IsPath, IsDims, arrays, fields_of_list, IsTyped, IsNested, IsBraced, IsField, IsFields, IsFieldWidth, IsBracedWidths, IsFieldWidths, IsBits, IsForm, IsFormOrName, IsMap, IsExtent, IsBracketList, IsCuts, IsFlag, IsOneOrMore, IsPass, IsSpan, IsWindowText}
 use Rattle.line_grammar.specs.Words.{type_word, order_word, aos_word, soa_word, form_word}
-use Rattle.line_writer.specs.Canonical.{count_token, bracketed_count, with_commas, bracket_list, step_tokens, path_tokens, dims_tokens, core_tokens, fields_tokens, later_tokens, held_tokens, form_tokens, ordered_tokens, width_tokens, widths_tokens, bits_tokens, map_tokens, extent_tokens, index_tokens}
+use Rattle.line_writer.specs.Canonical.{count_token, bracketed_count, with_commas, bracket_list, step_tokens, path_tokens, dims_tokens, core_tokens, fields_tokens, later_tokens, held_tokens, form_tokens, ordered_tokens, width_tokens, widths_tokens, bits_tokens, map_tokens, extent_tokens, index_tokens, flag_tokens, pass_tokens, span_tokens, window_tokens}
 use Rattle.line_writer.proofs.Gives.{Gives, nothing_gives, behind_gives, joined_gives, either_gives, repeats_gives, gives_also}
 use Rattle.line_writer.proofs.Behind.{some_widths}
 use Rattle.line_writer.proofs.Words.{name_gives, count_gives, type_gives, integer_type_gives, order_gives, aos_form_gives, soa_form_gives, map_word_is}
@@ -293,3 +293,35 @@ fixed_gives = joined_gives {Q = IsWritten extent_tokens} count_gives (λ front c
 
 pub extent_gives : Gives IsExtent (IsWritten extent_tokens)
 extent_gives = either_gives (behind_gives {Q = IsWritten extent_tokens} (Sign Question) sound (nothing_gives {Q = λ xs v. extent_tokens v ≡ Sign Question ∷ xs} extent.Rows refl)) fixed_gives
+
+-- a window
+span_gives : Gives IsSpan (IsWritten span_tokens)
+span_gives = joined_gives {Q = IsWritten span_tokens} count_gives (λ front from i same s.
+    behind_gives {Q = λ xs v. span_tokens v ≡ front ++ xs} (Sign Colon) sound
+    (joined_gives {Q = λ xs v. span_tokens v ≡ front ++ (Sign Colon ∷ xs)} count_gives (λ back end i' same' s'.
+    nothing_gives {Q = λ xs v. span_tokens v ≡ front ++ (Sign Colon ∷ (back ++ xs))} (record { from = from; end = end })
+    (ap (λ k. k ++ Sign Colon ∷ count_token end ∷ []) same ∙ ap (λ k. front ++ Sign Colon ∷ (k ++ [])) same'))))
+
+pub window_gives : Gives IsWindowText (IsWritten window_tokens)
+window_gives = behind_gives {Q = IsWritten window_tokens} (Word (codes "window")) sound
+    (gives_also (bracket_list_gives span_tokens span_gives) (λ xs v i s same. ap (λ k. Word (codes "window") ∷ k) same))
+
+-- passes, and a word that may be missing
+pass_gives : Gives IsPass (IsWritten pass_tokens)
+pass_gives = behind_gives {Q = IsWritten pass_tokens} (Word (codes "pass")) sound
+    (joined_gives {Q = λ xs v. pass_tokens v ≡ Word (codes "pass") ∷ xs} (listed_gives path_tokens path_gives) (λ front paths i same s.
+    behind_gives {Q = λ xs v. pass_tokens v ≡ Word (codes "pass") ∷ (front ++ xs)} (Word (codes "times")) sound
+    (joined_gives {Q = λ xs v. pass_tokens v ≡ Word (codes "pass") ∷ (front ++ (Word (codes "times") ∷ xs))} count_gives (λ back times i' same' s'.
+    nothing_gives {Q = λ xs v. pass_tokens v ≡ Word (codes "pass") ∷ (front ++ (Word (codes "times") ∷ (back ++ xs)))} (record { paths = paths; times = times })
+    (ap (λ k. Word (codes "pass") ∷ (k ++ Word (codes "times") ∷ count_token times ∷ [])) same
+    ∙ ap (λ k. Word (codes "pass") ∷ (front ++ Word (codes "times") ∷ (k ++ []))) same')))))
+
+pub passes_give : Gives (IsOneOrMore IsPass) (IsWritten (flat_map pass_tokens))
+passes_give = joined_gives {Q = IsWritten (flat_map pass_tokens)} pass_gives (λ front first i same s.
+    gives_also (more_gives pass_tokens pass_gives (first ∷ []))
+    (λ back v i s h. rw h.1 (ap (λ k. pass_tokens first ++ k) h.2 ∙ ap (λ k. k ++ back) same)))
+
+pub flag_gives : (word : List ℕ) → Gives (IsFlag word) (IsWritten (flag_tokens word))
+flag_gives word = either_gives
+    (behind_gives {Q = IsWritten (flag_tokens word)} (Word word) sound (nothing_gives {Q = λ xs v. flag_tokens word v ≡ Word word ∷ xs} true refl))
+    (nothing_gives {Q = IsWritten (flag_tokens word)} false refl)

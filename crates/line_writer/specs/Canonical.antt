@@ -2,10 +2,11 @@
 use Rattle.std.specs.Prelude.{ℕ, ◌+◌, Bool, true, false, not, if◌then◌else◌, List, [], ◌∷◌, ◌++◌, map, Option, Some, None, codes, ℤ, pos, negsuc}
 use Rattle.std.specs.Fmt.{decimal}
 use Rattle.std.specs.List.{flat_map}
-use Rattle.line_tokens.specs.declared.sign.Sign.TheVariants.{OpenBrace, CloseBrace, OpenBracket, CloseBracket, OpenParen, CloseParen, Colon, Comma, Dot, Equals, Minus, Arrow, Question}
+use Rattle.line_tokens.specs.declared.sign.Sign.TheVariants.{OpenBrace, CloseBrace, OpenBracket, CloseBracket, OpenParen, CloseParen, Colon, Comma, Dot, Equals, Minus, Star, Slash, Arrow, Question}
 use Rattle.record_dim.specs.declared.path.PathStep.{PathStep}
 use Rattle.record_dim.specs.declared.path.PathStep.TheVariants as step
 use Rattle.record_dim.specs.Trees.{Tree, Single, Record, Array, Fields, End, Field}
+use Rattle.extents.specs.declared.window.Span.{Span}
 use Rattle.extents.specs.declared.words.ExtentWord.{ExtentWord}
 use Rattle.extents.specs.declared.words.ExtentWord.TheVariants as extent
 use Rattle.extents.specs.declared.order.Order.{Order}
@@ -21,8 +22,11 @@ use Rattle.line_grammar.specs.declared.line.KernelText.{KernelText}
 use Rattle.line_grammar.specs.declared.line.KernelText.TheVariants as kernel
 use Rattle.line_grammar.specs.declared.line.KernelWord.TheVariants as worded
 use Rattle.line_grammar.specs.declared.line.MapWord.TheVariants as map_form
+use Rattle.line_grammar.specs.declared.line.PassText.{PassText}
+use Rattle.line_grammar.specs.declared.line.ShowKind.TheVariants as show
+use Rattle.line_grammar.specs.declared.line.TermText.{TermText}
 use Rattle.line_grammar.specs.Words.{type_word, order_word, aos_word, soa_word, form_word, kernel_word, reduction_word, command_word, operator}
-use Rattle.line_grammar.specs.Sentences.{Assignment, New, Sentence, Value, Blank, Define, Mapping, View, Load, Assign, Update, Actors, Kernel, Reduce, Count, Copy, Relayout, Show, Drop, Bytes, Save, Open}
+use Rattle.line_grammar.specs.Sentences.{Assignment, New, Sentence, Value, Blank, Define, Mapping, View, Load, Assign, Update, Actors, Kernel, Reduce, Count, Copy, Relayout, Show, Drop, Bytes, Save, Open, Advise, PrintWindow, Stencil}
 
 -- a number; the minus of a negative one is a token of its own
 abbrev pub number_tokens : ℤ → List Token
@@ -151,15 +155,15 @@ abbrev pub extent_tokens : ExtentWord → List Token
 extent_tokens (extent.Fixed count) = count_token count ∷ []
 extent_tokens extent.Rows = Sign Question ∷ []
 
--- the word of a view whose stores keep low bits
-abbrev pub mode_tokens : Bool → List Token
-mode_tokens true = Word (codes "wrap") ∷ []
-mode_tokens false = []
+-- a word that may be missing
+abbrev pub flag_tokens : List ℕ → Bool → List Token
+flag_tokens word true = Word word ∷ []
+flag_tokens word false = []
 
 -- what makes a view
 abbrev pub new_tokens : New → List Token
 new_tokens new =
-    Word new.name ∷ Sign Colon ∷ Word new.schema ∷ (bracket_list (map extent_tokens new.words) ++ (mode_tokens new.wrap ++ Word (codes "as") ∷ map_tokens new.term))
+    Word new.name ∷ Sign Colon ∷ Word new.schema ∷ (bracket_list (map extent_tokens new.words) ++ (flag_tokens (codes "wrap") new.wrap ++ Word (codes "as") ∷ map_tokens new.term))
 
 -- the parts of an update
 abbrev pub assignment_tokens : Assignment → List Token
@@ -189,6 +193,24 @@ kernel_tokens (kernel.Least x) = form_tokens (kernel_word worded.Least) (path_to
 kernel_tokens (kernel.Greatest x) = form_tokens (kernel_word worded.Greatest) (path_tokens x)
 kernel_tokens (kernel.CountWhere x op c) = form_tokens (kernel_word worded.CountWhere) (path_tokens x ++ operator op ∷ number_tokens c)
 
+-- a window: its spans in brackets
+abbrev pub span_tokens : Span → List Token
+span_tokens span = count_token span.from ∷ Sign Colon ∷ count_token span.end ∷ []
+
+abbrev pub window_tokens : List Span → List Token
+window_tokens window = Word (codes "window") ∷ bracket_list (map span_tokens window)
+
+-- the terms of a stencil, in parentheses
+abbrev pub term_tokens : TermText → List Token
+term_tokens term = number_tokens term.weight ++ Sign Star ∷ (path_tokens term.path ++ Word (codes "at") ∷ bracket_list (map number_tokens term.offsets))
+
+abbrev pub terms_tokens : List TermText → List Token
+terms_tokens terms = Sign OpenParen ∷ (with_commas (map term_tokens terms) ++ Sign CloseParen ∷ [])
+
+-- a pass that a layout is chosen for
+abbrev pub pass_tokens : PassText → List Token
+pass_tokens pass = Word (codes "pass") ∷ (with_commas (map path_tokens pass.paths) ++ Word (codes "times") ∷ count_token pass.times ∷ [])
+
 -- a line
 abbrev pub line_tokens : Sentence → List Token
 line_tokens Blank = []
@@ -210,3 +232,8 @@ line_tokens (Drop view) = Word (command_word command.Drop) ∷ Word view ∷ []
 line_tokens (Bytes view blob) = Word (command_word command.Bytes) ∷ Word view ∷ count_token blob ∷ []
 line_tokens (Save view) = Word (command_word command.Save) ∷ Word view ∷ []
 line_tokens (Open name file) = Word (command_word command.Open) ∷ Word name ∷ Word (codes "from") ∷ Text file ∷ []
+line_tokens (Advise view granule passes maps splits) = Word (command_word command.Advise) ∷ Word view ∷ Word (codes "granule") ∷ count_token granule ∷
+    (flat_map pass_tokens passes ++ Word (codes "among") ∷ (with_commas (map map_tokens maps) ++ flag_tokens (codes "splits") splits))
+line_tokens (PrintWindow view window) = Word (command_word (command.Show show.Print)) ∷ Word view ∷ window_tokens window
+line_tokens (Stencil view window path terms divisor rounds) = Word (command_word command.Stencil) ∷ Word view ∷ (window_tokens window ++ Word (codes "set") ∷
+    (path_tokens path ++ Sign Equals ∷ (terms_tokens terms ++ Sign Slash ∷ count_token divisor ∷ Word (codes "rounds") ∷ count_token rounds ∷ [])))

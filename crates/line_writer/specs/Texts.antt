@@ -7,7 +7,7 @@ use Rattle.line_tokens.specs.Spelled.{Written, joined}
 use Rattle.line_tokens.specs.declared.token.TokenKind.TheVariants as kind
 use Rattle.line_grammar.specs.declared.token.Token.{Token}
 use Rattle.line_grammar.specs.declared.token.Token.TheVariants.{Word, Number, Text, Sign, Bad}
-use Rattle.line_grammar.specs.Sentences.{Sentence, Assign, Update, Actors, Kernel, Reduce, Count}
+use Rattle.line_grammar.specs.Sentences.{Sentence, Assign, Update, Actors, Kernel, Reduce, Count, Save, Open, Advise, PrintWindow, Stencil}
 use Rattle.line_writer.specs.Canonical.{line_tokens}
 
 -- a token with its bytes: a number has no leading zeros; no line has a bad token
@@ -36,3 +36,12 @@ is_on_rows (Kernel view text lanes) = true
 is_on_rows (Reduce view kind path) = true
 is_on_rows (Count view filter) = true
 is_on_rows _ = false
+
+-- whether a line begins with a word that came with the second version, or prints a window
+abbrev pub is_later : Sentence → Bool
+is_later (Save view) = true
+is_later (Open name file) = true
+is_later (Advise view granule passes maps splits) = true
+is_later (PrintWindow view window) = true
+is_later (Stencil view window path terms divisor rounds) = true
+is_later _ = false

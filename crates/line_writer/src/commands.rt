@@ -7,7 +7,7 @@ ghost use Rattle.line_tokens.specs.declared.sign.Sign.TheVariants.{Dot, Equals};
 ghost use Rattle.line_grammar.specs.declared.token.Token.TheVariants.{Word, Sign, Text as Quoted};
 ghost use Rattle.line_grammar.specs.Sentences.{assignment_of};
 ghost use Rattle.line_grammar.specs.Words.{command_word, kernel_word, operator, reduction_word};
-ghost use Rattle.line_writer.specs.Canonical.{count_token, number_tokens, path_tokens, held_tokens, map_tokens, index_tokens, with_commas, assignment_tokens, filter_tokens, actors_tokens, value_tokens, mode_tokens, new_tokens, form_tokens, kernel_tokens};
+ghost use Rattle.line_writer.specs.Canonical.{count_token, number_tokens, path_tokens, held_tokens, map_tokens, index_tokens, with_commas, assignment_tokens, filter_tokens, actors_tokens, value_tokens, flag_tokens, new_tokens, form_tokens, kernel_tokens};
 ghost use Rattle.line_writer.specs.Texts.{behind};
 
 use crate::mapping::{open, write_map};
@@ -64,15 +64,16 @@ pub(crate) fn write_view(
     push(text, ":")?;
     push(text, schema.as_str())?;
     write_extents(text, words.as_slice())?;
-    write_mode(text, wrap)?;
+    write_flag(text, "wrap", wrap)?;
     push(text, "as")?;
     write_map(text, expr)
 }
 
-fn write_mode(text: &mut Text, wrap: bool) -> Result<(), NoMemory>
-    ensures { OnOk result (text.new ≡ behind text.old (mode_tokens wrap)) }
+// The word, where it is set.
+pub(crate) fn write_flag(text: &mut Text, word: &str, is_set: bool) -> Result<(), NoMemory>
+    ensures { OnOk result (text.new ≡ behind text.old (flag_tokens word.now is_set)) }
 {
-    if wrap { push(text, "wrap") } else { Ok(()) }
+    if is_set { push(text, word) } else { Ok(()) }
 }
 
 #[tactic(auto, using(crate::proofs::Behind::behind_append))]

@@ -2,6 +2,7 @@
 #![tactic(auto)]
 
 mod commands;
+mod later;
 mod laws;
 mod line;
 mod mapping;

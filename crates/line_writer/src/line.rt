@@ -1,14 +1,15 @@
-ghost use Rattle.std.specs.Prelude.{ℕ, List, ◌≡◌, ◌≤◌, [], IfOk, IsTrue, OnOk};
+ghost use Rattle.std.specs.Prelude.{ℕ, List, ◌≡◌, ◌≤◌, ◌||◌, [], IfOk, IsTrue, OnOk};
 ghost use Rattle.line_grammar.specs.declared.version.Version.{Version};
 ghost use Rattle.line_grammar.specs.Sentences.{sentence_of, deepest};
 ghost use Rattle.line_grammar.specs.Reads.{Reads};
-ghost use Rattle.line_writer.specs.Texts.{canonical, is_on_rows};
+ghost use Rattle.line_writer.specs.Texts.{canonical, is_later, is_on_rows};
 
 use crate::commands::{
     write_actors, write_assign, write_bytes, write_copy, write_count, write_define,
     write_kernel_line, write_load, write_mapping, write_named, write_open, write_reduce,
     write_relayout, write_update, write_view,
 };
+use crate::later::{write_advise, write_print_window, write_stencil};
 use line_grammar::{Command, Line};
 use record_dim::Text;
 use std::alloc::{AllocError as NoMemory, Global};
@@ -56,10 +57,8 @@ fn write_command(text: &mut Text, line: &Line) -> Result<(), NoMemory>
         Line::Relayout { view, expr } => write_relayout(text, view, expr),
         Line::Drop(view) => write_named(text, Command::Drop, view),
         Line::Bytes { view, blob } => write_bytes(text, view, *blob),
-        Line::SaveView(view) => write_named(text, Command::Save, view),
-        Line::OpenFile { name, file } => write_open(text, name, file),
         Line::Blank => Ok(()),
-        // What is left shows something, or is on rows.
+        // What is left shows something, is on rows, or came with the second version.
         _ => match line.shown() {
             Some((kind, view)) => write_named(text, Command::Show(kind), &view),
             None => write_on_rows(text, line),
@@ -67,11 +66,11 @@ fn write_command(text: &mut Text, line: &Line) -> Result<(), NoMemory>
     }
 }
 
-// A line that changes numbers in rows, or makes one number of them.
+// A line that changes numbers in rows, or makes one number of them, or came with the second version.
 #[tactic(auto, using(crate::proofs::Behind::canonical_begun, crate::proofs::Behind::behind_append))]
 fn write_on_rows(text: &mut Text, line: &Line) -> Result<(), NoMemory>
     requires empty { text.old ≡ [] }
-    requires on_rows { IsTrue (is_on_rows (sentence_of line.now)) }
+    requires on_rows { IsTrue (is_on_rows (sentence_of line.now) || is_later (sentence_of line.now)) }
     ensures { OnOk result (text.new ≡ canonical (sentence_of line.now)) }
 {
     match line {
@@ -100,6 +99,36 @@ fn write_on_rows(text: &mut Text, line: &Line) -> Result<(), NoMemory>
         } => write_kernel_line(text, view, kernel, *lanes),
         Line::Reduce { view, kind, path } => write_reduce(text, view, *kind, path),
         Line::Count { view, filter } => write_count(text, view, filter),
+        _ => write_later(text, line),
+    }
+}
+
+// A line that begins with a word of the second version, or prints a window.
+#[tactic(auto, using(crate::proofs::Behind::canonical_begun))]
+fn write_later(text: &mut Text, line: &Line) -> Result<(), NoMemory>
+    requires empty { text.old ≡ [] }
+    requires later { IsTrue (is_later (sentence_of line.now)) }
+    ensures { OnOk result (text.new ≡ canonical (sentence_of line.now)) }
+{
+    match line {
+        Line::SaveView(view) => write_named(text, Command::Save, view),
+        Line::OpenFile { name, file } => write_open(text, name, file),
+        Line::Advise {
+            view,
+            granule,
+            passes,
+            maps,
+            splits,
+        } => write_advise(text, view, *granule, passes, maps, *splits),
+        Line::PrintWindow { view, window } => write_print_window(text, view, window),
+        Line::Stencil {
+            view,
+            window,
+            path,
+            terms,
+            divisor,
+            rounds,
+        } => write_stencil(text, view, window, path, terms, *divisor, *rounds),
         _ => unreachable!(),
     }
 }

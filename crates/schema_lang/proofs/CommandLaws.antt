@@ -1,6 +1,6 @@
 -- How each command is read, and a whole line.
-use Rattle.std.proofs.Common.{◌≡◌, ℕ, ◌≤◌, true, false, inl, inr, List, [], ◌++◌, codes, Option, None, Result, is_some, refl, ap, neg_ℤ, arith}
-use Rattle.phrases.specs.Phrases.{Behind, IsItem, IsNothing}
+use Rattle.std.proofs.Common.{◌≡◌, ℕ, ◌≤◌, Bool, true, false, inl, inr, List, [], ◌++◌, codes, Option, None, Result, is_some, refl, ap, append_assoc, arith}
+use Rattle.phrases.specs.Phrases.{Behind, IsItem, IsNothing, Joined}
 use Rattle.phrases.specs.Reading.{starts, item_at, give_at}
 use Rattle.phrases.specs.ParsesLaws.{Always, Parses, behind_parses, either_parses, give_parses, item_parses, said_otherwise, then_parses, which_parses}
 use Rattle.phrases.specs.MoreLaws.{behind_starts, item_starts, joined_starts}
@@ -9,7 +9,7 @@ use Rattle.phrases.specs.EndedLaws.{ended_alike, ended_parses}
 use Rattle.phrases.specs.WiderLaws.{Wider, behind_wider, either_wider, joined_wider, same_wider}
 use Rattle.phrases.specs.AlikeLaws.{Alike, either_alike, no_longer, same_alike, then_alike}
 use Rattle.phrases.specs.UnboundedLaws.{Nests}
-use Rattle.line_tokens.specs.declared.sign.Sign.TheVariants.{OpenParen, CloseParen, Colon, Comma, Dot, Equals, EqualEqual, Minus}
+use Rattle.line_tokens.specs.declared.sign.Sign.TheVariants.{OpenParen, CloseParen, Colon, Comma, Dot, Equals, EqualEqual, Slash}
 use Rattle.record_dim.specs.Trees.{Record}
 use Rattle.extents.specs.declared.words.ExtentWord.{ExtentWord}
 use Rattle.expr_lang.specs.declared.expr.BinOp.TheVariants.{Eq}
@@ -19,37 +19,34 @@ use Rattle.line_grammar.specs.declared.line.KernelText.TheVariants as kernel
 use Rattle.line_grammar.specs.declared.line.KernelWord.{KernelWord}
 use Rattle.line_grammar.specs.declared.line.KernelWord.TheVariants as word
 use Rattle.line_grammar.specs.declared.line.ReduceKind.TheVariants as reduce
+use Rattle.line_grammar.specs.declared.line.ShowKind.{ShowKind}
 use Rattle.line_grammar.specs.declared.token.Token.{Token}
 use Rattle.line_grammar.specs.declared.token.Token.TheVariants.{Word, Text, Sign as Signed}
 use Rattle.line_grammar.specs.declared.version.Version.{Version}
 use Rattle.line_grammar.specs.declared.version.Version.TheVariants.{One, Two}
-use Rattle.line_grammar.specs.Versions.{is_two}
-use Rattle.line_grammar.specs.Sentences.{Assignment, Sentence, Value, Blank, Define, Mapping, View, Load, Assign, Update, Actors, Kernel, Reduce, Count, Copy, Relayout, Show, Drop, Bytes, Save, Open}
-use Rattle.line_grammar.specs.Tokens.{is_sign, is_word, number_of, string_of, comparison_of, kernel_word_of, reduction_of, command_of}
-use Rattle.line_grammar.specs.Grammar.{IsAssignment, IsBody, IsCommand, IsConst, IsFilter, IsKernel, IsKernelInside, IsLine, IsMode, IsNew, IsUpdateEnd}
-use Rattle.line_phrases.specs.Constants.{const_at}
-use Rattle.line_phrases.specs.BasicsLaws.{AfterLevel, Not, anything, apart, behind_after, behind_not, count_parses, exact_sign, exact_word, name_parses, number_parses, starts_level}
+use Rattle.line_grammar.specs.Versions.{is_two, may_have_window}
+use Rattle.line_grammar.specs.SignsLaws.{word_self}
+use Rattle.line_grammar.specs.Sentences.{Assignment, Sentence, Value, Blank, Define, Mapping, View, Load, Assign, Update, Actors, Kernel, Reduce, Count, Copy, Relayout, Show, Drop, Bytes, Save, Open, Advise, PrintWindow, Stencil}
+use Rattle.line_grammar.specs.Tokens.{is_word, string_of, comparison_of, kernel_word_of, reduction_of, command_of}
+use Rattle.line_grammar.specs.Grammar.{IsAssignment, IsBody, IsCommand, IsFilter, IsKernel, IsKernelInside, IsFlag, IsLine, IsListed, IsMap, IsName, IsNew, IsShowEnd, IsUpdateEnd}
+use Rattle.line_phrases.specs.BasicsLaws.{AfterLevel, Not, anything, apart, behind_after, behind_not, count_parses, exact_sign, exact_word, name_parses, starts_level}
 use Rattle.line_phrases.specs.FieldLaws.{fields_parses}
 use Rattle.line_phrases.specs.LevelsLaws.{comparison_levels, expr_parses}
 use Rattle.line_phrases.specs.Exprs.{means}
+use Rattle.line_phrases.specs.Lists.{listed_at}
+use Rattle.line_phrases.specs.Maps.{map_at}
 use Rattle.line_phrases.specs.ListLaws.{AfterList, bracket_list_parses, cuts_parses, extent_parses, fixed_parses, listed_parses}
 use Rattle.line_phrases.specs.MapLaws.{map_parses}
 use Rattle.line_phrases.specs.NestingLaws.{behind_kept, expr_alike, expr_wider, fields_alike, fields_wider, listed_alike, listed_wider, map_alike, map_wider}
+use Rattle.line_phrases.specs.PassLaws.{AfterPasses, passes_parses}
 use Rattle.line_phrases.specs.PathsLaws.{path_parses}
+use Rattle.line_phrases.specs.StencilLaws.{const_parses, terms_parses, window_parses}
 use Rattle.schema_lang.specs.Kernels.{axpy_at, clamp_at, count_where_at, inside_at, kernel_at}
 use Rattle.schema_lang.specs.Updates.{actors_at, assignment_at, filter_at, update_end_at}
-use Rattle.schema_lang.specs.Bodies.{any_token, assign_at, body_at, bytes_at, command_at, copy_at, define_at, kernel_line_at, line_at, load_at, mapping_at, mode_at, new_at, open_at, reduce_at, relayout_at, update_at, view_at}
+use Rattle.schema_lang.specs.Bodies.{advise_at, any_token, assign_at, body_at, bytes_at, command_at, copy_at, define_at, flag_at, kernel_line_at, line_at, load_at, mapping_at, new_at, open_at, reduce_at, relayout_at, show_at, stencil_at, update_at, view_at}
 use Rattle.schema_lang.proofs.Assignments.{AfterFilter, assignment_parses, filter_parses}
 
 -- kernels
-
-const_parses : Parses IsConst const_at Always
-unfolding const_at
-const_parses = either_parses (is_sign Minus)
-    (behind_parses (exact_sign Minus) (then_parses Always number_parses (λ number. give_parses Always (neg_ℤ number)) (anything _ _)))
-    number_parses
-    (λ xs v rest h _. behind_starts (is_sign Minus) (Signed Minus) true refl _ xs v rest h)
-    (λ xs v rest h _. item_starts (is_sign Minus) number_of false (apart (exact_sign Minus) number_of refl) xs v rest h)
 
 comma_after : {A : Type 0} (Is : List Token → A → Type 0) (ys : List Token) (v : A) (rest : List Token) → Behind (Signed Comma) Is ys v → AfterLevel 6 (ys ++ rest)
 comma_after Is ys v rest h = behind_after 6 (Signed Comma) (omega arith) Is ys v rest h
@@ -87,23 +84,23 @@ ended_after P f last a ys v rest h after = rw (h.0, after) last
 string_parses : Parses (IsItem string_of) (item_at string_of) Always
 string_parses = item_parses string_of (Text (codes "a")) (codes "a") refl
 
--- no `wrap` stands next
-abbrev AfterMode : List Token → Type 0
-AfterMode rest = starts (is_word (codes "wrap")) rest ≡ false
+-- the word does not stand next
+abbrev AfterFlag : List ℕ → List Token → Type 0
+AfterFlag word rest = starts (is_word word) rest ≡ false
 
-mode_parses : Parses IsMode mode_at AfterMode
-unfolding mode_at
-mode_parses = either_parses (is_word (codes "wrap"))
-    (behind_parses (exact_word (codes "wrap")) (give_parses AfterMode true))
-    (give_parses AfterMode false)
-    (λ xs v rest h after. behind_starts (is_word (codes "wrap")) (Word (codes "wrap")) true refl _ xs v rest h)
+flag_parses : (word : List ℕ) → Parses (IsFlag word) (flag_at word) (AfterFlag word)
+unfolding flag_at
+flag_parses word = either_parses (is_word word)
+    (behind_parses (exact_word word) (give_parses (AfterFlag word) true))
+    (give_parses (AfterFlag word) false)
+    (λ xs v rest h after. behind_starts (is_word word) (Word word) true (word_self word) _ xs v rest h)
     (λ xs v rest h after. rw h.0 after)
 
 new_parses : (version : Version) {IsWord : List Token → ExtentWord → Type 0} {read : List Token → Result (ExtentWord × List Token) ℕ} → Parses IsWord read Always → (n : ℕ)
     → Parses (IsNew version IsWord n) (new_at version read n) (Not OpenParen)
 unfolding new_at
 new_parses version p n = then_parses Always name_parses (λ name. behind_parses (exact_sign Colon) (then_parses Always name_parses (λ schema. then_parses Always (bracket_list_parses p) (λ words.
-    then_parses AfterMode mode_parses (λ wrap. behind_parses (exact_word (codes "as")) (then_parses (Not OpenParen) (map_parses version n)
+    then_parses (AfterFlag (codes "wrap")) (flag_parses (codes "wrap")) (λ wrap. behind_parses (exact_word (codes "as")) (then_parses (Not OpenParen) (map_parses version n)
     (λ map. give_parses (Not OpenParen) (record { name = name; schema = schema; words = words; wrap = wrap; term = map })) (λ a ys v rest h after. rw h.0 after)))
     (λ a ys v rest h after. behind_starts (is_word (codes "wrap")) (Word (codes "as")) false refl _ ys v rest h)) (anything _ _)) (anything _ _))) (anything _ _)
 
@@ -125,8 +122,32 @@ after_sets One view filter sets ys v rest h after = ended_after (AfterList (Afte
 after_sets Two view filter sets ys v rest (inl h) after = (behind_not Comma (Word (codes "actors")) refl _ ys v rest h, behind_after 1 (Word (codes "actors")) (omega arith) _ ys v rest h)
 after_sets Two view filter sets ys v rest (inr h) after = ended_after (AfterList (AfterLevel 1)) (Update view filter) (refl, omega arith) sets ys v rest h after
 
+-- what is shown of a view
+show_parses : (version : Version) (kind : ShowKind) → Parses (Joined IsName (IsShowEnd version kind)) (show_at version kind) AtEnd
+unfolding show_at
+show_parses version kind = then_parses Always name_parses (λ view. which_parses (may_have_window version kind)
+    (either_parses (is_word (codes "window"))
+    (then_parses Always window_parses (λ window. give_parses AtEnd (PrintWindow view window)) (anything _ _))
+    (give_parses AtEnd (Show kind view))
+    (λ xs v rest h _. joined_starts (is_word (codes "window")) true _ _ (behind_starts (is_word (codes "window")) (Word (codes "window")) true refl _) xs v rest h)
+    (λ xs v rest h after. rw (h.0, after) refl))
+    (give_parses AtEnd (Show kind view))) (anything _ _)
+
+-- the mappings of `advise`, and that none goes on behind them
+abbrev AfterMaps : List Token → Type 0
+AfterMaps rest = AfterList (Not OpenParen) rest
+
+maps_parses : (version : Version) (n : ℕ) → Parses (IsListed (IsMap version n)) (listed_at (map_at version n)) AfterMaps
+maps_parses version n = listed_parses (map_parses version n) (λ us. refl)
+
+after_maps : {A : Type 0} (f : Bool → A) (ys : List Token) (v : A) (rest : List Token) → Joined (IsFlag (codes "splits")) (λ splits. IsNothing (f splits)) ys v → AtEnd rest → AfterMaps (ys ++ rest)
+after_maps f ys v rest h after = rw (h.whole, append_assoc h.front h.back rest, h.ends.0, after) (flagged h.front h.begins) where
+  flagged : {splits : Bool} (front : List Token) → IsFlag (codes "splits") front splits → AfterMaps (front ++ [])
+  flagged front (inl is) = (behind_not Comma (Word (codes "splits")) refl _ front _ [] is, behind_not OpenParen (Word (codes "splits")) refl _ front _ [] is)
+  flagged front (inr is) = rw is.0 (refl, refl)
+
 body_parses : (version : Version) (n : ℕ) (c : Command) → Parses (IsBody version n c) (body_at version n c) AtEnd
-unfolding body_at define_at mapping_at view_at load_at assign_at update_at kernel_line_at reduce_at copy_at relayout_at bytes_at open_at
+unfolding body_at define_at mapping_at view_at load_at assign_at update_at kernel_line_at reduce_at copy_at relayout_at bytes_at open_at advise_at stencil_at
 body_parses version n command.Record = then_parses Always name_parses (λ name. then_parses Always (fields_parses n) (λ fields. give_parses AtEnd (Define name (Record fields))) (anything _ _)) (anything _ _)
 body_parses version n command.Mapping = then_parses Always name_parses (λ name. behind_parses (exact_sign Equals)
     (then_parses (Not OpenParen) (map_parses version n) (λ map. give_parses AtEnd (Mapping name map)) (ended_after (Not OpenParen) (Mapping name) refl))) (anything _ _)
@@ -149,11 +170,20 @@ body_parses version n command.Reduce = then_parses Always name_parses (λ view. 
     (λ xs v rest h _. joined_starts (is_word (codes "count")) false _ _ (item_starts (is_word (codes "count")) reduction_of false (apart (exact_word (codes "count")) reduction_of refl)) xs v rest h)) (anything _ _)
 body_parses version n command.Copy = then_parses Always name_parses (λ source. behind_parses (exact_word (codes "to")) (then_parses Always name_parses (λ target. give_parses AtEnd (Copy source target)) (anything _ _))) (anything _ _)
 body_parses version n command.Relayout = then_parses Always name_parses (λ view. behind_parses (exact_word (codes "as")) (then_parses (Not OpenParen) (map_parses version n) (λ map. give_parses AtEnd (Relayout view map)) (ended_after (Not OpenParen) (Relayout view) refl))) (anything _ _)
-body_parses version n (command.Show kind) = then_parses Always name_parses (λ view. give_parses AtEnd (Show kind view)) (anything _ _)
+body_parses version n (command.Show kind) = show_parses version kind
 body_parses version n command.Drop = then_parses Always name_parses (λ view. give_parses AtEnd (Drop view)) (anything _ _)
 body_parses version n command.Bytes = then_parses Always name_parses (λ view. then_parses Always count_parses (λ blob. give_parses AtEnd (Bytes view blob)) (anything _ _)) (anything _ _)
 body_parses version n command.Save = then_parses Always name_parses (λ view. give_parses AtEnd (Save view)) (anything _ _)
 body_parses version n command.Open = then_parses Always name_parses (λ name. behind_parses (exact_word (codes "from")) (then_parses Always string_parses (λ file. give_parses AtEnd (Open name file)) (anything _ _))) (anything _ _)
+body_parses version n command.Advise = then_parses Always name_parses (λ view. behind_parses (exact_word (codes "granule")) (then_parses Always count_parses (λ granule. then_parses AfterPasses passes_parses
+    (λ passes. behind_parses (exact_word (codes "among")) (then_parses AfterMaps (maps_parses version n) (λ maps. then_parses (AfterFlag (codes "splits")) (flag_parses (codes "splits"))
+    (λ splits. give_parses AtEnd (Advise view granule passes maps splits)) (ended_after (AfterFlag (codes "splits")) (Advise view granule passes maps) refl))
+    (λ maps ys v rest h after. after_maps (Advise view granule passes maps) ys v rest h after)))
+    (λ a ys v rest h after. behind_starts (is_word (codes "pass")) (Word (codes "among")) false refl _ ys v rest h)) (anything _ _))) (anything _ _)
+body_parses version n command.Stencil = then_parses Always name_parses (λ view. then_parses Always window_parses (λ window. behind_parses (exact_word (codes "set")) (then_parses (AfterLevel 6) path_parses
+    (λ path. behind_parses (exact_sign Equals) (then_parses Always terms_parses (λ terms. behind_parses (exact_sign Slash) (then_parses Always count_parses
+    (λ divisor. behind_parses (exact_word (codes "rounds")) (then_parses Always count_parses (λ rounds. give_parses AtEnd (Stencil view window path terms divisor rounds)) (anything _ _))) (anything _ _))) (anything _ _)))
+    (λ a ys v rest h after. behind_after 6 (Signed Equals) (omega arith) _ ys v rest h))) (anything _ _)) (anything _ _)
 
 command_item : (version : Version) → Parses (IsItem (command_of version)) (item_at (command_of version)) Always
 command_item version = item_parses (command_of version) (Word (codes "drop")) command.Drop refl
@@ -200,6 +230,9 @@ body_wider version n m le command.Drop = same_wider _
 body_wider version n m le command.Bytes = same_wider _
 body_wider version n m le command.Save = same_wider _
 body_wider version n m le command.Open = same_wider _
+body_wider version n m le command.Advise = joined_wider (same_wider _) (λ view. behind_wider _ (joined_wider (same_wider _) (λ granule. joined_wider (same_wider _)
+    (λ passes. behind_wider _ (joined_wider (listed_wider (map_wider version n m le)) (λ maps. same_wider _))))))
+body_wider version n m le command.Stencil = same_wider _
 
 line_wider : (version : Version) (n m : ℕ) → n ≤ m → Wider (IsLine version n) (IsLine version m)
 line_wider version n m le = either_wider (same_wider _) (joined_wider (same_wider _) (body_wider version n m le))
@@ -216,11 +249,11 @@ new_alike : (version : Version) {IsWord : List Token → ExtentWord → Type 0} 
     → Alike n (new_at version read n) (new_at version read m)
 unfolding new_at
 new_alike version p n m le = then_alike n (no_longer name_parses) (same_alike n _) (λ name. behind_kept n _ (then_alike n (no_longer name_parses) (same_alike n _) (λ schema. then_alike n (no_longer (bracket_list_parses p)) (same_alike n _)
-    (λ words. then_alike n (no_longer mode_parses) (same_alike n _)
+    (λ words. then_alike n (no_longer (flag_parses (codes "wrap"))) (same_alike n _)
     (λ wrap. behind_kept n _ (then_alike n (no_longer (map_parses version n)) (map_alike version n m le) (λ map. same_alike n _)))))))
 
 body_alike : (version : Version) (n m : ℕ) → n ≤ m → (c : Command) → Alike n (body_at version n c) (body_at version m c)
-unfolding body_at define_at mapping_at view_at load_at assign_at update_at reduce_at relayout_at
+unfolding body_at define_at mapping_at view_at load_at assign_at update_at reduce_at relayout_at advise_at
 body_alike version n m le command.Record = then_alike n (no_longer name_parses) (same_alike n _) (λ name. then_alike n (no_longer (fields_parses n)) (fields_alike n m le) (λ fields. same_alike n _))
 body_alike version n m le command.Mapping = then_alike n (no_longer name_parses) (same_alike n _) (λ name. behind_kept n _ (then_alike n (no_longer (map_parses version n)) (map_alike version n m le) (λ map. same_alike n _)))
 body_alike version n m le command.View = then_alike n (no_longer (new_parses version fixed_parses n)) (new_alike version fixed_parses n m le) (λ new. same_alike n _)
@@ -238,6 +271,9 @@ body_alike version n m le command.Drop = same_alike n _
 body_alike version n m le command.Bytes = same_alike n _
 body_alike version n m le command.Save = same_alike n _
 body_alike version n m le command.Open = same_alike n _
+body_alike version n m le command.Advise = then_alike n (no_longer name_parses) (same_alike n _) (λ view. behind_kept n _ (then_alike n (no_longer count_parses) (same_alike n _) (λ granule. then_alike n (no_longer passes_parses) (same_alike n _)
+    (λ passes. behind_kept n _ (then_alike n (no_longer (maps_parses version n)) (listed_alike n (map_parses version n) (λ us. refl) (map_alike version n m le)) (λ maps. same_alike n _))))))
+body_alike version n m le command.Stencil = same_alike n _
 
 line_alike : (version : Version) (n m : ℕ) → n ≤ m → Alike n (line_at version n) (line_at version m)
 unfolding line_at command_at

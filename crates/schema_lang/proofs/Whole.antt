@@ -2,8 +2,8 @@
 use Rattle.std.proofs.Common.{◌≡◌, ℕ, Bool, true, false, if◌then◌else◌, List, [], ◌∷◌, codes, Option, Result, Ok, Err, refl, subst}
 use Rattle.phrases.specs.Ended.{ended, ended_at}
 use Rattle.phrases.specs.ParsesLaws.{ok_parts}
-use Rattle.phrases.specs.Reading.{◌>>=◌, behind_at, either_at, give_at, item_at, past, starts, then_at}
-use Rattle.line_tokens.specs.declared.sign.Sign.TheVariants.{Dot, Equals}
+use Rattle.phrases.specs.Reading.{◌>>=◌, behind_at, either_at, give_at, item_at, past, starts, then_at, which_at}
+use Rattle.line_tokens.specs.declared.sign.Sign.TheVariants.{Dot, Equals, Slash}
 use Rattle.record_dim.specs.declared.dim.Dim.{Dim}
 use Rattle.record_dim.specs.declared.dim.Dim.TheVariants as dim
 use Rattle.record_dim.specs.Trees.{IsRecord, Record, Single, Array, Tree, tree_of}
@@ -11,19 +11,22 @@ use Rattle.line_grammar.specs.declared.line.Command.{Command}
 use Rattle.line_grammar.specs.declared.line.Command.TheVariants as command
 use Rattle.line_grammar.specs.declared.line.Line.{Line}
 use Rattle.line_grammar.specs.declared.line.Line.TheVariants as line
+use Rattle.line_grammar.specs.declared.line.ShowKind.{ShowKind}
 use Rattle.line_grammar.specs.declared.token.Token.{Token}
 use Rattle.line_grammar.specs.declared.version.Version.{Version}
-use Rattle.line_grammar.specs.declared.version.Version.TheVariants.{One, Two}
-use Rattle.line_grammar.specs.Sentences.{Assignment, Sentence, Value, sentence_of, Blank, Define, Mapping, View, Load, Assign, Update, Actors, Kernel, Reduce, Count, Copy, Relayout, Show, Drop, Bytes, Save, Open}
+use Rattle.line_grammar.specs.Versions.{is_two, may_have_window}
+use Rattle.line_grammar.specs.Sentences.{Assignment, Sentence, Value, sentence_of, Blank, Define, Mapping, View, Load, Assign, Update, Actors, Kernel, Reduce, Count, Copy, Relayout, Show, Drop, Bytes, Save, Open, Advise, PrintWindow, Stencil}
 use Rattle.line_grammar.specs.Tokens.{is_sign, is_word, name_of, count_of, string_of, reduction_of, command_of}
 use Rattle.line_phrases.specs.Exprs.{expr_at}
 use Rattle.line_phrases.specs.Fields.{fields_at}
 use Rattle.line_phrases.specs.Lists.{bracket_list_at, cuts_at, extent_at, fixed_at, listed_at}
 use Rattle.line_phrases.specs.Maps.{map_at}
+use Rattle.line_phrases.specs.Passes.{passes_at}
 use Rattle.line_phrases.specs.Paths.{path_at}
+use Rattle.line_phrases.specs.Stencils.{terms_at, window_at}
 use Rattle.schema_lang.specs.Kernels.{kernel_at}
 use Rattle.schema_lang.specs.Updates.{actors_at, assignment_at, filter_at, update_end_at}
-use Rattle.schema_lang.specs.Bodies.{any_token, assign_at, body_at, bytes_at, command_at, copy_at, define_at, kernel_line_at, line_at, load_at, mapping_at, new_at, open_at, reduce_at, relayout_at, update_at, view_at}
+use Rattle.schema_lang.specs.Bodies.{advise_at, any_token, assign_at, body_at, bytes_at, command_at, copy_at, define_at, flag_at, kernel_line_at, line_at, load_at, mapping_at, new_at, open_at, reduce_at, relayout_at, show_at, stencil_at, update_at, view_at}
 use Rattle.schema_lang.specs.Parsing.{IsWhole}
 
 -- the record that a line defines has fields
@@ -64,6 +67,10 @@ each_either test {read = read} {other = other} one two = record { all = λ token
     of tokens v rest true e = one.all tokens v rest e
     of tokens v rest false e = two.all tokens v rest e
 
+each_which : (holds : Bool) {read other : List Token → Result (Sentence × List Token) ℕ} → Each read → Each other → Each (which_at holds read other)
+each_which true one two = one
+each_which false one two = two
+
 each_ended : {read : List Token → Result (Sentence × List Token) ℕ} → Each read → Each (ended_at read)
 each_ended {read = read} each = record { all = λ tokens v rest e. of tokens v rest (read tokens) refl e }
   where
@@ -77,14 +84,18 @@ each_ended {read = read} each = record { all = λ tokens v rest e. of tokens v r
 
 update_end_whole : (version : Version) (view : List ℕ) (filter : Option Value) (sets : List Assignment) → Each (update_end_at version view filter sets)
 unfolding update_end_at actors_at
-update_end_whole One view filter sets = each_give (Update view filter sets) tt
-update_end_whole Two view filter sets = each_either (is_word (codes "actors"))
+update_end_whole version view filter sets = each_which (is_two version) (each_either (is_word (codes "actors"))
     (each_behind (is_word (codes "actors")) (each_then cuts_at (λ cuts. each_behind (is_word (codes "schedule")) (each_then (item_at count_of) (λ seed.
     each_behind (is_word (codes "turns")) (each_then (item_at count_of) (λ turns. each_give (Actors view filter sets cuts seed turns) tt)))))))
-    (each_give (Update view filter sets) tt)
+    (each_give (Update view filter sets) tt)) (each_give (Update view filter sets) tt)
+
+show_whole : (version : Version) (kind : ShowKind) → Each (show_at version kind)
+unfolding show_at
+show_whole version kind = each_then (item_at name_of) (λ view. each_which (may_have_window version kind)
+    (each_either (is_word (codes "window")) (each_then window_at (λ window. each_give (PrintWindow view window) tt)) (each_give (Show kind view) tt)) (each_give (Show kind view) tt))
 
 body_whole : (version : Version) (n : ℕ) (word : Command) → Each (body_at version n word)
-unfolding body_at define_at mapping_at view_at load_at assign_at update_at kernel_line_at reduce_at copy_at relayout_at bytes_at open_at
+unfolding body_at define_at mapping_at view_at load_at assign_at update_at kernel_line_at reduce_at copy_at relayout_at bytes_at open_at advise_at stencil_at
 body_whole version n command.Record = each_then (item_at name_of) (λ name. each_then (fields_at n) (λ fields. each_give (Define name (Record fields)) tt))
 body_whole version n command.Mapping = each_then (item_at name_of) (λ name. each_behind (is_sign Equals) (each_then (map_at version n) (λ map. each_give (Mapping name map) tt)))
 body_whole version n command.View = each_then (new_at version fixed_at n) (λ new. each_give (View new) tt)
@@ -100,11 +111,16 @@ body_whole version n command.Reduce = each_then (item_at name_of) (λ view. each
     (each_then (item_at reduction_of) (λ kind. each_then path_at (λ path. each_give (Reduce view kind path) tt))))
 body_whole version n command.Copy = each_then (item_at name_of) (λ source. each_behind (is_word (codes "to")) (each_then (item_at name_of) (λ target. each_give (Copy source target) tt)))
 body_whole version n command.Relayout = each_then (item_at name_of) (λ view. each_behind (is_word (codes "as")) (each_then (map_at version n) (λ map. each_give (Relayout view map) tt)))
-body_whole version n (command.Show kind) = each_then (item_at name_of) (λ view. each_give (Show kind view) tt)
+body_whole version n (command.Show kind) = show_whole version kind
 body_whole version n command.Drop = each_then (item_at name_of) (λ view. each_give (Drop view) tt)
 body_whole version n command.Bytes = each_then (item_at name_of) (λ view. each_then (item_at count_of) (λ blob. each_give (Bytes view blob) tt))
 body_whole version n command.Save = each_then (item_at name_of) (λ view. each_give (Save view) tt)
 body_whole version n command.Open = each_then (item_at name_of) (λ name. each_behind (is_word (codes "from")) (each_then (item_at string_of) (λ file. each_give (Open name file) tt)))
+body_whole version n command.Advise = each_then (item_at name_of) (λ view. each_behind (is_word (codes "granule")) (each_then (item_at count_of) (λ granule. each_then passes_at (λ passes.
+    each_behind (is_word (codes "among")) (each_then (listed_at (map_at version n)) (λ maps. each_then (flag_at (codes "splits")) (λ splits. each_give (Advise view granule passes maps splits) tt)))))))
+body_whole version n command.Stencil = each_then (item_at name_of) (λ view. each_then window_at (λ window. each_behind (is_word (codes "set")) (each_then path_at (λ path. each_behind (is_sign Equals)
+    (each_then terms_at (λ terms. each_behind (is_sign Slash) (each_then (item_at count_of) (λ divisor. each_behind (is_word (codes "rounds")) (each_then (item_at count_of)
+    (λ rounds. each_give (Stencil view window path terms divisor rounds) tt))))))))))
 
 line_whole : (version : Version) (n : ℕ) → Each (line_at version n)
 unfolding line_at command_at

@@ -6,6 +6,7 @@ mod bodies;
 mod depth;
 mod fault;
 mod kernels;
+mod later;
 mod line;
 mod token_list;
 mod updates;

@@ -43,6 +43,8 @@ pub fn parse_line(alloc: Global, text: &[u8], version: Version) -> Result<Line, 
             if is_shallow(&line) {
                 Ok(line)
             } else {
+                // One call: at the end of the block a drop for each kind of line would stand here.
+                drop(line);
                 Err(LineFault::TooDeep)
             }
         }
@@ -64,6 +66,7 @@ fn read_line(alloc: Global, version: Version, tokens: &[Token<'_>]) -> Result<Li
     }
     let line = read_command(alloc, version, tokens.len(), &mut left)?;
     if left.len() > 0 {
+        drop(line);
         return Err(ReadError::Syntax(left.len()));
     }
     Ok(line)

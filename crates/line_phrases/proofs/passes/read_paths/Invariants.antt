@@ -1,0 +1,14 @@
+-- what is read on gives the whole list
+use Rattle.std.proofs.Common.{◌≡◌, ◌<◌, length}
+use Rattle.line_phrases.specs.Lists.{rest_at, listed_at}
+use Rattle.line_phrases.specs.Paths.{path_at}
+use Rattle.line_phrases.proofs.passes.read_paths.Given as goal
+
+abbrev pub invariant-loop-alloc : goal.invariant-loop-alloc
+invariant-loop-alloc l = record {
+  same : rest_at path_at l.paths l.tokens ≡ listed_at path_at l.fn.tokens;
+  shorter : length l.tokens < length l.fn.tokens;
+}
+
+abbrev pub decreases-loop-alloc : goal.decreases-loop-alloc
+decreases-loop-alloc l = length l.tokens

@@ -1,0 +1,14 @@
+-- what is read on gives the whole list
+use Rattle.std.proofs.Common.{◌≡◌, ◌<◌, length}
+use Rattle.line_phrases.specs.Constants.{const_at}
+use Rattle.line_phrases.specs.Lists.{rest_at, listed_at}
+use Rattle.line_phrases.proofs.stencils.read_offsets.Given as goal
+
+abbrev pub invariant-loop-tokens : goal.invariant-loop-tokens
+invariant-loop-tokens l = record {
+  same : rest_at const_at l.offsets l.tokens ≡ listed_at const_at l.fn.tokens;
+  shorter : length l.tokens < length l.fn.tokens;
+}
+
+abbrev pub decreases-loop-tokens : goal.decreases-loop-tokens
+decreases-loop-tokens l = length l.tokens

@@ -1,0 +1,50 @@
+// The passes that a layout is chosen for.
+ghost use Rattle.std.specs.Prelude.{◌≡◌, ◌<◌, length, OnOk};
+ghost use Rattle.line_phrases.specs.Gives.{Gives};
+ghost use Rattle.line_phrases.specs.Lists.{listed_at};
+ghost use Rattle.line_phrases.specs.Passes.{pass_at, passes_at};
+ghost use Rattle.line_phrases.specs.Paths.{path_at};
+
+use crate::{ReadError, Tokens, read_path};
+use line_grammar::{Count, PassText, PassTextList, PathList};
+use line_tokens::Sign;
+use std::alloc::Global;
+
+/// The passes at the front, of which there is one at least.
+#[tactic(auto, unfolding(crate::specs::Passes::passes_at), using(crate::proofs::Steps::pass_steps))]
+pub fn read_passes(alloc: Global, tokens: &mut Tokens) -> Result<PassTextList, ReadError>
+    ensures { Gives (λ x. (x, tokens.new)) result (passes_at tokens.old) }
+{
+    let mut passes = PassTextList::new(alloc);
+    passes.push(read_pass(alloc, tokens)?)?;
+    while tokens.begins_word("pass") {
+        passes.push(read_pass(alloc, tokens)?)?;
+    }
+    Ok(passes)
+}
+
+#[tactic(auto, unfolding(crate::specs::Passes::pass_at))]
+fn read_pass(alloc: Global, tokens: &mut Tokens) -> Result<PassText, ReadError>
+    ensures gives { Gives (λ x. (x, tokens.new)) result (pass_at tokens.old) }
+    ensures shorter { OnOk result (length tokens.new < length tokens.old) }
+{
+    tokens.word("pass")?;
+    let paths = read_paths(alloc, tokens)?;
+    tokens.word("times")?;
+    let times = tokens.item::<Count>()?;
+    Ok(PassText { paths, times })
+}
+
+#[tactic(auto, unfolding(crate::specs::Lists::listed_at), using(crate::proofs::Steps::path_list_steps))]
+fn read_paths(alloc: Global, tokens: &mut Tokens) -> Result<PathList, ReadError>
+    ensures gives { Gives (λ x. (x, tokens.new)) result (listed_at path_at tokens.old) }
+    ensures shorter { OnOk result (length tokens.new < length tokens.old) }
+{
+    let mut paths = PathList::new(alloc);
+    paths.push(read_path(alloc, tokens)?)?;
+    while tokens.begins_sign(Sign::Comma) {
+        tokens.sign(Sign::Comma)?;
+        paths.push(read_path(alloc, tokens)?)?;
+    }
+    Ok(paths)
+}

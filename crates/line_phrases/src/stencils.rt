@@ -1,0 +1,106 @@
+// A window, and the terms of a stencil.
+ghost use Rattle.std.specs.Prelude.{◌≡◌, ◌<◌, length, OnOk, IfErr};
+ghost use Rattle.line_phrases.specs.Constants.{const_at};
+ghost use Rattle.line_phrases.specs.Gives.{Gives, IsSyntax};
+ghost use Rattle.line_phrases.specs.Lists.{listed_at, bracket_list_at};
+ghost use Rattle.line_phrases.specs.Stencils.{span_at, term_at, terms_at, window_at};
+
+use crate::{ReadError, Tokens, read_const, read_path};
+use extents::Span;
+use line_grammar::{Count, OffsetTexts, TermText, TermTextList, WindowWords};
+use line_tokens::Sign;
+use std::alloc::Global;
+
+/// The word `window`, and the spans of the window in brackets.
+#[tactic(auto, unfolding(crate::specs::Stencils::window_at, crate::specs::Lists::bracket_list_at))]
+pub fn read_window(alloc: Global, tokens: &mut Tokens) -> Result<WindowWords, ReadError>
+    ensures { Gives (λ x. (x, tokens.new)) result (window_at tokens.old) }
+{
+    tokens.word("window")?;
+    tokens.sign(Sign::OpenBracket)?;
+    let window = read_spans(alloc, tokens)?;
+    tokens.sign(Sign::CloseBracket)?;
+    Ok(window)
+}
+
+#[tactic(auto, unfolding(crate::specs::Lists::listed_at), using(crate::proofs::Steps::span_steps))]
+fn read_spans(alloc: Global, tokens: &mut Tokens) -> Result<WindowWords, ReadError>
+    ensures { Gives (λ x. (x, tokens.new)) result (listed_at span_at tokens.old) }
+{
+    let mut spans = WindowWords::new(alloc);
+    spans.push(read_span(tokens)?)?;
+    while tokens.begins_sign(Sign::Comma) {
+        tokens.sign(Sign::Comma)?;
+        spans.push(read_span(tokens)?)?;
+    }
+    Ok(spans)
+}
+
+#[tactic(auto, unfolding(crate::specs::Stencils::span_at))]
+fn read_span(tokens: &mut Tokens) -> Result<Span, ReadError>
+    ensures gives { Gives (λ x. (x, tokens.new)) result (span_at tokens.old) }
+    ensures shorter { OnOk result (length tokens.new < length tokens.old) }
+    ensures fault { IfErr result IsSyntax }
+{
+    let from = tokens.item::<Count>()?;
+    tokens.sign(Sign::Colon)?;
+    let end = tokens.item::<Count>()?;
+    Ok(Span { from, end })
+}
+
+/// The terms of a stencil, in parentheses.
+#[tactic(auto, unfolding(crate::specs::Stencils::terms_at))]
+pub fn read_terms(alloc: Global, tokens: &mut Tokens) -> Result<TermTextList, ReadError>
+    ensures { Gives (λ x. (x, tokens.new)) result (terms_at tokens.old) }
+{
+    tokens.sign(Sign::OpenParen)?;
+    let terms = read_term_list(alloc, tokens)?;
+    tokens.sign(Sign::CloseParen)?;
+    Ok(terms)
+}
+
+#[tactic(auto, unfolding(crate::specs::Lists::listed_at), using(crate::proofs::Steps::term_steps))]
+fn read_term_list(alloc: Global, tokens: &mut Tokens) -> Result<TermTextList, ReadError>
+    ensures { Gives (λ x. (x, tokens.new)) result (listed_at term_at tokens.old) }
+{
+    let mut terms = TermTextList::new(alloc);
+    terms.push(read_term(alloc, tokens)?)?;
+    while tokens.begins_sign(Sign::Comma) {
+        tokens.sign(Sign::Comma)?;
+        terms.push(read_term(alloc, tokens)?)?;
+    }
+    Ok(terms)
+}
+
+#[tactic(auto, unfolding(crate::specs::Stencils::term_at, crate::specs::Lists::bracket_list_at))]
+fn read_term(alloc: Global, tokens: &mut Tokens) -> Result<TermText, ReadError>
+    ensures gives { Gives (λ x. (x, tokens.new)) result (term_at tokens.old) }
+    ensures shorter { OnOk result (length tokens.new < length tokens.old) }
+{
+    let weight = read_const(tokens)?;
+    tokens.sign(Sign::Star)?;
+    let path = read_path(alloc, tokens)?;
+    tokens.word("at")?;
+    tokens.sign(Sign::OpenBracket)?;
+    let offsets = read_offsets(alloc, tokens)?;
+    tokens.sign(Sign::CloseBracket)?;
+    Ok(TermText {
+        weight,
+        path,
+        offsets,
+    })
+}
+
+#[tactic(auto, unfolding(crate::specs::Lists::listed_at), using(crate::proofs::Steps::const_steps))]
+fn read_offsets(alloc: Global, tokens: &mut Tokens) -> Result<OffsetTexts, ReadError>
+    ensures gives { Gives (λ x. (x, tokens.new)) result (listed_at const_at tokens.old) }
+    ensures shorter { OnOk result (length tokens.new < length tokens.old) }
+{
+    let mut offsets = OffsetTexts::new(alloc);
+    offsets.push(read_const(tokens)?)?;
+    while tokens.begins_sign(Sign::Comma) {
+        tokens.sign(Sign::Comma)?;
+        offsets.push(read_const(tokens)?)?;
+    }
+    Ok(offsets)
+}

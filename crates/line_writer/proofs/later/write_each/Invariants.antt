@@ -1,0 +1,8 @@
+-- what is written so far, and the items that are left, are all
+use Rattle.std.proofs.Common.{◌≡◌, drop}
+use Rattle.std.specs.List.{flat_map}
+use Rattle.line_writer.specs.Texts.{behind}
+use Rattle.line_writer.proofs.later.write_each.Given as goal
+
+abbrev pub invariant-loop-part : goal.invariant-loop-part
+invariant-loop-part g l = behind l.text (flat_map g.T.Part.tokens (drop l.part-index l.parts)) ≡ behind l.fn.text (flat_map g.T.Part.tokens l.parts)

@@ -1,0 +1,86 @@
+// Lines that the second version has, and what it shows of a view.
+ghost use Rattle.std.specs.Prelude.{◌≡◌};
+ghost use Rattle.line_grammar.specs.Sentences.{sentence_of};
+ghost use Rattle.line_grammar.specs.Versions.{may_have_window};
+ghost use Rattle.line_phrases.specs.Gives.{Gives};
+ghost use Rattle.schema_lang.specs.Bodies.{advise_at, show_at, stencil_at};
+
+use crate::bodies::read_flag;
+use line_grammar::{Count, Line, ShowKind, Version};
+use line_phrases::{ReadError, Tokens, read_maps, read_passes, read_path, read_terms, read_window};
+use line_tokens::Sign;
+use record_dim::Name;
+use std::alloc::Global;
+
+#[tactic(auto, unfolding(crate::specs::Bodies::show_at))]
+pub(crate) fn read_show(
+    alloc: Global,
+    version: Version,
+    kind: ShowKind,
+    tokens: &mut Tokens,
+) -> Result<Line, ReadError>
+    ensures { Gives (λ x. (sentence_of x, tokens.new)) result (show_at version kind tokens.old) }
+{
+    let view = tokens.item::<Name>()?;
+    if !may_have_window(version, kind) || !tokens.begins_word("window") {
+        return Ok(Line::show(kind, view));
+    }
+    let window = read_window(alloc, tokens)?;
+    Ok(Line::PrintWindow { view, window })
+}
+
+// Whether a window may stand behind what is shown.
+fn may_have_window(version: Version, kind: ShowKind) -> bool
+    ensures { result ≡ may_have_window version kind }
+{
+    matches!((version, kind), (Version::Two, ShowKind::Print))
+}
+
+#[tactic(auto, unfolding(crate::specs::Bodies::advise_at))]
+pub(crate) fn read_advise(
+    alloc: Global,
+    version: Version,
+    room: usize,
+    tokens: &mut Tokens,
+) -> Result<Line, ReadError>
+    ensures { Gives (λ x. (sentence_of x, tokens.new)) result (advise_at version room tokens.old) }
+{
+    let view = tokens.item::<Name>()?;
+    tokens.word("granule")?;
+    let granule = tokens.item::<Count>()?;
+    let passes = read_passes(alloc, tokens)?;
+    tokens.word("among")?;
+    let maps = read_maps(alloc, version, room, tokens)?;
+    let splits = read_flag("splits", tokens)?;
+    Ok(Line::Advise {
+        view,
+        granule,
+        passes,
+        maps,
+        splits,
+    })
+}
+
+#[tactic(auto, unfolding(crate::specs::Bodies::stencil_at))]
+pub(crate) fn read_stencil(alloc: Global, tokens: &mut Tokens) -> Result<Line, ReadError>
+    ensures { Gives (λ x. (sentence_of x, tokens.new)) result (stencil_at tokens.old) }
+{
+    let view = tokens.item::<Name>()?;
+    let window = read_window(alloc, tokens)?;
+    tokens.word("set")?;
+    let path = read_path(alloc, tokens)?;
+    tokens.sign(Sign::Equals)?;
+    let terms = read_terms(alloc, tokens)?;
+    tokens.sign(Sign::Slash)?;
+    let divisor = tokens.item::<Count>()?;
+    tokens.word("rounds")?;
+    let rounds = tokens.item::<Count>()?;
+    Ok(Line::Stencil {
+        view,
+        window,
+        path,
+        terms,
+        divisor,
+        rounds,
+    })
+}
