@@ -1,11 +1,13 @@
 -- Runs of one leaf, as far as they are read.
 use Rattle.std.proofs.Common.{◌≡◌, ℕ, zero, suc, ◌+◌, ◌*◌, ◌<◌, ◌≤◌, List, [], ◌∷◌, ◌++◌, length, take, drop, set, get_or, ℤ, pos, refl, sym, ap, ◌∙◌, arith, length-drop, get_or-drop}
 use Rattle.std.proofs.Math.Seq.{drop-length}
-use Rattle.std.proofs.lemmas.List.{append-nil, get_or-map, length-map}
+use Rattle.std.proofs.lemmas.List.{append-nil, append_assoc, drop-drop, drop-take, get_or-map, length-map, length-take-le, take-append-drop, take-append-le, take-take}
+use Rattle.std.proofs.lemmas.Slice.{drop-append-drop}
 use Rattle.std.proofs.lemmas.List.FromFn.{map-range_with_len_more}
 use Rattle.views.specs.Columns.{in_leaf, column, column_reads}
 use Rattle.views.specs.Tables.{Table, after_log, after_read}
 use Rattle.views.specs.Tallies.{Read}
+use Rattle.c_calls.specs.Runs.{run_of}
 use Rattle.views.specs.TallyLaws.{after_log-none, after_log-append}
 
 -- one number more, of a list whose first so many are there and the others as they were
@@ -58,3 +60,33 @@ read_more leaf first done row old table new values_old values value have place b
 pub whole_read : (values old : List ℤ) (done : ℕ) → done ≡ length old → take done values ++ drop done old ≡ take (length old) values
 whole_read values old done end =
     ap (λ (n : ℕ). take n values ++ drop n old) end ∙ ap (λ (rest : List ℤ). take (length old) values ++ rest) (drop-length old) ∙ append-nil (take (length old) values)
+
+-- the numbers of a list up to a place, and so many from there on
+pub take_both : {A : Type 0} (first more : ℕ) (list : List A) → take (first + more) list ≡ take first list ++ take more (drop first list)
+take_both first more list =
+    sym (take-append-drop first (take (first + more) list)) ∙ ap (λ (front : List _). front ++ drop first (take (first + more) list)) (take-take first (first + more) list (omega arith))
+    ∙ ap (λ (back : List _). take first list ++ back) (drop-take first more list)
+
+-- so many more are put behind those that are there
+pub put_more : (values old list new numbers : List ℤ) (at more : ℕ) → at + more ≤ length values → list ≡ take at values ++ drop at old → numbers ≡ take more (drop at values)
+    → new ≡ take at list ++ numbers ++ drop (at + more) list → new ≡ take (at + more) values ++ drop (at + more) old
+put_more values old list new numbers at more inside have are put =
+    let many : length (take at values) ≡ at = length-take-le at values (omega arith) in
+    let front : take at list ≡ take at values =
+    ap (take at) have ∙ take-append-le at (take at values) (drop at old) (omega (arith, many)) ∙ take-take at at values (omega arith) in
+    let back : drop (at + more) list ≡ drop (at + more) old = ap (drop (at + more)) have ∙ drop-append-drop at old (take at values) (at + more) (omega arith) many in
+    put ∙ ap (λ (l : List ℤ). l ++ numbers ++ drop (at + more) list) front ∙ ap (λ (l : List ℤ). take at values ++ numbers ++ l) back
+    ∙ ap (λ (l : List ℤ). take at values ++ l ++ drop (at + more) old) are
+    ∙ ap (λ (l : List ℤ). l ++ drop (at + more) old) (sym (take_both at more values))
+
+-- three runs, one behind the other, are one
+pub three_runs : (leaf first a b c second third total : ℕ) (table : Table) (xs ys zs : List ℤ) → second ≡ first + a → third ≡ first + a + b → total ≡ a + b + c
+    → xs ≡ run_of first a leaf table → ys ≡ run_of second b leaf table → zs ≡ run_of third c leaf table → xs ++ (ys ++ zs) ≡ run_of first total leaf table
+three_runs leaf first a b c second third total table xs ys zs at_second at_third all are then last =
+    let values = column leaf table.rows in
+    let ys_are : ys ≡ take b (drop a (drop first values)) = then ∙ ap (λ (n : ℕ). take b (drop n values)) at_second ∙ ap (take b) (sym (drop-drop a first values)) in
+    let zs_are : zs ≡ take c (drop (a + b) (drop first values)) =
+    last ∙ ap (λ (n : ℕ). take c (drop n values)) (at_third ∙ omega arith) ∙ ap (take c) (sym (drop-drop (a + b) first values)) in
+    sym (append_assoc xs ys zs) ∙ ap (λ (l : List ℤ). l ++ ys ++ zs) are ∙ ap (λ (l : List ℤ). take a (drop first values) ++ l ++ zs) ys_are
+    ∙ ap (λ (l : List ℤ). l ++ zs) (sym (take_both a b (drop first values))) ∙ ap (λ (l : List ℤ). take (a + b) (drop first values) ++ l) zs_are
+    ∙ sym (take_both (a + b) c (drop first values)) ∙ ap (λ (n : ℕ). take n (drop first values)) (sym all)
