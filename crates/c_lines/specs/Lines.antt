@@ -1,25 +1,18 @@
--- What a `record` line and a `view` line describe, and what each cause says of two that describe no view.
-use Rattle.std.specs.Prelude.{ℕ, ◌≡◌, ◌<◌, ◌⊎◌, Bool, true, false, List, length, Option, Some, None, Result, Ok, Err, nat_lt, count_by, if◌then◌else◌}
+-- What a `record` line and a `view` line describe.
+use Rattle.std.specs.Prelude.{ℕ, ◌≡◌, Bool, true, false, List, length, None}
 use Rattle.extents.specs.Indices.{indices}
-use Rattle.extents.specs.Shapes.{is_rows, extents_for, bad_shape, bad_extents}
+use Rattle.extents.specs.Shapes.{extents_for}
 use Rattle.extents.specs.declared.words.ExtentWord.{ExtentWord}
 use Rattle.line_grammar.specs.Reads.{Reads}
-use Rattle.line_grammar.specs.Sentences.{Sentence, New, Define, View}
+use Rattle.line_grammar.specs.Sentences.{New, Define, View}
 use Rattle.line_grammar.specs.declared.version.Version.TheVariants.{Two}
 use Rattle.kept_tables.specs.declared.mode.StoreMode.{StoreMode}
 use Rattle.kept_tables.specs.declared.mode.StoreMode.TheVariants.{Strict, Wrap}
-use Rattle.map_checks.specs.Mappings.{IsBuiltTerm}
 use Rattle.map_expr.specs.Terms.{Term}
 use Rattle.piece_bits.specs.Tables.{zeros}
-use Rattle.record_dim.specs.Trees.{Tree, Record, Fields}
-use Rattle.record_dim.specs.Leaves.{first_fault}
-use Rattle.record_dim.specs.declared.fault.MakeSchema.{MakeSchema}
-use Rattle.schema_lang.specs.Parsing.{IsFault}
-use Rattle.views.specs.Refusals.{IsNoView}
+use Rattle.record_dim.specs.Trees.{Record}
 use Rattle.views.specs.Tables.{Table, owners_of, leaf_count_of}
 use Rattle.views.specs.Tallies.{no_tally}
-use Rattle.c_lines.specs.declared.fault.LinesFault.{LinesFault}
-use Rattle.c_lines.specs.declared.fault.LinesFault.TheVariants as fault
 
 -- how a view stores, by whether its line has the word `wrap`
 abbrev pub mode_by : Bool → StoreMode
@@ -34,15 +27,16 @@ pub record IsZeros (new : New) (table : Table) : Type 0 where
   pub rows : table.rows ≡ zeros (length (indices table.extents)) (leaf_count_of table)
   pub tally : table.tally ≡ no_tally table.mapping (owners_of table) (leaf_count_of table)
 
--- the texts are a line that names a record, and one that makes a view of it, in the second version of the language
-pub record AreLines (record_text view_text : List ℕ) (name : List ℕ) (tree : Tree) (new : New) : Type 0 where
-  pub names : Reads Two record_text (Define name tree)
-  pub makes : Reads Two view_text (View new)
-  pub known : new.schema ≡ name
+-- a text is a line, in the second version of the language, that makes a view of these words
+abbrev pub MakesView : List ℕ → List ℕ → List ExtentWord → Bool → Term → Type 0
+MakesView text schema words wrap term =
+    (name : List ℕ) × Reads Two text (View (record { name = name; schema = schema; words = words; wrap = wrap; term = term }))
 
--- the table is the one that they describe
-pub record IsDescribed (record_text view_text : List ℕ) (table : Table) : Type 0 where
+-- a text names a record, and another makes a view of it, of which this table is the one of zeros
+pub record IsDescribed (first second : List ℕ) (table : Table) : Type 0 where
   pub name : List ℕ
   pub new : New
-  pub lines : AreLines record_text view_text name (Record table.fields) new
+  pub names : Reads Two first (Define name (Record table.fields))
+  pub makes : Reads Two second (View new)
+  pub known : new.schema ≡ name
   pub zeros : IsZeros new table

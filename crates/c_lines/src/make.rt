@@ -8,7 +8,7 @@ ghost use Rattle.map_checks.specs.Mappings.{IsBuiltTerm};
 ghost use Rattle.map_expr.specs.Terms.{term_of};
 ghost use Rattle.record_dim.specs.Schemas.{schema_fields};
 ghost use Rattle.record_dim.specs.Trees.{Record, IsRecord, tree_of};
-ghost use Rattle.c_lines.specs.Lines.{mode_by, IsDescribed, IsZeros};
+ghost use Rattle.c_lines.specs.Lines.{mode_by, IsDescribed, MakesView};
 
 use crate::fault::LinesFault;
 use extents::{BadExtents, ExtentWord, Extents, Shape};
@@ -24,11 +24,11 @@ const MAX_BYTES: u64 = 1 << 28;
 
 /// The view of zeros that a `record` line and a `view` line of that record describe. Its extents are numbers, and no name stands in its
 /// mapping.
-pub fn new_view(alloc: Global, record: &[u8], view: &[u8]) -> Result<View, LinesFault>
-    ensures { IfOk result (IsDescribed record.now view.now) }
+pub fn new_view(alloc: Global, first: &[u8], second: &[u8]) -> Result<View, LinesFault>
+    ensures { IfOk result (IsDescribed first.now second.now) }
 {
-    let named = named_record(alloc, record)?;
-    let new = new_line(alloc, view)?;
+    let named = named_record(alloc, first)?;
+    let new = new_line(alloc, second)?;
     if new.schema != named.name {
         return Err(LinesFault::Unknown);
     }
@@ -84,6 +84,7 @@ fn named_record(alloc: Global, text: &[u8]) -> Result<NamedRecord, LinesFault>
 
 // What a line makes a view of.
 fn new_line(alloc: Global, text: &[u8]) -> Result<NewLine, LinesFault>
+    ensures { IfOk result (λ new. MakesView text.now new.schema new.words new.wrap (term_of new.expr)) }
 {
     if text.len() > MAX_LINE_BYTES {
         return Err(LinesFault::Long);
