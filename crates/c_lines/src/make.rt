@@ -1,13 +1,17 @@
 // A view of the two lines that describe it.
 ghost use Rattle.std.specs.Prelude.{◌≡◌, ◌≤◌, true, false, IfOk, IfErr, OnOk, None, length};
+ghost use Rattle.extents.specs.Indices.{indices};
 ghost use Rattle.extents.specs.Shapes.{extents_for};
 ghost use Rattle.line_grammar.specs.Reads.{Reads};
 ghost use Rattle.line_grammar.specs.Sentences.{Define, View};
 ghost use Rattle.line_grammar.specs.declared.version.Version.TheVariants.{Two};
 ghost use Rattle.map_checks.specs.Mappings.{IsBuiltTerm};
 ghost use Rattle.map_expr.specs.Terms.{term_of};
+ghost use Rattle.piece_bits.specs.Tables.{zeros};
 ghost use Rattle.record_dim.specs.Schemas.{schema_fields};
 ghost use Rattle.record_dim.specs.Trees.{Record, IsRecord, tree_of};
+ghost use Rattle.views.specs.Tables.{leaf_count_of, owners_of};
+ghost use Rattle.views.specs.Tallies.{no_tally};
 ghost use Rattle.c_lines.specs.Lines.{mode_by, IsDescribed, MakesView};
 
 use crate::fault::LinesFault;
@@ -29,6 +33,22 @@ pub fn new_view(alloc: Global, first: &[u8], second: &[u8]) -> Result<View, Line
 {
     let named = named_record(alloc, first)?;
     let new = new_line(alloc, second)?;
+    let made = view_of(alloc, &named, &new);
+    drop(new);
+    drop(named);
+    made
+}
+
+// The view of zeros of a record that a line makes.
+fn view_of(alloc: Global, named: &NamedRecord, new: &NewLine) -> Result<View, LinesFault>
+    ensures known { OnOk result (new.now.schema ≡ named.now.name) }
+    ensures fields { IfOk result (λ table. table.fields ≡ schema_fields named.now.schema) }
+    ensures extents { IfOk result (λ table. table.extents ≡ extents_for new.now.words None) }
+    ensures mapping { IfOk result (λ table. table.mapping ≡ term_of new.now.expr) }
+    ensures mode { IfOk result (λ table. table.mode ≡ mode_by new.now.wrap) }
+    ensures rows { IfOk result (λ table. table.rows ≡ zeros (length (indices table.extents)) (leaf_count_of table)) }
+    ensures tally { IfOk result (λ table. table.tally ≡ no_tally table.mapping (owners_of table) (leaf_count_of table)) }
+{
     if new.schema != named.name {
         return Err(LinesFault::Unknown);
     }
@@ -36,12 +56,13 @@ pub fn new_view(alloc: Global, first: &[u8], second: &[u8]) -> Result<View, Line
         return Err(LinesFault::Named);
     }
     let extents = extents_of(new.words.as_slice())?;
+    let mode = mode_by(new.wrap);
     match View::new_within(
         alloc,
         &named.schema,
         extents,
         &new.expr,
-        mode_by(new.wrap),
+        mode,
         MAX_BYTES,
     ) {
         Ok(made) => Ok(made),
@@ -72,13 +93,19 @@ fn named_record(alloc: Global, text: &[u8]) -> Result<NamedRecord, LinesFault>
     if text.len() > MAX_LINE_BYTES {
         return Err(LinesFault::Long);
     }
-    match parse_line(alloc, text, Version::Two) {
-        Ok(Line::Define { name, dim }) => match Schema::new(alloc, dim) {
+    let line = match parse_line(alloc, text, Version::Two) {
+        Ok(line) => line,
+        Err(fault) => return Err(LinesFault::Record(fault)),
+    };
+    match line {
+        Line::Define { name, dim } => match Schema::new(alloc, dim) {
             Ok(schema) => Ok(NamedRecord { name, schema }),
             Err(fault) => Err(LinesFault::Schema(fault)),
         },
-        Ok(_) => Err(LinesFault::Other),
-        Err(fault) => Err(LinesFault::Record(fault)),
+        other => {
+            drop(other);
+            Err(LinesFault::Other)
+        }
     }
 }
 
@@ -89,21 +116,27 @@ fn new_line(alloc: Global, text: &[u8]) -> Result<NewLine, LinesFault>
     if text.len() > MAX_LINE_BYTES {
         return Err(LinesFault::Long);
     }
-    match parse_line(alloc, text, Version::Two) {
-        Ok(Line::View {
+    let line = match parse_line(alloc, text, Version::Two) {
+        Ok(line) => line,
+        Err(fault) => return Err(LinesFault::View(fault)),
+    };
+    match line {
+        Line::View {
             name: _,
             schema,
             words,
             wrap,
             expr,
-        }) => Ok(NewLine {
+        } => Ok(NewLine {
             schema,
             words,
             wrap,
             expr,
         }),
-        Ok(_) => Err(LinesFault::Other),
-        Err(fault) => Err(LinesFault::View(fault)),
+        other => {
+            drop(other);
+            Err(LinesFault::Other)
+        }
     }
 }
 
