@@ -1,2 +1,7 @@
+pub mod Each
+pub mod Inside
 pub mod Limits
 pub mod NameTables
+pub mod Passes
+pub mod Reaches
+pub mod Terms

@@ -7,3 +7,6 @@ pub mod Places
 pub mod PlacesLaws
 pub mod Gives
 pub mod GivesLaws
+pub mod Reach
+pub mod Stencils
+pub mod Questions

@@ -26,7 +26,8 @@ pub fn leaf_of(alloc: Global, view: &View, path: &Path) -> Result<usize, StepFau
     }
 }
 
-fn unknown_path(path: Path) -> StepFault
+/// The refusal of a path that names nothing.
+pub(crate) fn unknown_path(path: Path) -> StepFault
     ensures { result ≡ StepFault.Command (CommandFault.Unknown (UnknownName.Path path)) }
 {
     StepFault::Command(CommandFault::Unknown(UnknownName::Path(path)))

@@ -1,6 +1,7 @@
 //! The tests that refuse a command of a session, one for each cause.
 #![tactic(auto)]
 
+mod advices;
 mod entries;
 mod entry_list;
 mod fault;
@@ -11,8 +12,11 @@ mod mapping_entry;
 mod mappings;
 mod named_entry;
 mod names;
+mod stencils;
 mod tables;
+mod windows;
 
+pub use advices::{Question, asked};
 pub use entries::{RecordEntry, ViewEntry, ViewList};
 pub use entry_list::{EntryList, MappingList, RecordList};
 pub use fault::StepFault;
@@ -22,4 +26,6 @@ pub use mapping_entry::MappingEntry;
 pub use mappings::nameless;
 pub use named_entry::NamedEntry;
 pub use names::{free_view, known_view, schema_of};
+pub use stencils::{FitStencil, fit_stencil};
 pub use tables::{MAX_LIVE_BYTES, has_room, live_bytes, made, resolved, shaped};
+pub use windows::windowed;

@@ -63,14 +63,18 @@ outside-first span spans i (x ∷ xs) e =
 none-of : (f g : ℕ → List (List ℕ)) (a n : ℕ) → ((i : ℕ) → a ≤ i → i < a + n → f i ≡ []) → flat_map f (range_with_len a n) ≡ []
 none-of f g a zero none = refl
 none-of f g a (suc n) none =
-    ap (λ (w : List (List ℕ)). w ++ flat_map f (range_with_len (a + 1) n)) (none a (omega arith) (omega arith)) ∙ none-of f g (a + 1) n (λ i low high. none i (omega (arith, low)) (omega (arith, high)))
+    ap (λ (w : List (List ℕ)). w ++ flat_map f (range_with_len (a + 1) n)) (none a (omega arith) (omega arith))
+    ∙ none-of f g (a + 1) n (λ i low high. none i (omega (arith, low)) (omega (arith, high)))
 
 all-of : (f g : ℕ → List (List ℕ)) (a b n : ℕ) → ((k : ℕ) → k < n → f (a + k) ≡ g (b + k)) → flat_map f (range_with_len a n) ≡ flat_map g (range_with_len b n)
 all-of f g a b zero same = refl
 all-of f g a b (suc n) same =
     (let here : f a ≡ g b = (let one : a ≡ a + 0 = omega arith in let two : b + 0 ≡ b = omega arith in ap f one ∙ same 0 (omega arith) ∙ ap g two) in
     ap (λ (w : List (List ℕ)). w ++ flat_map f (range_with_len (a + 1) n)) here
-    ∙ ap (λ (w : List (List ℕ)). g b ++ w) (all-of f g (a + 1) (b + 1) n (λ k low. (let one : a + 1 + k ≡ a + (k + 1) = omega arith in let two : b + (k + 1) ≡ b + 1 + k = omega arith in ap f one ∙ same (k + 1) (omega (arith, low)) ∙ ap g two))))
+    ∙ ap (λ (w : List (List ℕ)). g b ++ w) (all-of f g (a + 1) (b + 1) n (λ k low.
+    (let one : a + 1 + k ≡ a + (k + 1) = omega arith in
+    let two : b + (k + 1) ≡ b + 1 + k = omega arith in
+    ap f one ∙ same (k + 1) (omega (arith, low)) ∙ ap g two))))
 
 test-in : (span : Span) (i : ℕ) → span.from ≤ i → i < span.end → (nat_le span.from i && nat_lt i span.end) ≡ true
 test-in span i low high = and_from (nat_le span.from i) (nat_lt i span.end) (le-leb span.from i low) (lt-ltb i span.end high)

@@ -78,6 +78,13 @@ impl Window {
         self.extents
     }
 
+    /// The extents of the window as an array of its own.
+    pub fn inner(&self) -> Extents
+        ensures { result ≡ sizes self.now.1 }
+    {
+        self.inner
+    }
+
     /// The number of rows.
     pub fn count(&self) -> u64
         ensures rows { result ≡ length (rows_in self.now.0 self.now.1) }

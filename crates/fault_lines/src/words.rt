@@ -1,13 +1,13 @@
 // The words of each fault.
 ghost use Rattle.std.specs.Prelude.{◌≡◌, [], ◌++◌, codes};
-ghost use Rattle.worlds.specs.FaultTexts.{fault_words, unknown_words, record_words, extents_words, mapping_words, kernel_words, file_words, actors_words};
+ghost use Rattle.worlds.specs.FaultTexts.{fault_words, unknown_words, record_words, extents_words, mapping_words, kernel_words, file_words, actors_words, stencil_words, advice_words};
 ghost use Rattle.fault_lines.specs.Details.{detail_text, place_text};
 
 use crate::detail::{Detail, Words};
 use extents::BadExtents;
 use map_expr::BadMapping;
 use record_dim::{BadRecord, Text};
-use worlds::{BadActors, BadFile, BadKernel, CommandFault, UnknownName};
+use worlds::{BadActors, BadAdvice, BadFile, BadKernel, BadStencil, CommandFault, UnknownName};
 
 /// The words of a fault.
 pub fn words_of(fault: &CommandFault) -> Words<'_>
@@ -21,6 +21,7 @@ pub fn words_of(fault: &CommandFault) -> Words<'_>
         CommandFault::ScriptTooLong => name_alone("ScriptTooLong"),
         CommandFault::TooBig => name_alone("TooBig"),
         CommandFault::BadIndex => name_alone("BadIndex"),
+        CommandFault::BadWindow => name_alone("BadWindow"),
         CommandFault::Empty => name_alone("Empty"),
         CommandFault::Mismatch => name_alone("Mismatch"),
         CommandFault::NotCounted => name_alone("NotCounted"),
@@ -38,6 +39,8 @@ pub fn words_of(fault: &CommandFault) -> Words<'_>
         CommandFault::BadKernel(bad) => words("BadKernel ", Detail::Text(kernel_words(*bad))),
         CommandFault::BadFile(bad) => words("BadFile ", Detail::Text(file_words(*bad))),
         CommandFault::BadActors(bad) => words("BadActors ", Detail::Text(actors_words(*bad))),
+        CommandFault::BadStencil(bad) => words("BadStencil ", Detail::Text(stencil_words(*bad))),
+        CommandFault::BadAdvice(bad) => words("BadAdvice ", Detail::Text(advice_words(*bad))),
         CommandFault::SharedByte { blob, byte } => {
             let (blob, byte) = (*blob, *byte);
             words("SharedByte blob ", Detail::Byte { blob, byte })
@@ -158,5 +161,26 @@ fn actors_words(bad: BadActors) -> &'static str
     match bad {
         BadActors::Cuts => "Cuts",
         BadActors::Turns => "Turns",
+    }
+}
+
+fn stencil_words(bad: BadStencil) -> &'static str
+    ensures { result.now ≡ stencil_words bad }
+{
+    match bad {
+        BadStencil::Reach => "Reach",
+        BadStencil::Weight => "Weight",
+        BadStencil::Terms => "Terms",
+        BadStencil::Rounds => "Rounds",
+    }
+}
+
+fn advice_words(bad: BadAdvice) -> &'static str
+    ensures { result.now ≡ advice_words bad }
+{
+    match bad {
+        BadAdvice::Granule => "Granule",
+        BadAdvice::Passes => "Passes",
+        BadAdvice::Candidates => "Candidates",
     }
 }

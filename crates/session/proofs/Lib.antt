@@ -1,6 +1,7 @@
 pub mod Acting
 pub mod Exits
 pub mod Views
+pub mod Windowed
 pub mod Named
 pub mod Copies
 pub mod CopySteps

@@ -16,8 +16,10 @@ mod relayout;
 mod save;
 mod session;
 mod show;
+mod stencils;
 mod update;
 mod view;
+mod windows;
 mod work;
 
 pub use actors::{Assign, UpdateFault, UpdateKind, update_rows};
@@ -26,4 +28,6 @@ pub use command_checks::{
 };
 pub use fault_lines::write_fault;
 pub use session::Session;
-pub use worlds::{BadActors, BadFile, BadKernel, CommandFault, UnknownName};
+pub use worlds::{
+    BadActors, BadAdvice, BadFile, BadKernel, BadStencil, CommandFault, UnknownName,
+};

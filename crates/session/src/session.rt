@@ -13,11 +13,14 @@ use crate::kernel::RunKernel;
 use crate::reduce::{Count, Reduce};
 use crate::save::Save;
 use crate::show::{Bytes, Counts, Heat, Layout, Print};
+use crate::stencils::Stencil;
 use crate::update::Update;
 use crate::view::New;
+use crate::windows::PrintWindow;
 use crate::work::Work;
 use command_checks::{
     MappingEntry, MappingList, RecordEntry, RecordList, StepFault, ViewEntry, ViewList, known_view,
+    live_bytes,
 };
 use layout_io::{Shelf, Sink};
 use line_grammar::Line;
@@ -159,6 +162,27 @@ impl Session {
             Line::Layout(view) => self.on_view(*view, &Layout, out, steps),
             Line::Bytes { view, blob } => self.on_view(*view, &Bytes { blob }, out, steps),
             Line::SaveView(view) => self.on_view(*view, &Save, out, steps),
+            Line::PrintWindow { view, window } => {
+                self.on_view(*view, &PrintWindow { window }, out, steps)
+            }
+            Line::Stencil {
+                view,
+                window,
+                path,
+                terms,
+                divisor,
+                rounds,
+            } => {
+                let work = Stencil {
+                    live: live_bytes(self.views.as_slice()),
+                    window,
+                    path,
+                    terms,
+                    divisor,
+                    rounds,
+                };
+                self.on_view(*view, &work, out, steps)
+            }
             Line::Load { .. } | Line::OpenFile { .. } => unreachable!(),
         }
     }

@@ -38,7 +38,8 @@ some_kept f None = refl
 some_kept f (Some x) = refl
 
 -- counts of granules
-lengths_from : (times : ℕ) (hot : ℕ → ℕ → _) (n : ℕ) (blobs : List (List ℕ)) → map (length {A = ℕ}) (map (λ (blob : ℕ × List ℕ). warmed_blob times (hot blob.0) blob.1) (enumerate_from n blobs)) ≡ map (length {A = ℕ}) blobs
+lengths_from : (times : ℕ) (hot : ℕ → ℕ → _) (n : ℕ) (blobs : List (List ℕ))
+    → map (length {A = ℕ}) (map (λ (blob : ℕ × List ℕ). warmed_blob times (hot blob.0) blob.1) (enumerate_from n blobs)) ≡ map (length {A = ℕ}) blobs
 lengths_from times hot n [] = refl
 lengths_from times hot n (counts ∷ blobs) =
     ap (λ (first : ℕ). first ∷ map (length {A = ℕ}) (map (λ (blob : ℕ × List ℕ). warmed_blob times (hot blob.0) blob.1) (enumerate_from (n + 1) blobs))) (length-warmed_blob times (hot n) counts)
@@ -51,7 +52,8 @@ heated_granules layout (Write row leaf) heat has = lengths_from 1 (is_hot layout
 pub raised_granules : (layout : List (List Owner)) (times row leaf : ℕ) (heat : HeatCounts) → HasGranules layout heat → HasGranules layout (granules_raised times layout row leaf heat)
 raised_granules layout times row leaf heat has = lengths_from times (is_hot layout heat.granule row leaf) 0 heat.blobs ∙ has
 
-granules_kept : (layout : List (List Owner)) (access : Access) (heat : Option HeatCounts) → IfSome heat (HasGranules layout) → IfSome (option_map (heat_touched layout access) heat) (HasGranules layout)
+granules_kept : (layout : List (List Owner)) (access : Access) (heat : Option HeatCounts)
+    → IfSome heat (HasGranules layout) → IfSome (option_map (heat_touched layout access) heat) (HasGranules layout)
 granules_kept layout access None has = tt
 granules_kept layout access (Some heat) has = heated_granules layout access heat has
 
@@ -62,7 +64,8 @@ granule_kept layout (Read row leaf) (Some heat) = refl
 granule_kept layout (Write row leaf) (Some heat) = refl
 
 -- an access leaves as many counts
-pub tallied_kept : {term : Term} {layout : List (List Owner)} {leaves : ℕ} {tally : Tally} (access : Access) → IsTallied term layout leaves tally → IsTallied term layout leaves (touched layout tally access)
+pub tallied_kept : {term : Term} {layout : List (List Owner)} {leaves : ℕ} {tally : Tally} (access : Access)
+    → IsTallied term layout leaves tally → IsTallied term layout leaves (touched layout tally access)
 tallied_kept {term} {layout} {leaves} {tally} access has = record {
   counted = some_kept (counts_touched access) tally.counts ∙ has.counted;
   each_leaf = leaves_kept access tally.counts leaves has.each_leaf;
@@ -106,7 +109,8 @@ idle_touched layout tally access counts heat =
     ap (λ (c : Option LeafCounts). let t : Tally = record { counts = c; heat = option_map (heat_touched layout access) tally.heat } in t) same_counts
     ∙ ap (λ (h : Option HeatCounts). let t : Tally = record { counts = tally.counts; heat = h } in t) same_heat
 
-pub idle_tallied : {term : Term} {layout : List (List Owner)} {leaves : ℕ} {tally : Tally} (access : Access) → is_counted term ≡ false → IsTallied term layout leaves tally → tallied layout tally (access ∷ []) ≡ tally
+pub idle_tallied : {term : Term} {layout : List (List Owner)} {leaves : ℕ} {tally : Tally} (access : Access)
+    → is_counted term ≡ false → IsTallied term layout leaves tally → tallied layout tally (access ∷ []) ≡ tally
 idle_tallied {term} {layout} {leaves} {tally} access idle has =
     let none = uncounted term idle in
     tallied-one layout tally access
@@ -118,13 +122,15 @@ idle_log layout tally [] counts heat = refl
 idle_log layout tally (access ∷ log) counts heat =
     ap (λ (t : Tally). fold (touched layout) t log) (idle_touched layout tally access counts heat) ∙ idle_log layout tally log counts heat
 
-pub idle_logged : {term : Term} {layout : List (List Owner)} {leaves : ℕ} {tally : Tally} (log : List Access) → is_counted term ≡ false → IsTallied term layout leaves tally → tallied layout tally log ≡ tally
+pub idle_logged : {term : Term} {layout : List (List Owner)} {leaves : ℕ} {tally : Tally} (log : List Access)
+    → is_counted term ≡ false → IsTallied term layout leaves tally → tallied layout tally log ≡ tally
 idle_logged {term} {layout} {leaves} {tally} log idle has =
     let none = uncounted term idle in
     idle_log layout tally log (none_of tally.counts (has.counted ∙ none.0)) (none_mapped (λ (h : HeatCounts). h.granule) tally.heat (has.granule ∙ none.1))
 
 -- accesses leave as many counts
-pub log_kept : {term : Term} {layout : List (List Owner)} {leaves : ℕ} (tally : Tally) (log : List Access) → IsTallied term layout leaves tally → IsTallied term layout leaves (tallied layout tally log)
+pub log_kept : {term : Term} {layout : List (List Owner)} {leaves : ℕ} (tally : Tally) (log : List Access)
+    → IsTallied term layout leaves tally → IsTallied term layout leaves (tallied layout tally log)
 unfolding tallied
 log_kept tally [] has = has
 log_kept {term} {layout} {leaves} tally (access ∷ log) has = log_kept (touched layout tally access) log (tallied_kept access has)

@@ -19,5 +19,8 @@ pub mod Kernel
 pub mod Show
 pub mod Files
 pub mod Actors
+pub mod Windows
+pub mod Stencil
+pub mod Advise
 pub mod Step
 pub mod FaultTexts

@@ -1,5 +1,5 @@
 -- What becomes of a command, and the tests that refuse it.
-use Rattle.std.specs.Prelude.{ℕ, Bool, List, [], Option, Some, None, Result, Ok, Err, if◌then◌else◌, is_some}
+use Rattle.std.specs.Prelude.{ℕ, Bool, List, [], ◌∷◌, Option, Some, None, Result, Ok, Err, if◌then◌else◌, is_some}
 use Rattle.worlds.specs.Worlds.{World, Entry, found}
 use Rattle.worlds.specs.declared.fault.CommandFault.{CommandFault}
 use Rattle.worlds.specs.declared.fault.CommandFault.TheVariants.{Unknown, Taken}
@@ -33,6 +33,14 @@ quiet world = Goes (record { held = world; text = [] })
 -- a command that changes nothing
 abbrev pub shows : World → List ℕ → Outcome Left
 shows world text = Goes (record { held = world; text = text })
+
+-- one outcome for each of a list, and all that they give; the first refusal is that of the whole
+abbrev pub each : {A B : Type 0} → (A → Outcome B) → List A → Outcome (List B)
+each outcome [] = Goes []
+each outcome (x ∷ xs) = do
+  y ← outcome x
+  ys ← each outcome xs
+  Goes (y ∷ ys)
 
 -- refused where the test holds
 abbrev pub refused_if : Bool → CommandFault → Outcome (Unit {0})

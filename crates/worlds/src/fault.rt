@@ -19,6 +19,8 @@ pub enum CommandFault {
     TooBig,
     /// The index has another rank or lies outside the extents, or there is no blob of this number.
     BadIndex,
+    /// The spans are no window of the extents.
+    BadWindow,
     /// There is no least and no greatest value, since the view has no row.
     Empty,
     /// Two views have other records or other extents.
@@ -43,6 +45,8 @@ pub enum CommandFault {
     BadKernel(BadKernel),
     BadFile(BadFile),
     BadActors(BadActors),
+    BadStencil(BadStencil),
+    BadAdvice(BadAdvice),
     /// The byte holds bits of rows of two actors.
     SharedByte { blob: u64, byte: u64 },
     /// The row of the dataset has no field in the leaf's column.
@@ -80,6 +84,30 @@ pub enum BadActors {
     Cuts,
     /// There are more than 2^20 turns.
     Turns,
+}
+
+/// Why a stencil is refused.
+#[derive(Clone, Copy)]
+pub enum BadStencil {
+    /// The offsets of a term have another rank or are out of range, or from some row of the window it reads outside the extents.
+    Reach,
+    /// A weight or the divisor is out of range.
+    Weight,
+    /// There are more than 64 terms.
+    Terms,
+    /// There are more than 1,000 rounds.
+    Rounds,
+}
+
+/// Why no layout is advised.
+#[derive(Clone, Copy)]
+pub enum BadAdvice {
+    /// A granule has not a power of two of bytes, from 1 to 4,096.
+    Granule,
+    /// There are more than 16 passes.
+    Passes,
+    /// There are more than 16 candidates.
+    Candidates,
 }
 
 /// A name, a path or an index that names nothing.

@@ -1,0 +1,53 @@
+-- Cells that are chosen one after another.
+use Rattle.std.proofs.Common.{◌≡◌, ℕ, ◌+◌, ◌<◌, ◌≤◌, ◌==◌, Bool, true, false, List, [], ◌∷◌, ◌++◌, All, length, get_or, refl, sym, ap, ◌∙◌, ⊎_elim, arith}
+use Rattle.std.specs.Prelude.{◌||◌}
+use Rattle.std.specs.List.{list_any}
+use Rattle.std.proofs.lemmas.Bool.{ne_eqb, eq-eqb, cases_eq}
+use Rattle.std.proofs.lemmas.List.Elements.{All-push}
+use Rattle.std.proofs.lemmas.List.Folds.{list_any-append, list_any_none}
+
+-- of the first so many cells those are in the list that are wanted
+pub record AreChosen (wanted : ℕ → Bool) (count : ℕ) (chosen : List ℕ) : Type 0 where
+  pub inside : All (λ cell. cell < count) chosen
+  pub right : (cell : ℕ) → cell < count → list_any (λ other. other == cell) chosen ≡ wanted cell
+
+pub none_chosen : (wanted : ℕ → Bool) → AreChosen wanted 0 []
+none_chosen wanted = record { inside = λ k d l. absurd (omega (arith, l)); right = λ cell l. absurd (omega (arith, l)) }
+
+wider : (count : ℕ) (chosen : List ℕ) → All (λ cell. cell < count) chosen → All (λ cell. cell < count + 1) chosen
+wider count chosen inside = λ k d l. omega (arith, inside k d l)
+
+absent : (count : ℕ) (chosen : List ℕ) → All (λ cell. cell < count) chosen → list_any (λ other. other == count) chosen ≡ false
+absent count chosen inside = list_any_none (λ other. other == count) chosen (λ k d l. ne_eqb (get_or chosen k d) count (λ e. omega (arith, e, inside k d l)))
+
+pub one_left : (wanted : ℕ → Bool) (count : ℕ) (chosen : List ℕ) → AreChosen wanted count chosen → wanted count ≡ false → AreChosen wanted (count + 1) chosen
+one_left wanted count chosen so lacks = record {
+  inside = wider count chosen so.inside;
+  right = λ cell l. ⊎_elim
+      (λ (same : cell ≡ count). ap (λ c. list_any (λ other. other == c) chosen) same ∙ absent count chosen so.inside ∙ sym lacks ∙ ap wanted (sym same))
+      (λ (other : cell ≡ count → ⊥). so.right cell (omega (arith, l, other)))
+      (cases_eq cell count);
+}
+
+or_true : (b : Bool) → (b || (true || false)) ≡ true
+or_true true = refl
+or_true false = refl
+
+or_no : (b : Bool) → (b || (false || false)) ≡ b
+or_no true = refl
+or_no false = refl
+
+pub one_taken : (wanted : ℕ → Bool) (count : ℕ) (chosen : List ℕ) → AreChosen wanted count chosen → wanted count ≡ true → AreChosen wanted (count + 1) (chosen ++ count ∷ [])
+one_taken wanted count chosen so wants = record {
+  inside = All-push (λ cell. cell < count + 1) chosen count (wider count chosen so.inside) (omega arith);
+  right = λ cell l.
+      (let parts = list_any-append (λ other. other == cell) chosen (count ∷ []) in
+      ⊎_elim
+      (λ (same : cell ≡ count).
+      parts ∙ ap (λ b. list_any (λ other. other == cell) chosen || (b || false)) (eq-eqb count cell (sym same)) ∙ or_true (list_any (λ other. other == cell) chosen)
+      ∙ sym wants ∙ ap wanted (sym same))
+      (λ (apart : cell ≡ count → ⊥).
+      parts ∙ ap (λ b. list_any (λ other. other == cell) chosen || (b || false)) (ne_eqb count cell (λ e. apart (sym e))) ∙ or_no (list_any (λ other. other == cell) chosen)
+      ∙ so.right cell (omega (arith, l, apart)))
+      (cases_eq cell count));
+}

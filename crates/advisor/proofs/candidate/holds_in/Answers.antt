@@ -1,0 +1,30 @@
+use Rattle.std.proofs.Common.{◌≡◌, ◌<◌, ◌++◌, ◌∷◌, [], false, All, List, get_or, take, map, length, sym, ap, ◌∙◌, arith, subst}
+use Rattle.std.proofs.lemmas.List.{take_more, take_all, length-map, get_or-map}
+use Rattle.std.proofs.lemmas.Option.{get_or_from_slice_get}
+use Rattle.places.specs.declared.piece.Hold.{Hold}
+use Rattle.advisor.specs.Sides.{IsHold}
+use Rattle.advisor.proofs.candidate.holds_in.Goals as goal
+
+abbrev none : Hold
+none = record { signed = false; width = 0 }
+
+pub loop-cell-preserved : goal.loop-cell-preserved
+loop-cell-preserved g c =
+    let holds = g.M.Mapping.hold_list c.args.mapping.now in
+    let cell = c.loop-cell.cell in
+    let here : get_or holds cell none ≡ c.hold.result = get_or_from_slice_get holds cell c.hold.result none c.hold.ensures in
+    c.in_ok-push.ensures.ok ∙ ap (λ (hs : List Hold). hs ++ c.hold.result ∷ []) c.loop-cell.invariant
+    ∙ sym (take_more holds cell none (omega (arith, c.laws_of.ensures.paired)) ∙ ap (λ (h : Hold). take cell holds ++ h ∷ []) here)
+
+pub returns-clause-holds : goal.returns-clause-holds
+returns-clause-holds g c = c.loop-cell.invariant ∙ take_all c.loop-cell.cell (g.M.Mapping.hold_list c.args.mapping.now) (omega (arith, c.laws_of.ensures.paired))
+
+pub returns-clause-each : goal.returns-clause-each
+returns-clause-each g c =
+    let holds = g.M.Mapping.hold_list c.args.mapping.now in
+    let same : c.loop-cell.holds ≡ holds = c.loop-cell.invariant ∙ take_all c.loop-cell.cell holds (omega (arith, c.laws_of.ensures.paired)) in
+    let laid = c.laws_of.ensures.lawful in
+    subst (λ (hs : List Hold). All IsHold hs) (sym same) (λ k d l.
+    (let inside : k < length (map (λ (h : Hold). h.width) holds) = omega (arith, l, length-map holds (λ (h : Hold). h.width)) in
+    let width : get_or (map (λ (h : Hold). h.width) holds) k 0 ≡ (get_or holds k d).width = get_or-map (λ (h : Hold). h.width) holds k d 0 l in
+    record { some = omega (arith, laid.wide k 0 inside, width); narrow = omega (arith, laid.narrow k 0 inside, width) }))

@@ -1,0 +1,7 @@
+use Rattle.std.proofs.Common.{get_or}
+use Rattle.advisor.specs.Passes.{reads, leaves_in}
+use Rattle.advisor.proofs.Chosen.{AreChosen}
+use Rattle.advisor.proofs.costs.cells_read.Given as goal
+
+abbrev pub invariant-loop-at : goal.invariant-loop-at
+invariant-loop-at l = AreChosen (λ cell. reads l.pass (get_or (leaves_in l.cells) cell 0)) l.at l.read.items

@@ -1,0 +1,37 @@
+use Rattle.std.proofs.Common.{◌≡◌, ◌+◌, ◌*◌, ℕ, List, length, map, get_or, take, sum_by, sym, ap, ◌∙◌, arith}
+use Rattle.std.specs.List.{list_any}
+use Rattle.std.specs.Prelude.{◌==◌, []}
+use Rattle.std.proofs.lemmas.List.{length-map, get_or_read}
+use Rattle.std.proofs.lemmas.List.Sums.{sum_by_more}
+use Rattle.places.specs.declared.piece.Hold.{Hold}
+use Rattle.advisor.specs.declared.pass.Pass.{Pass}
+use Rattle.advisor.specs.Touched.{touched}
+use Rattle.advisor.specs.TouchedLaws.{touched_alike}
+use Rattle.advisor.specs.Passes.{reads, leaves_in}
+use Rattle.advisor.proofs.costs.part_cost.Goals as goal
+
+pub loop-pass-preserved : goal.loop-pass-preserved
+loop-pass-preserved g c =
+    let m = c.args.mapping.now in
+    let layout = g.M.Mapping.layout m in
+    let holds = g.M.Mapping.hold_list m in
+    let widths : List ℕ = map (λ (h : Hold). h.width) holds in
+    let leaves = leaves_in c.args.cells.now in
+    let passes = c.args.passes.now in
+    let none : Pass = record { leaves = []; times = 0 } in
+    let many : length widths ≡ length holds = length-map holds (λ (h : Hold). h.width) in
+    let pass : c.pass-item.result ≡ get_or passes c.loop-pass.pass-index none = get_or_read passes c.loop-pass.pass-index c.pass-item.result c.loop-pass-test.true c.pass-item.is none in
+    let wanted = λ (p : Pass) (cell : ℕ). reads p (get_or leaves cell 0) in
+    let same : touched (λ cell. list_any (λ other. other == cell) c.in_ok-read.read.items) c.args.granule layout ≡ touched (wanted c.pass-item.result) c.args.granule layout =
+    touched_alike layout (g.M.Mapping.slot_count m) widths c.laws_of.ensures.lawful (λ cell. list_any (λ other. other == cell) c.in_ok-read.read.items) (wanted c.pass-item.result)
+    (λ cell l. c.in_ok-read.ensures.read cell (omega (arith, l, many, c.laws_of.ensures.paired, c.requires.cells))) c.args.granule in
+    let count : c.in_ok-granules.granules ≡ touched (wanted c.pass-item.result) c.args.granule layout =
+    c.in_ok-granules.ensures.value ∙ ap (λ (xs : List ℕ). touched (λ cell. list_any (λ other. other == cell) xs) c.args.granule layout) c.as_slice.ensures.value ∙ same in
+    let costs : Pass → ℕ = λ p. p.times * touched (wanted p) c.args.granule layout in
+    let here : c.repeated-cost.result ≡ costs (get_or passes c.loop-pass.pass-index none) =
+    c.repeated-cost.ensures.value ∙ ap (λ (n : ℕ). c.pass-item.result.times * n) count ∙ ap costs pass in
+    let more = sum_by_more costs passes c.loop-pass.pass-index none (omega arith) in
+    record {
+      value = ap (λ (n : ℕ). n + c.repeated-cost.result) c.loop-pass.invariant.value ∙ ap (λ (n : ℕ). sum_by costs (take c.loop-pass.pass-index passes) + n) here ∙ sym more;
+      most = omega (arith, c.loop-pass.invariant.most, c.repeated-cost.ensures.most);
+    }

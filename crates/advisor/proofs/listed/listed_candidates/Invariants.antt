@@ -1,0 +1,13 @@
+use Rattle.std.proofs.Common.{◌≡◌, All, map, take, drop}
+use Rattle.map_expr.specs.Terms.{term_of}
+use Rattle.advisor.specs.Advice.{judge}
+use Rattle.advisor.specs.Judged.{first_fault}
+use Rattle.advisor.specs.Pools.{IsPriced, terms_in}
+use Rattle.advisor.proofs.listed.listed_candidates.Given as goal
+
+abbrev pub invariant-loop-at : goal.invariant-loop-at
+invariant-loop-at l = record {
+  priced : All (IsPriced l.view l.price.granule l.price.passes.now) l.pool.items;
+  terms : terms_in l.pool.items ≡ map term_of (take l.at l.listed);
+  fault : first_fault (judge l.view l.price.granule) 0 (map term_of l.listed) ≡ first_fault (judge l.view l.price.granule) l.at (map term_of (drop l.at l.listed));
+}

@@ -1,0 +1,19 @@
+use Rattle.std.proofs.Common.{List, map, ap, ◌∙◌, arith}
+use Rattle.advisor.specs.declared.candidate.Candidate.{Candidate}
+use Rattle.advisor.specs.declared.trials.Trial.{Trial}
+use Rattle.advisor.specs.Trials.{none_failed}
+use Rattle.advisor.proofs.Tried.{trials_now, marks_right}
+use Rattle.advisor.proofs.suits.mark_suiting.Goals as goal
+
+pub mark-requires-clause-inside : goal.mark-requires-clause-inside
+mark-requires-clause-inside g c =
+    let v = c.args.view.now in
+    let each = trials_now v.fields v.mode v.rows c.args.trials.now c.try_rows.new.trials c.requires.trials c.try_rows.ensures.tried in
+    λ k d l at e small. (let is = each at e small in let stored = c.requires.stored k d l in omega (arith, is.inside, stored.each_leaf))
+
+pub returns-clause-marks : goal.returns-clause-marks
+returns-clause-marks g c =
+    let v = c.args.view.now in
+    c.mark.ensures
+    ∙ ap (λ (ts : List Trial). map (λ (candidate : Candidate). none_failed candidate.holds ts) c.args.pool.now) c.try_rows.ensures.tried
+    ∙ marks_right v c.args.trials.now c.requires.trials c.requires.fresh c.args.pool.now c.requires.stored c.requires.all

@@ -1,0 +1,6 @@
+use Rattle.std.proofs.Common.{◌≡◌, take}
+use Rattle.views.specs.Tallies.{blob_lengths}
+use Rattle.advisor.proofs.touched.blob_lengths.Given as goal
+
+abbrev pub invariant-loop-blob : goal.invariant-loop-blob
+invariant-loop-blob g l = l.lengths.items ≡ blob_lengths (take l.blob (g.M.Mapping.layout l.mapping))

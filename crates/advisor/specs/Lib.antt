@@ -1,0 +1,11 @@
+pub mod Touched
+pub mod TouchedLaws
+pub mod Warm
+pub mod Passes
+pub mod Judged
+pub mod Suits
+pub mod Advice
+pub mod Sides
+pub mod Pools
+pub mod Trials
+pub mod Choices

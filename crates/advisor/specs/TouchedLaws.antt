@@ -1,0 +1,143 @@
+-- The granules that are touched are those that the accesses to some cells in all rows touch, and a split's are those of its sides.
+use Rattle.std.proofs.Common.{◌≡◌, ℕ, suc, ◌+◌, ◌*◌, ◌/◌, ◌<◌, ◌≤◌, ◌==◌, ◌&&◌, Bool, true, false, List, [], ◌∷◌, map, take, drop, length, get_or, sum_by, refl, sym, ap, ◌∙◌, arith}
+use Rattle.std.specs.Prelude.{◌||◌, not, count_by, if◌then◌else◌}
+use Rattle.std.specs.List.{list_any, range_with_len}
+use Rattle.std.proofs.Math.Path.{fun_ext}
+use Rattle.std.proofs.lemmas.Bool.{true≢false, and_parts, and_from, eqb-true, eq-eqb}
+use Rattle.std.proofs.lemmas.List.{length-map, take-map, drop-map, length-take, length-drop, get_or-take, get_or-drop, get_or_default}
+use Rattle.std.proofs.lemmas.List.Sums.{sum_by-append, sum_by-cons}
+use Rattle.std.proofs.lemmas.List.Folds.{Any-from_list_any, list_any_at}
+use Rattle.places.specs.Layout.{Owner, Pad, Bit, owner_at}
+use Rattle.places.specs.Laws.{IsLaidOut, IsBitOf}
+use Rattle.places.specs.Rules.{renamed, recelled, numbers_of, split}
+use Rattle.places.specs.Touched.{is_bit_of, is_hot}
+use Rattle.instrument.specs.Counters.{granules_of}
+use Rattle.advisor.specs.Touched.{is_bit_in, holds_bit, touched_blob, touched}
+
+-- a test along renamed owners
+any_map : {X Y : Type 0} (test : Y → Bool) (f : X → Y) (xs : List X) → list_any test (map f xs) ≡ list_any (λ x. test (f x)) xs
+any_map test f [] = refl
+any_map test f (x ∷ xs) = ap (λ b. test (f x) || b) (any_map test f xs)
+
+recelled_bit : (cells : List ℕ) (test : ℕ → Bool) (owner : Owner) →
+    is_bit_in test (renamed (λ slot cell bit. Bit slot (get_or cells cell 0) bit) owner) ≡ is_bit_in (λ cell. test (get_or cells cell 0)) owner
+recelled_bit cells test Pad = refl
+recelled_bit cells test (Bit slot cell bit) = refl
+
+-- cells under other numbers
+module _ (cells : List ℕ) (test : ℕ → Bool) (granule : ℕ) where
+  name : Owner → Owner
+  name owner = renamed (λ slot cell bit. Bit slot (get_or cells cell 0) bit) owner
+
+  held_renamed : (blob : List Owner) (at : ℕ) → holds_bit test granule (map name blob) at ≡ holds_bit (λ cell. test (get_or cells cell 0)) granule blob at
+  unfolding name
+  held_renamed blob at =
+      ap (λ owners. list_any (is_bit_in test) (take (8 * granule) owners)) (drop-map name (8 * granule * at) blob)
+      ∙ ap (list_any (is_bit_in test)) (take-map name (8 * granule) (drop (8 * granule * at) blob))
+      ∙ any_map (is_bit_in test) name (take (8 * granule) (drop (8 * granule * at) blob))
+      ∙ ap (λ t. list_any t (take (8 * granule) (drop (8 * granule * at) blob))) (fun_ext (λ owner. recelled_bit cells test owner))
+
+  blob_renamed : (blob : List Owner) → touched_blob test granule (map name blob) ≡ touched_blob (λ cell. test (get_or cells cell 0)) granule blob
+  unfolding name
+  blob_renamed blob =
+      ap (λ t. count_by t (range_with_len 0 (granules_of granule (length (map name blob) / 8)))) (fun_ext (λ at. held_renamed blob at))
+      ∙ ap (λ n. count_by (holds_bit (λ cell. test (get_or cells cell 0)) granule blob) (range_with_len 0 (granules_of granule (n / 8)))) (length-map blob name)
+
+  pub touched_recelled : (layout : List (List Owner)) → touched test granule (recelled cells layout) ≡ touched (λ cell. test (get_or cells cell 0)) granule layout
+  unfolding name
+  touched_recelled [] = refl
+  touched_recelled (blob ∷ blobs) =
+      sum_by-cons (touched_blob test granule) (map name blob) (recelled cells blobs)
+      ∙ (let one = blob_renamed blob in let rest = touched_recelled blobs in omega (arith, one, rest))
+      ∙ sym (sum_by-cons (touched_blob (λ cell. test (get_or cells cell 0)) granule) blob blobs)
+
+-- a split touches what its sides touch: they have blobs of their own
+pub touched_split : (test : ℕ → Bool) (granule : ℕ) (side : List Bool) (first rest : List (List Owner)) →
+    touched test granule (split side first rest)
+    ≡ touched (λ cell. test (get_or (numbers_of side) cell 0)) granule first + touched (λ cell. test (get_or (numbers_of (map not side)) cell 0)) granule rest
+touched_split test granule side first rest =
+    sum_by-append (touched_blob test granule) (recelled (numbers_of side) first) (recelled (numbers_of (map not side)) rest)
+    ∙ (let one = touched_recelled (numbers_of side) test granule first in let two = touched_recelled (numbers_of (map not side)) test granule rest in omega (arith, one, two))
+
+-- tests of which each gives the other
+pub same_tests : (one two : Bool) → (one ≡ true → two ≡ true) → (two ≡ true → one ≡ true) → one ≡ two
+same_tests true two to from = sym (to refl)
+same_tests false true to from = from refl
+same_tests false false to from = refl
+
+bit_is : (test : ℕ → Bool) (owner : Owner) → is_bit_in test owner ≡ true → (row : ℕ) × (cell : ℕ) × (k : ℕ) × (owner ≡ Bit row cell k) × (test cell ≡ true)
+bit_is test Pad e = absurd (true≢false (sym e))
+bit_is test (Bit row cell bit) e = (row, cell, bit, refl, e)
+
+bit_in : (row cell : ℕ) (test : ℕ → Bool) (owner : Owner) → test cell ≡ true → is_bit_of row cell owner ≡ true → is_bit_in test owner ≡ true
+bit_in row cell test Pad passes e = absurd (true≢false (sym e))
+bit_in row cell test (Bit slot other bit) passes e =
+    let both = and_parts (slot == row) (other == cell) e in
+    ap test (eqb-true other cell both.1) ∙ passes
+
+-- an access to a cell that passes a test, and touches a granule of a blob
+pub record IsHotAccess (layout : List (List Owner)) (test : ℕ → Bool) (granule blob at row cell : ℕ) : Type 0 where
+  pub passes : test cell ≡ true
+  pub hot : is_hot layout granule row cell blob at ≡ true
+
+-- a granule is touched exactly where the access to some such cell in some row touches it
+pub record IsTouchedBy (layout : List (List Owner)) (slots cells : ℕ) (test : ℕ → Bool) (granule blob at : ℕ) : Type 0 where
+  pub some : holds_bit test granule (get_or layout blob []) at ≡ true → (row : ℕ) × (cell : ℕ) × (row < slots) × (cell < cells) × IsHotAccess layout test granule blob at row cell
+  pub only : (row cell : ℕ) → IsHotAccess layout test granule blob at row cell → holds_bit test granule (get_or layout blob []) at ≡ true
+
+pub touched_hot : (layout : List (List Owner)) (slots : ℕ) (widths : List ℕ) → IsLaidOut layout slots widths → (test : ℕ → Bool) (granule blob at : ℕ) →
+    IsTouchedBy layout slots (length widths) test granule blob at
+touched_hot layout slots widths laid test granule blob at =
+    let owners = get_or layout blob [] in
+    let start = 8 * granule * at in
+    let bits = take (8 * granule) (drop start owners) in
+    record {
+      some = λ holds.
+          (let found = Any-from_list_any (is_bit_in test) bits holds in
+          let i = found.0 in
+          let low : i < length bits = found.2 in
+          let long = length-take (8 * granule) (drop start owners) in
+          let small : i < 8 * granule = omega (arith, low, long) in
+          let bit = bit_is test found.1 found.4 in
+          let here : get_or bits i Pad ≡ Bit bit.0 bit.1 bit.2 = get_or_default bits i Pad found.1 low ∙ found.3 ∙ bit.3 in
+          let there : owner_at layout blob (start + i) ≡ Bit bit.0 bit.1 bit.2 = sym (get_or-drop start owners i Pad) ∙ sym (get_or-take (8 * granule) (drop start owners) i Pad small) ∙ here in
+          let is : IsBitOf slots widths bit.0 bit.1 bit.2 = laid.owned blob (start + i) bit.0 bit.1 bit.2 there in
+          let own : is_bit_of bit.0 bit.1 (Bit bit.0 bit.1 bit.2) ≡ true = and_from (bit.0 == bit.0) (bit.1 == bit.1) (eq-eqb bit.0 bit.0 refl) (eq-eqb bit.1 bit.1 refl) in (
+            bit.0,
+            bit.1,
+            is.slot_in,
+            is.cell_in,
+            record {
+              passes = bit.4;
+              hot = list_any_at (is_bit_of bit.0 bit.1) bits i Pad low (ap (is_bit_of bit.0 bit.1) here ∙ own);
+            },
+          ));
+      only = λ row cell access.
+          (let found = Any-from_list_any (is_bit_of row cell) bits access.hot in
+          list_any_at (is_bit_in test) bits found.0 found.1 found.2
+          (ap (is_bit_in test) found.3 ∙ bit_in row cell test found.1 access.passes found.4));
+    }
+
+-- tests that agree on the cells of a layout touch the same
+module _ (layout : List (List Owner)) (slots : ℕ) (widths : List ℕ) (laid : IsLaidOut layout slots widths) (one two : ℕ → Bool)
+    (same : (cell : ℕ) → cell < length widths → one cell ≡ two cell) (granule : ℕ) where
+  held_alike : (blob at : ℕ) → holds_bit one granule (get_or layout blob []) at ≡ holds_bit two granule (get_or layout blob []) at
+  held_alike blob at =
+      let ones = touched_hot layout slots widths laid one granule blob at in
+      let twos = touched_hot layout slots widths laid two granule blob at in
+      same_tests _ _
+      (λ (e : holds_bit one granule (get_or layout blob []) at ≡ true).
+      let a = ones.some e in twos.only a.0 a.1 (record { passes = sym (same a.1 a.3) ∙ a.4.passes; hot = a.4.hot }))
+      (λ (e : holds_bit two granule (get_or layout blob []) at ≡ true).
+      let a = twos.some e in ones.only a.0 a.1 (record { passes = same a.1 a.3 ∙ a.4.passes; hot = a.4.hot }))
+
+  pub touched_alike : touched one granule layout ≡ touched two granule layout
+  touched_alike = blobs_alike layout (λ blob small. ap (λ t. count_by t (range_with_len 0 (granules_of granule (length (get_or layout blob []) / 8)))) (fun_ext (λ at. held_alike blob at)))
+    where
+      blobs_alike : (blobs : List (List Owner)) → ((blob : ℕ) → blob < length blobs → touched_blob one granule (get_or blobs blob []) ≡ touched_blob two granule (get_or blobs blob []))
+          → touched one granule blobs ≡ touched two granule blobs
+      blobs_alike [] each = refl
+      blobs_alike (blob ∷ blobs) each =
+          let first : touched_blob one granule blob ≡ touched_blob two granule blob = each 0 (omega arith) in
+          let rest : touched one granule blobs ≡ touched two granule blobs = blobs_alike blobs (λ k l. each (suc k) (omega (arith, l))) in
+          omega (arith, sum_by-cons (touched_blob one granule) blob blobs, sum_by-cons (touched_blob two granule) blob blobs)

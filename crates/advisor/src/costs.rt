@@ -1,0 +1,66 @@
+// What passes over a mapping cost.
+ghost use Rattle.std.specs.Prelude.{ℕ, ◌≡◌, ◌*◌, ◌<◌, ◌≤◌, ◌^◌, ◌==◌, All, IfOk, length, slice_index_or};
+ghost use Rattle.std.specs.List.{list_any};
+ghost use Rattle.instrument.specs.Counters.{granules_in};
+ghost use Rattle.views.specs.Tallies.{blob_lengths};
+ghost use Rattle.advisor.specs.Passes.{reads, part_cost, leaves_in};
+
+use crate::pass::Pass;
+use crate::touched::touched;
+use places::{Cell, Mapping, laws_of};
+use std::alloc::{AllocError as NoMemory, Global};
+
+/// What passes over a mapping of these cells cost.
+pub fn part_cost<M: Mapping>(
+    alloc: Global,
+    mapping: &M,
+    cells: &[Cell],
+    granule: u32,
+    passes: &[Pass],
+) -> Result<u64, NoMemory>
+    requires cells { length cells.now ≡ length (M.cell_list mapping.now) }
+    requires some { 1 ≤ granule }
+    requires few { granules_in granule (blob_lengths (M.layout mapping.now)) ≤ 2 ^ 24 }
+    requires passes { length passes.now ≤ 16 }
+    ensures value { IfOk result (λ cost. cost ≡ part_cost passes.now granule (leaves_in cells.now) (M.layout mapping.now)) }
+    ensures most { IfOk result (λ cost. cost ≤ 2 ^ 60) }
+{
+    laws_of(mapping);
+    let mut cost = 0;
+    for pass in passes {
+        let read = cells_read(alloc, pass, cells)?;
+        let granules = touched(alloc, mapping, granule, read.as_slice())?;
+        cost += repeated(pass.times, granules);
+    }
+    Ok(cost)
+}
+
+// The cells whose leaves a pass reads.
+fn cells_read(alloc: Global, pass: &Pass, cells: &[Cell]) -> Result<Vec<usize>, NoMemory>
+    ensures inside { IfOk result (λ read. All (λ cell. cell < length cells.now) read.items) }
+    ensures read { IfOk result (λ read. (cell : ℕ) → cell < length cells.now
+        → list_any (λ other. other == cell) read.items ≡ reads pass.now (slice_index_or (leaves_in cells.now) cell 0)) }
+{
+    let mut read = Vec::new(alloc);
+    for at in 0..cells.len() {
+        if is_read(pass, cells[at].leaf) {
+            read.push(at)?;
+        }
+    }
+    Ok(read)
+}
+
+fn is_read(pass: &Pass, leaf: usize) -> bool
+    ensures { result ≡ reads pass.now leaf }
+{
+    pass.leaves.as_slice().contains(&leaf)
+}
+
+// What a pass costs that touches so many granules.
+fn repeated(times: u32, granules: u64) -> u64
+    requires { granules ≤ 2 ^ 24 }
+    ensures value { result ≡ times * granules }
+    ensures most { result ≤ 2 ^ 56 }
+{
+    u64::from(times) * granules
+}

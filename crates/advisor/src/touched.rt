@@ -1,0 +1,107 @@
+// How many granules of a mapping's blobs hold a bit of some of its cells.
+ghost use Rattle.std.specs.Prelude.{◌≡◌, ◌<◌, ◌≤◌, ◌^◌, ◌==◌, nat_le, All, [], IfOk, length, count_by, sum_by, slice_index_or};
+ghost use Rattle.std.specs.List.{fold, list_any};
+ghost use Rattle.instrument.specs.Counters.{heat_counts, granules_in};
+ghost use Rattle.views.specs.Kept.{HasGranules};
+ghost use Rattle.views.specs.Tallies.{blob_lengths, granules_touched};
+ghost use Rattle.advisor.specs.Touched.{touched};
+ghost use Rattle.advisor.specs.Warm.{is_warm};
+
+use instrument::{Heat, HeatFault, MAX_GRANULES};
+use places::{Mapping, laws_of};
+use std::alloc::{AllocError as NoMemory, Global};
+
+/// Whether the blobs of a mapping have at most 2^24 granules together.
+pub fn has_few_granules<M: Mapping>(mapping: &M, granule: u32) -> bool
+    requires { 1 ≤ granule }
+    ensures { result ≡ nat_le (granules_in granule (blob_lengths (M.layout mapping.now))) (2 ^ 24) }
+{
+    let mut left = MAX_GRANULES;
+    for blob in 0..mapping.blob_count() {
+        let granules = mapping.blob_bytes(blob).div_ceil(u64::from(granule));
+        if granules > left {
+            return false;
+        }
+        left -= granules;
+    }
+    true
+}
+
+/// How many granules of a mapping's blobs hold a bit of these cells in any slot. It takes memory for a number for each granule.
+pub fn touched<M: Mapping>(
+    alloc: Global,
+    mapping: &M,
+    granule: u32,
+    cells: &[usize],
+) -> Result<u64, NoMemory>
+    requires some { 1 ≤ granule }
+    requires few { granules_in granule (blob_lengths (M.layout mapping.now)) ≤ 2 ^ 24 }
+    requires inside { All (λ cell. cell < length (M.cell_list mapping.now)) cells.now }
+    ensures value { IfOk result (λ count. count ≡ touched (λ cell. list_any (λ other. other == cell) cells.now) granule (M.layout mapping.now)) }
+    ensures most { IfOk result (λ count. count ≤ 2 ^ 24) }
+{
+    laws_of(mapping);
+    let lengths = blob_lengths(alloc, mapping)?;
+    let mut heat = match Heat::new(alloc, granule, lengths.as_slice()) {
+        Ok(heat) => heat,
+        Err(HeatFault::NoMemory) => return Err(NoMemory),
+        Err(HeatFault::TooBig) => unreachable!(),
+    };
+    for row in 0..mapping.slots() {
+        touch_row(mapping, &mut heat, row, cells);
+    }
+    Ok(warm_granules(mapping, &heat))
+}
+
+// The bytes of each blob.
+fn blob_lengths<M: Mapping>(alloc: Global, mapping: &M) -> Result<Vec<u64>, NoMemory>
+    ensures { IfOk result (λ lengths. lengths.items ≡ blob_lengths (M.layout mapping.now)) }
+{
+    let mut lengths = Vec::new(alloc);
+    for blob in 0..mapping.blob_count() {
+        lengths.push(mapping.blob_bytes(blob))?;
+    }
+    Ok(lengths)
+}
+
+// Counts an access to each of these cells in a row.
+fn touch_row<M: Mapping>(mapping: &M, heat: &mut Heat, row: u64, cells: &[usize])
+    requires row_in { row < M.slot_count mapping.now }
+    requires inside { All (λ cell. cell < length (M.cell_list mapping.now)) cells.now }
+    requires granules { HasGranules (M.layout mapping.now) (heat_counts heat.old) }
+    ensures counted { heat_counts heat.new ≡ fold (λ counts cell. granules_touched (M.layout mapping.now) row cell counts) (heat_counts heat.old) cells.now }
+    ensures granules { HasGranules (M.layout mapping.now) (heat_counts heat.new) }
+{
+    laws_of(mapping);
+    for cell in cells {
+        heat.touch(&mapping.locate(row, *cell));
+    }
+}
+
+// How many granules were accessed.
+fn warm_granules<M: Mapping>(mapping: &M, heat: &Heat) -> u64
+    requires granules { HasGranules (M.layout mapping.now) (heat_counts heat.now) }
+    requires few { granules_in (heat_counts heat.now).granule (blob_lengths (M.layout mapping.now)) ≤ 2 ^ 24 }
+    ensures value { result ≡ sum_by (count_by is_warm) (heat_counts heat.now).blobs }
+    ensures most { result ≤ 2 ^ 24 }
+{
+    let mut count = 0;
+    for blob in 0..mapping.blob_count() {
+        count += warm_in(heat, blob);
+    }
+    count
+}
+
+// How many granules of a blob were.
+fn warm_in(heat: &Heat, blob: usize) -> u64
+    requires { blob < length (heat_counts heat.now).blobs }
+    ensures { result ≡ count_by is_warm (slice_index_or (heat_counts heat.now).blobs blob []) }
+{
+    let mut count = 0;
+    for at in 0..heat.granules(blob) {
+        if heat.heat_at(blob, at) != 0 {
+            count += 1;
+        }
+    }
+    count
+}

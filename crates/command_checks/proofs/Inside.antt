@@ -1,0 +1,34 @@
+-- Spans that are a window.
+use Rattle.std.proofs.Common.{◌≡◌, ℕ, ◌≤◌, Bool, true, false, not, nat_le, List, [], ◌∷◌, refl, sym, ap, ◌∙◌, ⊎_elim, arith}
+use Rattle.std.specs.Prelude.{◌&&◌}
+use Rattle.std.proofs.lemmas.Bool.{and_parts, cases_Bool, le-leb, leb-true, false≢true}
+use Rattle.extents.specs.declared.window.Span.{Span}
+use Rattle.extents.specs.Windows.{IsWindow}
+use Rattle.worlds.specs.Outcomes.{Goes, Faults, ◌>>=◌, refused_if}
+use Rattle.worlds.specs.Windows.{are_inside, windowed}
+use Rattle.worlds.specs.declared.fault.CommandFault.TheVariants.{BadWindow}
+
+inside_true : (extents : List ℕ) (spans : List Span) → IsWindow extents spans → are_inside extents spans ≡ true
+inside_true [] [] is = refl
+inside_true [] (span ∷ spans) is = absurd is
+inside_true (extent ∷ extents) [] is = absurd is
+inside_true (extent ∷ extents) (span ∷ spans) is =
+    rw (le-leb span.from span.end is.0.0, le-leb span.end extent is.0.1, inside_true extents spans is.1) refl
+
+is_window : (extents : List ℕ) (spans : List Span) → are_inside extents spans ≡ true → IsWindow extents spans
+is_window [] [] inside = tt
+is_window [] (span ∷ spans) inside = absurd (false≢true inside)
+is_window (extent ∷ extents) [] inside = absurd (false≢true inside)
+is_window (extent ∷ extents) (span ∷ spans) inside =
+    let both = and_parts (nat_le span.from span.end && nat_le span.end extent) (are_inside extents spans) inside in
+    let two = and_parts (nat_le span.from span.end) (nat_le span.end extent) both.0 in
+    ((leb-true span.from span.end two.0, leb-true span.end extent two.1), is_window extents spans both.1)
+
+pub windowed_goes : (extents : List ℕ) (spans : List Span) → IsWindow extents spans → windowed extents spans ≡ Goes (extents, spans)
+windowed_goes extents spans is = rw (inside_true extents spans is) refl
+
+pub windowed_faults : (extents : List ℕ) (spans : List Span) → (IsWindow extents spans → ⊥) → windowed extents spans ≡ Faults BadWindow
+windowed_faults extents spans none = ⊎_elim
+    (λ (inside : are_inside extents spans ≡ true). absurd (none (is_window extents spans inside)))
+    (λ (outside : are_inside extents spans ≡ false). rw outside refl)
+    (cases_Bool (are_inside extents spans))

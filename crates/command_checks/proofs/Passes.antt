@@ -1,0 +1,60 @@
+-- The leaves of a pass, path by path.
+use Rattle.std.proofs.Common.{◌≡◌, ℕ, zero, suc, ◌+◌, ◌-◌, ◌<◌, ◌≤◌, List, [], ◌∷◌, ◌++◌, length, take, get_or, flat_map, append_assoc, refl, sym, ap, ◌∙◌, arith}
+use Rattle.std.specs.List.{range_with_len}
+use Rattle.std.proofs.lemmas.List.{append-nil}
+use Rattle.std.proofs.lemmas.List.Concat.{flat_map-append}
+use Rattle.layout_io.specs.Writing.{joined}
+use Rattle.record_dim.specs.Trees.{Fields}
+use Rattle.record_dim.specs.declared.path.PathStep.{PathStep}
+use Rattle.worlds.specs.Advise.{leaves_at, leaves_under}
+use Rattle.worlds.specs.Outcomes.{Outcome, Goes, Faults, CannotRead, ◌>>=◌, each}
+use Rattle.command_checks.specs.Gives.{GivesUp}
+use Rattle.command_checks.specs.GivesLaws.{GivesUp-then}
+use Rattle.command_checks.specs.declared.fault.StepFault.{StepFault}
+use Rattle.command_checks.proofs.Each.{each_more, each_ends}
+
+-- a number more of a range
+range_more : (first n : ℕ) → range_with_len first (n + 1) ≡ range_with_len first n ++ (first + n) ∷ []
+range_more first zero = (let same : first ≡ first + 0 = omega arith in ap (λ (k : ℕ). k ∷ []) same)
+range_more first (suc n) =
+    let next : suc n + 1 ≡ suc (n + 1) = omega arith in
+    let same : first + 1 + n ≡ first + suc n = omega arith in
+    ap (range_with_len first) next ∙ ap (λ (xs : List ℕ). first ∷ xs) (range_more (first + 1) n ∙ ap (λ (k : ℕ). range_with_len (first + 1) n ++ k ∷ []) same)
+
+pub range_push : (numbers old after : List ℕ) (first number : ℕ) → first ≤ number → numbers ≡ old ++ range_with_len first (number - first) → after ≡ numbers ++ number ∷ []
+    → after ≡ old ++ range_with_len first (number + 1 - first)
+range_push numbers old after first number low so_far push =
+    let n = number - first in
+    let here : first + n ≡ number = omega (arith, low) in
+    let next : n + 1 ≡ number + 1 - first = omega (arith, low) in
+    push ∙ ap (λ (xs : List ℕ). xs ++ number ∷ []) so_far ∙ append_assoc old (range_with_len first n) (number ∷ [])
+    ∙ ap (λ (k : ℕ). old ++ (range_with_len first n ++ k ∷ [])) (sym here) ∙ ap (λ (xs : List ℕ). old ++ xs) (sym (range_more first n)) ∙ ap (λ (k : ℕ). old ++ range_with_len first k) next
+
+-- the lists of paths that all name something
+record AreUnder (lists : Outcome (List (List ℕ))) (leaves : List ℕ) : Type 0 where
+  all : List (List ℕ)
+  are : lists ≡ Goes all
+  leaves_are : leaves ≡ joined all
+
+are_under : (lists : Outcome (List (List ℕ))) (leaves : List ℕ) → (lists >>= (λ all. Goes (joined all))) ≡ Goes leaves → AreUnder lists leaves
+are_under (Goes all) leaves is = record { all = all; are = refl; leaves_are = (let same : joined all ≡ leaves = cc in sym same) }
+are_under (Faults fault) leaves is = absurd (cc)
+are_under (CannotRead name) leaves is = absurd (cc)
+
+joined_push : (lists : List (List ℕ)) (more : List ℕ) → joined (lists ++ more ∷ []) ≡ joined lists ++ more
+joined_push lists more = flat_map-append (λ (xs : List ℕ). xs) lists (more ∷ []) ∙ ap (λ (xs : List ℕ). joined lists ++ xs) (append-nil more)
+
+-- one path more, and one that names nothing
+pub under_more : (fields : Fields) (paths : List (List PathStep)) (i : ℕ) (d : List PathStep) (leaves more after : List ℕ) → i < length paths → leaves_under fields (take i paths) ≡ Goes leaves
+    → leaves_at fields (get_or paths i d) ≡ Goes more → after ≡ leaves ++ more → leaves_under fields (take (i + 1) paths) ≡ Goes after
+under_more fields paths i d leaves more after small so_far is push =
+    let parts = are_under (each (leaves_at fields) (take i paths)) leaves so_far in
+    let all : each (leaves_at fields) (take (i + 1) paths) ≡ Goes (parts.all ++ more ∷ []) = each_more (leaves_at fields) paths i d parts.all more small parts.are is in
+    ap (λ (lists : Outcome (List (List ℕ))). lists >>= (λ all. Goes (joined all))) all
+    ∙ ap (λ (xs : List ℕ). Goes xs) (joined_push parts.all more ∙ ap (λ (xs : List ℕ). xs ++ more) (sym parts.leaves_are) ∙ sym push)
+
+pub under_ends : (fields : Fields) (paths : List (List PathStep)) (i : ℕ) (d : List PathStep) (leaves : List ℕ) (fault : StepFault) → i < length paths → leaves_under fields (take i paths) ≡ Goes leaves
+    → GivesUp (leaves_at fields (get_or paths i d)) fault → GivesUp (leaves_under fields paths) fault
+under_ends fields paths i d leaves fault small so_far gives =
+    let parts = are_under (each (leaves_at fields) (take i paths)) leaves so_far in
+    GivesUp-then (each (leaves_at fields) paths) (λ all. Goes (joined all)) fault (each_ends (leaves_at fields) paths i d parts.all fault small parts.are gives)

@@ -1,0 +1,154 @@
+-- The terms of a stencil, one after another.
+use Rattle.std.proofs.Common.{◌≡◌, ℕ, zero, suc, ◌+◌, ◌<◌, ◌≤◌, Bool, true, false, not, ℤ, pos, List, [], ◌∷◌, ◌++◌, length, map, take, get_or, refl, sym, ap, subst, ◌∙◌, arith}
+use Rattle.std.specs.Prelude.{All, ◌&&◌, ◌==◌, ◌^◌, nat_lt, int_le}
+use Rattle.std.specs.List.{list_all}
+use Rattle.std.proofs.lemmas.Bool.{and_parts}
+use Rattle.std.proofs.lemmas.Bool.Decides.{nat_tests}
+use Rattle.std.proofs.lemmas.Int.{ints}
+use Rattle.std.proofs.lemmas.List.{take_more, map-append}
+use Rattle.std.proofs.lemmas.Grind.{common_steps}
+use Rattle.extents.specs.Indices.{indices}
+use Rattle.std.proofs.lemmas.List.Folds.{list_all_at, list_all_more}
+use Rattle.std.proofs.lemmas.List.Sums.{AllPass-from_list_all}
+use Rattle.line_grammar.specs.declared.line.TermText.{TermText}
+use Rattle.record_dim.specs.Trees.{Fields}
+use Rattle.subviews.specs.Plans.{IsTermOf}
+use Rattle.subviews.specs.Stencils.{Weighted, weighted, is_divisor, is_offset, is_weight, reaches, row_from}
+use Rattle.subviews.specs.SubViews.{WindowOf, rows_of}
+use Rattle.subviews.specs.declared.term.Term.{Term}
+use Rattle.worlds.specs.Names.{leaf_of}
+use Rattle.worlds.specs.Outcomes.{Outcome, Goes, ◌>>=◌, refused_if}
+use Rattle.worlds.specs.Stencil.{all_reach, all_weigh, bound_term, fit_terms}
+use Rattle.worlds.specs.declared.fault.BadStencil.TheVariants.{Reach, Weight, Terms, Rounds}
+use Rattle.worlds.specs.declared.fault.CommandFault.TheVariants.{BadStencil}
+use Rattle.command_checks.specs.Gives.{GivesUp}
+use Rattle.command_checks.specs.GivesLaws.{GivesUp-then}
+use Rattle.command_checks.specs.Stencils.{placed_term, weighted_at}
+use Rattle.command_checks.specs.declared.fault.StepFault.{StepFault}
+
+-- ---- the leaves of terms
+
+-- a term whose leaf is known, and one whose path names none
+pub term_goes : (fields : Fields) (text : TermText) (leaf : ℕ) → leaf_of fields text.path ≡ Goes leaf → bound_term fields text ≡ Goes (placed_term text leaf)
+term_goes fields text leaf is = rw is refl
+
+pub term_ends : (fields : Fields) (text : TermText) (fault : StepFault) → GivesUp (leaf_of fields text.path) fault → GivesUp (bound_term fields text) fault
+term_ends fields text fault gives = GivesUp-then (leaf_of fields text.path) (λ leaf. Goes (placed_term text leaf)) fault gives
+
+-- one term more
+weighted_push : (texts : List TermText) (leaves : List ℕ) (text : TermText) (leaf : ℕ) → length leaves ≡ length texts
+    → weighted_at (texts ++ text ∷ []) (leaves ++ leaf ∷ []) ≡ weighted_at texts leaves ++ placed_term text leaf ∷ []
+weighted_push [] [] text leaf same = refl
+weighted_push [] (other ∷ leaves) text leaf same = absurd (omega (arith, same))
+weighted_push (first ∷ texts) [] text leaf same = absurd (omega (arith, same))
+weighted_push (first ∷ texts) (other ∷ leaves) text leaf same = ap (λ (terms : List Weighted). placed_term first other ∷ terms) (weighted_push texts leaves text leaf (omega (arith, same)))
+
+take_long : {X : Type 0} (i : ℕ) (xs : List X) → i ≤ length xs → length (take i xs) ≡ i
+take_long i xs small = grind (arith, common_steps)
+
+pub weighted_more : (texts : List TermText) (leaves : List ℕ) (i : ℕ) (text : TermText) (leaf : ℕ) → i < length texts → length leaves ≡ i
+    → weighted_at (take (i + 1) texts) (leaves ++ leaf ∷ []) ≡ weighted_at (take i texts) leaves ++ placed_term (get_or texts i text) leaf ∷ []
+weighted_more texts leaves i text leaf small long =
+    let front : length (take i texts) ≡ i = take_long i texts (omega (arith, small)) in
+    ap (λ (front : List TermText). weighted_at front (leaves ++ leaf ∷ [])) (take_more texts i text small)
+    ∙ weighted_push (take i texts) leaves (get_or texts i text) leaf (omega (arith, front, long))
+
+-- ---- what the tests say
+
+-- terms that are fit
+pub record AreFit (window : WindowOf) (texts : List TermText) (divisor : ℕ) : Type 0 where
+  pub reach : all_reach window texts ≡ true
+  pub weigh : all_weigh texts ≡ true
+  pub divides : is_divisor (pos divisor) ≡ true
+  pub few : length texts ≤ 64
+
+passed : (reach weigh many long : Bool) → (refused_if (not reach) (BadStencil Reach) >>= (λ a. refused_if (not weigh) (BadStencil Weight) >>= (λ b. refused_if many (BadStencil Terms) >>= (λ c. refused_if long (BadStencil Rounds))))) ≡ Goes tt
+    → (reach ≡ true) × (weigh ≡ true) × (many ≡ false)
+passed true true false long is = (refl, refl, refl)
+passed true true true long is = absurd (cc)
+passed true false many long is = absurd (cc)
+passed false weigh many long is = absurd (cc)
+
+pub are_fit : (window : WindowOf) (texts : List TermText) (divisor rounds : ℕ) → fit_terms window texts divisor rounds ≡ Goes tt → AreFit window texts divisor
+are_fit window texts divisor rounds is =
+    let tests = passed (all_reach window texts) (all_weigh texts && is_divisor (pos divisor)) (nat_lt 64 (length texts)) (nat_lt 1000 rounds) is in
+    let both = and_parts (all_weigh texts) (is_divisor (pos divisor)) tests.1 in
+    record { reach = tests.0; weigh = both.0; divides = both.1; few = grind (arith, nat_tests, tests.2) }
+
+pub divides_some : (divisor : ℕ) → is_divisor (pos divisor) ≡ true → 0 < divisor
+divides_some divisor divides =
+    let low = (and_parts (int_le (pos 1) (pos divisor)) (int_le (pos divisor) (pos (2 ^ 31))) divides).0 in
+    grind (arith, ints, low)
+
+-- one term more, or one that does not reach
+pub reach_more : (window : WindowOf) (texts : List TermText) (i : ℕ) (text : TermText) → i < length texts → all_reach window (take i texts) ≡ true → reaches window (get_or texts i text).offsets ≡ true
+    → all_reach window (take (i + 1) texts) ≡ true
+reach_more window texts i text small so_far reach = list_all_more (λ (one : TermText). reaches window one.offsets) texts i text small ∙ rw (so_far, reach) refl
+
+pub reach_stops : (window : WindowOf) (texts : List TermText) (i : ℕ) (text : TermText) → i < length texts → reaches window (get_or texts i text).offsets ≡ false → all_reach window texts ≡ false
+reach_stops window texts i text small stops = list_all_at (λ (one : TermText). reaches window one.offsets) texts i text small stops
+
+pub reach_at : (window : WindowOf) (texts : List TermText) (i : ℕ) (text : TermText) → i < length texts → all_reach window texts ≡ true → reaches window (get_or texts i text).offsets ≡ true
+reach_at window texts i text small all = AllPass-from_list_all (λ (one : TermText). reaches window one.offsets) texts all i text small
+
+pub weigh_at : (texts : List TermText) (i : ℕ) (text : TermText) → i < length texts → all_weigh texts ≡ true → is_weight (get_or texts i text).weight ≡ true
+weigh_at texts i text small all = AllPass-from_list_all (λ (one : TermText). is_weight one.weight) texts all i text small
+
+-- offsets that reach are as many as the extents, and none is too far
+pub reach_parts : (window : WindowOf) (offsets : List ℤ) → reaches window offsets ≡ true → (length offsets ≡ length window.0) × (list_all is_offset offsets ≡ true)
+reach_parts window offsets reach =
+    let lands = list_all (λ row. nat_lt (row_from window.0 row offsets) (length (indices window.0))) (rows_of window) in
+    let parts = and_parts (length offsets == length window.0) (list_all is_offset offsets && lands) reach in
+    let near = (and_parts (list_all is_offset offsets) lands parts.1).0 in
+    (grind (arith, nat_tests, parts.0), near)
+
+-- ---- the terms of the code
+
+-- a term stands for its text and its leaf
+record IsPlaced (terms : List Term) (texts : List TermText) (leaves : List ℕ) (k : ℕ) (d : Term) (text : TermText) : Type 0 where
+  is : weighted (get_or terms k d) ≡ placed_term (get_or texts k text) (get_or leaves k 0)
+  in_texts : k < length texts
+  in_leaves : k < length leaves
+
+placed : (terms : List Term) (texts : List TermText) (leaves : List ℕ) (k : ℕ) (d : Term) (text : TermText) → map weighted terms ≡ weighted_at texts leaves → length leaves ≡ length texts → k < length terms
+    → IsPlaced terms texts leaves k d text
+placed [] texts leaves k d text is same small = absurd (omega (arith, small))
+placed (term ∷ terms) [] leaves k d text is same small = absurd (cc)
+placed (term ∷ terms) (first ∷ texts) [] k d text is same small = absurd (omega (arith, same))
+placed (term ∷ terms) (first ∷ texts) (leaf ∷ leaves) zero d text is same small = record { is = cc; in_texts = omega arith; in_leaves = omega arith }
+placed (term ∷ terms) (first ∷ texts) (leaf ∷ leaves) (suc k) d text is same small =
+    let rest : map weighted terms ≡ weighted_at texts leaves = cc in
+    let later = placed terms texts leaves k d text rest (omega (arith, same)) (omega (arith, small)) in
+    record { is = later.is; in_texts = omega (arith, later.in_texts); in_leaves = omega (arith, later.in_leaves) }
+
+some_texts : (terms : List Term) (leaves : List ℕ) (k : ℕ) → map weighted terms ≡ weighted_at [] leaves → k < length terms → ⊥
+some_texts [] leaves k is small = omega (arith, small)
+some_texts (term ∷ terms) leaves k is small = absurd (cc)
+
+pub terms_able : (leaf_count : ℕ) (window : WindowOf) (terms : List Term) (texts : List TermText) (leaves : List ℕ) → map weighted terms ≡ weighted_at texts leaves → length leaves ≡ length texts
+    → all_reach window texts ≡ true → all_weigh texts ≡ true → All (λ leaf. leaf < leaf_count) leaves → All (IsTermOf leaf_count window) terms
+terms_able leaf_count window terms [] leaves is same reach weigh inside = λ k d small. absurd (some_texts terms leaves k is small)
+terms_able leaf_count window terms (text ∷ texts) leaves is same reach weigh inside = λ k d small.
+    let at = placed terms (text ∷ texts) leaves k d text is same small in
+    record {
+      inside = subst (λ (leaf : ℕ). leaf < leaf_count) (sym (ap (λ (w : Weighted). w.leaf) at.is)) (inside k 0 at.in_leaves);
+      weight = ap (λ (w : Weighted). is_weight w.weight) at.is ∙ weigh_at (text ∷ texts) k text at.in_texts weigh;
+      reach = ap (λ (w : Weighted). reaches window w.offsets) at.is ∙ reach_at window (text ∷ texts) k text at.in_texts reach;
+    }
+
+pub terms_few : (terms : List Term) (texts : List TermText) (leaves : List ℕ) → map weighted terms ≡ weighted_at texts leaves → length terms ≤ length texts
+terms_few [] texts leaves is = omega arith
+terms_few (term ∷ terms) [] leaves is = absurd (cc)
+terms_few (term ∷ terms) (text ∷ texts) [] is = absurd (cc)
+terms_few (term ∷ terms) (text ∷ texts) (leaf ∷ leaves) is =
+    let rest : map weighted terms ≡ weighted_at texts leaves = cc in omega (arith, terms_few terms texts leaves rest)
+
+-- one term more
+pub terms_more : (terms after : List Term) (texts : List TermText) (leaves : List ℕ) (i : ℕ) (text : TermText) (term : Term) → i < length texts → i < length leaves → after ≡ terms ++ term ∷ []
+    → map weighted terms ≡ weighted_at (take i texts) (take i leaves) → weighted term ≡ placed_term (get_or texts i text) (get_or leaves i 0) → map weighted after ≡ weighted_at (take (i + 1) texts) (take (i + 1) leaves)
+terms_more terms after texts leaves i text term in_texts in_leaves push so_far is =
+    let front : length (take i leaves) ≡ i = take_long i leaves (omega (arith, in_leaves)) in
+    ap (map weighted) push ∙ map-append weighted terms (term ∷ []) ∙ ap (λ (all : List Weighted). all ++ weighted term ∷ []) so_far
+    ∙ ap (λ (one : Weighted). weighted_at (take i texts) (take i leaves) ++ one ∷ []) is
+    ∙ sym (weighted_more texts (take i leaves) i text (get_or leaves i 0) in_texts front)
+    ∙ ap (weighted_at (take (i + 1) texts)) (sym (take_more leaves i 0 in_leaves))

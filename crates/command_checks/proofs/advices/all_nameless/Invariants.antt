@@ -1,0 +1,15 @@
+use Rattle.std.proofs.Common.{◌≡◌, true, length, map, take}
+use Rattle.std.specs.Prelude.{All}
+use Rattle.map_expr.specs.Terms.{term_of}
+use Rattle.worlds.specs.Names.{nameless}
+use Rattle.worlds.specs.Outcomes.{Goes, each}
+use Rattle.command_checks.specs.Bases.{is_nameless}
+use Rattle.command_checks.specs.Entries.{mapping_of}
+use Rattle.command_checks.proofs.advices.all_nameless.Given as goal
+
+abbrev pub invariant-loop-expr : goal.invariant-loop-expr
+invariant-loop-expr l = record {
+  whole : each (nameless (map mapping_of l.mappings)) (take l.expr-index (map term_of l.exprs)) ≡ Goes (map term_of l.whole);
+  nameless : All (λ expr. is_nameless (term_of expr) ≡ true) l.whole;
+  long : length l.whole ≡ l.expr-index;
+}

@@ -1,0 +1,7 @@
+use Rattle.std.proofs.Common.{◌≡◌, take}
+use Rattle.worlds.specs.Advise.{leaves_under}
+use Rattle.worlds.specs.Outcomes.{Goes}
+use Rattle.command_checks.proofs.advices.leaves_under.Given as goal
+
+abbrev pub invariant-loop-path : goal.invariant-loop-path
+invariant-loop-path l = leaves_under l.view.fields (take l.path-index l.paths) ≡ Goes l.leaves

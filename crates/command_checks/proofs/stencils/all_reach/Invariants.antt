@@ -1,0 +1,6 @@
+use Rattle.std.proofs.Common.{◌≡◌, true, take}
+use Rattle.worlds.specs.Stencil.{all_reach}
+use Rattle.command_checks.proofs.stencils.all_reach.Given as goal
+
+abbrev pub invariant-loop-text : goal.invariant-loop-text
+invariant-loop-text l = all_reach l.window (take l.text-index l.texts) ≡ true

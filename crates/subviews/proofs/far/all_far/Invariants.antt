@@ -1,0 +1,6 @@
+use Rattle.std.proofs.Common.{◌≡◌, length}
+use Rattle.subviews.proofs.Ways.{AreFar}
+use Rattle.subviews.proofs.far.all_far.Given as goal
+
+abbrev pub invariant-loop-place : goal.invariant-loop-place
+invariant-loop-place l = record { long : length l.far ≡ 64; far : AreFar l.window l.terms l.far l.place }

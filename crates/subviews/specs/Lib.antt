@@ -1,0 +1,3 @@
+pub mod SubViews
+pub mod Stencils
+pub mod Plans

@@ -1,0 +1,15 @@
+//! Windows of a view, used as views of their own, and stencils over them.
+#![tactic(auto)]
+
+mod far;
+mod fault;
+mod print;
+mod rounds;
+mod sub_view;
+mod term;
+
+pub use fault::StencilFault;
+pub use print::print_window;
+pub use rounds::stencil;
+pub use sub_view::SubView;
+pub use term::Term;

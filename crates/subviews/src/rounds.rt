@@ -1,0 +1,130 @@
+// Rounds of a stencil over a window.
+ghost use Rattle.std.specs.Prelude.{◌≡◌, ◌<◌, ◌≤◌, ℕ, true, pos, All, Contains, Ok, Err, OnOk, IfErr, length, map};
+ghost use Rattle.places.specs.Image.{entry};
+ghost use Rattle.views.specs.Tables.{leaf_count_of, answer_of, after_log, after_stores};
+ghost use Rattle.subviews.specs.SubViews.{rows_of};
+ghost use Rattle.subviews.specs.Stencils.{Stencil, weighted, stencil_value, values_fault, new_entry, with_column, round, stenciled, term_reads, round_reads, round_writes, rounds_log};
+ghost use Rattle.subviews.specs.Plans.{IsTermOf, IsBufferOf, IsPlanOf, stencil_by, planned};
+
+use crate::far::all_far;
+use crate::fault::StencilFault;
+use crate::term::Term;
+use extents::Window;
+use std::sync::ledger::Ledger;
+use steps::Steps;
+use views::{View, laws_of_table};
+
+/// Sets a leaf in each row of a window to the sum of the terms there, divided and cut toward zero, so many times. All values of a round are
+/// worked out over the table before it, into the buffer, and only then stored. On a fault the table is that after the rounds before, and what
+/// was read counts. The buffer holds anything afterwards. It takes no memory.
+pub fn stencil<L: Ledger>(
+    view: &mut View,
+    buffer: &mut View,
+    window: &Window,
+    leaf: usize,
+    terms: &[Term],
+    divisor: u32,
+    rounds: u32,
+    steps: &mut Steps<L>,
+) -> Result<(), StencilFault>
+    requires window { window.now.0 ≡ view.old.extents }
+    requires leaf_in { leaf < leaf_count_of view.old }
+    requires terms { All (IsTermOf (leaf_count_of view.old) window.now) terms.now }
+    requires few { length terms.now ≤ 64 }
+    requires divisor { 0 < divisor }
+    requires buffer { IsBufferOf view.old buffer.old }
+    ensures stored { OnOk result (stenciled view.old (stencil_by window.now leaf terms.now divisor) rounds ≡ Ok view.new.rows) }
+    ensures refused { IfErr result (λ fault. stenciled view.old (stencil_by window.now leaf terms.now divisor) rounds ≡ Err fault) }
+    ensures before { IfErr result (λ fault. (done : ℕ) × (done < rounds)
+        × (stenciled view.old (stencil_by window.now leaf terms.now divisor) done ≡ Ok view.new.rows)
+        × (round (answer_of view.old) (stencil_by window.now leaf terms.now divisor) view.new.rows ≡ Err fault)) }
+    ensures counted { OnOk result (view.new ≡ after_stores view.old view.new.rows (rounds_log (stencil_by window.now leaf terms.now divisor) rounds)) }
+    ensures same { view.new ≡ record view.old { rows = view.new.rows; tally = view.new.tally } }
+    ensures buffer { buffer.new ≡ record buffer.old { rows = buffer.new.rows; tally = buffer.new.tally } }
+{
+    let plan = Plan {
+        window,
+        leaf,
+        terms,
+        far: all_far(window, terms),
+        divisor: i128::from(divisor),
+    };
+    for _round in 0..rounds {
+        fill(view, buffer, &plan, steps)?;
+        store_back(view, buffer, &plan, steps);
+    }
+    Ok(())
+}
+
+/// A stencil, and how far away each of its terms reads.
+#[derive(Drop)]
+struct Plan<'a> {
+    window: &'a Window,
+    leaf: usize,
+    terms: &'a [Term],
+    far: [i64; 64],
+    divisor: i128,
+}
+
+// Puts what is kept of each value of a round into the buffer. The table stands.
+fn fill<L: Ledger>(
+    view: &mut View,
+    buffer: &mut View,
+    plan: &Plan<'_>,
+    steps: &mut Steps<L>,
+) -> Result<(), StencilFault>
+    requires plan { IsPlanOf (leaf_count_of view.old) view.old.extents plan.now }
+    requires buffer { IsBufferOf view.old buffer.old }
+    ensures fits { OnOk result (values_fault (answer_of view.old) (planned plan.now) view.old.rows (rows_of plan.now.window.now) ≡ Ok tt) }
+    ensures refused { IfErr result (λ fault. values_fault (answer_of view.old) (planned plan.now) view.old.rows (rows_of plan.now.window.now) ≡ Err fault) }
+    ensures read { OnOk result (view.new ≡ after_log view.old (round_reads (planned plan.now) (rows_of plan.now.window.now))) }
+    ensures same { view.new ≡ record view.old { tally = view.new.tally } }
+    ensures filled { OnOk result ((row : ℕ) → Contains (rows_of plan.now.window.now) row
+        → entry buffer.new.rows row plan.now.leaf ≡ new_entry (answer_of view.old) (planned plan.now) view.old.rows row) }
+    ensures buffer { buffer.new ≡ record buffer.old { rows = buffer.new.rows; tally = buffer.new.tally } }
+{
+    for row in 0..plan.window.count() {
+        laws_of_table(buffer);
+        let outer = plan.window.outer(row);
+        let value = value_at(view, plan, outer, steps);
+        if let Err(fault) = buffer.set(outer, plan.leaf, value, steps) {
+            return Err(StencilFault { row: outer, fault });
+        }
+    }
+    Ok(())
+}
+
+// The value of a stencil at a row of its window.
+#[inline(always)]
+fn value_at<L: Ledger>(view: &mut View, plan: &Plan<'_>, row: u64, steps: &mut Steps<L>) -> i128
+    requires plan { IsPlanOf (leaf_count_of view.old) view.old.extents plan.now }
+    requires row_in { Contains (rows_of plan.now.window.now) row }
+    ensures value { result ≡ stencil_value (planned plan.now) view.old.rows row }
+    ensures read { view.new ≡ after_log view.old (term_reads (planned plan.now) row) }
+{
+    laws_of_table(view);
+    let mut sum = 0;
+    for (place, term) in plan.terms.iter().enumerate() {
+        let at = (row as i64 + plan.far[place]) as u64;
+        sum += i128::from(term.weight) * view.get(at, term.leaf, steps);
+    }
+    sum / plan.divisor
+}
+
+// Stores in each row of the window what the buffer holds there.
+fn store_back<L: Ledger>(view: &mut View, buffer: &mut View, plan: &Plan<'_>, steps: &mut Steps<L>)
+    requires plan { IsPlanOf (leaf_count_of view.old) view.old.extents plan.now }
+    requires buffer { IsBufferOf view.old buffer.old }
+    ensures stored { view.new ≡ after_stores view.old
+        (with_column plan.now.leaf (λ row. entry buffer.old.rows row plan.now.leaf) (rows_of plan.now.window.now) view.old.rows)
+        (round_writes (planned plan.now) (rows_of plan.now.window.now)) }
+    ensures buffer { buffer.new ≡ record buffer.old { tally = buffer.new.tally } }
+{
+    for row in 0..plan.window.count() {
+        laws_of_table(view);
+        laws_of_table(buffer);
+        let outer = plan.window.outer(row);
+        let value = buffer.get(outer, plan.leaf, steps);
+        let _stored = view.set(outer, plan.leaf, value, steps);
+    }
+}
