@@ -1,9 +1,10 @@
-# make: proves and builds the program. demo: runs it on examples/first. install: puts it on the PATH.
+# make: proves and builds the program. demo: runs it on examples/first. install: puts it on the PATH. library: proves and builds the library
+# for C in lib/. install-library: puts it, its header and its pkg-config file below PREFIX.
 PREFIX ?= /usr/local
 
 program = crates/layout_cli/out/layout_cli
 
-.PHONY: all demo install clean
+.PHONY: all demo install library install-library clean
 
 all:
 	tools/build
@@ -14,5 +15,15 @@ demo:
 install: all
 	install -D -m 755 $(program) $(DESTDIR)$(PREFIX)/bin/llama
 
+library:
+	@PREFIX=$(PREFIX) tools/library lib
+
+install-library: library
+	install -D -m 644 include/llama.h $(DESTDIR)$(PREFIX)/include/llama.h
+	install -D -m 644 lib/libllama.a $(DESTDIR)$(PREFIX)/lib/libllama.a
+	install -D -m 755 lib/libllama.so $(DESTDIR)$(PREFIX)/lib/libllama.so
+	install -D -m 644 lib/llama.pc $(DESTDIR)$(PREFIX)/lib/pkgconfig/llama.pc
+
 clean:
+	rm -rf lib
 	rm -rf crates/*/out

@@ -1,0 +1,132 @@
+/* The time of llama_get_run and of llama_get beside loops of C over the same bytes: a leaf of a million rows, as soa, as aosoa and in bits.
+ *
+ * gcc -O2 -Iinclude bench/runs.c lib/libllama.a -o runs && ./runs 100
+ */
+#include <inttypes.h>
+#include <stdio.h>
+#include <stdlib.h>
+#include <string.h>
+#include <time.h>
+
+#include "llama.h"
+
+enum { ROWS = 1000000, LANES = 16, BITS = 20 };
+
+static int64_t values[ROWS];
+
+static void must(int32_t answer) {
+    if (answer != LLAMA_DONE) {
+        fprintf(stderr, "a call answers %" PRId32 "\n", answer);
+        exit(1);
+    }
+}
+
+/* The leaf x of a view of ROWS rows, row r of which is r % 1000. */
+static void make(llama_view *view, const char *line) {
+    static const char record[] = "record P { x: i32, y: u32 }";
+    uint64_t column = 0, row;
+    must(llama_new(view, (const uint8_t *)record, strlen(record), (const uint8_t *)line, strlen(line), &column));
+    for (row = 0; row < ROWS; row++) {
+        must(llama_set(view, row, 0, (int64_t)(row % 1000)));
+    }
+}
+
+/* The same bytes, made by hand. */
+static uint8_t *bytes_of(int form) {
+    uint8_t *bytes = calloc(ROWS + 64, 8);
+    uint64_t row, bit;
+    for (row = 0; row < ROWS; row++) {
+        const int32_t value = (int32_t)(row % 1000);
+        if (form == 0) {
+            memcpy(bytes + 4 * row, &value, 4);
+        } else if (form == 1) {
+            memcpy(bytes + row / LANES * LANES * 8 + row % LANES * 4, &value, 4);
+        } else {
+            for (bit = 0; bit < BITS; bit++) {
+                const uint64_t at = row * BITS + bit;
+                bytes[at / 8] |= (uint8_t)(((uint32_t)value >> bit & 1u) << at % 8);
+            }
+        }
+    }
+    return bytes;
+}
+
+__attribute__((noinline)) static void loop_soa(const uint8_t *bytes, int64_t *into, uint64_t rows) {
+    uint64_t row;
+    for (row = 0; row < rows; row++) {
+        int32_t value;
+        memcpy(&value, bytes + 4 * row, 4);
+        into[row] = value;
+    }
+}
+
+__attribute__((noinline)) static void loop_aosoa(const uint8_t *bytes, int64_t *into, uint64_t rows) {
+    uint64_t row;
+    for (row = 0; row < rows; row++) {
+        int32_t value;
+        memcpy(&value, bytes + row / LANES * LANES * 8 + row % LANES * 4, 4);
+        into[row] = value;
+    }
+}
+
+__attribute__((noinline)) static void loop_bits(const uint8_t *bytes, int64_t *into, uint64_t rows) {
+    uint64_t row;
+    for (row = 0; row < rows; row++) {
+        const uint64_t at = row * BITS;
+        uint32_t word;
+        memcpy(&word, bytes + at / 8, 4);
+        into[row] = (int32_t)(word >> at % 8 << (32 - BITS)) >> (32 - BITS);
+    }
+}
+
+static double seconds(void) { return (double)clock() / CLOCKS_PER_SEC; }
+
+int main(int argc, char **argv) {
+    static const char *const lines[] = {
+        "view V : P [1000000] as soa(multi, row)",
+        "view V : P [1000000] as aosoa(16, row)",
+        "view V : P [1000000] as bitsoa(8 { x: 20 }, row)",
+    };
+    static const char *const names[] = {"soa", "aosoa", "bits"};
+    static void (*const loops[])(const uint8_t *, int64_t *, uint64_t) = {loop_soa, loop_aosoa, loop_bits};
+    const int rounds = argc > 1 ? atoi(argv[1]) : 20;
+    int form;
+    for (form = 0; form < 3; form++) {
+        llama_view view = LLAMA_NONE;
+        uint8_t *bytes = bytes_of(form);
+        double begin, by_loop, by_run, by_get;
+        int64_t sum = 0, value = 0;
+        uint64_t row;
+        int round;
+        make(&view, lines[form]);
+        begin = seconds();
+        for (round = 0; round < rounds; round++) {
+            loops[form](bytes, values, ROWS);
+            sum += values[round];
+        }
+        by_loop = seconds() - begin;
+        begin = seconds();
+        for (round = 0; round < rounds; round++) {
+            must(llama_get_run(&view, 0, 0, values, ROWS));
+            sum -= values[round];
+        }
+        by_run = seconds() - begin;
+        for (row = 0; row < ROWS; row++) {
+            if (values[row] != (int64_t)(row % 1000)) {
+                fprintf(stderr, "row %" PRIu64 " differs\n", row);
+                return 1;
+            }
+        }
+        begin = seconds();
+        for (row = 0; row < ROWS; row++) {
+            must(llama_get(&view, row, 0, &value));
+            sum += value;
+        }
+        by_get = seconds() - begin;
+        printf("%-6s loop %.2f ns, llama_get_run %.2f ns (%.2f times), llama_get %.2f ns, sum %" PRId64 "\n", names[form], 1e9 * by_loop / rounds / ROWS,
+               1e9 * by_run / rounds / ROWS, by_run / by_loop, 1e9 * by_get / ROWS, sum);
+        llama_drop(&view);
+        free(bytes);
+    }
+    return 0;
+}

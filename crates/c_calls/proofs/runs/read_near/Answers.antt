@@ -1,0 +1,33 @@
+use Rattle.std.proofs.Common.{rules, ◌≡◌, ◌+◌, ◌*◌, ◌/◌, length, ℕ, ℤ, List, sym, ap, subst, ◌∙◌, arith}
+use Rattle.views.specs.NearStores.{IsNearColumn}
+use Rattle.views.specs.Columns.{column_reads}
+use Rattle.views.specs.Tables.{Table}
+use Rattle.c_calls.specs.Runs.{run_of, after_run}
+use Rattle.c_calls.proofs.RunLaws.{three_runs}
+use Rattle.c_calls.proofs.runs.read_near.Goals as goal
+
+pub read_blocks-requires-clause-near : goal.read_blocks-requires-clause-near
+read_blocks-requires-clause-near g c =
+    subst (λ (t : Table). IsNearColumn t c.args.near.now) (sym (c.read_each-2.ensures.read ∙ c.requires.near.idle _)) c.requires.near
+
+pub returns-clause-values : goal.returns-clause-values
+returns-clause-values g c =
+    let leaf = c.args.near.now.leaf in
+    let table = c.args.view.now in
+    let a = c.rows_before_block-before.result in
+    let b = length c.split_at_mut-whole.result.0.now in
+    let c' = length c.split_at_mut-whole.result.1.now in
+    let same : c.read_each-2.new.view ≡ table = c.read_each-2.ensures.read ∙ c.requires.near.idle _ in
+    three_runs leaf c.args.first a b c' (16 * ((c.args.first + a) / 16)) (16 * ((c.args.first + a) / 16 + length c.split_at_mut-front.result.1.now / 16)) (length c.args.values.now) table
+    c.read_each-2.new.values c.read_blocks.new.values c.read_each-3.new.values (omega arith) (omega arith) (omega arith)
+    (c.read_each-2.ensures.values ∙ ap (λ (n : ℕ). run_of c.args.first n leaf table) c.split_at_mut-front.ensures.front_len)
+    (c.read_blocks.ensures ∙ ap (λ (t : Table). run_of (16 * ((c.args.first + a) / 16)) b leaf t) same)
+    (c.read_each-3.ensures.values ∙ ap (λ (t : Table). run_of (16 * ((c.args.first + a) / 16 + length c.split_at_mut-front.result.1.now / 16)) c' leaf t) same)
+
+pub returns-clause-same : goal.returns-clause-same
+returns-clause-same g c =
+    let leaf = c.args.near.now.leaf in
+    let third = 16 * ((c.args.first + c.rows_before_block-before.result) / 16 + length c.split_at_mut-front.result.1.now / 16) in
+    let count = length c.split_at_mut-whole.result.1.now in
+    let same : c.read_each-2.new.view ≡ c.args.view.now = c.read_each-2.ensures.read ∙ c.requires.near.idle _ in
+    c.read_each-3.ensures.read ∙ ap (λ (t : Table). after_run third count leaf t) same ∙ c.requires.near.idle (column_reads leaf third count)

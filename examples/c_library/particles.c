@@ -1,0 +1,79 @@
+/* Particles under two layouts: the same program makes each view, moves the particles, and gives the same sums. With a number as its argument it
+ * also takes that many rounds and says how long a value took. */
+#include <inttypes.h>
+#include <stdio.h>
+#include <stdlib.h>
+#include <string.h>
+#include <time.h>
+
+#include "llama.h"
+
+enum { ROWS = 4096, X = 0, MASS = 1, ALIVE = 2 };
+
+static const char RECORD[] = "record Particle { x: i32, mass: u16, alive: bool }";
+
+static const char *const VIEWS[] = {
+    "view P : Particle [4096] as aos(packed, row)",
+    "view P : Particle [4096] as soa(multi, row)",
+};
+
+static void must(int32_t answer, const char *call) {
+    if (answer != LLAMA_DONE) {
+        fprintf(stderr, "%s answers %" PRId32 "\n", call, answer);
+        exit(1);
+    }
+}
+
+static void make(llama_view *view, const char *line) {
+    uint64_t column = 0;
+    must(llama_new(view, (const uint8_t *)RECORD, strlen(RECORD), (const uint8_t *)line, strlen(line), &column), "llama_new");
+}
+
+static int64_t sum_of(llama_view *view, size_t leaf, int64_t *values) {
+    int64_t sum = 0;
+    size_t row;
+    must(llama_get_run(view, 0, leaf, values, ROWS), "llama_get_run");
+    for (row = 0; row < ROWS; row++) {
+        sum += values[row];
+    }
+    return sum;
+}
+
+static void time_rounds(llama_view *view, int rounds, int64_t *values) {
+    const clock_t begin = clock();
+    int64_t sum = 0;
+    int round;
+    for (round = 0; round < rounds; round++) {
+        sum += sum_of(view, X, values);
+    }
+    fprintf(stderr, "%.2f ns a value, sum %" PRId64 "\n", 1e9 * (double)(clock() - begin) / CLOCKS_PER_SEC / rounds / ROWS, sum);
+}
+
+int main(int argc, char **argv) {
+    static int64_t values[ROWS];
+    llama_view view = LLAMA_NONE;
+    size_t form;
+    int64_t row;
+    if (llama_version() / 100 != LLAMA_VERSION / 100) {
+        fprintf(stderr, "the library has the version %" PRId32 "\n", llama_version());
+        return 1;
+    }
+    for (form = 0; form < sizeof VIEWS / sizeof VIEWS[0]; form++) {
+        int64_t value = 0;
+        make(&view, VIEWS[form]);
+        for (row = 0; row < ROWS; row++) {
+            must(llama_set(&view, (uint64_t)row, X, 3 * row - 6000), "llama_set");
+            must(llama_set(&view, (uint64_t)row, MASS, row), "llama_set");
+            must(llama_set(&view, (uint64_t)row, ALIVE, row % 2), "llama_set");
+        }
+        must(llama_get(&view, 1000, X, &value), "llama_get");
+        printf("%" PRId64 " %" PRId64 " %" PRId64 " %" PRId64 "\n", value, sum_of(&view, X, values), sum_of(&view, MASS, values), sum_of(&view, ALIVE, values));
+        printf("%d %d %d\n", (int)llama_set(&view, 0, MASS, 65536), (int)llama_get(&view, ROWS, X, &value), (int)llama_get(&view, 0, 3, &value));
+        if (argc > 1) {
+            time_rounds(&view, atoi(argv[1]), values);
+        }
+    }
+    llama_drop(&view);
+    printf("%d\n", (int)llama_get(&view, 0, X, &row));
+    return 0;
+}
