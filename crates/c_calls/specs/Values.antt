@@ -28,7 +28,7 @@ read_by reads table first count leaf given = if is_run table first count leaf
 
 -- what `llama_get` and `llama_get_u64` answer
 abbrev pub got : (LeafType → Bool) → ℕ → ℕ → Table → Answer ℤ
-got reads row leaf table = read_by reads table row 1 leaf (entry table.rows row leaf)
+got reads at leaf table = read_by reads table at 1 leaf (entry table.rows at leaf)
 
 -- the answer of a store
 abbrev pub told_store : Result ℤ StoreFault → Answer (Unit {0})
@@ -37,4 +37,4 @@ told_store (Err fault) = Err (store_refusal fault)
 
 -- what `llama_set` and `llama_set_u64` answer
 abbrev pub was_set : ℕ → ℕ → ℤ → Table → Answer (Unit {0})
-was_set row leaf value table = if is_run table row 1 leaf then told_store (answer_of table leaf value) else Err NoPlace
+was_set at leaf value table = if is_run table at 1 leaf then told_store (answer_of table leaf value) else Err NoPlace
