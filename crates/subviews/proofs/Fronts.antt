@@ -4,7 +4,6 @@ use Rattle.std.proofs.lemmas.List.{append-nil, take_more, map-append}
 use Rattle.std.proofs.lemmas.List.Concat.{flat_map-append}
 use Rattle.piece_bits.specs.Tables.{with_entry}
 use Rattle.views.specs.declared.fault.StoreFault.{StoreFault}
-use Rattle.subviews.specs.declared.fault.StencilFault.{StencilFault}
 use Rattle.subviews.specs.Stencils.{at_row, first_fault, with_column}
 
 -- the logs of a row more
@@ -26,9 +25,6 @@ fault_behind answer (row ∷ rows) more fits = of_row (answer row) fits (fault_b
       → at_row row one (first_fault answer (rows ++ more)) ≡ first_fault answer more
   of_row (Ok kept) fits rest = rest fits
   of_row (Err fault) fits rest = absurd (cc)
-
-fault_of_one : (answer : ℕ → Result ℤ StoreFault) (row : ℕ) → first_fault answer (row ∷ []) ≡ at_row row (answer row) (Ok tt)
-fault_of_one answer row = refl
 
 pub fits_more : (answer : ℕ → Result ℤ StoreFault) (rows : List ℕ) (k d : ℕ) (kept : ℤ) → k < length rows → first_fault answer (take k rows) ≡ Ok tt → answer (get_or rows k d) ≡ Ok kept
     → first_fault answer (take (k + 1) rows) ≡ Ok tt

@@ -1,30 +1,32 @@
 -- The two passes of a round, row by row, and rounds one after another.
-use Rattle.std.proofs.Common.{◌≡◌, ℕ, zero, suc, ◌+◌, ◌<◌, ℤ, List, [], ◌∷◌, ◌++◌, length, map, take, get_or, fold, flat_map, Contains, Result, Ok, Err, Some, refl, ap, sym, subst, ◌∙◌, ⊎_elim, arith}
+use Rattle.std.proofs.Common.{◌≡◌, ℕ, zero, suc, ◌+◌, ◌<◌, ◌≤◌, ℤ, List, [], ◌∷◌, ◌++◌, length, take, get_or, Contains, Result, Ok, Err, Some, refl, ap, sym, subst, ◌∙◌, ⊎_elim, arith}
 use Rattle.std.specs.Prelude.{slice_get}
 use Rattle.std.proofs.lemmas.Bool.{cases_eq, cases_lt}
+use Rattle.std.proofs.lemmas.List.{length-map}
 use Rattle.std.proofs.lemmas.List.Sums.{fold_more}
-use Rattle.std.proofs.lemmas.Option.{slice_get_within, get_or_from_slice_get}
+use Rattle.std.proofs.lemmas.Option.{slice_get-get_or, slice_get_within, get_or_from_slice_get}
+use Rattle.extents.specs.Indices.{indices}
 use Rattle.places.specs.Image.{entry}
 use Rattle.places.specs.declared.piece.Hold.{Hold}
 use Rattle.record_dim.specs.Trees.{Fields}
-use Rattle.record_dim.specs.Leaves.{kinds_of}
+use Rattle.record_dim.specs.Leaves.{Leaf, leaves, kinds_of}
 use Rattle.map_expr.specs.Terms.{Term, uncounted}
 use Rattle.map_checks.specs.Mappings.{leaf_cells, holds_by}
 use Rattle.kept_tables.specs.declared.mode.StoreMode.{StoreMode}
 use Rattle.piece_bits.specs.Tables.{HasShape, hold_at, with_entry}
 use Rattle.piece_bits.specs.TableLaws.{with_entry_same, with_entry_other}
-use Rattle.views.specs.AnswerLaws.{stays_answer}
+use Rattle.views.specs.AnswerLaws.{stays_answer, told_err, told_kept}
 use Rattle.views.specs.UncountedLaws.{holds_uncounted}
-use Rattle.views.specs.Stores.{Answer, kind_at, store_answer, kept_or}
-use Rattle.views.specs.Tallies.{Access, Write, Tally, tallied}
+use Rattle.views.specs.Stores.{kind_at, store_answer, told, kept_or}
+use Rattle.views.specs.Tallies.{Write, Tally, tallied}
 use Rattle.views.specs.TallyLaws.{after_log-none, after_log-append, after_stores-append, tallied-none, logs_more}
-use Rattle.views.specs.Tables.{Table, IsTable, owners_of, leaf_count_of, leaf_types_of, leaf_type_of, table_holds, answer_of, kept_of, after_log, after_stores, after_write}
+use Rattle.views.specs.Tables.{Table, IsTable, owners_of, leaf_count_of, leaf_type_of, table_holds, answer_of, kept_of, after_log, after_stores, after_write}
 use Rattle.views.specs.declared.fault.StoreFault.{StoreFault}
 use Rattle.subviews.specs.SubViews.{rows_of}
-use Rattle.subviews.specs.Stencils.{Stencil, values_fault, stencil_value, new_entry, with_column, if_fits, round, next_round, after_rounds, stenciled, term_reads, round_reads, round_writes, round_log, rounds_log}
+use Rattle.subviews.specs.Stencils.{Stencil, values_fault, stencil_value, new_entry, with_column, if_fits, round, next_round, stenciled, term_reads, round_reads, round_writes, round_log, rounds_log}
 use Rattle.subviews.specs.declared.fault.StencilFault.{StencilFault}
 use Rattle.subviews.specs.declared.rounds.Plan.{Plan}
-use Rattle.subviews.specs.Plans.{IsBufferOf, planned}
+use Rattle.subviews.specs.Plans.{IsBufferOf, IsPlanOf, planned}
 use Rattle.subviews.proofs.Fronts.{logs_front, map_front, fits_more, fault_here, column_same}
 
 -- ---- a buffer keeps what its view keeps
@@ -40,19 +42,32 @@ same_answer view buffer is leaf value =
     ∙ ap (λ (fields : Fields). store_answer view.mode (kind_at (kinds_of fields) leaf) (hold_at (holds_by buffer.mapping fields) leaf) value) is.fields
     ∙ ap (λ (holds : List Hold). store_answer view.mode (leaf_type_of view leaf) (hold_at holds leaf) value) (same_holds buffer.mapping view.mapping view.fields is.mapping)
 
-pub buffer_after : (view buffer : Table) (rows rows' : List (List ℤ)) (tally tally' : Tally) → IsBufferOf view buffer → IsBufferOf (record view { rows = rows; tally = tally }) (record buffer { rows = rows'; tally = tally' })
-buffer_after view buffer rows rows' tally tally' is = record { fields = is.fields; extents = is.extents; mode = is.mode; mapping = is.mapping }
+-- the answer of the buffer, by what a store of it told
+pub refused_here : (answer : Result ℤ StoreFault) (result : Result Unit StoreFault) (fault : StoreFault) → result ≡ told answer → result ≡ Err fault → answer ≡ Err fault
+refused_here answer result fault is refused = told_err answer fault (sym is ∙ refused)
+
+pub taken_here : (value : ℤ) (answer : Result ℤ StoreFault) (result : Result Unit StoreFault) → result ≡ told answer → result ≡ Ok tt → answer ≡ Ok (kept_or value answer)
+taken_here value answer result is taken = told_kept value answer (sym is ∙ taken)
 
 same_but : (table old : Table) (rows : List (List ℤ)) (tally : Tally) → table ≡ record old { rows = rows; tally = tally } → table ≡ record old { rows = table.rows; tally = table.tally }
 same_but table old rows tally is = is ∙ ap (λ (t : Table). record old { rows = t.rows; tally = t.tally }) (sym is)
+
+pub told_taken : (value : ℤ) (answer : Result ℤ StoreFault) (result : Result Unit StoreFault) → result ≡ told answer → answer ≡ Ok value → result ≡ Ok tt
+told_taken value answer result is taken = is ∙ ap told taken
 
 -- ---- the rows of a window, as a loop goes over them
 
 pub outer_at : (numbers : List ℕ) (k outer : ℕ) → slice_get numbers k ≡ Some outer → get_or numbers k 0 ≡ outer
 outer_at numbers k outer at = get_or_from_slice_get numbers k outer 0 at
 
-pub outer_in : (numbers : List ℕ) (k outer : ℕ) → slice_get numbers k ≡ Some outer → Contains numbers outer
-outer_in numbers k outer at = (k, slice_get_within numbers k outer at, get_or_from_slice_get numbers k outer outer at)
+-- a row of the window and the leaf of a plan are those of a buffer
+pub buffer_row : (view first buffer : Table) (plan : Plan) (outer : ℕ) → IsPlanOf (leaf_count_of view) view.extents plan → IsBufferOf view first → buffer.extents ≡ first.extents → IsTable buffer
+    → outer < length (indices plan.window.now.0) → outer < length buffer.rows
+buffer_row view first buffer plan outer is like same table below =
+    omega (arith, below, table.rows, ap (λ (e : List ℕ). length (indices e)) (same ∙ like.extents ∙ sym is.window))
+
+pub buffer_leaf : (view first buffer : Table) (plan : Plan) → IsPlanOf (leaf_count_of view) view.extents plan → IsBufferOf view first → buffer.fields ≡ first.fields → plan.leaf < leaf_count_of buffer
+buffer_leaf view first buffer plan is like same = omega (arith, is.inside, ap (λ (f : Fields). length (leaves f)) (same ∙ like.fields))
 
 -- ---- the first pass
 
@@ -123,6 +138,14 @@ module _ (old view first buffer : Table) (plan : Plan) (k outer : ℕ) (value : 
         same = same_but after' first new tally (stored ∙ ap (λ (t : Table). record t { rows = new; tally = tally }) so_far.same);
       }
 
+-- behind the last row
+pub filled_all : (old view first buffer : Table) (plan : Plan) (k : ℕ) → length (rows_of plan.window.now) ≤ k → IsFilled old view first buffer plan k → (row : ℕ) → Contains (rows_of plan.window.now) row
+    → entry buffer.rows row plan.leaf ≡ new_entry (answer_of old) (planned plan) old.rows row
+filled_all old view first buffer plan k past is row held =
+    let numbers = rows_of plan.window.now in
+    let here : get_or numbers held.0 0 ≡ row = get_or_from_slice_get numbers held.0 row 0 (slice_get-get_or numbers held.0 row held.1 ∙ ap (λ (r : ℕ). Some r) held.2) in
+    subst (λ (r : ℕ). entry buffer.rows r plan.leaf ≡ new_entry (answer_of old) (planned plan) old.rows r) here (is.filled held.0 (omega (arith, past, held.1)))
+
 -- ---- the second pass
 
 -- the first so many rows of the window have what the buffer holds
@@ -136,9 +159,9 @@ none_stored old first plan = record { stored = ap (λ (tally : Tally). record ol
 module _ (old view first buffer : Table) (plan : Plan) (k outer : ℕ) (value : ℤ) (is : IsBufferOf old first) (so_far : IsStored old view first buffer plan k)
     (at : slice_get (rows_of plan.window.now) k ≡ Some outer) (value_is : value ≡ entry buffer.rows outer plan.leaf) where
   -- a value of the buffer is taken as it is
-  pub taken_as_is : IsTable buffer → outer < length buffer.rows → plan.leaf < length (leaf_types_of buffer) → answer_of view plan.leaf value ≡ Ok value
+  pub taken_as_is : IsTable buffer → outer < length buffer.rows → plan.leaf < leaf_count_of buffer → answer_of view plan.leaf value ≡ Ok value
   taken_as_is table row_in leaf_in =
-      let stays = stays_answer buffer.mode (leaf_type_of buffer plan.leaf) (hold_at (table_holds buffer) plan.leaf) (entry buffer.rows outer plan.leaf) (table.stays outer plan.leaf row_in leaf_in) in
+      let stays = stays_answer buffer.mode (leaf_type_of buffer plan.leaf) (hold_at (table_holds buffer) plan.leaf) (entry buffer.rows outer plan.leaf) (table.stays outer plan.leaf row_in (omega (arith, leaf_in, length-map (leaves buffer.fields) (λ (one : Leaf). one.kind)))) in
       ap (λ (t : Table). answer_of t plan.leaf value) so_far.stored ∙ sym (same_answer old first is plan.leaf value) ∙ sym (ap (λ (t : Table). answer_of t plan.leaf value) so_far.same)
       ∙ ap (answer_of buffer plan.leaf) value_is ∙ stays ∙ ap (λ (v : ℤ). Ok v) (sym value_is)
 
@@ -173,6 +196,13 @@ pub record IsAfter (old view first buffer : Table) (stencil : Stencil) (count : 
 pub no_round : (old first : Table) (stencil : Stencil) → IsAfter old old first first stencil 0
 no_round old first stencil = record { rounds = refl; counted = ap (λ (tally : Tally). record old { tally = tally }) (sym (tallied-none (owners_of old) old.tally)); same = refl }
 
+pub same_after : (old view first buffer : Table) (stencil : Stencil) (count : ℕ) → IsAfter old view first buffer stencil count → view ≡ record old { rows = view.rows; tally = view.tally }
+same_after old view first buffer stencil count is = same_but view old view.rows (tallied (owners_of old) old.tally (rounds_log stencil count)) is.counted
+
+-- the buffer behind both passes of a round
+pub buffer_same : (buffer filled after : Table) → filled ≡ record buffer { rows = filled.rows; tally = filled.tally } → after ≡ record filled { tally = after.tally } → after ≡ record buffer { rows = after.rows; tally = after.tally }
+buffer_same buffer filled after fill read = same_but after buffer filled.rows after.tally (read ∙ ap (λ (t : Table). record t { tally = after.tally }) fill)
+
 -- a round with its two passes
 pub round_done : (old view read after filled : Table) (plan : Plan) → view ≡ record old { rows = view.rows; tally = view.tally }
     → values_fault (answer_of view) (planned plan) view.rows (rows_of plan.window.now) ≡ Ok tt → read ≡ after_log view (round_reads (planned plan) (rows_of plan.window.now))
@@ -189,8 +219,8 @@ round_done old view read after filled plan from fits reads fill stores =
     ap (λ (r : Result Unit StencilFault). if_fits r (with_column plan.leaf (new_entry (answer_of view) (planned plan) view.rows) numbers view.rows)) fits ∙ ap (λ (r : List (List ℤ)). Ok r) (sym after_rows) in (
       sym (ap (λ (t : Table). round (answer_of t) (planned plan) view.rows) from) ∙ one,
       stores ∙ ap (λ (r : List (List ℤ)). after_stores read r (round_writes (planned plan) numbers)) (column ∙ sym after_rows)
-      ∙ ap (λ (t : Table). after_stores t after.rows (round_writes (planned plan) numbers)) reads
-      ∙ after_stores-append view view.rows after.rows (round_reads (planned plan) numbers) (round_writes (planned plan) numbers),
+          ∙ ap (λ (t : Table). after_stores t after.rows (round_writes (planned plan) numbers)) reads
+          ∙ after_stores-append view view.rows after.rows (round_reads (planned plan) numbers) (round_writes (planned plan) numbers),
     )
 
 pub after_more : (old view after first buffer buffer' : Table) (stencil : Stencil) (count : ℕ) → IsAfter old view first buffer stencil count
@@ -205,6 +235,14 @@ after_more old view after first buffer buffer' stencil count so_far one counted 
           ∙ ap (after_stores old after.rows) (sym (logs_more (λ number. round_log stencil) count));
       same = same ∙ ap (λ (t : Table). record t { rows = buffer'.rows; tally = buffer'.tally }) so_far.same;
     }
+
+-- a round whose values do not all fit
+pub round_stopped : (old view : Table) (stencil : Stencil) (fault : StencilFault) → view ≡ record old { rows = view.rows; tally = view.tally }
+    → values_fault (answer_of view) stencil view.rows (rows_of stencil.window) ≡ Err fault → round (answer_of old) stencil view.rows ≡ Err fault
+round_stopped old view stencil fault from refused =
+    let numbers = rows_of stencil.window in
+    sym (ap (λ (t : Table). round (answer_of t) stencil view.rows) from)
+    ∙ ap (λ (r : Result Unit StencilFault). if_fits r (with_column stencil.leaf (new_entry (answer_of view) stencil view.rows) numbers view.rows)) refused
 
 -- a fault ends all rounds behind it
 pub stopped : (old : Table) (rows : List (List ℤ)) (stencil : Stencil) (count more all : ℕ) (fault : StencilFault) → all ≡ suc (more + count) → stenciled old stencil count ≡ Ok rows

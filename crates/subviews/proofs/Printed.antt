@@ -1,10 +1,14 @@
 -- The text of a subview, row by row.
-use Rattle.std.proofs.Common.{◌≡◌, ℕ, ◌+◌, ◌<◌, ℤ, List, [], ◌∷◌, length, map, take, get_or, flat_map, Option, Result, Ok, Err, refl, sym, ap, ◌∙◌, subst}
+use Rattle.std.proofs.Common.{◌≡◌, ℕ, ◌+◌, ◌<◌, ℤ, List, [], length, take, get_or, flat_map, Option, Ok, Contains, arith, refl, ap, subst}
 use Rattle.std.proofs.lemmas.List.{length-map, get_or-map}
+use Rattle.extents.specs.Indices.{indices}
 use Rattle.layout_io.specs.Gathering.{Puts, HasPut}
 use Rattle.layout_io.specs.GatheringLaws.{Puts-append}
 use Rattle.layout_io.specs.WritingLaws.{flat_map_push}
+use Rattle.views.specs.Tallies.{Access}
+use Rattle.views.specs.Tables.{Table, IsTable, after_log}
 use Rattle.subviews.specs.SubViews.{WindowOf, rows_of, outer_row, sub_table}
+use Rattle.subviews.proofs.Ways.{row_inside}
 
 -- a row of the subview
 pub sub_row : (window : WindowOf) (rows : List (List ℤ)) (row : ℕ) → row < length (rows_of window) → get_or (sub_table window rows) row [] ≡ get_or rows (outer_row window row) []
@@ -20,3 +24,8 @@ pub row_put : {K T E : Type 0} {taken : K → Option (List ℕ)} {faults : K →
 row_put {taken} {faults} {old} {new} {was} {held} text rows k small before step =
     subst (λ t. HasPut taken faults old new was held t) (flat_map_push text rows k [] small)
     (Puts-append before (record { gathers = step.gathers; bound = step.bound; fits = λ small. (refl, (step.fits small).1, (step.fits small).2); stopped = tt }))
+
+-- a row of the window is one of the table, also after reads
+pub row_below : (window : WindowOf) (old view : Table) (log : List Access) (row : ℕ) → window.0 ≡ old.extents → IsTable old → view ≡ after_log old log → Contains (rows_of window) row → row < length view.rows
+row_below window old view log row same is read held =
+    omega (arith, row_inside window row held, is.rows, ap (λ (e : List ℕ). length (indices e)) same, ap (λ (t : Table). length t.rows) read)

@@ -1,22 +1,22 @@
 -- From each row of a window a term reads as far away.
-use Rattle.std.proofs.Common.{◌≡◌, ℕ, zero, suc, ◌+◌, ◌*◌, ◌-◌, ◌<◌, ◌≤◌, Bool, true, false, ℤ, pos, ◌+ℤ◌, ◌-ℤ◌, List, [], ◌∷◌, length, map, take, get_or, filter, ◌^◌, All, Contains, Some, refl, ap, sym, ◌∙◌, arith}
+use Rattle.std.proofs.Common.{◌≡◌, ℕ, zero, suc, ◌+◌, ◌*◌, ◌<◌, ◌≤◌, Bool, true, false, ℤ, pos, ◌+ℤ◌, ◌-ℤ◌, List, [], ◌∷◌, ◌++◌, length, map, take, get_or, filter, ◌^◌, All, Contains, Some, slice_set, ⊎_elim, refl, ap, sym, subst, ◌∙◌, arith}
 use Rattle.std.specs.Prelude.{◌&&◌, ◌==◌, nat_lt, slice_get, if◌then◌else◌}
-use Rattle.std.specs.List.{list_all, enumerate_from, position_or_len}
-use Rattle.std.specs.Ordering.{int_eq}
+use Rattle.std.specs.List.{list_all, enumerate_from}
 use Rattle.std.specs.Cmp.Rules.{signed_items}
-use Rattle.std.proofs.lemmas.Bool.{and_parts, ltb-true}
+use Rattle.std.proofs.lemmas.Bool.{and_parts, ltb-true, cases_eq}
 use Rattle.std.proofs.lemmas.Int.{ints}
-use Rattle.std.proofs.lemmas.List.{take_all}
+use Rattle.std.proofs.lemmas.List.{take_all, take_more, get_or-set_same, get_or-set_other}
 use Rattle.std.proofs.lemmas.List.Sums.{AllPass-from_list_all, passes_at_first}
-use Rattle.std.proofs.lemmas.Option.{slice_get-get_or}
+use Rattle.std.proofs.lemmas.Option.{slice_get-get_or, slice_get_within, get_or_from_slice_get}
 use Rattle.extents.specs.Indices.{indices, product, IsInside, IsExtents}
-use Rattle.extents.specs.IndicesLaws.{place, entry_at}
+use Rattle.extents.specs.IndicesLaws.{place, entry_at, same_row}
 use Rattle.extents.specs.Windows.{holds}
 use Rattle.extents.specs.WindowLaws.{numbers_of, inside_length}
 use Rattle.linearize.specs.Slots.{index_at}
 use Rattle.linearize.specs.SlotsLaws.{entry_of_row, index_at_inside}
 use Rattle.subviews.specs.SubViews.{WindowOf, rows_of}
 use Rattle.subviews.specs.Stencils.{away, is_index, row_from, is_offset, reaches}
+use Rattle.subviews.specs.declared.term.Term.{Term}
 use Rattle.subviews.specs.Plans.{IsFar}
 
 -- ---- the rows of a window are rows of the array
@@ -35,10 +35,6 @@ row_inside window row held =
     let below = number_below (holds window.1) 0 (indices window.0) held.0 row (slice_get-get_or (rows_of window) held.0 row held.1 ∙ ap (λ (r : ℕ). Some r) held.2) in omega (arith, below)
 
 -- ---- what a reach says
-
-pub reach_rank : (window : WindowOf) (offsets : List ℤ) → reaches window offsets ≡ true → (length offsets == length window.0) ≡ true
-reach_rank window offsets reach =
-    (and_parts (length offsets == length window.0) (list_all is_offset offsets && list_all (λ row. nat_lt (row_from window.0 row offsets) (length (indices window.0))) (rows_of window)) reach).0
 
 pub reach_inside : (window : WindowOf) (offsets : List ℤ) (row : ℕ) → reaches window offsets ≡ true → Contains (rows_of window) row → row_from window.0 row offsets < length (indices window.0)
 reach_inside window offsets row reach held =
@@ -111,25 +107,76 @@ inside_small (n ∷ ns) [] d narrow inside small = absurd inside
 inside_small (n ∷ ns) (i ∷ index) zero narrow inside small = (let first : n < 2 ^ 32 = narrow 0 0 (omega arith) in omega (arith, inside.0, first))
 inside_small (n ∷ ns) (i ∷ index) (suc d) narrow inside small = inside_small ns index d (λ k other low. narrow (suc k) other (omega (arith, low))) inside.1 (omega (arith, small))
 
--- a component of it: the row's, so far away, and both are small
-pub record IsStep (window : WindowOf) (offsets : List ℤ) (first d : ℕ) : Type 0 where
-  pub away : pos (get_or (target window offsets first) d 0) ≡ pos (get_or (index_at window.0 first) d 0) +ℤ get_or offsets d (pos 0)
-  pub small : get_or (target window offsets first) d 0 < 2 ^ 32
-  pub near : get_or (index_at window.0 first) d 0 < 2 ^ 32
+-- what stands at a place among the rows of a window is one of them
+pub row_held : (window : WindowOf) (k row : ℕ) → slice_get (rows_of window) k ≡ Some row → Contains (rows_of window) row
+row_held window k row at = (k, slice_get_within (rows_of window) k row at, get_or_from_slice_get (rows_of window) k row row at)
 
-pub step_at : (window : WindowOf) (offsets : List ℤ) (first d : ℕ) → IsExtents window.0 → reaches window offsets ≡ true → Contains (rows_of window) first → d < length window.0 → IsStep window offsets first d
-step_at window offsets first d extents reach held small =
-    let e = window.0 in
-    let to = reach_inside window offsets first reach held in
-    let inside = index_at_inside e (row_from e first offsets) to in
+-- a component of it: that of the row, so far away, and both are small
+pub record IsStep (to from : ℕ) (offset : ℤ) : Type 0 where
+  pub away : pos to ≡ pos from +ℤ offset
+  pub small : to < 2 ^ 32
+  pub near : from < 2 ^ 32
+
+pub step_at : (window : WindowOf) (offsets : List ℤ) (first d : ℕ) (extents from : List ℕ) → extents ≡ window.0 → IsExtents extents → reaches window offsets ≡ true
+    → slice_get (rows_of window) 0 ≡ Some first → slice_get (indices extents) first ≡ Some from → d < length extents → IsStep (get_or (target window offsets first) d 0) (get_or from d 0) (get_or offsets d (pos 0))
+step_at window offsets first d extents from same is reach held at small =
+    let to = reach_inside window offsets first reach (row_held window 0 first held) in
+    let here : from ≡ index_at window.0 first = sym (get_or_from_slice_get (indices window.0) first from [] (subst (λ (e : List ℕ). slice_get (indices e) first ≡ Some from) same at)) in
+    let inside = index_at_inside window.0 (row_from window.0 first offsets) to in
+    let within : d < length window.0 = subst (λ (e : List ℕ). d < length e) same small in
+    let narrow = (subst (λ (e : List ℕ). IsExtents e) same is).narrow in
     record {
-      away = away_at (index_at e first) (target window offsets first) offsets d (found e first offsets to) (omega (arith, small, inside_length e (target window offsets first) inside));
-      small = inside_small e (target window offsets first) d extents.narrow inside small;
-      near = inside_small e (index_at e first) d extents.narrow (index_at_inside e first (row_inside window first held)) small;
+      away = away_at (index_at window.0 first) (target window offsets first) offsets d (found window.0 first offsets to) (omega (arith, within, inside_length window.0 (target window offsets first) inside))
+          ∙ ap (λ (index : List ℕ). pos (get_or index d 0) +ℤ get_or offsets d (pos 0)) (sym here);
+      small = inside_small window.0 (target window offsets first) d narrow inside within;
+      near = subst (λ (index : List ℕ). get_or index d 0 < 2 ^ 32) (sym here)
+          (inside_small window.0 (index_at window.0 first) d narrow (index_at_inside window.0 first (row_inside window first (row_held window 0 first held))) within);
     }
+
+-- one component more
+pub step_more : (window : WindowOf) (offsets : List ℤ) (first d : ℕ) (found after : List ℕ) (value : ℕ) → reaches window offsets ≡ true → slice_get (rows_of window) 0 ≡ Some first → d < length window.0
+    → found ≡ take d (target window offsets first) → after ≡ found ++ value ∷ [] → value ≡ get_or (target window offsets first) d 0 → after ≡ take (d + 1) (target window offsets first)
+step_more window offsets first d found after value reach held small so_far push here =
+    let e = window.0 in
+    let to = target window offsets first in
+    let inside = index_at_inside e (row_from e first offsets) (reach_inside window offsets first reach (row_held window 0 first held)) in
+    push ∙ ap (λ (front : List ℕ). front ++ value ∷ []) so_far ∙ ap (λ (n : ℕ). take d to ++ n ∷ []) here ∙ sym (take_more to d 0 (omega (arith, small, inside_length e to inside)))
 
 -- its front is the whole of it
 pub whole_target : (window : WindowOf) (offsets : List ℤ) (first d : ℕ) → reaches window offsets ≡ true → Contains (rows_of window) first → length window.0 ≤ d → take d (target window offsets first) ≡ target window offsets first
 whole_target window offsets first d reach held past =
     let e = window.0 in
     take_all d (target window offsets first) (omega (arith, past, inside_length e (target window offsets first) (index_at_inside e (row_from e first offsets) (reach_inside window offsets first reach held))))
+
+-- with all components it is the index of the row that is read
+pub landed : (window : WindowOf) (offsets : List ℤ) (first d row : ℕ) (extents index : List ℕ) → extents ≡ window.0 → reaches window offsets ≡ true → slice_get (rows_of window) 0 ≡ Some first → length extents ≤ d
+    → index ≡ take d (target window offsets first) → slice_get (indices extents) row ≡ Some index → row ≡ row_from window.0 first offsets
+landed window offsets first d row extents index same reach held past so_far at =
+    let e = window.0 in
+    let in_rows = row_held window 0 first held in
+    let past' : length e ≤ d = subst (λ (x : List ℕ). length x ≤ d) same past in
+    let whole : index ≡ target window offsets first = so_far ∙ whole_target window offsets first d reach in_rows past' in
+    let at' : slice_get (indices e) row ≡ Some index = subst (λ (x : List ℕ). slice_get (indices x) row ≡ Some index) same at in
+    same_row e (target window offsets first) row (row_from e first offsets) (at' ∙ ap (λ (x : List ℕ). Some x) whole) (entry_of_row e (row_from e first offsets) (reach_inside window offsets first reach in_rows))
+
+-- ---- the distances of the terms, one by one
+
+abbrev pub AreFar : WindowOf → List Term → List ℤ → ℕ → Type 0
+AreFar window terms far count = (place : ℕ) (other : Term) → place < count → IsFar window (get_or terms place other).offsets.items (get_or far place (pos 0))
+
+pub far_more : (window : WindowOf) (terms : List Term) (far : List ℤ) (k : ℕ) (term : Term) (value : ℤ) → k < length far → k < length terms → term ≡ get_or terms k term → IsFar window term.offsets.items value
+    → AreFar window terms far k → AreFar window terms (slice_set far k value) (k + 1)
+far_more window terms far k term value small within at here before = λ place other low.
+    ⊎_elim
+    (λ (same : place ≡ k).
+    (let one : get_or terms k other ≡ term = get_or_from_slice_get terms k (get_or terms k term) other (slice_get-get_or terms k term within) ∙ sym at in
+    subst (λ (n : ℕ). IsFar window (get_or terms n other).offsets.items (get_or (slice_set far k value) n (pos 0))) (sym same)
+    (subst (λ (t : Term). IsFar window t.offsets.items (get_or (slice_set far k value) k (pos 0))) (sym one)
+    (subst (λ (z : ℤ). IsFar window term.offsets.items z) (sym (get_or-set_same far k value (pos 0) small)) here))))
+    (λ (apart : place ≡ k → ⊥).
+    subst (λ (z : ℤ). IsFar window (get_or terms place other).offsets.items z) (sym (get_or-set_other far k place value (pos 0) apart)) (before place other (omega (arith, low, apart))))
+    (cases_eq place k)
+
+-- a window without a row has any
+pub far_of_none : (window : WindowOf) (terms : List Term) (far : List ℤ) (count : ℕ) → length (rows_of window) ≡ 0 → AreFar window terms far count
+far_of_none window terms far count none = λ place other low row held. absurd (omega (arith, none, held.1))

@@ -4,7 +4,7 @@ use Rattle.extents.specs.Indices.{indices}
 use Rattle.map_expr.specs.Terms.{uncounted}
 use Rattle.views.specs.Tables.{Table}
 use Rattle.subviews.specs.SubViews.{WindowOf, rows_of}
-use Rattle.subviews.specs.Stencils.{Stencil, Weighted, weighted, row_from, reaches, is_weight}
+use Rattle.subviews.specs.Stencils.{Stencil, weighted, row_from, reaches, is_weight}
 use Rattle.subviews.specs.declared.term.Term.{Term}
 use Rattle.subviews.specs.declared.rounds.Plan.{Plan}
 

@@ -112,12 +112,7 @@ fn value_at<L: Ledger>(view: &mut View, plan: &Plan<'_>, row: u64, steps: &mut S
 }
 
 // Stores in each row of the window what the buffer holds there.
-fn store_back<L: Ledger>(
-    view: &mut View,
-    buffer: &mut View,
-    plan: &Plan<'_>,
-    steps: &mut Steps<L>,
-)
+fn store_back<L: Ledger>(view: &mut View, buffer: &mut View, plan: &Plan<'_>, steps: &mut Steps<L>)
     requires plan { IsPlanOf (leaf_count_of view.old) view.old.extents plan.now }
     requires buffer { IsBufferOf view.old buffer.old }
     ensures stored { view.new ≡ after_stores view.old

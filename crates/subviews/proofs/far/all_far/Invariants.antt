@@ -1,7 +1,6 @@
-use Rattle.std.proofs.Common.{ℕ, ◌<◌, pos, get_or}
-use Rattle.subviews.specs.declared.term.Term.{Term}
-use Rattle.subviews.specs.Plans.{IsFar}
+use Rattle.std.proofs.Common.{◌≡◌, length}
+use Rattle.subviews.proofs.Ways.{AreFar}
 use Rattle.subviews.proofs.far.all_far.Given as goal
 
 abbrev pub invariant-loop-place : goal.invariant-loop-place
-invariant-loop-place l = (place : ℕ) (other : Term) → place < l.place → IsFar l.window (get_or l.terms place other).offsets.items (get_or l.far place (pos 0))
+invariant-loop-place l = record { long : length l.far ≡ 64; far : AreFar l.window l.terms l.far l.place }

@@ -1,19 +1,14 @@
-use Rattle.std.proofs.Common.{rules, arith, ◌≡◌, ◌<◌, ◌∙◌, ℕ, ℤ, List, [], IsErr, Contains, length, map, flat_map, take, get_or, ap, sym, refl}
-use Rattle.std.proofs.lemmas.List.{length-take}
-use Rattle.std.proofs.lemmas.Option.{get_or_from_slice_get}
+use Rattle.std.proofs.Common.{rules, arith, ◌≡◌, ◌<◌, ◌∙◌, ℤ, List, [], IsErr, length, map, flat_map, take, ap, sym, refl}
 use Rattle.std.proofs.lemmas.List.Elements.{Contains-get_or}
-use Rattle.extents.specs.Indices.{indices}
 use Rattle.layout_io.specs.Decimal.{decimal_text}
-use Rattle.layout_io.specs.Gathering.{Puts, HasPut}
 use Rattle.layout_io.specs.GatheringLaws.{Puts-loop_err}
 use Rattle.csv_rows.specs.Texts.{comma_line}
 use Rattle.views.specs.Tallies.{Read, row_accesses}
 use Rattle.views.specs.TallyLaws.{after_log-none, after_log-append}
-use Rattle.views.specs.Tables.{Table, leaf_count_of, after_log}
+use Rattle.views.specs.Tables.{leaf_count_of, after_log}
 use Rattle.subviews.specs.SubViews.{rows_of, outer_row, sub_table}
 use Rattle.subviews.proofs.Fronts.{logs_front}
-use Rattle.subviews.proofs.Printed.{sub_row, sub_count, row_put}
-use Rattle.subviews.proofs.Ways.{row_inside}
+use Rattle.subviews.proofs.Printed.{sub_row, sub_count, row_put, row_below}
 use Rattle.subviews.proofs.print.put_rows.Goals as goal
 
 pub loop-row-init : goal.loop-row-init
@@ -24,10 +19,10 @@ put_row-requires g c =
     let window = c.args.sub.now.window.now in
     let view = c.args.sub.now.view.now in
     let small : c.loop-row.row < length (rows_of window) = omega (arith, c.count-row-end.ensures, c.loop-row-test.true) in
-    let inside = row_inside window (outer_row window c.loop-row.row) (Contains-get_or (rows_of window) c.loop-row.row 0 small) in
+    let log = flat_map (row_accesses Read (leaf_count_of view)) (take c.loop-row.row (rows_of window)) in
+    let below = row_below window view c.loop-row.sub.view.now log (outer_row window c.loop-row.row) c.requires.window c.laws_of_table.ensures.table c.loop-row.invariant.1 (Contains-get_or (rows_of window) c.loop-row.row 0 small) in
     let outer : c.outer-outer.result ≡ outer_row window c.loop-row.row = rw c.loop-row.invariant.2 at c.outer-outer.ensures.row in
-    let rows : length (indices window.0) ≡ length view.rows = ap (λ (e : List ℕ). length (indices e)) c.requires.window ∙ sym c.laws_of_table.ensures.table.rows in
-    omega (arith, inside, outer, rows, ap (λ (t : Table). length t.rows) c.loop-row.invariant.1)
+    omega (arith, below, outer)
 
 pub returns-in_err-put_row-clause-puts : goal.returns-in_err-put_row-clause-puts
 returns-in_err-put_row-clause-puts g c =
@@ -50,7 +45,7 @@ loop-row-preserved g c =
     let leaves = leaf_count_of view in (
       row_put (λ (row : List ℤ). comma_line (map decimal_text row)) (sub_table window view.rows) c.loop-row.row (omega (arith, small, sub_count window view.rows)) c.loop-row.invariant.0 step,
       read ∙ after_log-append view (flat_map (row_accesses Read leaves) (take c.loop-row.row (rows_of window))) (row_accesses Read leaves (outer_row window c.loop-row.row))
-      ∙ ap (after_log view) (logs_front (row_accesses Read leaves) (rows_of window) c.loop-row.row 0 small),
+          ∙ ap (after_log view) (logs_front (row_accesses Read leaves) (rows_of window) c.loop-row.row 0 small),
       search rules,
       search rules,
     )

@@ -1,4 +1,0 @@
--- fill-requires: the plan: window = requires.window; rows = all_far-far.ensures.rows; inside = requires.leaf_in; terms, few, divisor (pos 0 <ℤ pos divisor), far = all_far-far.ensures.far; moved to the view of the turn by subst over invariant.counted
--- fill-requires-clause-buffer: buffer_after .. (subst over invariant.counted and invariant.same)
--- loop-_round-init = no_round ..; preserved = after_more .. (round_done ..)
--- returns-in_err: refused = stopped old rows stencil n (rounds - n - 1) rounds fault .. ; before = (n, below, invariant.rounds, round .. ≡ Err fault by ap (if_fits . ..) refused)

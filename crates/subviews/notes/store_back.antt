@@ -1,4 +1,0 @@
--- loop-row-init = none_stored c.args.view.now c.args.buffer.now c.args.plan.now
--- get-value-requires as in fill; set-_stored-requires: outer below view.rows (laws_of_table of the view in this turn), leaf: plan.inside
--- loop-row-preserved = stored_more .. (taken_as_is .. table row_in leaf_in); c.set-_stored.ensures.stored is OnOk of a result that is `told (answer_of view leaf value)`, so `Ok tt` by ap told taken
--- returns: take_all at row = count

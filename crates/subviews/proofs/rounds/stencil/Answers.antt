@@ -1,0 +1,39 @@
+use Rattle.std.proofs.Common.{rules, arith, ◌≡◌, ◌-◌, ◌∙◌, ℤ, Err, FitsSigned, subst, to_z, of_z}
+use Rattle.std.specs.Int.{w128}
+use Rattle.std.proofs.lemmas.Int.{to_z-of_z}
+use Rattle.subviews.specs.Stencils.{stenciled}
+use Rattle.subviews.specs.Plans.{stencil_by, planned}
+use Rattle.subviews.specs.declared.rounds.Plan.{Plan}
+use Rattle.subviews.proofs.Passes.{no_round, same_after, buffer_same, round_done, round_stopped, after_more, stopped}
+use Rattle.subviews.proofs.rounds.stencil.Goals as goal
+
+pub loop-round-init : goal.loop-round-init
+loop-round-init g c = no_round c.args.view.now c.args.buffer.now _
+
+pub returns-in_err-fill-clause-refused : goal.returns-in_err-fill-clause-refused
+returns-in_err-fill-clause-refused g c =
+    let old = c.args.view.now in
+    let view = c.loop-round.view in
+    let plan : Plan = record { window = c.args.window; leaf = c.args.leaf; terms = c.args.terms; far = c.all_far.result; divisor = to_z w128 (of_z w128 c.from.result) } in
+    let fault = c.in_err-fill.field-0.0 in
+    let fits : FitsSigned w128 c.from.result = search rules in
+    let from = same_after old view c.args.buffer.now c.loop-round.buffer (planned plan) c.loop-round._round c.loop-round.invariant in
+    let stop = round_stopped old view (planned plan) fault from c.in_err-fill.ensures.refused in
+    let all = stopped old view.rows (planned plan) c.loop-round._round (c.args.rounds - c.loop-round._round - 1) c.args.rounds fault (omega (arith, c.loop-round-test.true)) c.loop-round.invariant.rounds stop in
+    let same : stenciled old (stencil_by c.args.window.now c.args.leaf c.args.terms.now c.args.divisor) c.args.rounds ≡ Err fault =
+    subst (λ (divisor : ℤ). stenciled old (record (planned plan) { divisor = divisor }) c.args.rounds ≡ Err fault) (to_z-of_z w128 c.from.result fits ∙ c.from.ensures) all in
+    search rules
+
+pub loop-round-preserved : goal.loop-round-preserved
+loop-round-preserved g c =
+    let old = c.args.view.now in
+    let view = c.loop-round.view in
+    let buffer = c.loop-round.buffer in
+    let after = c.store_back.new.view in
+    let after' = c.store_back.new.buffer in
+    let plan : Plan = record { window = c.args.window; leaf = c.args.leaf; terms = c.args.terms; far = c.all_far.result; divisor = to_z w128 (of_z w128 c.from.result) } in
+    let from = same_after old view c.args.buffer.now buffer (planned plan) c.loop-round._round c.loop-round.invariant in
+    let done = round_done old view c.fill.new.view after c.fill.new.buffer plan from c.in_ok-fill.ensures.fits c.in_ok-fill.ensures.read c.in_ok-fill.ensures.filled
+    c.store_back.ensures.stored in
+    after_more old view after c.args.buffer.now buffer after' (planned plan) c.loop-round._round c.loop-round.invariant done.0 done.1
+    (buffer_same buffer c.fill.new.buffer after' c.fill.ensures.buffer c.store_back.ensures.buffer)
