@@ -1,5 +1,5 @@
 -- How a number with its sign, a window and the terms of a stencil are read.
-use Rattle.std.proofs.Common.{ℕ, true, false, List, codes, neg_ℤ, refl, arith}
+use Rattle.std.proofs.Common.{true, false, codes, neg_ℤ, refl, arith}
 use Rattle.phrases.specs.ParsesLaws.{Always, Parses, behind_parses, either_parses, give_parses, then_parses}
 use Rattle.phrases.specs.MoreLaws.{behind_starts, item_starts}
 use Rattle.line_tokens.specs.declared.sign.Sign.TheVariants.{OpenParen, CloseParen, Colon, Comma, Minus, Star}

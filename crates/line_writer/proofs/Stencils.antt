@@ -6,7 +6,6 @@ use Rattle.record_dim.specs.declared.path.PathStep.{PathStep}
 use Rattle.extents.specs.declared.window.Span.{Span}
 use Rattle.line_grammar.specs.declared.line.Command.TheVariants as command
 use Rattle.line_grammar.specs.declared.line.TermText.{TermText}
-use Rattle.line_grammar.specs.declared.token.Token.{Token}
 use Rattle.line_grammar.specs.declared.token.Token.TheVariants.{Word, Sign}
 use Rattle.line_grammar.specs.declared.version.Version.{Version}
 use Rattle.line_grammar.specs.Tokens.{command_of}

@@ -27,7 +27,7 @@ use Rattle.line_grammar.specs.declared.version.Version.TheVariants.{One, Two}
 use Rattle.line_grammar.specs.Versions.{is_two, may_have_window}
 use Rattle.line_grammar.specs.SignsLaws.{word_self}
 use Rattle.line_grammar.specs.Sentences.{Assignment, Sentence, Value, Blank, Define, Mapping, View, Load, Assign, Update, Actors, Kernel, Reduce, Count, Copy, Relayout, Show, Drop, Bytes, Save, Open, Advise, PrintWindow, Stencil}
-use Rattle.line_grammar.specs.Tokens.{is_sign, is_word, string_of, comparison_of, kernel_word_of, reduction_of, command_of}
+use Rattle.line_grammar.specs.Tokens.{is_word, string_of, comparison_of, kernel_word_of, reduction_of, command_of}
 use Rattle.line_grammar.specs.Grammar.{IsAssignment, IsBody, IsCommand, IsFilter, IsKernel, IsKernelInside, IsFlag, IsLine, IsListed, IsMap, IsName, IsNew, IsShowEnd, IsUpdateEnd}
 use Rattle.line_phrases.specs.BasicsLaws.{AfterLevel, Not, anything, apart, behind_after, behind_not, count_parses, exact_sign, exact_word, name_parses, starts_level}
 use Rattle.line_phrases.specs.FieldLaws.{fields_parses}

@@ -46,7 +46,8 @@ flag_at word = either_at (is_word word) (behind_at (is_word word) (give_at true)
 -- what makes a view, in which `read` reads an extent
 unfoldable pub new_at : Version → (List Token → Result (ExtentWord × List Token) ℕ) → ℕ → List Token → Result (New × List Token) ℕ
 new_at version read n = then_at (item_at name_of) (λ name. behind_at (is_sign Colon) (then_at (item_at name_of) (λ schema. then_at (bracket_list_at read)
-    (λ words. then_at (flag_at (codes "wrap")) (λ wrap. behind_at (is_word (codes "as")) (then_at (map_at version n) (λ map. give_at (record { name = name; schema = schema; words = words; wrap = wrap; term = map }))))))))
+    (λ words. then_at (flag_at (codes "wrap")) (λ wrap. behind_at (is_word (codes "as")) (then_at (map_at version n)
+    (λ map. give_at (record { name = name; schema = schema; words = words; wrap = wrap; term = map }))))))))
 
 unfoldable pub view_at : Version → ℕ → List Token → Result (Sentence × List Token) ℕ
 view_at version n = then_at (new_at version fixed_at n) (λ new. give_at (View new))

@@ -1,16 +1,17 @@
-ghost use Rattle.std.specs.Prelude.{◌≡◌, IfErr};
+ghost use Rattle.std.specs.Prelude.{ℕ, List, Option, ◌≡◌, IfErr};
 ghost use Rattle.phrases.specs.Reading.{item_at};
-ghost use Rattle.line_grammar.specs.Sentences.{sentence_of};
+ghost use Rattle.line_grammar.specs.Sentences.{Actors, Assignment, Value, sentence_of};
 ghost use Rattle.line_grammar.specs.Tokens.{command_of};
 ghost use Rattle.line_phrases.specs.Gives.{Gives, IsSyntax};
 ghost use Rattle.line_phrases.specs.Lists.{bracket_list_at};
+ghost use Rattle.schema_lang.specs.Updates.{actors_at};
 ghost use Rattle.schema_lang.specs.Bodies.{assign_at, body_at, bytes_at, command_at, copy_at, define_at, flag_at, kernel_line_at, load_at, mapping_at, new_at, new_of, open_at, reduce_at, relayout_at, update_at, view_at, word_at};
 
 use crate::kernels::read_kernel;
 use crate::later::{read_advise, read_show, read_stencil};
 use crate::updates::{read_filter, read_sets};
 use line_grammar::{
-    Command, Count, ExtentWords, FileName, FirstCommand, Line, ReduceKind, Version,
+    Command, Count, ExtentWords, FileName, FirstCommand, IndexWords, Line, ReduceKind, Version,
 };
 use line_phrases::{
     ReadError, Tokens, read_cuts, read_expr, read_extents, read_fields, read_fixed_extents,
@@ -236,7 +237,7 @@ fn read_assign(alloc: Global, room: usize, tokens: &mut Tokens) -> Result<Line, 
     })
 }
 
-#[tactic(auto, unfolding(crate::specs::Bodies::update_at, crate::specs::Updates::update_end_at, crate::specs::Updates::actors_at))]
+#[tactic(auto, unfolding(crate::specs::Bodies::update_at, crate::specs::Updates::update_end_at))]
 fn read_update(
     alloc: Global,
     version: Version,
@@ -252,12 +253,7 @@ fn read_update(
     if !version.is_two() || !tokens.begins_word("actors") {
         return Ok(Line::Update { view, filter, sets });
     }
-    tokens.word("actors")?;
-    let cuts = read_cuts(alloc, tokens)?;
-    tokens.word("schedule")?;
-    let seed = tokens.item::<Count>()?;
-    tokens.word("turns")?;
-    let turns = tokens.item::<Count>()?;
+    let ActorsText { cuts, seed, turns } = read_actors(alloc, tokens)?;
     Ok(Line::Actors {
         view,
         filter,
@@ -266,6 +262,29 @@ fn read_update(
         seed,
         turns,
     })
+}
+
+// The actors of an update, and their schedule.
+#[derive(Drop)]
+pub(crate) struct ActorsText {
+    pub(crate) cuts: IndexWords,
+    pub(crate) seed: u32,
+    pub(crate) turns: u32,
+}
+
+// The actors of an update, whatever it is.
+#[tactic(auto, unfolding(crate::specs::Updates::actors_at))]
+fn read_actors(alloc: Global, tokens: &mut Tokens) -> Result<ActorsText, ReadError>
+    ensures { (view : List ℕ) (filter : Option Value) (sets : List Assignment)
+        → Gives (λ x. (Actors view filter sets x.cuts x.seed x.turns, tokens.new)) result (actors_at view filter sets tokens.old) }
+{
+    tokens.word("actors")?;
+    let cuts = read_cuts(alloc, tokens)?;
+    tokens.word("schedule")?;
+    let seed = tokens.item::<Count>()?;
+    tokens.word("turns")?;
+    let turns = tokens.item::<Count>()?;
+    Ok(ActorsText { cuts, seed, turns })
 }
 
 #[tactic(auto, unfolding(crate::specs::Bodies::kernel_line_at))]
