@@ -65,6 +65,9 @@ no_define (lines.Drop view) other = refl
 no_define (lines.Bytes view blob) other = refl
 no_define (lines.SaveView view) other = refl
 no_define (lines.OpenFile name file) other = refl
+no_define (lines.Advise view granule passes maps splits) other = refl
+no_define (lines.PrintWindow view window) other = refl
+no_define (lines.Stencil view window path terms divisor rounds) other = refl
 
 -- and lines that make no view
 pub no_shown : (line : Line) → ((name schema : List ℕ) (words : List ExtentWord) (wrap : Bool) (expr : MapExpr) → line ≡ lines.View name schema words wrap expr → ⊥) → new_told (Some (sentence_of line)) ≡ None
@@ -89,3 +92,6 @@ no_shown (lines.Drop view) other = refl
 no_shown (lines.Bytes view blob) other = refl
 no_shown (lines.SaveView view) other = refl
 no_shown (lines.OpenFile name file) other = refl
+no_shown (lines.Advise view granule passes maps splits) other = refl
+no_shown (lines.PrintWindow view window) other = refl
+no_shown (lines.Stencil view window path terms divisor rounds) other = refl

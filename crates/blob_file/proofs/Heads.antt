@@ -7,7 +7,7 @@ use Rattle.std.proofs.lemmas.List.{take-append-drop}
 use Rattle.std.proofs.lemmas.Slice.Eq.{bytes_eq-Decides}
 use Rattle.line_tokens.specs.Ends.{NoEnd}
 use Rattle.line_grammar.specs.Reads.{Reads, StopsAt}
-use Rattle.line_grammar.specs.Sentences.{Sentence, New, Blank, Define, Mapping, View, Load, Assign, Update, Actors, Kernel, Reduce, Count, Copy, Relayout, Show, Drop, Bytes, Save, Open, deepest}
+use Rattle.line_grammar.specs.Sentences.{Sentence, New, Blank, Define, Mapping, View, Load, Assign, Update, Actors, Kernel, Reduce, Count, Copy, Relayout, Show, Drop, Bytes, Save, Open, Advise, PrintWindow, Stencil, deepest}
 use Rattle.line_grammar.specs.declared.version.Version.{Version}
 use Rattle.line_grammar.specs.declared.version.Version.TheVariants.{Two}
 use Rattle.line_writer.specs.Texts.{canonical}
@@ -79,6 +79,9 @@ fields_are (Some (Drop view)) fields e = absurd (cc e)
 fields_are (Some (Bytes view blob)) fields e = absurd (cc e)
 fields_are (Some (Save view)) fields e = absurd (cc e)
 fields_are (Some (Open name file)) fields e = absurd (cc e)
+fields_are (Some (Advise view granule passes maps splits)) fields e = absurd (cc e)
+fields_are (Some (PrintWindow view window)) fields e = absurd (cc e)
+fields_are (Some (Stencil view window path terms divisor rounds)) fields e = absurd (cc e)
 
 new_is : (read : Option Sentence) (new : New) → new_told read ≡ Some new → (read ≡ Some (View new)) × (is_plain new ≡ true)
 new_is (Some (View found)) new e =
@@ -102,6 +105,9 @@ new_is (Some (Drop view)) new e = absurd (cc e)
 new_is (Some (Bytes view blob)) new e = absurd (cc e)
 new_is (Some (Save view)) new e = absurd (cc e)
 new_is (Some (Open name file)) new e = absurd (cc e)
+new_is (Some (Advise view granule passes maps splits)) new e = absurd (cc e)
+new_is (Some (PrintWindow view window)) new e = absurd (cc e)
+new_is (Some (Stencil view window path terms divisor rounds)) new e = absurd (cc e)
 
 -- the parts of a view that is plain
 pub record IsPlain (new : New) : Type 0 where
