@@ -1,4 +1,5 @@
 pub mod Acting
+pub mod Arms
 pub mod Exits
 pub mod Views
 pub mod Named
@@ -12,3 +13,5 @@ pub mod Runs
 pub mod Saving
 pub mod Sets
 pub mod Steps
+pub mod Windows
+pub mod Stencils

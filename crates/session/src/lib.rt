@@ -1,6 +1,7 @@
 //! A session: what a script has named so far, and what each line does to it.
 #![tactic(auto)]
 
+mod advise;
 mod assign;
 mod by_actors;
 mod copy;
@@ -16,8 +17,10 @@ mod relayout;
 mod save;
 mod session;
 mod show;
+mod stencil;
 mod update;
 mod view;
+mod window;
 mod work;
 
 pub use actors::{Assign, UpdateFault, UpdateKind, update_rows};
