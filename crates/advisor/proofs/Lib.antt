@@ -1,6 +1,10 @@
-pub mod WarmLaws
+pub mod Advising
+pub mod Cheapest
 pub mod Chosen
-pub mod JudgedLaws
-pub mod SplitLaws
 pub mod CostLaws
+pub mod JudgedLaws
 pub mod Listing
+pub mod PoolLaws
+pub mod SplitLaws
+pub mod Tried
+pub mod WarmLaws

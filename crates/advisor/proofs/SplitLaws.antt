@@ -124,12 +124,20 @@ module _ (path : List PathStep) (first rest : Term) (fields : Fields) (cells : L
       let named = neither_of (bad_field first fields under) (bad_field rest fields beside) is.named in
       let full = neither_of (not_full first fields under) (not_full rest fields beside) is.full in (
         record {
-          deep = le-ltb 8 (depth_of first) (omega (arith, deep)); counted = counts_none first counts.0; numbers = numbers.0;
-          sides = sides.0; named = named.0; full = full.0;
+          deep = le-ltb 8 (depth_of first) (omega (arith, deep));
+          counted = counts_none first counts.0;
+          numbers = numbers.0;
+          sides = sides.0;
+          named = named.0;
+          full = full.0;
         },
         record {
-          deep = le-ltb 8 (depth_of rest) (omega (arith, deep)); counted = counts_none rest counts.1; numbers = numbers.1;
-          sides = sides.1; named = named.1; full = full.1;
+          deep = le-ltb 8 (depth_of rest) (omega (arith, deep));
+          counted = counts_none rest counts.1;
+          numbers = numbers.1;
+          sides = sides.1;
+          named = named.1;
+          full = full.1;
         },
       )
 
@@ -243,10 +251,14 @@ sum_costs (pass ∷ passes) granule side one two =
     let here : pass.times * touched (reads pass) granule (split side one two) ≡ pass.times * a + pass.times * b =
     ap (λ (n : ℕ). pass.times * n) (touched_split (reads pass) granule side one two) ∙ mul-add pass.times a b in
     let later = sum_costs passes granule side one two in
-    omega (arith, here, later,
+    omega (
+      arith,
+      here,
+      later,
       sum_by-cons (λ (p : Pass). p.times * touched (reads p) granule (split side one two)) pass passes,
       sum_by-cons (λ (p : Pass). p.times * touched (λ cell. reads p (get_or (numbers_of side) cell 0)) granule one) pass passes,
-      sum_by-cons (λ (p : Pass). p.times * touched (λ cell. reads p (get_or (numbers_of (map not side)) cell 0)) granule two) pass passes)
+      sum_by-cons (λ (p : Pass). p.times * touched (λ cell. reads p (get_or (numbers_of (map not side)) cell 0)) granule two) pass passes,
+    )
 
 -- a split costs what its sides cost
 pub split_cost : (passes : List Pass) (granule : ℕ) (path : List PathStep) (first rest : Term) (extents : List ℕ) (fields : Fields) (kinds : List LeafType)

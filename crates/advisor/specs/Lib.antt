@@ -8,3 +8,4 @@ pub mod Advice
 pub mod Sides
 pub mod Pools
 pub mod Trials
+pub mod Choices

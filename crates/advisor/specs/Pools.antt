@@ -15,6 +15,12 @@ pub record IsPriced (table : Table) (granule : ℕ) (passes : List Pass) (candid
   pub each_leaf : length candidate.holds ≡ leaf_count_of table
   pub holds : All IsHold candidate.holds
 
+-- how it stores each leaf is known of a candidate
+pub record IsStored (table : Table) (candidate : Candidate) : Type 0 where
+  pub holds_are : candidate.holds ≡ holds_by (term_of candidate.expr) table.fields
+  pub each_leaf : length candidate.holds ≡ leaf_count_of table
+  pub holds : All IsHold candidate.holds
+
 -- the expressions of some
 abbrev pub terms_in : List Candidate → List Term
 terms_in pool = map (λ candidate. term_of candidate.expr) pool

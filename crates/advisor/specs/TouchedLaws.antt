@@ -102,11 +102,16 @@ touched_hot layout slots widths laid test granule blob at =
           let here : get_or bits i Pad ≡ Bit bit.0 bit.1 bit.2 = get_or_default bits i Pad found.1 low ∙ found.3 ∙ bit.3 in
           let there : owner_at layout blob (start + i) ≡ Bit bit.0 bit.1 bit.2 = sym (get_or-drop start owners i Pad) ∙ sym (get_or-take (8 * granule) (drop start owners) i Pad small) ∙ here in
           let is : IsBitOf slots widths bit.0 bit.1 bit.2 = laid.owned blob (start + i) bit.0 bit.1 bit.2 there in
-          let own : is_bit_of bit.0 bit.1 (Bit bit.0 bit.1 bit.2) ≡ true = and_from (bit.0 == bit.0) (bit.1 == bit.1) (eq-eqb bit.0 bit.0 refl) (eq-eqb bit.1 bit.1 refl) in
-          (bit.0, bit.1, is.slot_in, is.cell_in, record {
-            passes = bit.4;
-            hot = list_any_at (is_bit_of bit.0 bit.1) bits i Pad low (ap (is_bit_of bit.0 bit.1) here ∙ own);
-          }));
+          let own : is_bit_of bit.0 bit.1 (Bit bit.0 bit.1 bit.2) ≡ true = and_from (bit.0 == bit.0) (bit.1 == bit.1) (eq-eqb bit.0 bit.0 refl) (eq-eqb bit.1 bit.1 refl) in (
+            bit.0,
+            bit.1,
+            is.slot_in,
+            is.cell_in,
+            record {
+              passes = bit.4;
+              hot = list_any_at (is_bit_of bit.0 bit.1) bits i Pad low (ap (is_bit_of bit.0 bit.1) here ∙ own);
+            },
+          ));
       only = λ row cell access.
           (let found = Any-from_list_any (is_bit_of row cell) bits access.hot in
           list_any_at (is_bit_in test) bits found.0 found.1 found.2

@@ -2,7 +2,9 @@
 #![tactic(auto)]
 
 mod advice;
+mod adviser;
 mod candidate;
+mod choice;
 mod costs;
 mod laws;
 mod listed;
@@ -13,7 +15,10 @@ mod sides;
 mod splits;
 mod suits;
 mod touched;
+mod trials;
 
 pub use advice::{Advice, AdviseFault, Best, CostList};
+pub use adviser::advise;
 pub use laws::touched_laws;
-pub use pass::{LeafList, MapExprList, Pass, PassList};
+pub use map_expr::MapExprList;
+pub use pass::{LeafList, Pass, PassList};

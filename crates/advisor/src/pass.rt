@@ -1,5 +1,4 @@
 use lists::Sequence;
-use map_expr::MapExpr;
 
 /// Numbers of leaves.
 pub type LeafList = Sequence<usize>;
@@ -13,6 +12,3 @@ pub struct Pass {
 
 /// The passes, in the order of the text.
 pub type PassList = Sequence<Pass>;
-
-/// Mapping expressions, in the order of the text.
-pub type MapExprList = Sequence<MapExpr>;

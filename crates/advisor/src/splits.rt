@@ -103,7 +103,17 @@ fn push_splits_at(
             expr: &listed[at],
             cost: firsts[at],
         };
-        push_rests(alloc, view, cells, price, listed, path, first, rests.as_slice(), pool)?;
+        push_rests(
+            alloc,
+            view,
+            cells,
+            price,
+            listed,
+            path,
+            first,
+            rests.as_slice(),
+            pool,
+        )?;
     }
     Ok(())
 }
@@ -131,7 +141,7 @@ fn push_rests(
     requires priced { All (IsPriced view.now price.now.granule price.now.passes.now) pool.old.items }
     ensures priced { OnOk result (All (IsPriced view.now price.now.granule price.now.passes.now) pool.new.items) }
     ensures terms { OnOk result (terms_in pool.new.items ≡ terms_in pool.old.items
-        ++ filter (λ term. is_ok (judge view.now price.now.granule term)) (map (λ rest. Split path.now (term_of first.expr.now) rest) (map term_of listed.now))) }
+        ++ filter (λ term. is_ok (judge view.now price.now.granule term)) (map (λ rest. Split path.now (term_of first.entry.expr.now) rest) (map term_of listed.now))) }
 {
     for at in 0..listed.len() {
         let rest = Side {
@@ -163,13 +173,17 @@ fn push_split(
     requires priced { All (IsPriced view.now price.now.granule price.now.passes.now) pool.old.items }
     ensures priced { OnOk result (All (IsPriced view.now price.now.granule price.now.passes.now) pool.new.items) }
     ensures terms { OnOk result (terms_in pool.new.items ≡ terms_in pool.old.items
-        ++ filter (λ term. is_ok (judge view.now price.now.granule term)) (Split path.now (term_of first.expr.now) (term_of rest.expr.now) ∷ [])) }
+        ++ filter (λ term. is_ok (judge view.now price.now.granule term)) (Split path.now (term_of first.entry.expr.now) (term_of rest.entry.expr.now) ∷ [])) }
 {
-    if let (Some(one), Some(two)) = (first.cost, rest.cost) {
-        let expr = split_of(alloc, path, first.expr, rest.expr)?;
-        if let Some(candidate) = split_candidate(alloc, view, cells, price.granule, expr, one + two)? {
-            pool.push(candidate)?;
-        }
+    let Some(one) = first.cost else {
+        return Ok(());
+    };
+    let Some(two) = rest.cost else {
+        return Ok(());
+    };
+    let expr = split_of(alloc, path, first.expr, rest.expr)?;
+    if let Some(candidate) = split_candidate(alloc, view, cells, price.granule, expr, one + two)? {
+        pool.push(candidate)?;
     }
     Ok(())
 }

@@ -1,10 +1,10 @@
 -- Spans that are a window.
-use Rattle.std.proofs.Common.{◌≡◌, ℕ, ◌≤◌, Bool, true, false, not, nat_le, List, [], ◌∷◌, refl, sym, ap, ◌∙◌, ⊎_elim, arith}
+use Rattle.std.proofs.Common.{◌≡◌, ℕ, true, false, nat_le, List, [], ◌∷◌, refl, ⊎_elim}
 use Rattle.std.specs.Prelude.{◌&&◌}
 use Rattle.std.proofs.lemmas.Bool.{and_parts, cases_Bool, le-leb, leb-true, false≢true}
 use Rattle.extents.specs.declared.window.Span.{Span}
 use Rattle.extents.specs.Windows.{IsWindow}
-use Rattle.worlds.specs.Outcomes.{Goes, Faults, ◌>>=◌, refused_if}
+use Rattle.worlds.specs.Outcomes.{Goes, Faults}
 use Rattle.worlds.specs.Windows.{are_inside, windowed}
 use Rattle.worlds.specs.declared.fault.CommandFault.TheVariants.{BadWindow}
 

@@ -1,5 +1,5 @@
 -- Whether a term reads inside the array is seen at two rows of a window: its first and its last.
-use Rattle.std.proofs.Common.{◌≡◌, ℕ, zero, suc, ◌+◌, ◌-◌, ◌<◌, ◌≤◌, ◌≤ℤ◌, Bool, true, false, ℤ, pos, negsuc, neg_ℤ, ◌+ℤ◌, ◌-ℤ◌, List, [], ◌∷◌, length, map, get_or, drop, Contains, Some, ⊎_elim, refl, ap, sym, subst, ◌∙◌, arith}
+use Rattle.std.proofs.Common.{◌≡◌, ℕ, suc, ◌+◌, ◌-◌, ◌<◌, ◌≤◌, ◌≤ℤ◌, Bool, true, false, ℤ, pos, negsuc, neg_ℤ, ◌+ℤ◌, ◌-ℤ◌, List, [], ◌∷◌, length, map, get_or, drop, Contains, Some, ⊎_elim, refl, ap, sym, subst, ◌∙◌, arith}
 use Rattle.std.specs.Prelude.{◌&&◌, ◌||◌, ◌==◌, nat_lt, int_le, slice_get}
 use Rattle.std.specs.List.{list_all, position_or_len}
 use Rattle.std.specs.Cmp.Rules.{signed_items}
@@ -190,7 +190,7 @@ module _ (window : WindowOf) (offsets : List ℤ) (is : IsWindow window.0 window
       let low = row_of_index window is (zeros (sizes window.1)) (zeros_inside (sizes window.1) some.index some.inside) in
       let high = row_of_index window is (tops (sizes window.1)) (tops_inside (sizes window.1) some.index some.inside) in
       let land : (row : ℕ) → Contains (rows_of window) row → row_from e row offsets < length (indices e) = λ row held.
-          ltb-true (row_from e row offsets) (length (indices e)) (sym (ap (lands window offsets) held.2) ∙ pass held.0 row held.1) in
+      ltb-true (row_from e row offsets) (length (indices e)) (sym (ap (lands window offsets) held.2) ∙ pass held.0 row held.1) in
       stays_by_corners e window.1 offsets some.index (index_at e (row_from e low.row offsets)) (index_at e (row_from e high.row offsets)) some.inside
       (index_at_inside e (row_from e low.row offsets) (land low.row low.held)) (index_at_inside e (row_from e high.row offsets) (land high.row high.held))
       (led e low.row offsets (land low.row low.held) ∙ ap (λ (index : List ℕ). away index offsets) low.is)

@@ -17,7 +17,7 @@ use Rattle.subviews.specs.Stencils.{Weighted, weighted, is_divisor, is_offset, i
 use Rattle.subviews.specs.SubViews.{WindowOf, rows_of}
 use Rattle.subviews.specs.declared.term.Term.{Term}
 use Rattle.worlds.specs.Names.{leaf_of}
-use Rattle.worlds.specs.Outcomes.{Outcome, Goes, ◌>>=◌, refused_if}
+use Rattle.worlds.specs.Outcomes.{Goes, ◌>>=◌, refused_if}
 use Rattle.worlds.specs.Stencil.{all_reach, all_weigh, bound_term, fit_terms}
 use Rattle.worlds.specs.declared.fault.BadStencil.TheVariants.{Reach, Weight, Terms, Rounds}
 use Rattle.worlds.specs.declared.fault.CommandFault.TheVariants.{BadStencil}

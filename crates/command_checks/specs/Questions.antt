@@ -1,5 +1,5 @@
 -- What an adviser may be asked.
-use Rattle.std.specs.Prelude.{ℕ, ◌≡◌, ◌≤◌, All, List, length, map, None, true}
+use Rattle.std.specs.Prelude.{ℕ, ◌≡◌, ◌≤◌, All, length, map, None, true}
 use Rattle.map_expr.specs.Checks.{bad_granule}
 use Rattle.map_expr.specs.Terms.{term_of}
 use Rattle.worlds.specs.Advise as advise

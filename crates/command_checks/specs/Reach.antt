@@ -1,5 +1,5 @@
 -- Whether a term reads inside the array, dimension by dimension.
-use Rattle.std.specs.Prelude.{ℕ, ◌&&◌, Bool, true, ℤ, pos, neg_ℤ, ◌-ℤ◌, int_le, List, [], ◌∷◌}
+use Rattle.std.specs.Prelude.{ℕ, ◌&&◌, Bool, true, ℤ, pos, neg_ℤ, ◌-ℤ◌, int_le, List, ◌∷◌}
 use Rattle.extents.specs.declared.window.Span.{Span}
 
 -- so far away from a span nothing lies outside an extent

@@ -149,7 +149,10 @@ fn fit_advice(granule: u32, passes: usize, candidates: usize) -> Result<(), Step
 fn is_granule(granule: u32) -> bool
     ensures { result ≡ not (is_some (bad_granule granule)) }
 {
-    matches!(granule, 1 | 2 | 4 | 8 | 16 | 32 | 64 | 128 | 256 | 512 | 1024 | 2048 | 4096)
+    matches!(
+        granule,
+        1 | 2 | 4 | 8 | 16 | 32 | 64 | 128 | 256 | 512 | 1024 | 2048 | 4096
+    )
 }
 
 fn bad_advice(bad: BadAdvice) -> StepFault

@@ -7,9 +7,7 @@ use crate::detail::{Detail, Words};
 use extents::BadExtents;
 use map_expr::BadMapping;
 use record_dim::{BadRecord, Text};
-use worlds::{
-    BadActors, BadAdvice, BadFile, BadKernel, BadStencil, CommandFault, UnknownName,
-};
+use worlds::{BadActors, BadAdvice, BadFile, BadKernel, BadStencil, CommandFault, UnknownName};
 
 /// The words of a fault.
 pub fn words_of(fault: &CommandFault) -> Words<'_>

@@ -29,4 +29,6 @@ pub use command_checks::{
 };
 pub use fault_lines::write_fault;
 pub use session::Session;
-pub use worlds::{BadActors, BadFile, BadKernel, CommandFault, UnknownName};
+pub use worlds::{
+    BadActors, BadAdvice, BadFile, BadKernel, BadStencil, CommandFault, UnknownName,
+};

@@ -1,8 +1,7 @@
 -- Answers whose outcome is said otherwise.
-use Rattle.std.proofs.Common.{◌≡◌, ℕ, Bool, true, false, List, Option, Some, None, Result, Ok, Err, inl, inr, ⊎_elim, sym, ap, ◌∙◌}
-use Rattle.std.specs.Prelude.{IsSomeAnd}
+use Rattle.std.proofs.Common.{◌≡◌, ℕ, Bool, true, false, List, Option, Some, None, Result, Ok, Err, inl, inr, ⊎_elim, ◌∙◌}
 use Rattle.worlds.specs.Outcomes.{Outcome, CannotRead, LeftOf}
-use Rattle.worlds.specs.Answers.{text_of, Ending, Refuses, Unread, Breaks, Starves, Unreadable, EndsBy, StepsTo}
+use Rattle.worlds.specs.Answers.{Ending, Refuses, Unread, Breaks, Starves, EndsBy, StepsTo}
 
 ends_same : {K A : Type 0} (taken : K → Option (List ℕ)) (faults : K → ℕ) (old new : K) (whole outcome : Bool → Outcome (LeftOf A)) (read_failed : Type 0) (ending : Ending) →
     ((unread : Bool) → whole unread ≡ outcome unread) → EndsBy taken faults old new outcome read_failed ending → EndsBy taken faults old new whole read_failed ending

@@ -13,7 +13,6 @@ use Rattle.worlds.specs.OnView.{Done, tells}
 use Rattle.worlds.specs.Tables.{room, live_bits, blob_bits}
 use Rattle.worlds.specs.View.{with_view}
 use Rattle.worlds.specs.Load.{read}
-use Rattle.worlds.specs.declared.fault.BadFile.{BadFile}
 use Rattle.worlds.specs.declared.fault.BadFile.TheVariants as bad
 use Rattle.worlds.specs.declared.fault.CommandFault.{CommandFault}
 use Rattle.worlds.specs.declared.fault.CommandFault.TheVariants as fault

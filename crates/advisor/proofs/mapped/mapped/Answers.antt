@@ -1,4 +1,4 @@
-use Rattle.std.proofs.Common.{rules, ◌≡◌, ◌≤◌, ◌^◌, ◌⊎◌, inr, false, Err, sym, ◌∙◌, subst, ap, arith}
+use Rattle.std.proofs.Common.{rules, ◌≡◌, ◌^◌, ◌⊎◌, inr, Err, sym, ◌∙◌, subst}
 use Rattle.std.specs.Prelude.{IfErr, Result}
 use Rattle.std.proofs.lemmas.Bool.{leb-true}
 use Rattle.map_expr.specs.Terms.{term_of}

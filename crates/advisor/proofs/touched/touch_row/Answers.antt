@@ -1,13 +1,10 @@
-use Rattle.std.proofs.Common.{◌≡◌, ℕ, Bool, List, [], get_or, take, sym, ap, ◌∙◌, subst, arith}
-use Rattle.std.specs.List.{fold}
-use Rattle.std.proofs.lemmas.List.{take_all}
+use Rattle.std.proofs.Common.{◌≡◌, ℕ, Bool, get_or, sym, ap, ◌∙◌, subst, arith}
 use Rattle.std.proofs.lemmas.List.Sums.{fold_more}
 use Rattle.instrument.specs.Counters.{HeatCounts, heat_counts, warmed}
 use Rattle.places.specs.TouchedLaws.{touched_same}
 use Rattle.views.specs.Kept.{HasGranules}
 use Rattle.views.specs.Tallies.{granules_touched}
 use Rattle.views.specs.CountLaws.{piece_inside, raised_granules}
-use Rattle.advisor.proofs.WarmLaws.{row_heat}
 use Rattle.advisor.proofs.touched.touch_row.Goals as goal
 
 pub touch-requires : goal.touch-requires

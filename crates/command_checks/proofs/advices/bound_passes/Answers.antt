@@ -1,4 +1,4 @@
-use Rattle.std.proofs.Common.{rules, ◌≡◌, ◌++◌, ◌∷◌, [], List, Err, length, take, length-append, sym, ap, ◌∙◌}
+use Rattle.std.proofs.Common.{rules, ◌≡◌, ◌++◌, ◌∷◌, [], List, Err, length-append, sym, ap, ◌∙◌}
 use Rattle.advisor.specs.declared.pass.Pass.{Pass}
 use Rattle.worlds.specs.Advise.{bound_pass}
 use Rattle.worlds.specs.Outcomes.{Goes}

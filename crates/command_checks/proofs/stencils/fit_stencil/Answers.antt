@@ -1,4 +1,4 @@
-use Rattle.std.proofs.Common.{arith, ◌≡◌, ◌<◌, ◌≤◌, ℕ, pos, List, length, map, ap, ◌∙◌}
+use Rattle.std.proofs.Common.{arith, ◌≡◌, ℕ, List, map, ap}
 use Rattle.extents.specs.declared.window.Span.{Span}
 use Rattle.subviews.specs.Stencils.{weighted}
 use Rattle.views.specs.Tables.{leaf_count_of}

@@ -1,0 +1,58 @@
+-- The advice by candidates that are at hand.
+use Rattle.std.proofs.Common.{◌≡◌, ℕ, ◌≤◌, Bool, true, false, List, All, length, map, take, Ok, Err, Some, None, sym, ap, ◌∙◌, arith, length-append}
+use Rattle.std.specs.Prelude.{filter, is_ok}
+use Rattle.std.proofs.lemmas.List.{take-append-le, take_all, length-map}
+use Rattle.map_expr.specs.Terms.{Term, term_of, uncounted}
+use Rattle.views.specs.Tables.{Table}
+use Rattle.advisor.specs.declared.advice.AdviseFault.{AdviseFault}
+use Rattle.advisor.specs.declared.candidate.Candidate.{Candidate}
+use Rattle.advisor.specs.declared.pass.Pass.{Pass}
+use Rattle.advisor.specs.Advice.{Advised, judge, cost_of, candidates, split_terms, advised, unless, advice}
+use Rattle.advisor.specs.Judged.{first_fault}
+use Rattle.advisor.specs.Pools.{IsPriced, IsStored, terms_in}
+use Rattle.advisor.specs.Suits.{suits}
+
+-- the listed candidates come first
+pub listed_first : (table : Table) (granule : ℕ) (listed : List Term) (splits : Bool) → take (length listed) (candidates table granule listed splits) ≡ listed
+listed_first table granule listed false = take_all (length listed) listed (omega arith)
+listed_first table granule listed true =
+    let more = filter (λ term. is_ok (judge table granule term)) (split_terms table.fields listed) in
+    take-append-le (length listed) listed more (omega arith) ∙ take_all (length listed) listed (omega arith)
+
+pub listed_within : (table : Table) (granule : ℕ) (listed : List Term) (splits : Bool) → length listed ≤ length (candidates table granule listed splits)
+listed_within table granule listed false = omega arith
+listed_within table granule listed true = omega (arith, length-append listed (filter (λ term. is_ok (judge table granule term)) (split_terms table.fields listed)))
+
+-- an advice, and a fault
+module _ (table : Table) (granule : ℕ) (passes : List Pass) (terms : List Term) (splits : Bool) where
+  pub advice_faulty : (fault : AdviseFault) → first_fault (judge table granule) 0 (map uncounted terms) ≡ Some fault → advice table granule passes terms splits ≡ Err fault
+  unfolding advice
+  advice_faulty fault bad =
+      let listed = map uncounted terms in
+      ap (λ found. unless found (advised (suits table) (cost_of table granule passes) listed (candidates table granule listed splits))) bad
+
+  pub advice_given : first_fault (judge table granule) 0 (map uncounted terms) ≡ None → (all : List Term) → all ≡ candidates table granule (map uncounted terms) splits
+      → (count : ℕ) → count ≡ length (map uncounted terms) → (given : Advised) → given ≡ advised (suits table) (cost_of table granule passes) (take count all) all
+      → advice table granule passes terms splits ≡ Ok given
+  unfolding advice
+  advice_given good all is count listed_count given so =
+      let listed = map uncounted terms in
+      let price = cost_of table granule passes in
+      let first : take count all ≡ listed =
+      ap (λ (n : ℕ). take n all) listed_count ∙ ap (λ (ts : List Term). take (length listed) ts) is ∙ listed_first table granule listed splits in
+      let same : given ≡ advised (suits table) price listed (candidates table granule listed splits) =
+      so ∙ ap (λ (ts : List Term). advised (suits table) price ts all) first ∙ ap (λ (ts : List Term). advised (suits table) price listed ts) is in
+      ap (λ found. unless found (advised (suits table) price listed (candidates table granule listed splits))) good ∙ ap (λ (a : Advised). Ok a) (sym same)
+
+-- what is known of priced candidates
+pub costs_known : (table : Table) (granule : ℕ) (passes : List Pass) (pool : List Candidate) → All (IsPriced table granule passes) pool
+    → All (λ candidate. candidate.cost ≡ cost_of table granule passes (term_of candidate.expr)) pool
+costs_known table granule passes pool priced = λ k d l. (priced k d l).cost_is
+
+pub holds_known : (table : Table) (granule : ℕ) (passes : List Pass) (pool : List Candidate) → All (IsPriced table granule passes) pool → All (IsStored table) pool
+holds_known table granule passes pool priced = λ k d l. (let is = priced k d l in record { holds_are = is.holds_are; each_leaf = is.each_leaf; holds = is.holds })
+
+-- the listed are no more than all
+pub pool_holds : (table : Table) (granule : ℕ) (listed : List Term) (splits : Bool) (pool : List Candidate) → terms_in pool ≡ candidates table granule listed splits → length listed ≤ length pool
+pool_holds table granule listed splits pool is =
+    omega (arith, listed_within table granule listed splits, ap (λ (ts : List Term). length ts) is, length-map pool (λ (c : Candidate). term_of c.expr))

@@ -1,0 +1,127 @@
+-- The cheapest candidate, one after another, and that it is the best.
+use Rattle.std.proofs.Common.{◌≡◌, ℕ, suc, ◌<◌, ◌≤◌, Bool, true, false, List, [], ◌∷◌, All, length, map, get_or, Option, Some, None, refl, sym, ap, ◌∙◌, arith}
+use Rattle.std.specs.Prelude.{◌&&◌, ◌||◌, not, nat_le, if◌then◌else◌, slice_get}
+use Rattle.std.specs.Bool.{then_some}
+use Rattle.std.specs.List.{find, list_all, position_or_len}
+use Rattle.std.proofs.lemmas.Bool.{true≢false, and_from, le-leb, lt-leb}
+use Rattle.std.proofs.lemmas.List.{length-map, get_or-map, get_or_default}
+use Rattle.std.proofs.lemmas.Option.{slice_get-get_or, slice_get_past}
+use Rattle.std.proofs.lemmas.Simd.{map-map}
+use Rattle.std.proofs.lemmas.List.Folds.{find_at, list_all_at}
+use Rattle.std.proofs.lemmas.List.Sums.{position_or_len_is, list_all-from_AllPass}
+use Rattle.map_expr.specs.Terms.{Term, Named, term_of}
+use Rattle.advisor.specs.declared.candidate.Candidate.{Candidate}
+use Rattle.advisor.specs.Advice.{is_best, Advised}
+use Rattle.advisor.specs.Choices.{costs_in, cost_at, is_marked, AreMarked, IsLeast, IsCheapest}
+use Rattle.advisor.specs.Pools.{terms_in}
+
+-- images by functions that agree on each item
+pub same_images : {X Y : Type 0} (f g : X → Y) (xs : List X) → All (λ x. f x ≡ g x) xs → map f xs ≡ map g xs
+same_images f g [] same = refl
+same_images f g (x ∷ xs) same = rw (same 0 x (omega arith), same_images f g xs (λ k d l. same (suc k) d (omega (arith, l)))) refl
+
+dearer : (mark : Bool) (a b : ℕ) → mark ≡ true → b < a → (not mark || nat_le a b) ≡ false
+dearer true a b is lt = lt-leb a b lt
+dearer false a b is lt = absurd (true≢false (sym is))
+
+undercut : (mark : Bool) (test : Term → Bool) (all : List Term) → (mark ≡ true → list_all test all ≡ false) → (mark && list_all test all) ≡ false
+undercut false test all fails = refl
+undercut true test all fails = fails refl
+
+-- what is told of the best
+abbrev told : ℕ → Term → Option (ℕ × Term)
+told cost term = Some (cost, term)
+
+then_if : (mark : Bool) (cost : ℕ) → then_some mark cost ≡ (if mark then Some cost else None)
+then_if true cost = refl
+then_if false cost = refl
+
+by_mark : (mark : Bool) (a b : ℕ) → (mark ≡ true → a ≤ b) → (not mark || nat_le a b) ≡ true
+by_mark false a b le = refl
+by_mark true a b le = le-leb a b (le refl)
+
+-- marks and costs of candidates are those of their expressions
+module _ (suit : Term → Bool) (price : Term → ℕ) (pool : List Candidate) (marks : List Bool) (so : AreMarked suit price pool marks) where
+  abbrev pub term_at : ℕ → Term
+  term_at k = get_or (terms_in pool) k (Named [])
+
+  pub suits_at : (k : ℕ) → k < length pool → is_marked marks k ≡ suit (term_at k)
+  suits_at k l =
+      let inside : k < length (terms_in pool) = omega (arith, l, length-map pool (λ (c : Candidate). term_of c.expr)) in
+      ap (λ (ms : List Bool). get_or ms k false) so.marks_are
+      ∙ ap (λ (ms : List Bool). get_or ms k false) (sym (map-map suit (λ (c : Candidate). term_of c.expr) pool))
+      ∙ get_or-map suit (terms_in pool) k (Named []) false inside
+
+  pub prices_are : costs_in pool ≡ map price (terms_in pool)
+  prices_are = same_images (λ c. c.cost) (λ c. price (term_of c.expr)) pool so.costs_are ∙ sym (map-map price (λ (c : Candidate). term_of c.expr) pool)
+
+  pub price_at : (k : ℕ) → k < length pool → cost_at (costs_in pool) k ≡ price (term_at k)
+  price_at k l =
+      let inside : k < length (terms_in pool) = omega (arith, l, length-map pool (λ (c : Candidate). term_of c.expr)) in
+      ap (λ (cs : List ℕ). get_or cs k 0) prices_are ∙ get_or-map price (terms_in pool) k (Named []) 0 inside
+
+  -- the cheapest one is best
+  module _ (at : ℕ) (it : IsLeast (costs_in pool) marks (length pool) at) where
+    bears_each : (k : ℕ) (d : Term) → k < length (terms_in pool) → (not (suit (get_or (terms_in pool) k d)) || nat_le (price (term_at at)) (price (get_or (terms_in pool) k d))) ≡ true
+    bears_each k d l =
+        let small : k < length pool = omega (arith, l, length-map pool (λ (c : Candidate). term_of c.expr)) in
+        ap (λ (t : Term). not (suit t) || nat_le (price (term_at at)) (price t)) (get_or_default (terms_in pool) k d (Named []) l)
+        ∙ by_mark (suit (term_at k)) (price (term_at at)) (price (term_at k))
+        (λ suits. omega (arith, sym (price_at at it.inside), price_at k small, it.least k small (suits_at k small ∙ suits)))
+
+    pub best_here : is_best suit price (terms_in pool) (term_at at) ≡ true
+    best_here =
+        and_from (suit (term_at at)) _ (sym (suits_at at it.inside) ∙ it.marked)
+        (list_all-from_AllPass (λ other. not (suit other) || nat_le (price (term_at at)) (price other)) (terms_in pool) bears_each)
+
+    pub none_before : (k : ℕ) → k < at → is_best suit price (terms_in pool) (term_at k) ≡ false
+    none_before k l =
+        let inside : at < length (terms_in pool) = omega (arith, it.inside, length-map pool (λ (c : Candidate). term_of c.expr)) in
+        undercut (suit (term_at k)) (λ other. not (suit other) || nat_le (price (term_at k)) (price other)) (terms_in pool)
+        (λ suits. list_all_at (λ other. not (suit other) || nat_le (price (term_at k)) (price other)) (terms_in pool) at (Named []) inside
+        (dearer (suit (term_at at)) (price (term_at k)) (price (term_at at)) (sym (suits_at at it.inside) ∙ it.marked)
+        (omega (arith, price_at at it.inside, price_at k (omega (arith, l, it.inside)), it.first k l (suits_at k (omega (arith, l, it.inside)) ∙ suits)))))
+
+    pub found : find (is_best suit price (terms_in pool)) (terms_in pool) ≡ Some (term_at at)
+    found =
+        let inside : at < length (terms_in pool) = omega (arith, it.inside, length-map pool (λ (c : Candidate). term_of c.expr)) in
+        let test = is_best suit price (terms_in pool) in
+        let place : position_or_len test (terms_in pool) ≡ at = position_or_len_is test (terms_in pool) at (Named []) (omega (arith, inside)) none_before (λ l. best_here) in
+        find_at test (terms_in pool) ∙ ap (λ (k : ℕ). slice_get (terms_in pool) k) place ∙ slice_get-get_or (terms_in pool) at (Named []) inside
+
+  -- where none is marked there is no best
+  pub none_found : IsCheapest (costs_in pool) marks (length pool) None → find (is_best suit price (terms_in pool)) (terms_in pool) ≡ None
+  none_found unmarked =
+      let count = length-map pool (λ (c : Candidate). term_of c.expr) in
+      let test = is_best suit price (terms_in pool) in
+      let place : position_or_len test (terms_in pool) ≡ length (terms_in pool) =
+      position_or_len_is test (terms_in pool) (length (terms_in pool)) (Named []) (omega arith)
+      (λ k l. (let small : k < length pool = omega (arith, l, count) in undercut (suit (term_at k)) _ (terms_in pool) (λ suits. absurd (true≢false (sym (suits_at k small ∙ suits) ∙ unmarked k small)))))
+      (λ l. absurd (omega (arith, l))) in
+      find_at test (terms_in pool) ∙ ap (λ (k : ℕ). slice_get (terms_in pool) k) place ∙ slice_get_past (terms_in pool) (length (terms_in pool)) (omega arith)
+
+  -- what is listed of a candidate
+  pub shown : (at : ℕ) (d : Candidate) → at < length pool
+      → then_some (is_marked marks at) (get_or pool at d).cost ≡ (if suit (term_at at) then Some (price (term_at at)) else None)
+  shown at d l =
+      let cost : (get_or pool at d).cost ≡ price (term_at at) = sym (get_or-map (λ (c : Candidate). c.cost) pool at d 0 l) ∙ price_at at l in
+      ap (λ (mark : Bool). then_some mark (get_or pool at d).cost) (suits_at at l)
+      ∙ ap (λ (cost : ℕ). then_some (suit (term_at at)) cost) cost
+      ∙ then_if (suit (term_at at)) (price (term_at at))
+
+  -- what is told of the chosen one
+  pub chosen_is : (at : ℕ) (candidate : Candidate) (cost : ℕ) (term : Term) → at < length pool → candidate ≡ get_or pool at candidate → cost ≡ candidate.cost → term ≡ term_of candidate.expr
+      → told cost term ≡ told (price (term_at at)) (term_at at)
+  chosen_is at candidate cost term l is one two =
+      let costs : cost ≡ price (term_at at) =
+      one ∙ ap (λ (c : Candidate). c.cost) is ∙ sym (get_or-map (λ (c : Candidate). c.cost) pool at candidate 0 l) ∙ price_at at l in
+      let terms : term ≡ term_at at =
+      two ∙ ap (λ (c : Candidate). term_of c.expr) is ∙ sym (get_or-map (λ (c : Candidate). term_of c.expr) pool at candidate (Named []) l) in
+      ap (λ (n : ℕ). told n term) costs ∙ ap (λ (t : Term). told (price (term_at at)) t) terms
+
+-- an advice
+abbrev pub given : List (Option ℕ) → Option (ℕ × Term) → Advised
+given costs best = record { costs = costs; best = best }
+
+pub same_advice : {costs others : List (Option ℕ)} {best other : Option (ℕ × Term)} → costs ≡ others → best ≡ other → given costs best ≡ given others other
+same_advice {costs} {others} {best} {other} e f = ap (λ (cs : List (Option ℕ)). given cs best) e ∙ ap (λ (b : Option (ℕ × Term)). given others b) f

@@ -1,0 +1,115 @@
+-- Splits that are put behind other candidates.
+use Rattle.std.proofs.Common.{◌≡◌, ℕ, ◌+◌, ◌<◌, ◌≤◌, ◌++◌, Bool, true, false, All, List, [], ◌∷◌, length, map, get_or, take, cond, Some, None, Ok, Err, refl, sym, ap, ◌∙◌, subst}
+use Rattle.std.specs.Prelude.{filter, is_ok, Result}
+use Rattle.std.specs.List.{flat_map}
+use Rattle.std.proofs.lemmas.List.{append_assoc, append-nil, take_more, take_all, map_push, length-map}
+use Rattle.std.proofs.lemmas.List.Elements.{filter-append}
+use Rattle.std.proofs.lemmas.Grind.{flat_map-append}
+use Rattle.record_dim.specs.declared.path.PathStep.{PathStep}
+use Rattle.record_dim.specs.Leaves.{Leaf, leaves}
+use Rattle.places.specs.declared.piece.Cell.{Cell}
+use Rattle.places.specs.declared.piece.Hold.{Hold}
+use Rattle.map_expr.specs.Terms.{Term, Split, term_of}
+use Rattle.map_checks.specs.Mappings.{leaf_cells, layout_of, holds_by}
+use Rattle.map_checks.specs.Sides.{cells_under, cells_beside}
+use Rattle.map_checks.specs.TermLaws.{length-holds}
+use Rattle.map_checks.specs.declared.fault.MakeMap.{MakeMap}
+use Rattle.map_any.specs.AnyLaws.{length-leaf_cells}
+use Rattle.views.specs.Tables.{Table, leaf_types_of}
+use Rattle.advisor.specs.declared.candidate.Candidate.{Candidate}
+use Rattle.advisor.specs.declared.pass.Pass.{Pass}
+use Rattle.advisor.specs.Advice.{judge, cost_of}
+use Rattle.advisor.specs.Judged.{judged}
+use Rattle.advisor.specs.Passes.{part_cost, leaves_in}
+use Rattle.advisor.specs.Pools.{IsPriced, terms_in}
+use Rattle.advisor.specs.Sides.{IsHold, IsSideCost}
+use Rattle.advisor.proofs.SplitLaws.{sides_judged, split_cost}
+
+-- ---- what passes a test, of lists one after another
+
+module _ {X Y : Type 0} (test : Y → Bool) (f : X → List Y) (xs : List X) (start : List Y) where
+  -- behind the start stand those of the first so many
+  abbrev pub AreBehind : ℕ → List Y → Type 0
+  AreBehind at all = all ≡ start ++ filter test (flat_map f (take at xs))
+
+  pub none_behind : AreBehind 0 start
+  none_behind = sym (append-nil start)
+
+  pub more_behind : (at : ℕ) (x : X) (now later : List Y) → at < length xs → x ≡ get_or xs at x → AreBehind at now → later ≡ now ++ filter test (f x) → AreBehind (at + 1) later
+  more_behind at x now later l is so more =
+      let earlier = flat_map f (take at xs) in
+      let taken : take (at + 1) xs ≡ take at xs ++ x ∷ [] = take_more xs at x l ∙ ap (λ (y : X). take at xs ++ y ∷ []) (sym is) in
+      let parts : flat_map f (take (at + 1) xs) ≡ earlier ++ f x =
+      ap (flat_map f) taken ∙ flat_map-append f (take at xs) (x ∷ []) ∙ ap (λ (ys : List Y). earlier ++ ys) (append-nil (f x)) in
+      more ∙ ap (λ (ys : List Y). ys ++ filter test (f x)) so ∙ append_assoc start (filter test earlier) (filter test (f x))
+      ∙ sym (ap (λ (ys : List Y). start ++ ys) (ap (filter test) parts ∙ filter-append test earlier (f x)))
+
+  pub all_behind : (at : ℕ) (all : List Y) → length xs ≤ at → AreBehind at all → all ≡ start ++ filter test (flat_map f xs)
+  all_behind at all l so = so ∙ ap (λ (ys : List X). start ++ filter test (flat_map f ys)) (take_all at xs l)
+
+-- an answer that is not `Ok`
+not_ok : (answer : Result Unit MakeMap) → (answer ≡ Ok tt → ⊥) → is_ok answer ≡ false
+not_ok (Ok x) other = absurd (other refl)
+not_ok (Err e) other = refl
+
+-- ---- a split of sides whose costs are known
+
+module _ (table : Table) (granule : ℕ) (passes : List Pass) (path : List PathStep) (first rest : Term) (cells : List Cell) (all : cells ≡ leaf_cells (leaf_types_of table)) where
+  abbrev under : List Cell → List Cell
+  under cs = cells_under table.fields path cs
+
+  abbrev beside : List Cell → List Cell
+  beside cs = cells_beside table.fields path cs
+
+  first_part : List Cell → ℕ
+  first_part cs = part_cost passes granule (leaves_in (under cs)) (layout_of first table.extents table.fields (under cs))
+
+  rest_part : List Cell → ℕ
+  rest_part cs = part_cost passes granule (leaves_in (beside cs)) (layout_of rest table.extents table.fields (beside cs))
+
+  cost_sum : (one two : ℕ) → IsSideCost table granule passes (under cells) first (Some one) → IsSideCost table granule passes (beside cells) rest (Some two)
+      → one + two ≡ cost_of table granule passes (Split path first rest)
+  unfolding first_part rest_part
+  cost_sum one two a b =
+      ap (λ (n : ℕ). n + two) a.0 ∙ ap (λ (n : ℕ). first_part cells + n) b.0 ∙ ap (λ (cs : List Cell). first_part cs + rest_part cs) all
+      ∙ sym (split_cost passes granule path first rest table.extents table.fields (leaf_types_of table))
+
+  sides_good : judge table granule (Split path first rest) ≡ Ok tt
+      → (judged granule first table.extents table.fields (under cells) ≡ Ok tt) × (judged granule rest table.extents table.fields (beside cells) ≡ Ok tt)
+  sides_good good =
+      sides_judged granule path first rest table.extents table.fields cells
+      (subst (λ (cs : List Cell). judged granule (Split path first rest) table.extents table.fields cs ≡ Ok tt) (sym all) good)
+
+  -- it is refused where a side is
+  pub first_lacks : IsSideCost table granule passes (under cells) first None → judge table granule (Split path first rest) ≡ Ok tt → ⊥
+  first_lacks none good = none (sides_good good).0
+
+  pub rest_lacks : IsSideCost table granule passes (beside cells) rest None → judge table granule (Split path first rest) ≡ Ok tt → ⊥
+  rest_lacks none good = none (sides_good good).1
+
+  -- a candidate of it
+  pub split_priced : (candidate : Candidate) (split : Term) (one two : ℕ) → IsSideCost table granule passes (under cells) first (Some one) → IsSideCost table granule passes (beside cells) rest (Some two)
+      → split ≡ Split path first rest → term_of candidate.expr ≡ split → candidate.cost ≡ one + two → candidate.holds ≡ holds_by split table.fields → All IsHold candidate.holds
+      → IsPriced table granule passes candidate
+  split_priced candidate split one two a b is term cost holds each = record {
+    cost_is = cost ∙ cost_sum one two a b ∙ sym (ap (cost_of table granule passes) (term ∙ is));
+    holds_are = holds ∙ sym (ap (λ (t : Term). holds_by t table.fields) term);
+    each_leaf = ap (length {A = Hold}) holds ∙ length-holds split table.fields (leaf_cells (leaf_types_of table)) ∙ length-leaf_cells (leaf_types_of table)
+        ∙ length-map (leaves table.fields) (λ (one : Leaf). one.kind);
+    holds = each;
+  }
+
+  -- it stands behind the others, or they stay as they are
+  pub one_behind : (pool later : List Candidate) (candidate : Candidate) → later ≡ pool ++ candidate ∷ [] → term_of candidate.expr ≡ Split path first rest
+      → judge table granule (Split path first rest) ≡ Ok tt → terms_in later ≡ terms_in pool ++ filter (λ term. is_ok (judge table granule term)) (Split path first rest ∷ [])
+  one_behind pool later candidate items term is =
+      let split = Split path first rest in
+      ap terms_in items ∙ map_push (λ (one : Candidate). term_of one.expr) pool candidate
+      ∙ ap (λ (t : Term). terms_in pool ++ t ∷ []) term
+      ∙ sym (ap (λ (b : Bool). terms_in pool ++ cond b (split ∷ []) []) (ap is_ok is))
+
+  pub none_more : (pool : List Candidate) → (judge table granule (Split path first rest) ≡ Ok tt → ⊥)
+      → terms_in pool ≡ terms_in pool ++ filter (λ term. is_ok (judge table granule term)) (Split path first rest ∷ [])
+  none_more pool other =
+      let split = Split path first rest in
+      sym (append-nil (terms_in pool)) ∙ sym (ap (λ (b : Bool). terms_in pool ++ cond b (split ∷ []) []) (not_ok (judge table granule split) other))

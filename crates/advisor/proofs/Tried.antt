@@ -1,0 +1,230 @@
+-- Ways of storing leaves that are tried, and what they say of candidates.
+use Rattle.std.proofs.Common.{◌≡◌, ℕ, ◌+◌, ◌<◌, Bool, true, false, ℤ, List, [], ◌∷◌, ◌++◌, All, length, map, get_or, refl, sym, ap, ◌∙◌, ⊎_elim, subst, arith}
+use Rattle.std.specs.Prelude.{◌==◌, ◌&&◌, ◌||◌, not, Ok, Err, if◌then◌else◌}
+use Rattle.std.specs.List.{list_all, range_with_len}
+use Rattle.std.proofs.lemmas.Cmp.{int_eq_equiv}
+use Rattle.std.proofs.lemmas.Bool.{true≢false, cases_eq, eq-eqb, eqb-true, and_parts, and_from}
+use Rattle.std.proofs.lemmas.List.Folds.{list_any-append, list_all-append, list_all-map, Any-from_list_any}
+use Rattle.std.proofs.lemmas.List.Sums.{AllPass-from_list_all, list_all-from_AllPass}
+use Rattle.std.proofs.lemmas.List.FromFn.{get_or-range_with_len, length-range_with_len}
+use Rattle.std.proofs.lemmas.Simd.{map-map}
+use Rattle.std.proofs.Math.Path.{fun_ext}
+use Rattle.std.proofs.lemmas.List.Elements.{All-push, All-map}
+use Rattle.record_dim.specs.Trees.{Fields}
+use Rattle.record_dim.specs.declared.leaf_type.LeafType.{LeafType}
+use Rattle.record_dim.specs.LeafTypes.{least_of, greatest_of, least_in, greatest_in}
+use Rattle.places.specs.declared.piece.Hold.{Hold}
+use Rattle.kept_tables.specs.declared.mode.StoreMode.TheVariants.{Strict}
+use Rattle.views.specs.Stores.{is_between}
+use Rattle.views.specs.declared.fault.StoreFault.{StoreFault}
+use Rattle.views.specs.declared.fault.StoreFault.TheVariants.{Range, Narrow}
+use Rattle.views.specs.Columns.{in_leaf}
+use Rattle.views.specs.Tables.{Table, leaf_count_of, leaf_type_of}
+use Rattle.advisor.specs.Suits.{keeps, stays, leaf_stays, all_stay, suits}
+use Rattle.kept_tables.specs.declared.mode.StoreMode.{StoreMode}
+use Rattle.piece_bits.specs.Tables.{hold_at}
+use Rattle.map_expr.specs.Terms.{term_of}
+use Rattle.advisor.specs.declared.candidate.Candidate.{Candidate}
+use Rattle.advisor.specs.declared.trials.Trial.{Trial}
+use Rattle.advisor.specs.Pools.{IsStored}
+use Rattle.advisor.specs.Trials.{IsTrial, IsFresh, HasTrials, same_hold, is_for, has_trial, takes, tried, tried_all, has_not_failed, none_failed}
+use Rattle.advisor.specs.TouchedLaws.{same_tests}
+use Rattle.advisor.proofs.Cheapest.{same_images}
+
+-- a store in a strict view
+keep_if : (b : Bool) (value : ℤ) (fault : StoreFault) → keeps value (if b then Ok value else Err fault) ≡ b
+keep_if true value fault = int_eq_equiv.refl value
+keep_if false value fault = refl
+
+pub strict_stays : (kind : LeafType) (hold : Hold) (value : ℤ) → is_between (least_of kind) (greatest_of kind) value ≡ true
+    → is_between (least_in hold.signed hold.width) (greatest_in hold.signed hold.width) value ≡ stays Strict kind hold value
+strict_stays kind hold value inside =
+    let held = is_between (least_in hold.signed hold.width) (greatest_in hold.signed hold.width) value in
+    sym (ap (λ (b : Bool). keeps value (if b then (if held then Ok value else Err Narrow) else Err Range)) inside ∙ keep_if held value Narrow)
+
+-- equal ways
+hold_of_parts : Bool → ℕ → Hold
+hold_of_parts signed width = record { signed = signed; width = width }
+
+same_signs : (one other : Bool) → (if one then other else not other) ≡ true → one ≡ other
+same_signs true other e = sym e
+same_signs false true e = absurd (true≢false (sym e))
+same_signs false false e = refl
+
+sign_self : (one : Bool) → (if one then one else not one) ≡ true
+sign_self true = refl
+sign_self false = refl
+
+pub same_holds : (hold other : Hold) → same_hold hold other ≡ true → hold ≡ other
+unfolding hold_of_parts
+same_holds hold other e =
+    let parts = and_parts (if hold.signed then other.signed else not other.signed) (hold.width == other.width) e in
+    ap (λ (b : Bool). hold_of_parts b hold.width) (same_signs hold.signed other.signed parts.0)
+    ∙ ap (λ (n : ℕ). hold_of_parts other.signed n) (eqb-true hold.width other.width parts.1)
+
+pub hold_self : (hold : Hold) → same_hold hold hold ≡ true
+hold_self hold = and_from _ _ (sign_self hold.signed) (eq-eqb hold.width hold.width refl)
+
+-- a trial behind others
+pub has_kept : (trials : List Trial) (trial : Trial) (leaf : ℕ) (hold : Hold) → has_trial trials leaf hold ≡ true → has_trial (trials ++ trial ∷ []) leaf hold ≡ true
+has_kept trials trial leaf hold has = list_any-append (is_for leaf hold) trials (trial ∷ []) ∙ ap (λ b. b || (is_for leaf hold trial || false)) has
+
+or_last : (b : Bool) → (b || (true || false)) ≡ true
+or_last true = refl
+or_last false = refl
+
+pub has_pushed : (trials : List Trial) (trial : Trial) → has_trial (trials ++ trial ∷ []) trial.leaf trial.hold ≡ true
+has_pushed trials trial =
+    list_any-append (is_for trial.leaf trial.hold) trials (trial ∷ [])
+    ∙ ap (λ b. has_trial trials trial.leaf trial.hold || (b || false)) (and_from _ _ (eq-eqb trial.leaf trial.leaf refl) (hold_self trial.hold))
+    ∙ or_last (has_trial trials trial.leaf trial.hold)
+
+-- trials of the ways in which the first so many leaves are stored, behind those that were there
+pub record ArePushed (fields : Fields) (before : List Trial) (holds : List Hold) (count : ℕ) (trials : List Trial) : Type 0 where
+  pub trials_are : All (IsTrial fields) trials
+  pub fresh : All IsFresh trials
+  pub kept : (leaf : ℕ) (hold : Hold) → has_trial before leaf hold ≡ true → has_trial trials leaf hold ≡ true
+  pub all : HasTrials trials holds count
+
+pub one_there : (fields : Fields) (before : List Trial) (holds : List Hold) (count : ℕ) (trials : List Trial) → ArePushed fields before holds count trials
+    → has_trial trials count (hold_at holds count) ≡ true → ArePushed fields before holds (count + 1) trials
+one_there fields before holds count trials so has = record {
+  trials_are = so.trials_are;
+  fresh = so.fresh;
+  kept = so.kept;
+  all = λ leaf l. ⊎_elim
+      (λ (same : leaf ≡ count). ap (λ (n : ℕ). has_trial trials n (hold_at holds n)) same ∙ has)
+      (λ (other : leaf ≡ count → ⊥). so.all leaf (omega (arith, l, other)))
+      (cases_eq leaf count);
+}
+
+pub one_pushed : (fields : Fields) (before : List Trial) (holds : List Hold) (count : ℕ) (trials : List Trial) → ArePushed fields before holds count trials
+    → (trial : Trial) → IsTrial fields trial → IsFresh trial → trial.leaf ≡ count → trial.hold ≡ hold_at holds count
+    → ArePushed fields before holds (count + 1) (trials ++ trial ∷ [])
+one_pushed fields before holds count trials so trial is fresh leaf hold =
+    one_there fields before holds count (trials ++ trial ∷ [])
+    (record {
+      trials_are = All-push (IsTrial fields) trials trial so.trials_are is;
+      fresh = All-push IsFresh trials trial so.fresh fresh;
+      kept = λ leaf hold has. has_kept trials trial leaf hold (so.kept leaf hold has);
+      all = λ leaf l. has_kept trials trial leaf (hold_at holds leaf) (so.all leaf l);
+    })
+    (ap (λ (n : ℕ). has_trial (trials ++ trial ∷ []) n (hold_at holds count)) (sym leaf)
+    ∙ ap (λ (h : Hold). has_trial (trials ++ trial ∷ []) trial.leaf h) (sym hold)
+    ∙ has_pushed trials trial)
+
+-- a row more
+and_more : (a b c : Bool) → ((a && b) && c) ≡ (a && (b && (c && true)))
+and_more true true true = refl
+and_more true true false = refl
+and_more true false c = refl
+and_more false b c = refl
+
+with_stays : Trial → Bool → Trial
+with_stays trial stays = record trial { stays = stays }
+
+tried_more : (mode : StoreMode) (rows : List (List ℤ)) (row : List ℤ) (trial : Trial) → tried mode row (tried_all mode rows trial) ≡ tried_all mode (rows ++ row ∷ []) trial
+unfolding with_stays
+tried_more mode rows row trial =
+    ap (with_stays trial)
+    (and_more trial.stays (list_all (takes mode trial) rows) (takes mode trial row)
+    ∙ ap (λ b. trial.stays && b) (sym (list_all-append (takes mode trial) rows (row ∷ []))))
+
+pub trials_more : (mode : StoreMode) (rows : List (List ℤ)) (row : List ℤ) (trials : List Trial)
+    → map (tried mode row) (map (tried_all mode rows) trials) ≡ map (tried_all mode (rows ++ row ∷ [])) trials
+trials_more mode rows row trials = map-map (tried mode row) (tried_all mode rows) trials ∙ ap (λ f. map f trials) (fun_ext (λ trial. tried_more mode rows row trial))
+
+must_stay : (stays same : Bool) → (stays || not same) ≡ true → same ≡ true → stays ≡ true
+must_stay true same passed is = refl
+must_stay false true passed is = absurd (true≢false (sym passed))
+must_stay false false passed is = absurd (true≢false (sym is))
+
+may_fail : (stays same : Bool) → (same ≡ true → stays ≡ true) → (stays || not same) ≡ true
+may_fail true same so = refl
+may_fail false true so = absurd (true≢false (sym (so refl)))
+may_fail false false so = refl
+
+-- what trials that have seen all rows say of ways of storing the leaves
+module _ (table : Table) (trials : List Trial) (each : All (IsTrial table.fields) trials) (fresh : All IsFresh trials) (holds : List Hold)
+    (all : HasTrials trials holds (leaf_count_of table)) where
+  abbrev pub seen : Trial → Trial
+  seen trial = tried_all table.mode table.rows trial
+
+  -- all values of a leaf stay where it is stored as in a trial
+  stays_seen : (trial : Trial) → IsTrial table.fields trial → IsFresh trial → (seen trial).stays ≡ leaf_stays table trial.leaf trial.hold
+  stays_seen trial is fresh_trial =
+      ap (λ (b : Bool). b && list_all (takes table.mode trial) table.rows) fresh_trial
+      ∙ ap (λ (kind : LeafType). list_all (λ row. stays table.mode kind trial.hold (in_leaf trial.leaf row)) table.rows) is.kind_is
+      ∙ sym (list_all-map (stays table.mode (leaf_type_of table trial.leaf) trial.hold) (in_leaf trial.leaf) table.rows)
+
+  -- the trial of the way in which a leaf is stored
+  leaf_right : none_failed holds (map seen trials) ≡ true → (leaf : ℕ) → leaf < leaf_count_of table → leaf_stays table leaf (hold_at holds leaf) ≡ true
+  leaf_right none leaf l =
+      let found = Any-from_list_any (is_for leaf (hold_at holds leaf)) trials (all leaf l) in
+      let trial = found.1 in
+      let inside : found.0 < length trials = found.2 in
+      let is : IsTrial table.fields trial = subst (IsTrial table.fields) found.3 (each found.0 trial inside) in
+      let new : IsFresh trial = subst IsFresh found.3 (fresh found.0 trial inside) in
+      let parts = and_parts (trial.leaf == leaf) (same_hold trial.hold (hold_at holds leaf)) found.4 in
+      let at : trial.leaf ≡ leaf = eqb-true trial.leaf leaf parts.0 in
+      let way : trial.hold ≡ hold_at holds leaf = same_holds trial.hold (hold_at holds leaf) parts.1 in
+      let passed : (has_not_failed holds (seen (get_or trials found.0 trial))) ≡ true =
+      AllPass-from_list_all (λ t. has_not_failed holds (seen t)) trials (sym (list_all-map (has_not_failed holds) seen trials) ∙ none) found.0 trial inside in
+      let here : has_not_failed holds (seen trial) ≡ true = ap (λ (t : Trial). has_not_failed holds (seen t)) (sym found.3) ∙ passed in
+      let same : same_hold trial.hold (hold_at holds trial.leaf) ≡ true =
+      ap (λ (n : ℕ). same_hold trial.hold (hold_at holds n)) at ∙ parts.1 in
+      sym (ap (λ (n : ℕ). leaf_stays table n trial.hold) at ∙ ap (λ (h : Hold). leaf_stays table leaf h) way)
+      ∙ sym (stays_seen trial is new)
+      ∙ must_stay (seen trial).stays (same_hold trial.hold (hold_at holds trial.leaf)) here same
+
+  -- no trial fails that is of such a way
+  trial_right : all_stay table holds ≡ true → (k : ℕ) (d : Trial) → k < length trials → has_not_failed holds (seen (get_or trials k d)) ≡ true
+  trial_right stay k d l =
+      let trial = get_or trials k d in
+      let is : IsTrial table.fields trial = each k d l in
+      let leaf = trial.leaf in
+      let inside : leaf < length (range_with_len 0 (leaf_count_of table)) = omega (arith, is.inside, length-range_with_len 0 (leaf_count_of table)) in
+      let at : leaf ≡ get_or (range_with_len 0 (leaf_count_of table)) leaf 0 = omega (arith, get_or-range_with_len 0 (leaf_count_of table) leaf 0 is.inside) in
+      let here : leaf_stays table leaf (hold_at holds leaf) ≡ true =
+      ap (λ (n : ℕ). leaf_stays table n (hold_at holds n)) at
+      ∙ AllPass-from_list_all (λ n. leaf_stays table n (hold_at holds n)) (range_with_len 0 (leaf_count_of table)) stay leaf 0 inside in
+      may_fail (seen trial).stays (same_hold trial.hold (hold_at holds leaf))
+      (λ same. stays_seen trial is (fresh k d l) ∙ ap (λ (h : Hold). leaf_stays table leaf h) (same_holds trial.hold (hold_at holds leaf) same) ∙ here)
+
+  pub none_failed_law : none_failed holds (map seen trials) ≡ all_stay table holds
+  none_failed_law =
+      same_tests (none_failed holds (map seen trials)) (all_stay table holds)
+      (λ none. list_all-from_AllPass (λ leaf. leaf_stays table leaf (hold_at holds leaf)) (range_with_len 0 (leaf_count_of table))
+      (λ k d l.
+      (let small : k < leaf_count_of table = omega (arith, l, length-range_with_len 0 (leaf_count_of table)) in
+      let at : get_or (range_with_len 0 (leaf_count_of table)) k d ≡ k = omega (arith, get_or-range_with_len 0 (leaf_count_of table) k d small) in
+      ap (λ (n : ℕ). leaf_stays table n (hold_at holds n)) at ∙ leaf_right none k small)))
+      (λ stay. list_all-map (has_not_failed holds) seen trials ∙ list_all-from_AllPass (λ t. has_not_failed holds (seen t)) trials (trial_right stay))
+
+-- what they say of candidates
+pub marks_right : (table : Table) (trials : List Trial) → All (IsTrial table.fields) trials → All IsFresh trials → (pool : List Candidate) → All (IsStored table) pool
+    → All (λ candidate. HasTrials trials candidate.holds (length candidate.holds)) pool
+    → map (λ candidate. none_failed candidate.holds (map (tried_all table.mode table.rows) trials)) pool ≡ map (λ candidate. suits table (term_of candidate.expr)) pool
+unfolding suits
+marks_right table trials each fresh pool stored all =
+    same_images (λ candidate. none_failed candidate.holds (map (tried_all table.mode table.rows) trials)) (λ candidate. suits table (term_of candidate.expr)) pool
+    (λ k d l.
+    (let it = get_or pool k d in
+    let is : IsStored table it = stored k d l in
+    let have : HasTrials trials it.holds (leaf_count_of table) = subst (λ (n : ℕ). HasTrials trials it.holds n) is.each_leaf (all k d l) in
+    none_failed_law table trials each fresh it.holds have ∙ ap (λ (holds : List Hold). all_stay table holds) is.holds_are))
+
+-- rows that were tried leave what a trial is of
+pub still_trials : (fields : Fields) (mode : StoreMode) (rows : List (List ℤ)) (trials : List Trial) → All (IsTrial fields) trials → All (IsTrial fields) (map (tried_all mode rows) trials)
+still_trials fields mode rows trials each =
+    All-map (IsTrial fields) (tried_all mode rows) trials
+    (λ k d l. (let is = each k d l in record { inside = is.inside; kind_is = is.kind_is; hold = is.hold }))
+
+and_all : (b : Bool) → (b && true) ≡ b
+and_all true = refl
+and_all false = refl
+
+pub none_tried : (mode : StoreMode) (trials : List Trial) → map (tried_all mode []) trials ≡ trials
+unfolding with_stays
+none_tried mode [] = refl
+none_tried mode (trial ∷ trials) = ap (λ (b : Bool). with_stays trial b ∷ map (tried_all mode []) trials) (and_all trial.stays) ∙ ap (λ (ts : List Trial). trial ∷ ts) (none_tried mode trials)

@@ -1,0 +1,14 @@
+use Rattle.std.proofs.Common.{All, map}
+use Rattle.std.specs.Prelude.{is_ok}
+use Rattle.map_expr.specs.Terms.{term_of}
+use Rattle.advisor.specs.Advice.{judge, splits_at}
+use Rattle.advisor.specs.Pools.{IsPriced, terms_in}
+use Rattle.advisor.proofs.PoolLaws.{AreBehind}
+use Rattle.advisor.proofs.splits.push_splits.Given as goal
+
+abbrev pub invariant-loop-at : goal.invariant-loop-at
+invariant-loop-at l = record {
+  priced : All (IsPriced l.view l.price.granule l.price.passes.now) l.pool.items;
+  terms : AreBehind (λ term. is_ok (judge l.view l.price.granule term)) (splits_at (map term_of l.listed)) l.paths.items
+      (terms_in l.initial.pool.items) l.at (terms_in l.pool.items);
+}

@@ -1,0 +1,6 @@
+use Rattle.std.proofs.Common.{◌≡◌, true, take}
+use Rattle.advisor.specs.Trials.{none_failed}
+use Rattle.advisor.proofs.trials.none_failed.Given as goal
+
+abbrev pub invariant-loop-trial : goal.invariant-loop-trial
+invariant-loop-trial l = none_failed l.holds (take l.trial-index l.trials) ≡ true

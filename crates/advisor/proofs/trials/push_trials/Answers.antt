@@ -1,0 +1,36 @@
+use Rattle.std.proofs.Common.{◌≡◌, ◌+◌, List, sym, ap, ◌∙◌, refl, subst, arith}
+use Rattle.std.proofs.lemmas.Option.{get_or_from_slice_get}
+use Rattle.record_dim.specs.Leaves.{kinds_of}
+use Rattle.record_dim.specs.Schemas.{schema_fields}
+use Rattle.piece_bits.specs.Tables.{hold_at}
+use Rattle.places.specs.declared.piece.Hold.{Hold}
+use Rattle.advisor.specs.declared.trials.Trial.{Trial}
+use Rattle.advisor.specs.Sides.{IsHold}
+use Rattle.advisor.specs.Trials.{has_trial}
+use Rattle.advisor.proofs.Tried.{ArePushed, one_there, one_pushed}
+use Rattle.advisor.proofs.trials.push_trials.Goals as goal
+use Rattle.advisor.proofs.trials.push_trials.Goals.{then-not-has_trial+in_ok-push, else-not-has_trial}
+
+pub loop-leaf-preserved : goal.loop-leaf-preserved
+loop-leaf-preserved c =
+    let fields = schema_fields c.args.schema.now in
+    let before = c.args.trials.now.items in
+    let holds = c.args.holds.now in
+    let leaf = c.loop-leaf.leaf in
+    let trials = c.loop-leaf.trials.items in
+    let here : hold_at holds leaf ≡ c.hold_at-hold.result = get_or_from_slice_get holds leaf c.hold_at-hold.result _ c.hold_at-hold.ensures in
+    let items = c.as_slice.ensures.value in
+    elim c.if-not-has_trial.branch [
+      | then-not-has_trial+in_ok-push w ↦ rw w.trials-is
+          (subst (λ (ts : List Trial). ArePushed fields before holds (leaf + 1) ts) (sym w.in_ok-push.ensures.items)
+          (one_pushed fields before holds leaf trials c.loop-leaf.invariant _
+          (record {
+            inside = omega (arith, c.requires.each);
+            kind_is = sym (get_or_from_slice_get (kinds_of fields) leaf w.leaf_type.result _ w.leaf_type.ensures);
+            hold = subst IsHold here (c.requires.holds leaf _ (omega arith));
+          })
+          refl refl (sym here)))
+      | else-not-has_trial w ↦ rw w.trials-is
+          (one_there fields before holds leaf trials c.loop-leaf.invariant
+          (ap (λ (h : Hold). has_trial trials leaf h) here ∙ ap (λ (ts : List Trial). has_trial ts leaf c.hold_at-hold.result) (sym items) ∙ sym c.has_trial.ensures ∙ w.if-not-has_trial.false))
+    ]

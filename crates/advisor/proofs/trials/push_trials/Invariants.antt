@@ -1,0 +1,6 @@
+use Rattle.record_dim.specs.Schemas.{schema_fields}
+use Rattle.advisor.proofs.Tried.{ArePushed}
+use Rattle.advisor.proofs.trials.push_trials.Given as goal
+
+abbrev pub invariant-loop-leaf : goal.invariant-loop-leaf
+invariant-loop-leaf l = ArePushed (schema_fields l.schema) l.initial.trials.items l.holds l.leaf l.trials.items

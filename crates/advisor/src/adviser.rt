@@ -1,0 +1,119 @@
+// The advice for some passes over a view.
+ghost use Rattle.std.specs.Prelude.{ℕ, ◌≡◌, ◌≤◌, ◌⊎◌, All, Ok, Err, Some, None, IfOk, OnOk, IfErr, length, map, take};
+ghost use Rattle.map_expr.specs.Terms.{Term, term_of, uncounted};
+ghost use Rattle.map_checks.specs.Mappings.{IsBuiltTerm};
+ghost use Rattle.views.specs.Tables.{leaf_count_of, after_log};
+ghost use Rattle.views.specs.Tallies.{Read, all_accesses};
+ghost use Rattle.advisor.specs.Advice.{judge, candidates, advised, advice, told_by};
+ghost use Rattle.advisor.specs.Judged.{first_fault};
+ghost use Rattle.advisor.specs.Pools.{IsPriced, IsStored, terms_in};
+ghost use Rattle.advisor.specs.Sides.{IsPrice};
+ghost use Rattle.advisor.specs.Suits.{suits};
+
+use crate::advice::{Advice, AdviseFault};
+use crate::candidate::Candidate;
+use crate::choice::advice_of;
+use crate::listed::{listed_candidates, uncounted};
+use crate::pass::PassList;
+use crate::price::Price;
+use crate::splits::push_splits;
+use crate::suits::suiting;
+use map_expr::{MapExpr, MapExprList};
+use std::alloc::{AllocError as NoMemory, Global};
+use std::sync::ledger::Ledger;
+use steps::Steps;
+use views::View;
+
+/// What each of these expressions costs a view, in granules of so many bytes that the passes touch, and the cheapest that suits its
+/// values. With `splits` it may be one that splits the record at one of its fields, with any of the expressions for each side. Counters
+/// at the top of an expression are taken off. On Ok each leaf of each row was read once. A fault comes before any value is read; where
+/// memory is wanting later the table is as it was, and reads may be counted.
+pub fn advise<L: Ledger>(
+    alloc: Global,
+    view: &mut View,
+    granule: u32,
+    passes: &PassList,
+    maps: &MapExprList,
+    splits: bool,
+    steps: &mut Steps<L>,
+) -> Result<Advice, AdviseFault>
+    requires some { 1 ≤ granule }
+    requires few { length passes.now ≤ 16 }
+    requires built { All (λ expr. IsBuiltTerm (term_of expr)) maps.now }
+    ensures advice { IfOk result (λ told. advice view.old granule passes.now (map term_of maps.now) splits ≡ Ok (told_by told)) }
+    ensures fault { IfErr result (λ e. (e ≡ AdviseFault.NoMemory) ⊎ (advice view.old granule passes.now (map term_of maps.now) splits ≡ Err e)) }
+    ensures read { OnOk result (view.new ≡ after_log view.old (all_accesses Read (leaf_count_of view.old) (length view.old.rows))) }
+    ensures unread { IfErr result (λ e. (e ≡ AdviseFault.NoMemory) ⊎ (view.new ≡ view.old)) }
+    ensures table { view.new ≡ record view.old { tally = view.new.tally } }
+{
+    let price = Price {
+        granule,
+        passes: passes.as_slice(),
+    };
+    let pool = candidates(alloc, view, &price, maps.as_slice(), splits)?;
+    let advice = advice_among(alloc, view, pool.as_slice(), maps.len(), steps);
+    drop(pool);
+    Ok(advice?)
+}
+
+// The candidates, and the fault of the first listed one that is no layout within the limits.
+fn candidates(
+    alloc: Global,
+    view: &View,
+    price: &Price<'_>,
+    maps: &[MapExpr],
+    splits: bool,
+) -> Result<Vec<Candidate>, AdviseFault>
+    requires price { IsPrice price.now.granule price.now.passes.now }
+    requires built { All (λ expr. IsBuiltTerm (term_of expr)) maps.now }
+    ensures priced { IfOk result (λ pool. All (IsPriced view.now price.now.granule price.now.passes.now) pool.items) }
+    ensures terms { IfOk result (λ pool. terms_in pool.items ≡ candidates view.now price.now.granule (map uncounted (map term_of maps.now)) splits) }
+    ensures good { OnOk result (first_fault (judge view.now price.now.granule) 0 (map uncounted (map term_of maps.now)) ≡ None) }
+    ensures refused { IfErr result (λ e. (e ≡ AdviseFault.NoMemory) ⊎ (first_fault (judge view.now price.now.granule) 0 (map uncounted (map term_of maps.now)) ≡ Some e)) }
+{
+    let listed = uncounted(alloc, maps)?;
+    let pool = uncounted_candidates(alloc, view, price, listed.as_slice(), splits);
+    drop(listed);
+    pool
+}
+
+// The same of expressions without counters at their tops.
+fn uncounted_candidates(
+    alloc: Global,
+    view: &View,
+    price: &Price<'_>,
+    listed: &[MapExpr],
+    splits: bool,
+) -> Result<Vec<Candidate>, AdviseFault>
+    requires price { IsPrice price.now.granule price.now.passes.now }
+    requires built { All (λ expr. IsBuiltTerm (term_of expr)) listed.now }
+    ensures priced { IfOk result (λ pool. All (IsPriced view.now price.now.granule price.now.passes.now) pool.items) }
+    ensures terms { IfOk result (λ pool. terms_in pool.items ≡ candidates view.now price.now.granule (map term_of listed.now) splits) }
+    ensures good { OnOk result (first_fault (judge view.now price.now.granule) 0 (map term_of listed.now) ≡ None) }
+    ensures refused { IfErr result (λ e. (e ≡ AdviseFault.NoMemory) ⊎ (first_fault (judge view.now price.now.granule) 0 (map term_of listed.now) ≡ Some e)) }
+{
+    let mut pool = listed_candidates(alloc, view, price, listed)?;
+    if splits {
+        push_splits(alloc, view, price, listed, &mut pool)?;
+    }
+    Ok(pool)
+}
+
+// The advice among candidates, of which the first so many are listed.
+fn advice_among<L: Ledger>(
+    alloc: Global,
+    view: &mut View,
+    pool: &[Candidate],
+    listed: usize,
+    steps: &mut Steps<L>,
+) -> Result<Advice, NoMemory>
+    requires stored { All (IsStored view.old) pool.now }
+    requires listed { listed ≤ length pool.now }
+    ensures advice { IfOk result (λ told. (price : Term → ℕ) → All (λ candidate. candidate.cost ≡ price (term_of candidate.expr)) pool.now
+        → told_by told ≡ advised (suits view.old) price (take listed (terms_in pool.now)) (terms_in pool.now)) }
+    ensures read { OnOk result (view.new ≡ after_log view.old (all_accesses Read (leaf_count_of view.old) (length view.old.rows))) }
+    ensures table { view.new ≡ record view.old { tally = view.new.tally } }
+{
+    let marks = suiting(alloc, view, pool, steps)?;
+    advice_of(alloc, pool, marks.as_slice(), listed)
+}

@@ -1,0 +1,135 @@
+// Ways of storing leaves, each tried with the values of all rows.
+ghost use Rattle.std.specs.Prelude.{ℕ, ◌&&◌, ◌≡◌, ◌<◌, All, true, IfOk, OnOk, length, map};
+ghost use Rattle.record_dim.specs.Leaves.{leaves};
+ghost use Rattle.record_dim.specs.Schemas.{schema_fields};
+ghost use Rattle.views.specs.Stores.{is_between};
+ghost use Rattle.advisor.specs.Sides.{IsHold};
+ghost use Rattle.advisor.specs.Suits.{stays};
+ghost use Rattle.advisor.specs.Trials.{IsTrial, IsFresh, has_trial, HasTrials, takes, tried, has_not_failed, none_failed};
+
+use crate::candidate::Candidate;
+use kept_numbers::kept;
+use kept_tables::StoreMode;
+use map_checks::hold_at;
+use places::Hold;
+use record_dim::{LeafType, Schema};
+use std::alloc::{AllocError as NoMemory, Global};
+
+/// A way of storing a leaf of a type, and whether all its values so far stay in it.
+#[derive(Clone, Copy)]
+pub struct Trial {
+    pub leaf: usize,
+    pub kind: LeafType,
+    pub hold: Hold,
+    pub stays: bool,
+}
+
+/// The different ways in which candidates store the leaves of a schema. No value was tried yet.
+pub fn trials_of(alloc: Global, schema: &Schema, pool: &[Candidate]) -> Result<Vec<Trial>, NoMemory>
+    requires each { All (λ candidate. length candidate.holds ≡ length (leaves (schema_fields schema.now))) pool.now }
+    requires holds { All (λ candidate. All IsHold candidate.holds) pool.now }
+    ensures trials { IfOk result (λ trials. All (IsTrial (schema_fields schema.now)) trials.items) }
+    ensures fresh { IfOk result (λ trials. All IsFresh trials.items) }
+    ensures all { IfOk result (λ trials. All (λ candidate. HasTrials trials.items candidate.holds (length candidate.holds)) pool.now) }
+{
+    let mut trials = Vec::new(alloc);
+    for at in 0..pool.len() {
+        push_trials(schema, pool[at].holds.as_slice(), &mut trials)?;
+    }
+    Ok(trials)
+}
+
+// Puts those of one candidate behind others, but for ways that are there.
+fn push_trials(schema: &Schema, holds: &[Hold], trials: &mut Vec<Trial>) -> Result<(), NoMemory>
+    requires each { length holds.now ≡ length (leaves (schema_fields schema.now)) }
+    requires holds { All IsHold holds.now }
+    requires trials { All (IsTrial (schema_fields schema.now)) trials.old.items }
+    requires fresh { All IsFresh trials.old.items }
+    ensures trials { OnOk result (All (IsTrial (schema_fields schema.now)) trials.new.items) }
+    ensures fresh { OnOk result (All IsFresh trials.new.items) }
+    ensures kept { (leaf : ℕ) (hold : Hold) → has_trial trials.old.items leaf hold ≡ true → has_trial trials.new.items leaf hold ≡ true }
+    ensures all { OnOk result (HasTrials trials.new.items holds.now (length holds.now)) }
+{
+    for leaf in 0..holds.len() {
+        let hold = hold_at(holds, leaf);
+        if !has_trial(trials.as_slice(), leaf, hold) {
+            trials.push(Trial {
+                leaf,
+                kind: schema.leaf_type(leaf),
+                hold,
+                stays: true,
+            })?;
+        }
+    }
+    Ok(())
+}
+
+// Whether one of some trials is of this way of storing a leaf.
+fn has_trial(trials: &[Trial], leaf: usize, hold: Hold) -> bool
+    ensures { result ≡ has_trial trials.now leaf hold }
+{
+    trials
+        .iter()
+        .any(|trial| trial.leaf == leaf && trial.hold == hold)
+}
+
+/// Tries the values of a row.
+pub fn try_row(mode: StoreMode, values: &[i128], trials: &mut [Trial])
+    requires inside { All (λ trial. trial.leaf < length values.now) trials.old }
+    requires holds { All (λ trial. IsHold trial.hold) trials.old }
+    ensures { trials.new ≡ map (tried mode values.now) trials.old }
+{
+    for trial in trials.iter_mut() {
+        trial.stays = still_stays(mode, values, *trial);
+    }
+}
+
+// Whether the value of a row stays too.
+fn still_stays(mode: StoreMode, values: &[i128], trial: Trial) -> bool
+    requires inside { trial.leaf < length values.now }
+    requires hold { IsHold trial.hold }
+    ensures { result ≡ (trial.stays && takes mode trial values.now) }
+{
+    trial.stays && stays(mode, trial.kind, trial.hold, values[trial.leaf])
+}
+
+// Whether a store of a value in a leaf that is stored so would keep the value.
+fn stays(mode: StoreMode, kind: LeafType, hold: Hold, value: i128) -> bool
+    requires { IsHold hold }
+    ensures { result ≡ stays mode kind hold value }
+{
+    match mode {
+        StoreMode::Strict => {
+            is_between(kind.least(), kind.greatest(), value)
+                && is_between(hold.least(), hold.greatest(), value)
+        }
+        StoreMode::Wrap => kept(kind, hold, value) == value,
+    }
+}
+
+fn is_between(least: i128, greatest: i128, value: i128) -> bool
+    ensures { result ≡ is_between least greatest value }
+{
+    least <= value && value <= greatest
+}
+
+/// Whether no way in which these leaves are stored failed.
+pub fn none_failed(trials: &[Trial], holds: &[Hold]) -> bool
+    requires { All (λ trial. trial.leaf < length holds.now) trials.now }
+    ensures { result ≡ none_failed holds.now trials.now }
+{
+    for trial in trials {
+        if !has_not_failed(*trial, holds) {
+            return false;
+        }
+    }
+    true
+}
+
+// Whether values stay, or these leaves are stored in another way.
+fn has_not_failed(trial: Trial, holds: &[Hold]) -> bool
+    requires { trial.leaf < length holds.now }
+    ensures { result ≡ has_not_failed holds.now trial }
+{
+    trial.stays || trial.hold != hold_at(holds, trial.leaf)
+}
