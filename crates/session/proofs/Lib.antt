@@ -1,5 +1,4 @@
 pub mod Acting
-pub mod Arms
 pub mod Exits
 pub mod Views
 pub mod Named

@@ -1,7 +1,6 @@
 use Rattle.std.proofs.Common.{rules, ◌≡◌, Err, refl}
 use Rattle.session.specs.Stands.{world_of}
-use Rattle.session.proofs.Steps.{line_shows}
-use Rattle.session.proofs.Views.{session_left}
+use Rattle.session.proofs.Steps.{line_left, line_shows}
 use Rattle.session.proofs.session.Session.show.Goals as goal
 
 pub returns-in-Reduce-clause-answers : goal.returns-in-Reduce-clause-answers
@@ -40,15 +39,15 @@ pub returns-in-SaveView-clause-answers : goal.returns-in-SaveView-clause-answers
 returns-in-SaveView-clause-answers g c = λ files unread.
     line_shows g.K.Sink.taken g.K.Sink.faults c.args.out.now c.on_view-in-SaveView.new.out (world_of c.args.self) c.args.line.now _ files unread c.on_view-in-SaveView.result c.in-SaveView.is c.on_view-in-SaveView.ensures.answers
 
-pub returns-in_err-work_on-clause-answers : goal.returns-in_err-work_on-clause-answers
-returns-in_err-work_on-clause-answers g c = λ files unread.
+pub returns-in_err-work_on-in-Advise-clause-answers : goal.returns-in_err-work_on-in-Advise-clause-answers
+returns-in_err-work_on-in-Advise-clause-answers g c = λ files unread.
     let self = c.args.self in
-    let is : c.from_residual.result ≡ Err c.in_err-work_on.field-0.0 = search rules in
+    let is : c.from_residual.result ≡ Err c.in_err-work_on-in-Advise.field-0.0 = search rules in
     line_shows g.K.Sink.taken g.K.Sink.faults c.args.out.now c.work_on.new.out (world_of self) c.args.line.now _ files unread c.from_residual.result c.in-Advise.is
-    (rw is (c.in_err-work_on.ensures.answers self.records self.mappings))
+    (rw is (c.in_err-work_on-in-Advise.ensures.answers self.records self.mappings))
 
-pub returns-in_ok-work_on-clause-answers : goal.returns-in_ok-work_on-clause-answers
-returns-in_ok-work_on-clause-answers g c = λ files unread.
+pub returns-in_ok-work_on-in-Advise-clause-answers : goal.returns-in_ok-work_on-in-Advise-clause-answers
+returns-in_ok-work_on-in-Advise-clause-answers g c = λ files unread.
     let self = c.args.self in
-    line_shows g.K.Sink.taken g.K.Sink.faults c.args.out.now c.work_on.new.out (world_of self) c.args.line.now _ files unread _ c.in-Advise.is
-    (session_left g.K.Sink.taken g.K.Sink.faults c.args.out.now c.work_on.new.out self.records self.mappings c.work_on.new.views.items _ _ refl (c.in_ok-work_on.ensures.answers self.records self.mappings))
+    line_left g.K.Sink.taken g.K.Sink.faults c.args.out.now c.work_on.new.out (world_of self) c.args.line.now _ files unread self.records self.mappings c.work_on.new.views.items _ c.in-Advise.is refl
+    (c.in_ok-work_on-in-Advise.ensures.answers self.records self.mappings)
