@@ -3,7 +3,7 @@ use Rattle.line_grammar.specs.Sentences.{New}
 use Rattle.worlds.specs.View.{view}
 use Rattle.command_checks.specs.Gives.{Gives}
 use Rattle.session.specs.Stands.{left_of, world_of}
-use Rattle.session.proofs.Steps.{line_gives, line_shows}
+use Rattle.session.proofs.Steps.{line_gives}
 use Rattle.session.proofs.session.Session.command.Goals as goal
 
 pub returns-in-Blank-clause-answers : goal.returns-in-Blank-clause-answers

@@ -1,4 +1,4 @@
-use Rattle.std.proofs.Common.{◌≡◌, ◌*◌, [], rules, refl, sym, subst}
+use Rattle.std.proofs.Common.{◌*◌, [], rules, refl, sym, subst}
 use Rattle.worlds.specs.OnView.{Done, done_to}
 use Rattle.worlds.specs.Outcomes.{Outcome}
 use Rattle.command_checks.specs.Gives.{Gives}
