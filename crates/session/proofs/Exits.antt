@@ -9,7 +9,6 @@ use Rattle.worlds.specs.declared.fault.CommandFault.{CommandFault}
 use Rattle.command_checks.specs.Entries.{view_of}
 use Rattle.command_checks.specs.Places.{IsAt}
 use Rattle.command_checks.specs.declared.entries.ViewEntry.{ViewEntry}
-use Rattle.session.specs.declared.session.Session.{Session}
 use Rattle.command_checks.specs.Gives.{Gives, GivesUp}
 use Rattle.command_checks.specs.declared.fault.StepFault.{StepFault}
 use Rattle.command_checks.specs.declared.fault.StepFault.TheVariants as step
@@ -44,10 +43,10 @@ answers_quiet Stands held taken faults old outcome (Err step.NoMemory) stands gi
 pub tells_gives : {A : Type 0} (outcome : Outcome A) (refusal told : CommandFault) → outcome ≡ Faults refusal → told ≡ refusal → outcome ≡ Faults told
 tells_gives outcome refusal told is tells = is ∙ ap (λ (f : CommandFault). Faults f) (sym tells)
 
--- the world with a view changed in its place
-pub table_changed : (session : Session) (name : List ℕ) (place : ℕ) (entry changed : ViewEntry) → IsAt view_of name session.views.items place → entry ≡ get_or session.views.items place entry → changed.name ≡ entry.name →
-    map view_of (slice_set session.views.items place changed) ≡ replaced name changed.view (map view_of session.views.items)
-table_changed session name place entry changed at is same = sym (at.other entry changed (same ∙ ap (λ (e : ViewEntry). e.name) is))
+-- the views with one changed in its place
+pub table_changed : (items : List ViewEntry) (name : List ℕ) (place : ℕ) (entry changed : ViewEntry) → IsAt view_of name items place → entry ≡ get_or items place entry → changed.name ≡ entry.name →
+    map view_of (slice_set items place changed) ≡ replaced name changed.view (map view_of items)
+table_changed items name place entry changed at is same = sym (at.other entry changed (same ∙ ap (λ (e : ViewEntry). e.name) is))
 
 -- a test that is passed, and what comes behind it gives up
 pub goes_gives : {A B : Type 0} (first : Outcome A) (x : A) (next : A → Outcome B) (fault : StepFault) → first ≡ Goes x → GivesUp (next x) fault → GivesUp (first >>= next) fault

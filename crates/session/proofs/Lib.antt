@@ -1,7 +1,6 @@
 pub mod Acting
 pub mod Exits
 pub mod Views
-pub mod Windowed
 pub mod Named
 pub mod Copies
 pub mod CopySteps
@@ -13,3 +12,5 @@ pub mod Runs
 pub mod Saving
 pub mod Sets
 pub mod Steps
+pub mod Windows
+pub mod Stencils

@@ -5,18 +5,22 @@ use Rattle.layout_io.specs.WritingLaws.{Wrote-nil, with_bytes-nil}
 use Rattle.line_grammar.specs.Sentences.{Sentence, file_of, sentence_of}
 use Rattle.line_grammar.specs.declared.line.Line.{Line}
 use Rattle.worlds.specs.Worlds.{World}
-use Rattle.worlds.specs.Answers.{text_of, StepsTo, StepCause}
+use Rattle.worlds.specs.Answers.{Did, text_of, StepsTo, StepCause}
 use Rattle.worlds.specs.AnswersLaws.{steps_same}
 use Rattle.worlds.specs.Outcomes.{Outcome, Left}
 use Rattle.worlds.specs.Step.{step, command}
 use Rattle.command_checks.specs.Gives.{Gives}
+use Rattle.command_checks.specs.declared.entries.RecordEntry.{RecordEntry}
+use Rattle.command_checks.specs.declared.entries.ViewEntry.{ViewEntry}
 use Rattle.command_checks.specs.declared.fault.StepFault.{StepFault}
 use Rattle.command_checks.specs.declared.fault.StepFault.TheVariants as fault
+use Rattle.command_checks.specs.declared.mapping_entry.MappingEntry.{MappingEntry}
 use Rattle.session.specs.Answers.{Answers, TookNone, ending_of}
 use Rattle.session.specs.Loads.{Loads, ToldFor, UnreadOnly}
-use Rattle.session.specs.Stands.{Stands, left_of, world_of}
+use Rattle.session.specs.Stands.{AreLeft, Stands, left_of, world_in, world_of}
 use Rattle.session.specs.declared.session.Session.{Session}
 use Rattle.session.proofs.Exits.{refused, starved, answers_quiet}
+use Rattle.session.proofs.Views.{session_left}
 
 -- a line is done by its command
 pub step_is : (world : World) (sentence : Sentence) (files : List File) (unread : Bool) → step world sentence files unread ≡ command world sentence files unread
@@ -61,6 +65,13 @@ pub line_gives : {K : Type 0} (taken : K → Option (List ℕ)) (faults : K → 
     line ≡ known → Gives left_of result (command world (sentence_of known) files unread) → Answers Stands taken faults old old (command world (sentence_of line) files unread) result
 line_gives taken faults old world line known files unread result is gives =
     line_shows taken faults old old world line known files unread result is (answers_quiet Stands world_of taken faults old (command world (sentence_of known) files unread) result (λ next. refl) gives)
+
+-- a line that is known, and after which the views are those that a work leaves
+pub line_left : {K : Type 0} (taken : K → Option (List ℕ)) (faults : K → ℕ) (old new : K) (world : World) (line known : Line) (files : List File) (unread : Bool)
+    (records : List RecordEntry) (mappings : List MappingEntry) (left : List ViewEntry) (next : Session) → line ≡ known → world_of next ≡ world_in records mappings left →
+    Did (AreLeft records mappings left) taken faults old new (command world (sentence_of known) files unread) tt → Did Stands taken faults old new (command world (sentence_of line) files unread) next
+line_left taken faults old new world line known files unread records mappings left next is same did =
+    line_shows taken faults old new world line known files unread (Ok next) is (session_left taken faults old new records mappings left (command world (sentence_of known) files unread) next same did)
 
 -- a line that reads no file
 pub steps_shown : {K : Type 0} (taken : K → Option (List ℕ)) (faults : K → ℕ) (old new : K) (world : World) (sentence : Sentence) (file : Option (List ℕ)) (files : List File) (read_failed : Type 0) (result : Result Session StepFault) →

@@ -1,5 +1,5 @@
 -- What a work on a view answers is what the command on the view of a name answers.
-use Rattle.std.proofs.Common.{◌≡◌, ℕ, List, map, get_or, Option, Some, None, Result, Err, refl, sym, ap, subst, ◌∙◌}
+use Rattle.std.proofs.Common.{◌≡◌, ℕ, List, map, get_or, Option, Some, None, Result, Ok, Err, refl, sym, ap, subst, ◌∙◌}
 use Rattle.std.specs.Prelude.{slice_set}
 use Rattle.layout_io.specs.Writing.{Wrote, Stopped}
 use Rattle.instrument.specs.Counters.{LeafCounts, HeatCounts}
@@ -17,12 +17,14 @@ use Rattle.worlds.specs.declared.fault.CommandFault.TheVariants.{NotCounted}
 use Rattle.command_checks.specs.Entries.{view_of}
 use Rattle.command_checks.specs.Places.{IsAt}
 use Rattle.command_checks.specs.PlacesLaws.{known_at}
+use Rattle.command_checks.specs.declared.entries.RecordEntry.{RecordEntry}
 use Rattle.command_checks.specs.declared.entries.ViewEntry.{ViewEntry}
+use Rattle.command_checks.specs.declared.mapping_entry.MappingEntry.{MappingEntry}
 use Rattle.command_checks.specs.declared.fault.StepFault.{StepFault}
 use Rattle.command_checks.specs.declared.fault.StepFault.TheVariants as step
 use Rattle.session.specs.Answers.{Answers}
 use Rattle.session.specs.Changes.{IsLeft, left_with}
-use Rattle.session.specs.Stands.{Stands, world_of}
+use Rattle.session.specs.Stands.{AreLeft, Stands, world_in, world_of}
 use Rattle.session.specs.declared.session.Session.{Session}
 use Rattle.session.proofs.Exits.{table_changed}
 
@@ -40,36 +42,56 @@ text_onward world name (Faults fault) = refl
 text_onward world name (CannotRead file) = refl
 
 -- a work that stops
-pub view_stops : {K : Type 0} (taken : K → Option (List ℕ)) (faults : K → ℕ) (old new : K) (world : World) (name : List ℕ) (view : Table) (table : Table) (does : Table → Outcome Done) (fault : StepFault) (result : Result Session StepFault) →
-    result ≡ Err fault → known name world.views ≡ Goes table → Answers (IsLeft view) taken faults old new (done_to table (does table)) (Err fault) →
-    Answers Stands taken faults old new (on_view world name does) result
-view_stops taken faults old new world name view table does (step.Command refusal) result is at refused =
+pub view_stops : {K : Type 0} (taken : K → Option (List ℕ)) (faults : K → ℕ) (old new : K) (records : List RecordEntry) (mappings : List MappingEntry) (items left : List ViewEntry) (name : List ℕ) (view : Table) (table : Table)
+    (does : Table → Outcome Done) (fault : StepFault) (result : Result (Unit {0}) StepFault) →
+    result ≡ Err fault → known name (map view_of items) ≡ Goes table → Answers (IsLeft view) taken faults old new (done_to table (does table)) (Err fault) →
+    Answers (AreLeft records mappings left) taken faults old new (on_view (world_in records mappings items) name does) result
+view_stops taken faults old new records mappings items left name view table does (step.Command refusal) result is at refused =
+    let world = world_in records mappings items in
     rw is (record { is = on_known world name table does at ∙ ap (onward world name) refused.is; wrote = refused.wrote })
-view_stops taken faults old new world name view table does step.Source result is at none = absurd none
-view_stops taken faults old new world name view table does step.Sink result is at broke = rw is (record {
-  left = record { held = with_table world name broke.left.held; text = broke.left.text };
-  goes = on_known world name table does at ∙ ap (onward world name) broke.goes;
-  stopped = broke.stopped;
-})
-view_stops taken faults old new world name view table does step.NoMemory result is at fronted =
+view_stops taken faults old new records mappings items left name view table does step.Source result is at none = absurd none
+view_stops taken faults old new records mappings items left name view table does step.Sink result is at broke =
+    let world = world_in records mappings items in
+    rw is (record {
+      left = record { held = with_table world name broke.left.held; text = broke.left.text };
+      goes = on_known world name table does at ∙ ap (onward world name) broke.goes;
+      stopped = broke.stopped;
+    })
+view_stops taken faults old new records mappings items left name view table does step.NoMemory result is at fronted =
+    let world = world_in records mappings items in
     rw is (subst (Fronted taken faults old new) (sym (ap text_of (on_known world name table does at) ∙ text_onward world name (done_to table (does table)))) fronted)
 
 -- a work that is done: the view stands in its place
-pub view_done : {K : Type 0} (taken : K → Option (List ℕ)) (faults : K → ℕ) (old new : K) (session next : Session) (name : List ℕ) (place : ℕ) (entry changed : ViewEntry) (does : Table → Outcome Done) →
-    IsAt view_of name session.views.items place → entry ≡ get_or session.views.items place entry → changed.name ≡ entry.name →
-    Stands next (record (world_of session) { views = map view_of (slice_set session.views.items place changed) }) →
+pub view_done : {K : Type 0} (taken : K → Option (List ℕ)) (faults : K → ℕ) (old new : K) (records : List RecordEntry) (mappings : List MappingEntry) (items : List ViewEntry) (name : List ℕ) (place : ℕ) (entry changed : ViewEntry)
+    (does : Table → Outcome Done) → IsAt view_of name items place → entry ≡ get_or items place entry → changed.name ≡ entry.name →
     Did (IsLeft changed.view) taken faults old new (done_to entry.view (does entry.view)) tt →
-    Did Stands taken faults old new (on_view (world_of session) name does) next
-view_done taken faults old new session next name place entry changed does at is same stands did =
-    let left : List (Entry Table) → Left = λ views. record { held = record (world_of session) { views = views }; text = did.left.text } in
+    Did (AreLeft records mappings (slice_set items place changed)) taken faults old new (on_view (world_in records mappings items) name does) tt
+view_done taken faults old new records mappings items name place entry changed does at is same did =
+    let world = world_in records mappings items in
+    let left : List (Entry Table) → Left = λ views. record { held = record world { views = views }; text = did.left.text } in
     record {
-      left = left (map view_of (slice_set session.views.items place changed));
-      goes = on_known (world_of session) name entry.view does (known_at view_of name session.views.items place entry at is) ∙ ap (onward (world_of session) name) did.goes
-          ∙ ap (λ (table : Table). Goes (record { held = with_table (world_of session) name table; text = did.left.text })) (sym did.stands)
-          ∙ ap (λ (views : List (Entry Table)). Goes (left views)) (sym (table_changed session name place entry changed at is same));
-      stands = stands;
+      left = left (map view_of (slice_set items place changed));
+      goes = on_known world name entry.view does (known_at view_of name items place entry at is) ∙ ap (onward world name) did.goes
+          ∙ ap (λ (table : Table). Goes (record { held = with_table world name table; text = did.left.text })) (sym did.stands)
+          ∙ ap (λ (views : List (Entry Table)). Goes (left views)) (sym (table_changed items name place entry changed at is same));
+      stands = refl;
       wrote = did.wrote;
     }
+
+-- whether it stops or is done
+pub view_worked : {K : Type 0} (taken : K → Option (List ℕ)) (faults : K → ℕ) (old new : K) (records : List RecordEntry) (mappings : List MappingEntry) (items : List ViewEntry) (name : List ℕ) (place : ℕ) (entry changed : ViewEntry)
+    (does : Table → Outcome Done) (result : Result (Unit {0}) StepFault) → IsAt view_of name items place → entry ≡ get_or items place entry → changed.name ≡ entry.name →
+    Answers (IsLeft changed.view) taken faults old new (done_to entry.view (does entry.view)) result →
+    Answers (AreLeft records mappings (slice_set items place changed)) taken faults old new (on_view (world_in records mappings items) name does) result
+view_worked taken faults old new records mappings items name place entry changed does (Ok done) at is same did =
+    view_done taken faults old new records mappings items name place entry changed does at is same did
+view_worked taken faults old new records mappings items name place entry changed does (Err fault) at is same stopped =
+    view_stops taken faults old new records mappings items (slice_set items place changed) name changed.view entry.view does fault (Err fault) refl (known_at view_of name items place entry at is) stopped
+
+-- a session in which the views are those that are left
+pub session_left : {K : Type 0} (taken : K → Option (List ℕ)) (faults : K → ℕ) (old new : K) (records : List RecordEntry) (mappings : List MappingEntry) (left : List ViewEntry) (outcome : Outcome Left) (next : Session) →
+    world_of next ≡ world_in records mappings left → Did (AreLeft records mappings left) taken faults old new outcome tt → Did Stands taken faults old new outcome next
+session_left taken faults old new records mappings left outcome next is did = record { left = did.left; goes = did.goes; stands = is ∙ did.stands; wrote = did.wrote }
 
 -- a work that gives something, and writes it as a text
 pub then_wrote : {K : Type 0} (taken : K → Option (List ℕ)) (faults : K → ℕ) (old new : K) (view : Table) (outcome : Outcome (LeftOf Table)) (text : List ℕ) →

@@ -22,3 +22,7 @@ Stands session world = world_of session ≡ world
 -- what a command leaves that writes nothing
 abbrev pub left_of : Session → Left
 left_of session = record { held = world_of session; text = [] }
+
+-- beside these records and mappings, the views are those that are left
+abbrev pub AreLeft : List RecordEntry → List MappingEntry → List ViewEntry → Unit {0} → World → Type 0
+AreLeft records mappings views done world = world_in records mappings views ≡ world

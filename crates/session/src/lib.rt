@@ -1,6 +1,7 @@
 //! A session: what a script has named so far, and what each line does to it.
 #![tactic(auto)]
 
+mod advise;
 mod assign;
 mod by_actors;
 mod copy;
@@ -16,10 +17,10 @@ mod relayout;
 mod save;
 mod session;
 mod show;
-mod stencils;
+mod stencil;
 mod update;
 mod view;
-mod windows;
+mod window;
 mod work;
 
 pub use actors::{Assign, UpdateFault, UpdateKind, update_rows};
@@ -28,6 +29,4 @@ pub use command_checks::{
 };
 pub use fault_lines::write_fault;
 pub use session::Session;
-pub use worlds::{
-    BadActors, BadAdvice, BadFile, BadKernel, BadStencil, CommandFault, UnknownName,
-};
+pub use worlds::{BadActors, BadAdvice, BadFile, BadKernel, BadStencil, CommandFault, UnknownName};

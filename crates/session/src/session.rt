@@ -7,20 +7,20 @@ ghost use Rattle.worlds.specs.OnView.{on_view};
 ghost use Rattle.worlds.specs.Step.{step, command};
 ghost use Rattle.worlds.specs.Worlds.{empty, found};
 
+use crate::advise::Advise;
 use crate::assign::Assign;
 use crate::by_actors::UpdateByActors;
 use crate::kernel::RunKernel;
 use crate::reduce::{Count, Reduce};
 use crate::save::Save;
 use crate::show::{Bytes, Counts, Heat, Layout, Print};
-use crate::stencils::Stencil;
+use crate::stencil::RunStencil;
 use crate::update::Update;
 use crate::view::New;
-use crate::windows::PrintWindow;
-use crate::work::Work;
+use crate::window::PrintWindow;
+use crate::work::{Work, work_on};
 use command_checks::{
-    MappingEntry, MappingList, RecordEntry, RecordList, StepFault, ViewEntry, ViewList, known_view,
-    live_bytes,
+    MappingEntry, MappingList, RecordEntry, RecordList, StepFault, ViewEntry, ViewList, live_bytes,
 };
 use layout_io::{Shelf, Sink};
 use line_grammar::Line;
@@ -40,7 +40,7 @@ pub struct Session {
 
 impl Session {
     ghost use Rattle.session.specs.Stands.{Stands, world_of};
-    ghost use Rattle.session.specs.Answers.{Answers, TookNone, IsFit, ending_of};
+    ghost use Rattle.session.specs.Answers.{Answers, TookNone, IsFit, IsOnView, IsShown, ending_of};
     ghost use Rattle.session.specs.Bounds.{Within, WithinSteps, most_on};
     ghost use Rattle.session.specs.Loads.{UnreadOnly, ToldFor};
 
@@ -121,6 +121,23 @@ impl Session {
             Line::Copy { source, target } => self.copy(*source, *target, steps),
             Line::Relayout { view, expr } => self.relayout(*view, expr, steps),
             Line::Drop(view) => self.drop_view(*view),
+            _ => self.change(line, out, steps),
+        }
+    }
+
+    // Does a line that works on one view.
+    fn change<K: Sink, L: Ledger>(
+        self,
+        line: &Line,
+        out: &mut K,
+        steps: &mut Steps<L>,
+    ) -> Result<Session, StepFault>
+        requires { IsOnView line.now }
+        ensures answers { (files : List File) (unread : Bool) → Answers Stands K.taken K.faults out.old out.new
+            (command (world_of self) (sentence_of line.now) files unread) result }
+        ensures bound { WithinSteps (world_of self) (sentence_of line.now) steps.old steps.new }
+    {
+        match line {
             Line::Assign {
                 view,
                 index,
@@ -152,19 +169,6 @@ impl Session {
                 kernel,
                 lanes,
             } => self.on_view(*view, &RunKernel { kernel, lanes }, out, steps),
-            Line::Reduce { view, kind, path } => {
-                self.on_view(*view, &Reduce { kind, path }, out, steps)
-            }
-            Line::Count { view, filter } => self.on_view(*view, &Count { filter }, out, steps),
-            Line::Print(view) => self.on_view(*view, &Print, out, steps),
-            Line::Counts(view) => self.on_view(*view, &Counts, out, steps),
-            Line::Heat(view) => self.on_view(*view, &Heat, out, steps),
-            Line::Layout(view) => self.on_view(*view, &Layout, out, steps),
-            Line::Bytes { view, blob } => self.on_view(*view, &Bytes { blob }, out, steps),
-            Line::SaveView(view) => self.on_view(*view, &Save, out, steps),
-            Line::PrintWindow { view, window } => {
-                self.on_view(*view, &PrintWindow { window }, out, steps)
-            }
             Line::Stencil {
                 view,
                 window,
@@ -173,22 +177,69 @@ impl Session {
                 divisor,
                 rounds,
             } => {
-                let work = Stencil {
-                    live: live_bytes(self.views.as_slice()),
+                let work = RunStencil {
                     window,
                     path,
                     terms,
                     divisor,
                     rounds,
+                    live: live_bytes(self.views.as_slice()),
                 };
                 self.on_view(*view, &work, out, steps)
             }
-            Line::Load { .. } | Line::OpenFile { .. } => unreachable!(),
+            _ => self.show(line, out, steps),
+        }
+    }
+
+    // Does a line that shows something of one view.
+    fn show<K: Sink, L: Ledger>(
+        mut self,
+        line: &Line,
+        out: &mut K,
+        steps: &mut Steps<L>,
+    ) -> Result<Session, StepFault>
+        requires { IsShown line.now }
+        ensures answers { (files : List File) (unread : Bool) → Answers Stands K.taken K.faults out.old out.new
+            (command (world_of self) (sentence_of line.now) files unread) result }
+        ensures bound { WithinSteps (world_of self) (sentence_of line.now) steps.old steps.new }
+    {
+        match line {
+            Line::Reduce { view, kind, path } => {
+                self.on_view(*view, &Reduce { kind, path }, out, steps)
+            }
+            Line::Count { view, filter } => self.on_view(*view, &Count { filter }, out, steps),
+            Line::Print(view) => self.on_view(*view, &Print, out, steps),
+            Line::PrintWindow { view, window } => {
+                self.on_view(*view, &PrintWindow { window }, out, steps)
+            }
+            Line::Counts(view) => self.on_view(*view, &Counts, out, steps),
+            Line::Heat(view) => self.on_view(*view, &Heat, out, steps),
+            Line::Layout(view) => self.on_view(*view, &Layout, out, steps),
+            Line::Bytes { view, blob } => self.on_view(*view, &Bytes { blob }, out, steps),
+            Line::SaveView(view) => self.on_view(*view, &Save, out, steps),
+            Line::Advise {
+                view,
+                granule,
+                passes,
+                maps,
+                splits,
+            } => {
+                let session = &mut self;
+                let work = Advise {
+                    mappings: &session.mappings,
+                    granule,
+                    passes,
+                    maps,
+                    splits,
+                };
+                work_on(session.alloc, &mut session.views, *view, &work, out, steps)?;
+                Ok(self)
+            }
+            _ => unreachable!(),
         }
     }
 
     // Does what works on the view of a name.
-    #[tactic(auto, unfolding(worlds::specs::OnView::on_view))]
     fn on_view<W: Work, K: Sink, L: Ledger>(
         mut self,
         name: Name,
@@ -199,9 +250,7 @@ impl Session {
         ensures answers { Answers Stands K.taken K.faults out.old out.new (on_view (world_of self) name (W.does work.now)) result }
         ensures bound { Within (most_on (found name (world_of self).views) (W.most work.now)) steps.old steps.new }
     {
-        let place = known_view(self.views.as_slice(), name)?;
-        let view = &mut self.views[place].view;
-        work.run(self.alloc, view, out, steps)?;
+        work_on(self.alloc, &mut self.views, name, work, out, steps)?;
         Ok(self)
     }
 }

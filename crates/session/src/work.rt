@@ -1,14 +1,19 @@
 // Commands that work on one view.
-ghost use Rattle.std.specs.Prelude.{ℕ, Option, None};
+ghost use Rattle.std.specs.Prelude.{ℕ, List, Option, None};
 ghost use Rattle.views.specs.Tables.{Table};
-ghost use Rattle.worlds.specs.OnView.{Done, done_to};
+ghost use Rattle.worlds.specs.OnView.{Done, done_to, on_view};
 ghost use Rattle.worlds.specs.Outcomes.{Outcome};
+ghost use Rattle.worlds.specs.Worlds.{found};
+ghost use Rattle.command_checks.specs.declared.entries.RecordEntry.{RecordEntry};
+ghost use Rattle.command_checks.specs.declared.mapping_entry.MappingEntry.{MappingEntry};
 ghost use Rattle.session.specs.Answers.{Answers};
-ghost use Rattle.session.specs.Bounds.{Within};
+ghost use Rattle.session.specs.Bounds.{Within, most_on};
 ghost use Rattle.session.specs.Changes.{IsLeft};
+ghost use Rattle.session.specs.Stands.{AreLeft, world_in};
 
-use command_checks::StepFault;
+use command_checks::{StepFault, ViewList, known_view};
 use layout_io::Sink;
+use record_dim::Name;
 use std::alloc::Global;
 use std::sync::ledger::Ledger;
 use steps::Steps;
@@ -33,4 +38,25 @@ pub(crate) trait Work {
         ensures answers { Answers (IsLeft view.new) K.taken K.faults out.old out.new
             (done_to view.old (does self.now view.old)) result }
         ensures steps { Within (most self.now view.old) steps.old steps.new };
+}
+
+/// Works on the view of a name, whatever records and mappings there are beside the views.
+#[tactic(auto, unfolding(worlds::specs::OnView::on_view))]
+pub(crate) fn work_on<W: Work, K: Sink, L: Ledger>(
+    alloc: Global,
+    views: &mut ViewList,
+    name: Name,
+    work: &W,
+    out: &mut K,
+    steps: &mut Steps<L>,
+) -> Result<(), StepFault>
+    ensures answers { (records : List RecordEntry) (mappings : List MappingEntry)
+        → Answers (AreLeft records mappings views.new.items) K.taken K.faults out.old out.new
+        (on_view (world_in records mappings views.old.items) name (W.does work.now)) result }
+    ensures bound { (records : List RecordEntry) (mappings : List MappingEntry)
+        → Within (most_on (found name (world_in records mappings views.old.items).views) (W.most work.now)) steps.old steps.new }
+{
+    let place = known_view(views.as_slice(), name)?;
+    let view = &mut views[place].view;
+    work.run(alloc, view, out, steps)
 }

@@ -66,7 +66,7 @@ returns-clause-laid g c =
     let made = rw c.as_slice-2.ensures.value at (c.in_ok-fresh.ensures.made entry) in
     let zeros = rw c.as_slice-2.ensures.value at (c.in_ok-fresh.ensures.zeros entry) in
     let laid = laid_at items c.in_ok-place.place entry (term_of c.in_ok-expr.expr) c.in_ok-fresh.fresh c.index_mut.ensures.value made zeros in
-    let same = table_changed c.args.self c.args.name c.in_ok-place.place entry changed at c.index_mut.ensures.value refl in
+    let same = table_changed items c.args.name c.in_ok-place.place entry changed at c.index_mut.ensures.value refl in
     goes_then _ _ _ (known_at view_of c.args.name items c.in_ok-place.place entry at c.index_mut.ensures.value) ∙ goes_then _ _ _ whole ∙ goes_then _ _ _ (laid ∙ c.in_ok-laid_over.ensures.copied)
     ∙ ap (λ (views : List (Entry Table)). Goes (record { held = record (world_of c.args.self) { views = views }; text = [] })) (sym same)
 

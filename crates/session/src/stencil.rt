@@ -1,0 +1,134 @@
+// `stencil V window [..] set .. = (..) / D rounds N`.
+ghost use Rattle.std.specs.Prelude.{◌≡◌, ◌*◌, IfOk, []};
+ghost use Rattle.subviews.specs.Plans.{IsBufferOf};
+ghost use Rattle.worlds.specs.OnView.{done_to};
+ghost use Rattle.worlds.specs.Stencil.{room_beside, stencil_fault, stencil_rounds, stencil_run};
+ghost use Rattle.command_checks.specs.Gives.{Gives};
+ghost use Rattle.command_checks.specs.Stencils.{IsStencilOf, stencil_of};
+ghost use Rattle.session.specs.Changes.{Tells, left_with};
+
+use crate::faults::{narrow_fault, range_fault};
+use crate::work::Work;
+use command_checks::{FitStencil, MAX_LIVE_BYTES, StepFault, fit_stencil};
+use layout_io::Sink;
+use line_grammar::{TermTextList, WindowWords};
+use record_dim::Path;
+use std::alloc::{AllocError as NoMemory, Global};
+use std::sync::ledger::Ledger;
+use steps::Steps;
+use subviews::{StencilFault, stencil};
+use views::{StoreFault, View};
+use worlds::CommandFault;
+
+/// Sets a leaf in each row of a window to a sum over its neighbours, so many times.
+#[derive(Drop)]
+pub(crate) struct RunStencil<'a> {
+    pub window: &'a WindowWords,
+    pub path: &'a Path,
+    pub terms: &'a TermTextList,
+    pub divisor: &'a u32,
+    pub rounds: &'a u32,
+    /// The bytes of the blobs of all live views.
+    pub live: u128,
+}
+
+impl Work for RunStencil<'_> {
+    ghost does = { λ this table. stencil_run (8 * this.live) table this.window.now this.path.now this.terms.now this.divisor.now this.rounds.now };
+
+    fn run<K: Sink, L: Ledger>(
+        &self,
+        alloc: Global,
+        view: &mut View,
+        _out: &mut K,
+        steps: &mut Steps<L>,
+    ) -> Result<(), StepFault> {
+        let fit = fit_stencil(
+            alloc,
+            view,
+            self.window.as_slice(),
+            self.path,
+            self.terms.as_slice(),
+            *self.divisor,
+            *self.rounds,
+        )?;
+        check_room(view, self.live)?;
+        run_rounds(alloc, view, &fit, *self.rounds, steps)
+    }
+}
+
+// That a buffer as large as the view has room beside live views of so many bytes.
+fn check_room(view: &View, live: u128) -> Result<(), StepFault>
+    ensures { Gives (λ done. tt) result (room_beside (8 * live) view.now) }
+{
+    if live.saturating_add(u128::from(view.blob_bytes())) > MAX_LIVE_BYTES {
+        return Err(StepFault::Command(CommandFault::TooBig));
+    }
+    Ok(())
+}
+
+// So many rounds, with a buffer that is let go behind them.
+fn run_rounds<L: Ledger>(
+    alloc: Global,
+    view: &mut View,
+    fit: &FitStencil,
+    rounds: u32,
+    steps: &mut Steps<L>,
+) -> Result<(), StepFault>
+    requires { IsStencilOf view.old fit.now }
+    ensures { Gives (λ done. left_with view.new []) result
+        (done_to view.old (stencil_rounds view.old rounds (stencil_of fit.now))) }
+{
+    let mut buffer = buffer_for(alloc, view)?;
+    let done = stencil(
+        view,
+        &mut buffer,
+        &fit.window,
+        fit.leaf,
+        fit.terms.as_slice(),
+        fit.divisor,
+        rounds,
+        steps,
+    );
+    drop(buffer);
+    match done {
+        Ok(()) => Ok(()),
+        Err(fault) => Err(stencil_fault(alloc, view, fit.leaf, fault)?.into()),
+    }
+}
+
+// A view of zeros that lies as another one, without its counters.
+fn buffer_for(alloc: Global, view: &View) -> Result<View, NoMemory>
+    ensures { IfOk result (IsBufferOf view.now) }
+{
+    let _map = view.map();
+    let expr = view.expr().uncounted();
+    let most = view.blob_bytes();
+    match View::new_within(
+        alloc,
+        view.schema(),
+        view.extents(),
+        expr,
+        view.mode(),
+        most,
+    ) {
+        Ok(buffer) => Ok(buffer),
+        // The view itself keeps all limits, so only memory can be wanting.
+        Err(_) => Err(NoMemory),
+    }
+}
+
+// The fault of a stencil, with the path text of the leaf that it sets.
+fn stencil_fault(
+    alloc: Global,
+    view: &View,
+    leaf: usize,
+    fault: StencilFault,
+) -> Result<CommandFault, StepFault>
+    ensures { Tells (stencil_fault view.now.fields leaf fault) result }
+{
+    let row = fault.row;
+    match fault.fault {
+        StoreFault::Range => range_fault(alloc, view, row, leaf),
+        StoreFault::Narrow => narrow_fault(alloc, view, row, leaf),
+    }
+}
