@@ -52,8 +52,8 @@ read_more leaf first done row old table new values_old values value have place b
     record {
       filled = ap (λ (list : List ℤ). set list done value) have.filled ∙ set_more (drop first (column leaf old.rows)) values_old done value inside room there;
       log = read ∙ ap (λ (t : Table). after_read t row leaf) have.log ∙ ap (λ (n : ℕ). after_read (after_log old (column_reads leaf first done)) n leaf) place
-      ∙ after_log-append old (column_reads leaf first done) (Read (first + done) leaf ∷ [])
-      ∙ ap (after_log old) (sym (map-range_with_len_more (λ at. Read at leaf) first done (first + done) refl));
+          ∙ after_log-append old (column_reads leaf first done) (Read (first + done) leaf ∷ [])
+          ∙ ap (after_log old) (sym (map-range_with_len_more (λ at. Read at leaf) first done (first + done) refl));
     }
 
 -- all of a run

@@ -6,5 +6,5 @@ mod runs;
 mod values;
 
 pub use refusal::{DONE, Refusal};
-pub use runs::{get_run_signed};
+pub use runs::get_run_signed;
 pub use values::{get_signed, get_unsigned, set};

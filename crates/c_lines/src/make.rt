@@ -57,14 +57,7 @@ fn view_of(alloc: Global, named: &NamedRecord, new: &NewLine) -> Result<View, Li
     }
     let extents = extents_of(new.words.as_slice())?;
     let mode = mode_by(new.wrap);
-    match View::new_within(
-        alloc,
-        &named.schema,
-        extents,
-        &new.expr,
-        mode,
-        MAX_BYTES,
-    ) {
+    match View::new_within(alloc, &named.schema, extents, &new.expr, mode, MAX_BYTES) {
         Ok(made) => Ok(made),
         Err(fault) => Err(LinesFault::Mapping(fault)),
     }
