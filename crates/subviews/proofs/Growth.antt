@@ -1,5 +1,5 @@
 -- The rows of a window grow, so those between two that lie as far apart as their places lie one behind another.
-use Rattle.std.proofs.Common.{◌≡◌, ℕ, zero, suc, ◌+◌, ◌-◌, ◌<◌, ◌≤◌, Bool, true, false, List, [], ◌∷◌, length, map, get_or, filter, Some, refl, ap, sym, subst, ◌∙◌, arith}
+use Rattle.std.proofs.Common.{◌≡◌, ℕ, zero, suc, ◌+◌, ◌-◌, ◌<◌, ◌≤◌, Bool, true, false, List, [], ◌∷◌, map, get_or, filter, Some, ap, subst, ◌∙◌, arith}
 use Rattle.std.specs.Prelude.{slice_get, if◌then◌else◌}
 use Rattle.std.specs.List.{enumerate_from}
 use Rattle.std.proofs.lemmas.Option.{slice_get-get_or, slice_get_within}
@@ -61,12 +61,25 @@ run_of_one numbers row first at = λ k low.
     let same : first ≡ first + k = omega (arith, none) in
     subst (λ (m : ℕ). slice_get numbers m ≡ Some (first + k)) place (at ∙ ap (λ (m : ℕ). Some m) same)
 
--- behind its first row
-pub run_behind : (numbers : List ℕ) (row first count : ℕ) → IsRun numbers row first count → 0 < count → IsRun numbers (row + 1) (first + 1) (count - 1)
-run_behind numbers row first count run some = λ k low.
-    let place : row + (k + 1) ≡ row + 1 + k = omega arith in
-    let same : first + (k + 1) ≡ first + 1 + k = omega arith in
-    subst (λ (m : ℕ). slice_get numbers m ≡ Some (first + 1 + k)) place (run (k + 1) (omega (arith, low, some)) ∙ ap (λ (m : ℕ). Some m) same)
+-- behind its first rows
+pub run_behind : (numbers : List ℕ) (row first count rows : ℕ) → IsRun numbers row first count → rows ≤ count → IsRun numbers (row + rows) (first + rows) (count - rows)
+run_behind numbers row first count rows run inside = λ k low.
+    let place : row + (rows + k) ≡ row + rows + k = omega arith in
+    let same : first + (rows + k) ≡ first + rows + k = omega arith in
+    subst (λ (m : ℕ). slice_get numbers m ≡ Some (first + rows + k)) place (run (rows + k) (omega (arith, low, inside)) ∙ ap (λ (m : ℕ). Some m) same)
+
+-- with the row before it
+pub run_from : (numbers : List ℕ) (row first next count : ℕ) → slice_get numbers row ≡ Some first → next ≡ first + 1 → IsRun numbers (row + 1) next count → 15 ≤ count → IsRun numbers row first 16
+run_from numbers row first next count at is run long = one where
+  one : (k : ℕ) → k < 16 → slice_get numbers (row + k) ≡ Some (first + k)
+  one zero low =
+      (let place : row ≡ row + 0 = omega arith in
+      let same : first ≡ first + 0 = omega arith in
+      subst (λ (m : ℕ). slice_get numbers m ≡ Some (first + 0)) place (at ∙ ap (λ (m : ℕ). Some m) same))
+  one (suc k) low =
+      (let place : row + 1 + k ≡ row + suc k = omega arith in
+      let same : next + k ≡ first + suc k = omega (arith, is) in
+      subst (λ (m : ℕ). slice_get numbers m ≡ Some (first + suc k)) place (run k (omega (arith, low, long)) ∙ ap (λ (m : ℕ). Some m) same))
 
 -- its first row
 pub run_first : (numbers : List ℕ) (row first count : ℕ) → IsRun numbers row first count → 0 < count → slice_get numbers row ≡ Some first

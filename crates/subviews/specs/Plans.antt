@@ -2,10 +2,12 @@
 use Rattle.std.specs.Prelude.{ℕ, ◌≡◌, ◌+◌, ◌<◌, ◌≤◌, ◌^◌, true, ℤ, pos, ◌+ℤ◌, ◌<ℤ◌, List, length, map, All, Contains, Some, slice_get, slice_index_or}
 use Rattle.extents.specs.Indices.{indices}
 use Rattle.map_expr.specs.Terms.{uncounted}
+use Rattle.views.specs.NearStores.{IsNearColumn}
 use Rattle.views.specs.Tables.{Table}
 use Rattle.subviews.specs.SubViews.{WindowOf, rows_of}
 use Rattle.subviews.specs.Stencils.{Stencil, weighted, row_from, reaches, is_weight}
 use Rattle.subviews.specs.declared.term.Term.{Term}
+use Rattle.subviews.specs.declared.blocks.NearPair.{NearPair}
 use Rattle.subviews.specs.declared.rounds.Plan.{Plan}
 use Rattle.subviews.specs.declared.runs.Walk.{Walk}
 
@@ -54,3 +56,10 @@ pub record IsWalk (window : WindowOf) (walk : Walk) (row : ℕ) : Type 0 where
   pub some : 0 < walk.width
   pub narrow : walk.width < 2 ^ 33
   pub run : IsRun (rows_of window) row walk.next walk.left
+
+-- a leaf stands side by side in a table and its buffer
+pub record IsNearPair (table buffer : Table) (leaf : ℕ) (pair : NearPair) : Type 0 where
+  pub near_from : IsNearColumn buffer pair.from
+  pub near_to : IsNearColumn table pair.to
+  pub leaf_from : pair.from.leaf ≡ leaf
+  pub leaf_to : pair.to.leaf ≡ leaf

@@ -1,6 +1,7 @@
 //! Windows of a view, used as views of their own, and stencils over them.
 #![tactic(auto)]
 
+mod blocks;
 mod far;
 mod fault;
 mod print;

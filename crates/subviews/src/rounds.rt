@@ -6,6 +6,7 @@ ghost use Rattle.subviews.specs.SubViews.{rows_of};
 ghost use Rattle.subviews.specs.Stencils.{Stencil, weighted, stencil_value, values_fault, new_entry, with_column, round, stenciled, term_reads, round_reads, round_writes, rounds_log};
 ghost use Rattle.subviews.specs.Plans.{IsTermOf, IsBufferOf, IsPlanOf, stencil_by, planned};
 
+use crate::blocks::{near_pair, store_block};
 use crate::far::all_far;
 use crate::fault::StencilFault;
 use crate::runs::Walk;
@@ -125,7 +126,7 @@ fn quotient(sum: i128, divisor: i64) -> i128
     }
 }
 
-// Stores in each row of the window what the buffer holds there.
+// Stores in each row of the window what the buffer holds there, sixteen rows at once where they stand side by side in both.
 fn store_back<L: Ledger>(view: &mut View, buffer: &mut View, plan: &Plan<'_>, steps: &mut Steps<L>)
     requires plan { IsPlanOf (leaf_count_of view.old) view.old.extents plan.now }
     requires buffer { IsBufferOf view.old buffer.old }
@@ -134,12 +135,22 @@ fn store_back<L: Ledger>(view: &mut View, buffer: &mut View, plan: &Plan<'_>, st
         (round_writes (planned plan.now) (rows_of plan.now.window.now)) }
     ensures buffer { buffer.new ≡ record buffer.old { tally = buffer.new.tally } }
 {
+    let pair = near_pair(view, buffer, plan.leaf);
+    let count = plan.window.count();
     let mut walk = Walk::new(plan.window);
-    for row in 0..plan.window.count() {
+    let mut row = 0;
+    while row < count {
+        let outer = walk.outer(plan.window, row);
+        let stored = store_block(view, buffer, plan.leaf, &pair, outer, walk.left());
         laws_of_table(view);
         laws_of_table(buffer);
-        let outer = walk.outer(plan.window, row);
+        if stored {
+            walk.skip(plan.window, row + 1, 15);
+            row += 16;
+            continue;
+        }
         let value = buffer.get(outer, plan.leaf, steps);
         let _stored = view.set(outer, plan.leaf, value, steps);
+        row += 1;
     }
 }

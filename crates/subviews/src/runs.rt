@@ -1,5 +1,5 @@
 // The rows of a window, run by run.
-ghost use Rattle.std.specs.Prelude.{◌≡◌, ◌+◌, ◌<◌, ◌^◌, ℕ, slice_get, Some, length};
+ghost use Rattle.std.specs.Prelude.{◌≡◌, ◌+◌, ◌<◌, ◌≤◌, ◌^◌, ℕ, slice_get, Some, length};
 ghost use Rattle.extents.specs.Indices.{indices};
 ghost use Rattle.subviews.specs.SubViews.{rows_of};
 ghost use Rattle.subviews.specs.Plans.{IsRun, IsWalk};
@@ -38,6 +38,7 @@ impl Walk {
         requires row_in { row < length (rows_of window.now) }
         ensures entry { slice_get (rows_of window.now) row ≡ Some result }
         ensures below { result < length (indices window.now.0) }
+        ensures next { self.new.next ≡ result + 1 }
         ensures walk { IsWalk window.now self.new (row + 1) }
     {
         self.ready(window, row);
@@ -45,6 +46,26 @@ impl Walk {
         self.next += 1;
         self.left -= 1;
         outer
+    }
+
+    /// How many rows of the run are left.
+    #[inline(always)]
+    pub fn left(&self) -> u64
+        ensures { result ≡ self.now.left }
+    {
+        self.left
+    }
+
+    /// Leaves out rows of the run.
+    #[inline(always)]
+    pub fn skip(&mut self, window: &Window, row: u64, rows: u64)
+        requires walk { IsWalk window.now self.old row }
+        requires some { 0 < rows }
+        requires inside { rows ≤ self.old.left }
+        ensures walk { IsWalk window.now self.new (row + rows) }
+    {
+        self.next += rows;
+        self.left -= rows;
     }
 
     // Begins a run where none is left.

@@ -1,6 +1,14 @@
-use Rattle.subviews.specs.Plans.{IsWalk}
+use Rattle.std.proofs.Common.{◌-◌, IfSome}
+use Rattle.subviews.specs.Plans.{IsNearPair, IsWalk}
 use Rattle.subviews.proofs.Passes.{IsStored}
 use Rattle.subviews.proofs.rounds.store_back.Given as goal
 
 abbrev pub invariant-loop-row : goal.invariant-loop-row
-invariant-loop-row g l = IsStored l.initial.view l.view l.initial.buffer l.buffer l.plan l.row × IsWalk l.plan.window.now l.walk l.row
+invariant-loop-row g l = record {
+  stored : IsStored l.initial.view l.view l.initial.buffer l.buffer l.plan l.row;
+  walk : IsWalk l.plan.window.now l.walk l.row;
+  near : IfSome l.pair (IsNearPair l.view l.buffer l.plan.leaf);
+}
+
+abbrev pub decreases-loop-row : goal.decreases-loop-row
+decreases-loop-row g l = l.count - l.row

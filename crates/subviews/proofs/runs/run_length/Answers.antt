@@ -1,4 +1,4 @@
-use Rattle.std.proofs.Common.{arith, ◌≡◌, ◌+◌, ◌-◌, ◌%◌, ◌≤◌, Some, slice_get, subst}
+use Rattle.std.proofs.Common.{arith, ◌≡◌, ◌+◌, ◌-◌, ◌≤◌, Some, slice_get, subst}
 use Rattle.std.proofs.lemmas.Nat.{mod_below}
 use Rattle.subviews.specs.SubViews.{rows_of}
 use Rattle.subviews.proofs.Growth.{rows_grow, run_between}

@@ -26,5 +26,5 @@ returns-clause-walk c =
       rows = walk.rows;
       some = walk.some;
       narrow = walk.narrow;
-      run = run_behind (rows_of c.args.window.now) c.args.row c.ready.new.self.next c.ready.new.self.left walk.run c.ready.ensures.some;
+      run = run_behind (rows_of c.args.window.now) c.args.row c.ready.new.self.next c.ready.new.self.left 1 walk.run (omega (arith, c.ready.ensures.some));
     }
