@@ -71,6 +71,10 @@ int32_t llama_new(llama_view *out, const uint8_t *first, size_t first_len, const
 /* Lets the view go, if there is one, and leaves LLAMA_NONE. */
 void llama_drop(llama_view *view);
 
+/* How many rows the view has, and how many leaves its record. */
+int32_t llama_rows(llama_view *view, uint64_t *rows);
+int32_t llama_leaves(llama_view *view, size_t *leaves);
+
 /* The value of a leaf in a row. LLAMA_NO_PLACE where there is no such row or leaf; LLAMA_BAD_TYPE where the leaf is a `u64`. On a refusal *value
  * stays as it was. A view that counts accesses counts a read.
  */

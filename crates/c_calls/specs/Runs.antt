@@ -1,13 +1,10 @@
 -- One leaf of rows one after another, as numbers of the caller's type.
-use Rattle.std.specs.Prelude.{ℕ, ◌+◌, Bool, ℤ, pos, List, length, map, take, drop, if◌then◌else◌, Option, Some, None, Result, Ok, Err}
+use Rattle.std.specs.Prelude.{ℕ, Bool, ℤ, List, take, drop}
 use Rattle.record_dim.specs.declared.leaf_type.LeafType.{LeafType}
-use Rattle.views.specs.Columns.{column, column_reads, column_writes, with_column, first_lane_fault}
-use Rattle.views.specs.Tables.{Table, answer_of, kept_of, after_log, after_stores}
-use Rattle.views.specs.declared.fault.LaneFault.{LaneFault}
-use Rattle.c_calls.specs.Answers.{Answer, store_refusal}
-use Rattle.c_calls.specs.Values.{is_run, read_by}
-use Rattle.c_calls.specs.declared.refusal.Refusal.{Refusal}
-use Rattle.c_calls.specs.declared.refusal.Refusal.TheVariants.{NoPlace}
+use Rattle.views.specs.Columns.{column, column_reads}
+use Rattle.views.specs.Tables.{Table, after_log}
+use Rattle.c_calls.specs.Answers.{Answer}
+use Rattle.c_calls.specs.Values.{read_by}
 
 -- the values of a leaf in so many rows from one on
 abbrev pub run_of : ℕ → ℕ → ℕ → Table → List ℤ

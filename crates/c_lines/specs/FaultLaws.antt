@@ -1,5 +1,5 @@
 -- No fault has the number of a call that is done.
-use Rattle.std.proofs.Common.{◌≡◌, ℤ, pos, arith}
+use Rattle.std.proofs.Common.{◌≡◌, pos, arith}
 use Rattle.std.proofs.lemmas.Int.{ints}
 use Rattle.record_dim.specs.declared.fault.MakeSchema.{MakeSchema}
 use Rattle.record_dim.specs.declared.fault.MakeSchema.TheVariants as schema

@@ -6,7 +6,7 @@ ghost use Rattle.views.specs.Tables.{after_read, after_write};
 ghost use Rattle.c_calls.specs.Answers.{code_of, given_or, held_after, on_held};
 ghost use Rattle.c_calls.specs.Runs.{after_run, got_run};
 ghost use Rattle.c_calls.specs.Values.{got, was_set, reads_signed, reads_unsigned};
-ghost use Rattle.llama_c.specs.Calls.{IsNew};
+ghost use Rattle.llama_c.specs.Calls.{IsNew, leaf_count, row_count};
 
 use c_calls::{DONE, Refusal, get_run_signed, get_signed, get_unsigned, set};
 use c_lines::new_view;
@@ -70,6 +70,36 @@ fn boxed(alloc: Global, view: View) -> Result<Box<View>, MakeView>
     ensures made { IfOk result (λ held. held.value ≡ view) }
 {
     Ok(Box::new(alloc, view)?)
+}
+
+/// How many rows a view has.
+#[unsafe(no_mangle)]
+pub extern "C" fn llama_rows(alloc: Global, view: &mut Handle, rows: &mut u64) -> i32
+    ensures answer { result ≡ code_of (on_held row_count view.old.part.held) }
+    ensures value { rows.new ≡ given_or rows.old (on_held row_count view.old.part.held) }
+    ensures left { view.new.part.held ≡ view.old.part.held }
+{
+    let Some(held) = view.take(alloc) else {
+        return Refusal::NoView.number();
+    };
+    *rows = held.extents().count();
+    *view = Handle::new(alloc, Some(held));
+    DONE
+}
+
+/// How many leaves its record has.
+#[unsafe(no_mangle)]
+pub extern "C" fn llama_leaves(alloc: Global, view: &mut Handle, leaves: &mut usize) -> i32
+    ensures answer { result ≡ code_of (on_held leaf_count view.old.part.held) }
+    ensures value { leaves.new ≡ given_or leaves.old (on_held leaf_count view.old.part.held) }
+    ensures left { view.new.part.held ≡ view.old.part.held }
+{
+    let Some(held) = view.take(alloc) else {
+        return Refusal::NoView.number();
+    };
+    *leaves = held.schema().leaf_count();
+    *view = Handle::new(alloc, Some(held));
+    DONE
 }
 
 /// The value of a leaf in a row, where each value of the leaf is an `int64_t`.

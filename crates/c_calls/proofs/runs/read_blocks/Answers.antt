@@ -1,7 +1,7 @@
-use Rattle.std.proofs.Common.{◌≡◌, ◌+◌, ◌*◌, ◌≤◌, ◌++◌, length, take, drop, ℕ, ℤ, List, sym, ap, subst, ◌∙◌, arith}
+use Rattle.std.proofs.Common.{◌≡◌, ◌+◌, ◌*◌, ◌≤◌, ◌++◌, length, take, drop, ℕ, sym, ap, subst, ◌∙◌, arith}
 use Rattle.std.proofs.lemmas.List.{drop-drop}
 use Rattle.views.specs.Columns.{column}
-use Rattle.c_calls.proofs.RunLaws.{put_more, rows_behind, whole_read}
+use Rattle.c_calls.proofs.RunLaws.{put_more, rows_behind}
 use Rattle.c_calls.proofs.runs.read_blocks.Goals as goal
 
 pub loop-k-preserved : goal.loop-k-preserved

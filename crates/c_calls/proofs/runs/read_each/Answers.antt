@@ -1,8 +1,7 @@
-use Rattle.std.proofs.Common.{rules, ◌≡◌, ◌+◌, true, ◌++◌, length, take, drop, set, ℕ, ℤ, List, sym, ap, subst, ◌∙◌, arith, w64, SFits}
+use Rattle.std.proofs.Common.{rules, ◌≡◌, ◌+◌, true, length, drop, set, ℕ, ℤ, sym, ap, subst, ◌∙◌, arith, w64, SFits}
 use Rattle.std.specs.Int.{w128}
 use Rattle.std.proofs.lemmas.Int.{to_z-of_z}
 use Rattle.record_dim.specs.LeafTypes.{IsIn}
-use Rattle.record_dim.specs.declared.leaf_type.LeafType.{LeafType}
 use Rattle.views.specs.Columns.{column, column_reads}
 use Rattle.views.specs.Tables.{Table, leaf_type_of, after_log}
 use Rattle.c_calls.specs.Values.{reads_signed}

@@ -1,4 +1,4 @@
-use Rattle.std.proofs.Common.{rules, ◌≡◌, ◌+◌, ◌*◌, ◌/◌, length, ℕ, ℤ, List, sym, ap, subst, ◌∙◌, arith}
+use Rattle.std.proofs.Common.{◌≡◌, ◌+◌, ◌*◌, ◌/◌, length, ℕ, sym, ap, subst, ◌∙◌, arith}
 use Rattle.views.specs.NearStores.{IsNearColumn}
 use Rattle.views.specs.Columns.{column_reads}
 use Rattle.views.specs.Tables.{Table}
