@@ -1,4 +1,5 @@
 pub mod Acting
+pub mod Buffers
 pub mod Exits
 pub mod Views
 pub mod Windowed

@@ -23,6 +23,8 @@ use Rattle.worlds.specs.declared.fault.CommandFault.{CommandFault}
 use Rattle.worlds.specs.declared.fault.CommandFault.TheVariants.{BadMapping, Mismatch}
 use Rattle.layout_copy.specs.declared.fault.CopyFault.{CopyFault}
 use Rattle.layout_copy.specs.declared.fault.CopyFault.TheVariants as copy
+use Rattle.subviews.specs.Stencils.{Stencil}
+use Rattle.worlds.specs.Stencil.{room_beside, stencil_rounds}
 use Rattle.worlds.specs.Copy.{all_read, copied, narrow_fault}
 use Rattle.worlds.specs.Tables.{made, zeros_of}
 
@@ -78,6 +80,12 @@ made_like views table term = made views table.mode table.fields table.extents te
 abbrev pub TellsCopy : Fields → CopyFault → Result CommandFault StepFault → Type 0
 TellsCopy fields copy.Mismatch told = Tells Mismatch told
 TellsCopy fields (copy.Narrow row leaf) told = Tells (narrow_fault fields (record { row = row; leaf = leaf })) told
+
+-- the rounds of a stencil that may be made, beside live views of so many bits
+abbrev pub fitted : ℕ → Table → ℕ → Stencil → Outcome Done
+fitted live table rounds stencil = do
+  room ← room_beside live table
+  stencil_rounds table rounds stencil
 
 -- a table that is left, and a text
 abbrev pub left_with : Table → List ℕ → LeftOf Table

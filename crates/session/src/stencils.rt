@@ -1,17 +1,20 @@
 // `stencil V window [..] set path = (..) / D rounds N`.
-ghost use Rattle.std.specs.Prelude.{◌≡◌, ◌*◌, IfOk, IfErr, []};
+ghost use Rattle.std.specs.Prelude.{◌≡◌, ◌*◌, IfOk, IfErr, [], true};
+ghost use Rattle.map_expr.specs.Terms.{term_of, uncounted};
 ghost use Rattle.subviews.specs.Plans.{IsBufferOf};
 ghost use Rattle.worlds.specs.OnView.{done_to};
 ghost use Rattle.worlds.specs.Stencil.{room_beside, stencil_fault, stencil_rounds, stencil_run};
+ghost use Rattle.command_checks.specs.Bases.{is_nameless};
 ghost use Rattle.command_checks.specs.Gives.{Gives};
 ghost use Rattle.command_checks.specs.Stencils.{IsStencilOf, stencil_of};
-ghost use Rattle.session.specs.Changes.{Tells, left_with};
+ghost use Rattle.session.specs.Changes.{Tells, fitted, left_with};
 
 use crate::faults::{narrow_fault, range_fault};
 use crate::work::Work;
 use command_checks::{FitStencil, MAX_LIVE_BYTES, MappingList, StepFault, fit_stencil, nameless};
 use layout_io::Sink;
 use line_grammar::{TermTextList, WindowWords};
+use map_expr::MapExpr;
 use record_dim::Path;
 use std::alloc::Global;
 use std::sync::ledger::Ledger;
@@ -64,9 +67,28 @@ fn stenciled<L: Ledger>(
     let terms = words.terms.as_slice();
     let rounds = *words.rounds;
     let fit = fit_stencil(alloc, view, spans, words.path, terms, *words.divisor, rounds)?;
-    room_beside(words.live, view)?;
+    let done = fitted(alloc, view, words.live, &fit, rounds, steps);
+    drop(fit);
+    done
+}
+
+// The rounds of a stencil that may be made, where there is room for its buffer beside so many live bytes.
+fn fitted<L: Ledger>(
+    alloc: Global,
+    view: &mut View,
+    live: u128,
+    fit: &FitStencil,
+    rounds: u32,
+    steps: &mut Steps<L>,
+) -> Result<(), StepFault>
+    requires { IsStencilOf view.old fit.now }
+    ensures { Gives (λ done. left_with view.new []) result (done_to view.old (fitted (8 * live) view.old rounds (stencil_of fit.now))) }
+{
+    room_beside(live, view)?;
     let mut buffer = buffer_of(alloc, view)?;
-    make_rounds(alloc, view, &mut buffer, &fit, rounds, steps)
+    let done = make_rounds(alloc, view, &mut buffer, fit, rounds, steps);
+    drop(buffer);
+    done
 }
 
 // That a buffer as large as a view finds room beside so many live bytes.
@@ -85,12 +107,39 @@ fn buffer_of(alloc: Global, view: &View) -> Result<View, StepFault>
     ensures buffer { IfOk result (IsBufferOf view.now) }
     ensures starved { IfErr result (λ fault. fault ≡ StepFault.NoMemory) }
 {
+    let expr = uncounted(alloc, view)?;
+    let buffer = zeros_by(alloc, view, &expr);
+    drop(expr);
+    buffer
+}
+
+// The mapping of a view without counters.
+fn uncounted(alloc: Global, view: &View) -> Result<MapExpr, StepFault>
+    ensures mapping { IfOk result (λ expr. term_of expr ≡ uncounted view.now.mapping) }
+    ensures nameless { IfOk result (λ expr. is_nameless (term_of expr) ≡ true) }
+    ensures starved { IfErr result (λ fault. fault ≡ StepFault.NoMemory) }
+{
     let names = MappingList::new(alloc);
-    let Ok(expr) = nameless(alloc, &names, view.expr().uncounted()) else {
-        return Err(StepFault::NoMemory);
-    };
+    let expr = nameless(alloc, &names, view.expr().uncounted());
+    drop(names);
+    match expr {
+        Ok(expr) => Ok(expr),
+        Err(fault) => {
+            drop(fault);
+            Err(StepFault::NoMemory)
+        }
+    }
+}
+
+// A view of zeros that lies as an expression says, and else is like a view.
+fn zeros_by(alloc: Global, view: &View, expr: &MapExpr) -> Result<View, StepFault>
+    requires mapping { term_of expr.now ≡ uncounted view.now.mapping }
+    requires nameless { is_nameless (term_of expr.now) ≡ true }
+    ensures buffer { IfOk result (IsBufferOf view.now) }
+    ensures starved { IfErr result (λ fault. fault ≡ StepFault.NoMemory) }
+{
     let mode = view.mode();
-    match View::new_within(alloc, view.schema(), view.extents(), &expr, mode, MAX_VIEW_BYTES) {
+    match View::new_within(alloc, view.schema(), view.extents(), expr, mode, MAX_VIEW_BYTES) {
         Ok(buffer) => Ok(buffer),
         Err(_) => Err(StepFault::NoMemory),
     }
