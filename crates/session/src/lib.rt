@@ -28,6 +28,4 @@ pub use command_checks::{
 };
 pub use fault_lines::write_fault;
 pub use session::Session;
-pub use worlds::{
-    BadActors, BadAdvice, BadFile, BadKernel, BadStencil, CommandFault, UnknownName,
-};
+pub use worlds::{BadActors, BadAdvice, BadFile, BadKernel, BadStencil, CommandFault, UnknownName};

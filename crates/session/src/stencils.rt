@@ -66,7 +66,15 @@ fn stenciled<L: Ledger>(
     let spans = words.window.as_slice();
     let terms = words.terms.as_slice();
     let rounds = *words.rounds;
-    let fit = fit_stencil(alloc, view, spans, words.path, terms, *words.divisor, rounds)?;
+    let fit = fit_stencil(
+        alloc,
+        view,
+        spans,
+        words.path,
+        terms,
+        *words.divisor,
+        rounds,
+    )?;
     let done = fitted(alloc, view, words.live, &fit, rounds, steps);
     drop(fit);
     done
@@ -139,7 +147,14 @@ fn zeros_by(alloc: Global, view: &View, expr: &MapExpr) -> Result<View, StepFaul
     ensures starved { IfErr result (λ fault. fault ≡ StepFault.NoMemory) }
 {
     let mode = view.mode();
-    match View::new_within(alloc, view.schema(), view.extents(), expr, mode, MAX_VIEW_BYTES) {
+    match View::new_within(
+        alloc,
+        view.schema(),
+        view.extents(),
+        expr,
+        mode,
+        MAX_VIEW_BYTES,
+    ) {
         Ok(buffer) => Ok(buffer),
         Err(_) => Err(StepFault::NoMemory),
     }
@@ -158,7 +173,16 @@ fn make_rounds<L: Ledger>(
     ensures { Gives (λ done. left_with view.new []) result (done_to view.old (stencil_rounds view.old rounds (stencil_of fit.now))) }
 {
     let terms = fit.terms.as_slice();
-    match stencil(view, buffer, &fit.window, fit.leaf, terms, fit.divisor, rounds, steps) {
+    match stencil(
+        view,
+        buffer,
+        &fit.window,
+        fit.leaf,
+        terms,
+        fit.divisor,
+        rounds,
+        steps,
+    ) {
         Ok(()) => Ok(()),
         Err(fault) => Err(stencil_fault(alloc, view, fit.leaf, fault)?.into()),
     }

@@ -1,8 +1,14 @@
-use Rattle.std.proofs.Common.{Ok, refl, subst}
+use Rattle.std.proofs.Common.{◌≡◌, ℕ, ◌*◌, List, map, Ok, refl, ap, subst, ◌∙◌}
 use Rattle.line_grammar.specs.Sentences.{New}
 use Rattle.worlds.specs.View.{view}
 use Rattle.command_checks.specs.Gives.{Gives}
-use Rattle.session.specs.Stands.{left_of, world_of}
+use Rattle.command_checks.specs.Entries.{view_of}
+use Rattle.command_checks.specs.declared.entries.ViewEntry.{ViewEntry}
+use Rattle.worlds.specs.OnView.{on_view}
+use Rattle.worlds.specs.Stencil.{stencil_run}
+use Rattle.worlds.specs.Tables.{live_bits}
+use Rattle.session.specs.Answers.{Answers}
+use Rattle.session.specs.Stands.{Stands, left_of, world_of}
 use Rattle.session.proofs.Steps.{line_gives, line_shows}
 use Rattle.session.proofs.session.Session.command.Goals as goal
 
@@ -76,3 +82,16 @@ returns-in-Bytes-clause-answers g c = λ files unread.
 pub returns-in-SaveView-clause-answers : goal.returns-in-SaveView-clause-answers
 returns-in-SaveView-clause-answers g c = λ files unread.
     line_shows g.K.Sink.taken g.K.Sink.faults c.args.out.now c.on_view-in-SaveView.new.out (world_of c.args.self) c.args.line.now _ files unread c.on_view-in-SaveView.result c.in-SaveView.is c.on_view-in-SaveView.ensures.answers
+
+pub returns-in-PrintWindow-clause-answers : goal.returns-in-PrintWindow-clause-answers
+returns-in-PrintWindow-clause-answers g c = λ files unread.
+    line_shows g.K.Sink.taken g.K.Sink.faults c.args.out.now c.on_view-in-PrintWindow.new.out (world_of c.args.self) c.args.line.now _ files unread c.on_view-in-PrintWindow.result c.in-PrintWindow.is c.on_view-in-PrintWindow.ensures.answers
+
+pub returns-in-Stencil-clause-answers : goal.returns-in-Stencil-clause-answers
+returns-in-Stencil-clause-answers g c = λ files unread.
+    let live : 8 * c.live_bytes.result ≡ live_bits (world_of c.args.self).views =
+    c.live_bytes.ensures.sum ∙ ap (λ (views : List ViewEntry). live_bits (map view_of views)) c.as_slice.ensures.value in
+    line_shows g.K.Sink.taken g.K.Sink.faults c.args.out.now c.on_view-in-Stencil.new.out (world_of c.args.self) c.args.line.now _ files unread c.on_view-in-Stencil.result c.in-Stencil.is
+    (subst (λ (bits : ℕ). Answers Stands g.K.Sink.taken g.K.Sink.faults c.args.out.now c.on_view-in-Stencil.new.out (on_view (world_of c.args.self) c.in-Stencil.view
+    (λ table. stencil_run bits table c.in-Stencil.window c.in-Stencil.path c.in-Stencil.terms c.in-Stencil.divisor c.in-Stencil.rounds)) c.on_view-in-Stencil.result) live
+    c.on_view-in-Stencil.ensures.answers)
