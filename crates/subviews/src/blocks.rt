@@ -33,16 +33,16 @@ pub fn store_block(
     buffer: &View,
     leaf: usize,
     pair: &Option<NearPair>,
-    row: u64,
+    first: u64,
     more: u64,
 ) -> bool
     requires pair { IfSome pair.now (IsNearPair view.old buffer.now leaf) }
     requires extents { buffer.now.extents ≡ view.old.extents }
     ensures asked { result ≡ true → 15 ≤ more }
     ensures rows { length view.old.rows ≡ length buffer.now.rows }
-    ensures inside { result ≡ true → row + 16 ≤ length view.old.rows }
+    ensures inside { result ≡ true → first + 16 ≤ length view.old.rows }
     ensures stored { result ≡ true → view.new ≡ after_stores view.old
-        (with_column leaf row (map (kept_of view.old leaf) (take 16 (drop row (column leaf buffer.now.rows)))) view.old.rows) (column_writes leaf row 16) }
+        (with_column leaf first (map (kept_of view.old leaf) (take 16 (drop first (column leaf buffer.now.rows)))) view.old.rows) (column_writes leaf first 16) }
     ensures none { result ≡ false → view.new ≡ view.old }
 {
     laws_of_table(view);
@@ -51,10 +51,10 @@ pub fn store_block(
     let Some(pair) = pair else {
         return false;
     };
-    if more < 15 || row % 16 != 0 || rows < 16 || rows - 16 < row {
+    if more < 15 || first % 16 != 0 || rows < 16 || rows - 16 < first {
         return false;
     }
-    let block = row / 16;
+    let block = first / 16;
     let values = buffer.near_block(&pair.from, block);
     view.store_near(&pair.to, block, values)
 }

@@ -9,6 +9,6 @@ returns-clause-stored c = λ stored.
     let view = c.args.view.now in
     let buffer = c.args.buffer.now in
     let pair : IsNearPair view buffer c.args.leaf c.in-Some.pair = search rules in
-    let first : 16 * (c.args.row / 16) ≡ c.args.row = omega (arith, div-add-mod' c.args.row 16, c.if-row-ne0.false) in
-    block_is view buffer c.store_near.new.self c.args.leaf c.args.row (16 * (c.args.row / 16)) c.in-Some.pair.to.leaf c.in-Some.pair.from.leaf c.near_block-values.result pair.leaf_to pair.leaf_from first
+    let exact : 16 * (c.args.first / 16) ≡ c.args.first = omega (arith, div-add-mod' c.args.first 16, c.if-first-ne0.false) in
+    block_is view buffer c.store_near.new.self c.args.leaf c.args.first (16 * (c.args.first / 16)) c.in-Some.pair.to.leaf c.in-Some.pair.from.leaf c.near_block-values.result pair.leaf_to pair.leaf_from exact
     c.near_block-values.ensures.values (c.store_near.ensures.stored stored)
