@@ -1,4 +1,5 @@
 pub mod Acting
+pub mod Advice
 pub mod Exits
 pub mod Views
 pub mod Named

@@ -1,0 +1,30 @@
+use Rattle.std.proofs.Common.{rules, ◌∙◌, ap, sym, length, append-nil}
+use Rattle.views.specs.Tables.{Table, after_log, leaf_count_of}
+use Rattle.views.specs.Tallies.{Read, all_accesses}
+use Rattle.worlds.specs.OnView.{Done, done_to}
+use Rattle.worlds.specs.Outcomes.{Outcome, Goes}
+use Rattle.command_checks.specs.GivesLaws.{GivesUp-then}
+use Rattle.session.specs.Changes.{IsLeft, left_with}
+use Rattle.session.proofs.Exits.{gave_up}
+use Rattle.session.proofs.Views.{then_broke, then_wrote}
+use Rattle.session.proofs.advise.AdviseWork.run.Goals as goal
+
+pub returns-in_err-text-clause-answers : goal.returns-in_err-text-clause-answers
+returns-in_err-text-clause-answers g c =
+    let fault = c.in_err-text.field-0.0 in
+    gave_up (IsLeft c.told.new.view) g.K.Sink.taken g.K.Sink.faults c.args.out.now _ fault _ (search rules) (GivesUp-then _ _ fault c.in_err-text.ensures.told)
+
+pub returns-in_err-write_parts-clause-answers : goal.returns-in_err-write_parts-clause-answers
+returns-in_err-write_parts-clause-answers g c =
+    let table = c.args.view.now in
+    let text = c.in_ok-text.text.items in
+    then_broke g.K.Sink.taken g.K.Sink.faults c.args.out.now c.write_parts.new.sink c.told.new.view _ (left_with (after_log table (all_accesses Read (leaf_count_of table) (length table.rows))) text) _ (search rules)
+    (ap (λ (outcome : Outcome Done). done_to table outcome) c.in_ok-text.ensures.told) (rw (c.as_slice.ensures.value, append-nil text) at c.in_err-write_parts.ensures)
+
+pub returns-clause-answers : goal.returns-clause-answers
+returns-clause-answers g c =
+    let table = c.args.view.now in
+    let text = c.in_ok-text.text.items in
+    then_wrote g.K.Sink.taken g.K.Sink.faults c.args.out.now c.write_parts.new.sink c.told.new.view _ text
+    (ap (λ (outcome : Outcome Done). done_to table outcome) c.in_ok-text.ensures.told ∙ ap (λ (seen : Table). Goes (left_with seen text)) (sym c.in_ok-text.ensures.read))
+    (rw (c.as_slice.ensures.value, append-nil text) at c.in_ok-write_parts.ensures)

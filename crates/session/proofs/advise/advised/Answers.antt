@@ -1,0 +1,7 @@
+use Rattle.std.specs.Prelude.{slice_index_or}
+use Rattle.blob_file.specs.HeaderLaws.{nameless_built}
+use Rattle.map_expr.specs.Terms.{term_of}
+use Rattle.session.proofs.advise.advised.Goals as goal
+
+pub advise-requires-clause-built : goal.advise-requires-clause-built
+advise-requires-clause-built g c = λ k d inside. nameless_built (term_of (slice_index_or c.args.question.now.exprs k d)) (c.requires.nameless k d inside)

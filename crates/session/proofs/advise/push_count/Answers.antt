@@ -1,0 +1,9 @@
+use Rattle.std.proofs.Common.{◌≡◌, ◌∙◌, arith}
+use Rattle.layout_io.specs.Decimal.{digits_text}
+use Rattle.layout_io.specs.DecimalLaws.{decimal-digits_text}
+use Rattle.session.proofs.advise.push_count.Goals as goal
+
+pub returns : goal.returns
+returns c =
+    let text : c.as_bytes.result.now ≡ digits_text c.args.count = c.as_bytes.ensures.value ∙ c.format.ensures.text ∙ decimal-digits_text _ (omega arith) in
+    rw text at c.push.ensures
