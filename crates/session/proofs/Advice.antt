@@ -1,7 +1,7 @@
 -- The text of an advice, and what asks for it.
-use Rattle.std.proofs.Common.{◌≡◌, ℕ, ◌+◌, ◌<◌, ◌≤◌, List, [], ◌∷◌, ◌++◌, map, Bool, length, take, get_or, drop, flat_map, codes, Option, Some, option_map, refl, sym, ap, ◌∙◌, arith, append-nil, append_assoc}
+use Rattle.std.proofs.Common.{◌≡◌, ℕ, ◌+◌, ◌-◌, ◌<◌, ◌≤◌, List, [], ◌∷◌, ◌++◌, map, Bool, length, take, get_or, drop, flat_map, codes, Option, Some, option_map, refl, sym, ap, ◌∙◌, arith, append-nil, append_assoc}
 use Rattle.std.specs.List.{enumerate_from}
-use Rattle.std.proofs.lemmas.List.{take_all}
+use Rattle.std.proofs.lemmas.List.{take_all, length-drop}
 use Rattle.std.proofs.lemmas.List.FromFn.{get_or-enumerate_from, length-enumerate_from}
 use Rattle.advisor.specs.Advice.{Advised, advice}
 use Rattle.advisor.specs.declared.advice.Best.{Best}
@@ -41,6 +41,12 @@ behind_other text term =
 
 pub long_line : (term : Term) → 11 ≤ length (behind (codes "mapping m =") (map_tokens term))
 long_line term = rw (behind_spaced (codes "mapping m =") (map_tokens term)) (omega arith)
+
+-- what stands from one byte on
+pub rest_from : (at : ℕ) (line : List ℕ) → take (length line - at) (drop at line) ≡ drop at line
+rest_from at line =
+    let all : length (drop at line) ≤ length line - at = rw (length-drop at line) (omega arith) in
+    take_all (length line - at) (drop at line) all
 
 -- the words of the best
 pub best_goes : (best : Option Best) (one : Best) (line text : List ℕ) → best ≡ Some one → line ≡ behind (codes "mapping m =") (map_tokens (term_of one.expr)) →

@@ -70,12 +70,19 @@ fn told<L: Ledger>(
     ensures told { Gives
         (λ text. record { rows = view.old.rows; log = all_accesses Read (leaf_count_of view.old) (length view.old.rows); text = text.items })
         result (advise (map mapping_of words.now.mappings.now) view.old words.now.granule.now words.now.passes.now
-            (map term_of words.now.maps.now) words.now.splits.now) }
+        (map term_of words.now.maps.now) words.now.splits.now) }
     ensures read { OnOk result (view.new ≡ after_log view.old (all_accesses Read (leaf_count_of view.old) (length view.old.rows))) }
 {
     let granule = *words.granule;
     let passes = words.passes.as_slice();
-    let question = asked(alloc, words.mappings, view, granule, passes, words.maps.as_slice())?;
+    let question = asked(
+        alloc,
+        words.mappings,
+        view,
+        granule,
+        passes,
+        words.maps.as_slice(),
+    )?;
     let advice = advised(alloc, view, granule, &question, *words.splits, steps);
     drop(question);
     Ok(advice_text(alloc, advice?)?)
