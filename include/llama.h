@@ -75,6 +75,10 @@ void llama_drop(llama_view *view);
 int32_t llama_rows(llama_view *view, uint64_t *rows);
 int32_t llama_leaves(llama_view *view, size_t *leaves);
 
+/* The row of an index, which has as many numbers as the array has extents: its place in the lexicographic list of the indices, in which the last
+ * number runs fastest. LLAMA_NO_PLACE where there is none, and *row stays as it was. */
+int32_t llama_row(llama_view *view, const uint64_t *index, size_t rank, uint64_t *row);
+
 /* The value of a leaf in a row. LLAMA_NO_PLACE where there is no such row or leaf; LLAMA_BAD_TYPE where the leaf is a `u64`. On a refusal *value
  * stays as it was. A view that counts accesses counts a read.
  */
@@ -96,6 +100,13 @@ int32_t llama_set_u64(llama_view *view, uint64_t row, size_t leaf, uint64_t valu
  * counts a read of each. Where the values stand side by side as whole bytes of at most 32 bits, it is the fast way.
  */
 int32_t llama_get_run(llama_view *view, uint64_t first, size_t leaf, int64_t *values, size_t count);
+
+/* Makes the table of the target that of the source, of each value what the target keeps; their layouts may differ. LLAMA_MISMATCH where their
+ * records or their extents differ, and nothing changes. LLAMA_NARROW where a strict target does not hold a value: *row and *leaf are those of
+ * the first such, by rows and then leaves, and exactly the rows before it are copied; else both stay as they were. The two are different
+ * handles.
+ */
+int32_t llama_copy(llama_view *source, llama_view *target, uint64_t *row, size_t *leaf);
 
 #ifdef __cplusplus
 }

@@ -49,6 +49,21 @@ static void time_rounds(llama_view *view, int rounds, int64_t *values) {
     fprintf(stderr, "%.2f ns a value, sum %" PRId64 "\n", 1e9 * (double)(clock() - begin) / CLOCKS_PER_SEC / rounds / ROWS, sum);
 }
 
+/* The table of a view in another layout, by a copy; and a row that is found by its index. */
+static void copy_back(llama_view *view, int64_t *values) {
+    llama_view other = LLAMA_NONE;
+    const uint64_t index[] = {1000}, outside[] = {ROWS};
+    uint64_t row = 0, rows = 0;
+    size_t leaf = 0, leaves = 0;
+    make(&other, VIEWS[0]);
+    must(llama_copy(view, &other, &row, &leaf), "llama_copy");
+    must(llama_row(&other, index, 1, &row), "llama_row");
+    must(llama_rows(&other, &rows), "llama_rows");
+    must(llama_leaves(&other, &leaves), "llama_leaves");
+    printf("%" PRIu64 " %" PRIu64 " %d %" PRId64 " %d\n", row, rows, (int)leaves, sum_of(&other, X, values), (int)llama_row(&other, outside, 1, &row));
+    llama_drop(&other);
+}
+
 int main(int argc, char **argv) {
     static int64_t values[ROWS];
     llama_view view = LLAMA_NONE;
@@ -73,6 +88,7 @@ int main(int argc, char **argv) {
             time_rounds(&view, atoi(argv[1]), values);
         }
     }
+    copy_back(&view, values);
     llama_drop(&view);
     printf("%d\n", (int)llama_get(&view, 0, X, &row));
     return 0;

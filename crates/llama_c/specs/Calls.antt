@@ -1,5 +1,5 @@
 -- What the calls that make a view and that measure one answer and leave.
-use Rattle.std.specs.Prelude.{ℕ, ◌≡◌, ℤ, pos, List, length, Option, Some, Ok}
+use Rattle.std.specs.Prelude.{ℕ, ◌≡◌, ℤ, pos, List, length, Bool, ◌&&◌, is_some, Option, Some, Ok}
 use Rattle.views.specs.Tables.{Table, leaf_count_of}
 use Rattle.c_calls.specs.Answers.{Answer}
 use Rattle.c_lines.specs.Lines.{IsDescribed}
@@ -15,3 +15,7 @@ row_count table = Ok (length table.rows)
 
 abbrev pub leaf_count : Table → Answer ℕ
 leaf_count table = Ok (leaf_count_of table)
+
+-- two handles hold views
+abbrev pub are_held : Option Table → Option Table → Bool
+are_held source target = is_some source && is_some target

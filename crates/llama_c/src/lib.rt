@@ -1,15 +1,19 @@
 //! Views for callers in C. Each call takes the view out of its handle, does its work on it, and puts it back.
 #![tactic(auto)]
 
-ghost use Rattle.std.specs.Prelude.{◌≡◌, pos, None, IfOk, length};
-ghost use Rattle.views.specs.Tables.{after_read, after_write};
+ghost use Rattle.std.specs.Prelude.{◌≡◌, ◌⊎◌, pos, true, false, None, Some, Ok, Err, IfOk, IfSome, Contains, length, slice_get};
+ghost use Rattle.extents.specs.Indices.{indices};
+ghost use Rattle.layout_copy.specs.Copies.{IsCopied, source_log};
+ghost use Rattle.layout_copy.specs.declared.fault.CopyFault.TheVariants.{Mismatch, Narrow};
+ghost use Rattle.views.specs.Tables.{after_log, after_read, after_write, leaf_count_of};
 ghost use Rattle.c_calls.specs.Answers.{code_of, given_or, held_after, on_held};
 ghost use Rattle.c_calls.specs.Runs.{after_run, got_run};
 ghost use Rattle.c_calls.specs.Values.{got, was_set, reads_signed, reads_unsigned};
-ghost use Rattle.llama_c.specs.Calls.{IsNew, leaf_count, row_count};
+ghost use Rattle.llama_c.specs.Calls.{IsNew, are_held, leaf_count, row_count};
 
-use c_calls::{DONE, Refusal, get_run_signed, get_signed, get_unsigned, set};
+use c_calls::{DONE, Refusal, copy_into, get_run_signed, get_signed, get_unsigned, row_of, set};
 use c_lines::new_view;
+use layout_copy::CopyFault;
 use std::alloc::Global;
 use std::marker::Brand;
 use std::sync::ledger::Blank;
@@ -100,6 +104,30 @@ pub extern "C" fn llama_leaves(alloc: Global, view: &mut Handle, leaves: &mut us
     *leaves = held.schema().leaf_count();
     *view = Handle::new(alloc, Some(held));
     DONE
+}
+
+/// The row of an index: its place in the lexicographic list of the indices.
+#[unsafe(no_mangle)]
+pub extern "C" fn llama_row(alloc: Global, view: &mut Handle, index: &[u64], row: &mut u64) -> i32
+    ensures empty { view.old.part.held ≡ None → result ≡ pos 1 }
+    ensures answers { IfSome view.old.part.held (λ table. (result ≡ pos 0) ⊎ (result ≡ pos 2)) }
+    ensures found { result ≡ pos 0 → IfSome view.old.part.held (λ table. slice_get (indices table.extents) row.new ≡ Some index.now) }
+    ensures none { result ≡ pos 2 → IfSome view.old.part.held (λ table. Contains (indices table.extents) index.now → ⊥) }
+    ensures kept { (result ≡ pos 0 → ⊥) → row.new ≡ row.old }
+    ensures left { view.new.part.held ≡ view.old.part.held }
+{
+    let Some(held) = view.take(alloc) else {
+        return Refusal::NoView.number();
+    };
+    let answer = row_of(&held, index);
+    *view = Handle::new(alloc, Some(held));
+    match answer {
+        Ok(found) => {
+            *row = found;
+            DONE
+        }
+        Err(refusal) => refusal.number(),
+    }
 }
 
 /// The value of a leaf in a row, where each value of the leaf is an `int64_t`.
@@ -223,5 +251,48 @@ pub extern "C" fn llama_get_run(
     match answer {
         Ok(()) => DONE,
         Err(refusal) => refusal.number(),
+    }
+}
+
+/// Makes the table of a view that of another with the same record and the same extents, as the target keeps its values. A strict target that
+/// does not hold a value has the rows before it; the row and the leaf are those of that value.
+#[unsafe(no_mangle)]
+pub extern "C" fn llama_copy(
+    alloc: Global,
+    source: &mut Handle,
+    target: &mut Handle,
+    row: &mut u64,
+    leaf: &mut usize,
+) -> i32
+    ensures none { are_held source.old.part.held target.old.part.held ≡ false
+        → (result ≡ pos 1) × (source.new.part.held ≡ source.old.part.held) × (target.new.part.held ≡ target.old.part.held) }
+    ensures held { are_held source.old.part.held target.old.part.held ≡ true → are_held source.new.part.held target.new.part.held ≡ true }
+    ensures answers { are_held source.old.part.held target.old.part.held ≡ true → (result ≡ pos 0) ⊎ ((result ≡ pos 7) ⊎ (result ≡ pos 8)) }
+    ensures places { (result ≡ pos 7 → ⊥) → (row.new ≡ row.old) × (leaf.new ≡ leaf.old) }
+    ensures copied { result ≡ pos 0 → IfSome source.old.part.held (λ s. IfSome target.old.part.held (λ old. IfSome target.new.part.held (λ new. IsCopied s old new (Ok tt)))) }
+    ensures other { result ≡ pos 8 → IfSome source.old.part.held (λ s. IfSome target.old.part.held (λ old. IfSome target.new.part.held (λ new. IsCopied s old new (Err Mismatch)))) }
+    ensures narrow { result ≡ pos 7 → IfSome source.old.part.held (λ s. IfSome target.old.part.held (λ old. IfSome target.new.part.held (λ new. IsCopied s old new (Err (Narrow row.new leaf.new))))) }
+    ensures all_read { result ≡ pos 0 → IfSome source.old.part.held (λ s. IfSome source.new.part.held (λ read. read ≡ after_log s (source_log (leaf_count_of s) (length s.rows) (Ok tt)))) }
+    ensures some_read { result ≡ pos 7 → IfSome source.old.part.held (λ s. IfSome source.new.part.held (λ read. read ≡ after_log s (source_log (leaf_count_of s) (length s.rows) (Err (Narrow row.new leaf.new))))) }
+    ensures none_read { result ≡ pos 8 → IfSome source.old.part.held (λ s. IfSome source.new.part.held (λ read. read ≡ after_log s (source_log (leaf_count_of s) (length s.rows) (Err Mismatch)))) }
+{
+    let Some(mut from) = source.take(alloc) else {
+        return Refusal::NoView.number();
+    };
+    let Some(mut to) = target.take(alloc) else {
+        *source = Handle::new(alloc, Some(from));
+        return Refusal::NoView.number();
+    };
+    let answer = copy_into::<Brand>(&mut from, &mut to, Blank::new(1));
+    *source = Handle::new(alloc, Some(from));
+    *target = Handle::new(alloc, Some(to));
+    match answer {
+        Ok(()) => DONE,
+        Err(CopyFault::Mismatch) => Refusal::Mismatch.number(),
+        Err(CopyFault::Narrow { row: at, leaf: of }) => {
+            *row = at;
+            *leaf = of;
+            Refusal::Narrow.number()
+        }
     }
 }
