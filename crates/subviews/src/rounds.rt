@@ -121,7 +121,7 @@ fn quotient(sum: i128, divisor: i64) -> i128
     ensures { result ≡ int_div sum divisor }
 {
     match i64::try_from(sum) {
-        Ok(near) => i128::from(near.div_euclid(divisor)),
+        Ok(near) => i128::from(near / divisor),
         Err(_) => sum / i128::from(divisor),
     }
 }
