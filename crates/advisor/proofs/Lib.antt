@@ -5,3 +5,4 @@ pub mod SplitLaws
 pub mod CostLaws
 pub mod Listing
 pub mod PoolLaws
+pub mod SteadyLaws

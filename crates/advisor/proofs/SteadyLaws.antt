@@ -1,0 +1,172 @@
+-- Slots whose pieces follow each other by at most a granule touch the granules of one long piece.
+use Rattle.std.proofs.Common.{◌≡◌, ℕ, zero, suc, ◌+◌, ◌-◌, ◌*◌, ◌/◌, ◌%◌, ◌<◌, ◌≤◌, max, Bool, true, false, refl, sym, ap, ◌∙◌, ⊎_elim, get_or, arith}
+use Rattle.std.specs.Prelude.{◌==◌, min, nat_lt}
+use Rattle.std.specs.List.{list_any, range_with_len}
+use Rattle.std.proofs.Math.Nat.{mod-lt}
+use Rattle.std.proofs.lemmas.Bool.{cases_lt, and_from, and_parts, eq-eqb, eqb-true, lt-ltb, ltb-true}
+use Rattle.std.proofs.lemmas.List.FromFn.{get_or-range_with_len, length-range_with_len}
+use Rattle.std.proofs.lemmas.List.Folds.{Any-from_list_any, list_any_at}
+use Rattle.std.proofs.lemmas.Nat.{div-mul-add, mod-mul-add, div-add-mod'}
+use Rattle.places.specs.Touched.{is_in_granule}
+use Rattle.places.specs.declared.piece.Piece.{Piece}
+use Rattle.piece_rules.specs.PieceRules.{begin_in, piece_in}
+use Rattle.piece_rules.specs.declared.rule.PieceRule.{PieceRule}
+
+-- of so many slots from this one on each begins at most so many bits behind the one before it, and none before it
+pub record IsSteady (wide : ℕ) (rule : PieceRule) (start count : ℕ) : Type 0 where
+  pub some : 0 < rule.bits
+  pub on : (slot : ℕ) → slot + 1 < count → begin_in rule (start + slot) ≤ begin_in rule (start + (slot + 1))
+  pub near : (slot : ℕ) → slot + 1 < count → begin_in rule (start + (slot + 1)) ≤ begin_in rule (start + slot) + wide
+
+-- ---- which slots are
+
+begin_at : (rule : PieceRule) (block lane : ℕ) → lane < rule.lanes → begin_in rule (block * rule.lanes + lane) ≡ rule.base + block * rule.block + lane * rule.lane
+begin_at rule block lane low =
+    ap (λ (n : ℕ). rule.base + n * rule.block + (block * rule.lanes + lane) % rule.lanes * rule.lane) (div-mul-add block rule.lanes lane low)
+    ∙ ap (λ (n : ℕ). rule.base + block * rule.block + n * rule.lane) (mod-mul-add block rule.lanes lane low)
+
+module _ (wide : ℕ) (rule : PieceRule) (some : 0 < rule.bits) where
+  in_block : (block lane : ℕ) → lane + 1 < rule.lanes → begin_in rule (block * rule.lanes + (lane + 1)) ≡ begin_in rule (block * rule.lanes + lane) + rule.lane
+  in_block block lane low =
+      let more : (lane + 1) * rule.lane ≡ lane * rule.lane + rule.lane = grind arith in
+      begin_at rule block (lane + 1) low
+      ∙ (let e : rule.base + block * rule.block + (lane + 1) * rule.lane ≡ rule.base + block * rule.block + lane * rule.lane + rule.lane = omega arith in e)
+      ∙ ap (λ (n : ℕ). n + rule.lane) (sym (begin_at rule block lane (omega arith)))
+
+  -- those of a block
+  pub block_steady : (block count : ℕ) → rule.lane ≤ wide → count ≤ rule.lanes → IsSteady wide rule (block * rule.lanes) count
+  block_steady block count lane few = record {
+    some = some;
+    on = λ slot l. omega (arith, in_block block slot (omega (arith, l, few)));
+    near = λ slot l. omega (arith, lane, in_block block slot (omega (arith, l, few)));
+  }
+
+  to_block : 0 < rule.lanes → (block : ℕ) → begin_in rule ((block + 1) * rule.lanes + 0) + (rule.lanes - 1) * rule.lane ≡ begin_in rule (block * rule.lanes + (rule.lanes - 1)) + rule.block
+  to_block lanes block =
+      let first : begin_in rule ((block + 1) * rule.lanes + 0) ≡ rule.base + (block + 1) * rule.block + 0 * rule.lane = begin_at rule (block + 1) 0 lanes in
+      let last : begin_in rule (block * rule.lanes + (rule.lanes - 1)) ≡ rule.base + block * rule.block + (rule.lanes - 1) * rule.lane = begin_at rule block (rule.lanes - 1) (omega (arith, lanes)) in
+      let more : (block + 1) * rule.block ≡ block * rule.block + rule.block = grind arith in
+      omega arith
+
+  step : 0 < rule.lanes → rule.lane ≤ wide → (rule.lanes - 1) * rule.lane ≤ rule.block → rule.block ≤ (rule.lanes - 1) * rule.lane + wide
+      → (slot : ℕ) → (begin_in rule slot ≤ begin_in rule (slot + 1)) × (begin_in rule (slot + 1) ≤ begin_in rule slot + wide)
+  step lanes narrow low high slot =
+      let block = slot / rule.lanes in
+      let lane = slot % rule.lanes in
+      let parts : block * rule.lanes + lane ≡ slot = div-add-mod' slot rule.lanes in
+      let inside : lane < rule.lanes = mod-lt slot lanes in
+      let here : begin_in rule (block * rule.lanes + lane) ≡ begin_in rule slot = ap (begin_in rule) parts in
+      ⊎_elim
+      (λ (low : lane + 1 < rule.lanes).
+      (let next : begin_in rule (block * rule.lanes + (lane + 1)) ≡ begin_in rule (slot + 1) = ap (begin_in rule) (omega arith) in
+      let more = in_block block lane low in
+      (omega (arith, here, next, more), omega (arith, here, next, more, narrow))))
+      (λ (last : rule.lanes ≤ lane + 1).
+      (let all : (block + 1) * rule.lanes ≡ block * rule.lanes + rule.lanes = grind arith in
+      let next : begin_in rule ((block + 1) * rule.lanes + 0) ≡ begin_in rule (slot + 1) = ap (begin_in rule) (omega arith) in
+      let end : begin_in rule (block * rule.lanes + (rule.lanes - 1)) ≡ begin_in rule slot = ap (begin_in rule) (omega arith) in
+      let more = to_block lanes block in
+      (omega (arith, end, next, more, low), omega (arith, end, next, more, high))))
+      (cases_lt (lane + 1) rule.lanes)
+
+  -- all, where blocks follow each other so, too
+  pub all_steady : (count : ℕ) → 0 < rule.lanes → rule.lane ≤ wide → (rule.lanes - 1) * rule.lane ≤ rule.block → rule.block ≤ (rule.lanes - 1) * rule.lane + wide
+      → IsSteady wide rule 0 count
+  all_steady count lanes narrow low high = record {
+    some = some;
+    on = λ slot l. (let here : begin_in rule (0 + slot) ≡ begin_in rule slot = ap (begin_in rule) (omega arith) in
+        let next : begin_in rule (0 + (slot + 1)) ≡ begin_in rule (slot + 1) = ap (begin_in rule) (omega arith) in
+        omega (arith, here, next, (step lanes narrow low high slot).0));
+    near = λ slot l. (let here : begin_in rule (0 + slot) ≡ begin_in rule slot = ap (begin_in rule) (omega arith) in
+        let next : begin_in rule (0 + (slot + 1)) ≡ begin_in rule (slot + 1) = ap (begin_in rule) (omega arith) in
+        omega (arith, here, next, (step lanes narrow low high slot).1));
+  }
+
+-- ---- what they touch
+
+-- from the first bit of the first slot to the last bit of the last
+abbrev pub long_piece : PieceRule → ℕ → ℕ → Piece
+long_piece rule start count =
+    record { blob = rule.blob; bit = begin_in rule start; bits = begin_in rule (start + (count - 1)) + rule.bits - begin_in rule start }
+
+next_granule : (granule at : ℕ) → 8 * granule * (at + 1) ≡ 8 * granule * at + 8 * granule
+next_granule granule at = grind arith
+
+-- a piece that ends behind a granule's begin and begins before its end
+touches : (granule at : ℕ) (piece : Piece) → 1 ≤ granule → 0 < piece.bits → 8 * granule * at < piece.bit + piece.bits → piece.bit < 8 * granule * (at + 1)
+    → is_in_granule granule piece.blob at piece ≡ true
+touches granule at piece some bits past before =
+    let next = next_granule granule at in
+    and_from (piece.blob == piece.blob) (nat_lt (max piece.bit (8 * granule * at)) (min (piece.bit + piece.bits) (8 * granule * (at + 1))))
+    (eq-eqb piece.blob piece.blob refl)
+    (lt-ltb (max piece.bit (8 * granule * at)) (min (piece.bit + piece.bits) (8 * granule * (at + 1))) (omega (arith, past, before, next, bits, some)))
+
+touched : (granule blob at : ℕ) (piece : Piece) → is_in_granule granule blob at piece ≡ true → (piece.blob ≡ blob) × (8 * granule * at < piece.bit + piece.bits) × (piece.bit < 8 * granule * (at + 1))
+touched granule blob at piece e =
+    let meets : Bool = nat_lt (max piece.bit (8 * granule * at)) (min (piece.bit + piece.bits) (8 * granule * (at + 1))) in
+    let both = and_parts (piece.blob == blob) meets e in
+    let meet = ltb-true (max piece.bit (8 * granule * at)) (min (piece.bit + piece.bits) (8 * granule * (at + 1))) both.1 in
+    (eqb-true piece.blob blob both.0, omega (arith, meet), omega (arith, meet))
+
+same_tests : (one two : Bool) → (one ≡ true → two ≡ true) → (two ≡ true → one ≡ true) → one ≡ two
+same_tests true two to from = sym (to refl)
+same_tests false true to from = from refl
+same_tests false false to from = refl
+
+module _ (granule : ℕ) (rule : PieceRule) (start count : ℕ) (some : 1 ≤ granule) (steady : IsSteady (8 * granule) rule start count) where
+  later : (slot more : ℕ) → slot + more < count → begin_in rule (start + slot) ≤ begin_in rule (start + (slot + more))
+  later slot zero l = (let e : begin_in rule (start + slot) ≡ begin_in rule (start + (slot + 0)) = ap (begin_in rule) (omega arith) in omega (arith, e))
+  later slot (suc more) l =
+      let e : begin_in rule (start + (slot + more + 1)) ≡ begin_in rule (start + (slot + suc more)) = ap (begin_in rule) (omega arith) in
+      omega (arith, later slot more (omega (arith, l)), steady.on (slot + more) (omega (arith, l)), e)
+
+  between : (slot at : ℕ) → slot < count → 8 * granule * at < begin_in rule (start + slot) + rule.bits → begin_in rule (start + 0) < 8 * granule * (at + 1)
+      → (one : ℕ) × (one < count) × (is_in_granule granule rule.blob at (piece_in rule (start + one)) ≡ true)
+  between zero at l past before = (0, l, touches granule at (piece_in rule (start + 0)) some steady.some past before)
+  between (suc slot) at l past before =
+      ⊎_elim
+      (λ (low : 8 * granule * at < begin_in rule (start + slot) + rule.bits). between slot at (omega (arith, l)) low before)
+      (λ (high : begin_in rule (start + slot) + rule.bits ≤ 8 * granule * at).
+      (let more = steady.near slot (omega (arith, l)) in
+      let same : begin_in rule (start + (slot + 1)) ≡ begin_in rule (start + suc slot) = ap (begin_in rule) (omega arith) in
+      let bits = steady.some in
+      let next = next_granule granule at in
+      (suc slot, l, touches granule at (piece_in rule (start + suc slot)) some steady.some past (omega (arith, more, same, high, bits, next)))))
+      (cases_lt (8 * granule * at) (begin_in rule (start + slot) + rule.bits))
+
+  -- the long piece touches a granule exactly where one of the slots does
+  pub long_touches : 0 < count → (blob at : ℕ)
+      → is_in_granule granule blob at (long_piece rule start count) ≡ list_any (λ slot. is_in_granule granule blob at (piece_in rule slot)) (range_with_len start count)
+  long_touches any blob at =
+      let last = count - 1 in
+      let slots = range_with_len start count in
+      let zero_is : begin_in rule (start + 0) ≡ begin_in rule start = ap (begin_in rule) (omega arith) in
+      let end : begin_in rule start ≤ begin_in rule (start + last) =
+      (let up : begin_in rule (start + 0) ≤ begin_in rule (start + (0 + last)) = later 0 last (omega (arith, any)) in
+      let e : begin_in rule (start + (0 + last)) ≡ begin_in rule (start + last) = ap (begin_in rule) (omega arith) in
+      omega (arith, up, e, zero_is)) in
+      same_tests _ _
+      (λ (e : is_in_granule granule blob at (long_piece rule start count) ≡ true).
+      (let t = touched granule blob at (long_piece rule start count) e in
+      let found = between last at (omega (arith, any)) (omega (arith, t.1, end)) (omega (arith, t.2, zero_is)) in
+      let one = found.0 in
+      let here : get_or slots one 0 ≡ start + one = get_or-range_with_len start count one 0 found.1 in
+      let hit : is_in_granule granule blob at (piece_in rule (start + one)) ≡ true =
+      ap (λ (b : ℕ). is_in_granule granule b at (piece_in rule (start + one))) (sym t.0) ∙ found.2 in
+      list_any_at (λ slot. is_in_granule granule blob at (piece_in rule slot)) slots one 0 (omega (arith, found.1, length-range_with_len start count))
+      (ap (λ (n : ℕ). is_in_granule granule blob at (piece_in rule n)) here ∙ hit)))
+      (λ (e : list_any (λ slot. is_in_granule granule blob at (piece_in rule slot)) slots ≡ true).
+      (let found = Any-from_list_any (λ slot. is_in_granule granule blob at (piece_in rule slot)) slots e in
+      let k = found.0 in
+      let small : k < count = omega (arith, found.2, length-range_with_len start count) in
+      let slot : found.1 ≡ start + k = sym found.3 ∙ get_or-range_with_len start count k found.1 small in
+      let t = touched granule blob at (piece_in rule found.1) found.4 in
+      let same : begin_in rule found.1 ≡ begin_in rule (start + k) = ap (begin_in rule) slot in
+      let first : begin_in rule (start + 0) ≤ begin_in rule (start + (0 + k)) = later 0 k (omega (arith, small)) in
+      let zero_k : begin_in rule (start + (0 + k)) ≡ begin_in rule (start + k) = ap (begin_in rule) (omega arith) in
+      let rest : k + (last - k) ≡ last = omega (arith, small) in
+      let up : begin_in rule (start + k) ≤ begin_in rule (start + (k + (last - k))) = later k (last - k) (omega (arith, small, rest, any)) in
+      let top : begin_in rule (start + (k + (last - k))) ≡ begin_in rule (start + last) = ap (λ (n : ℕ). begin_in rule (start + n)) rest in
+      ap (λ (b : ℕ). is_in_granule granule b at (long_piece rule start count)) (sym t.0)
+      ∙ touches granule at (long_piece rule start count) some (omega (arith, steady.some, end))
+      (omega (arith, t.1, same, up, top, end)) (omega (arith, t.2, same, first, zero_k, zero_is))))
