@@ -1,3 +1,3 @@
-pub mod Answers
 pub mod Values
 pub mod Runs
+pub mod RunLaws

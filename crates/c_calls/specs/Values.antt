@@ -1,13 +1,13 @@
 -- One value of a table, as a number of the caller's type.
-use Rattle.std.specs.Prelude.{ℕ, ◌+◌, ◌&&◌, Bool, true, false, not, ℤ, length, nat_lt, nat_le, if◌then◌else◌, Result, Ok, Err}
+use Rattle.std.specs.Prelude.{ℕ, ◌+◌, ◌&&◌, Bool, true, false, not, ℤ, length, nat_lt, nat_le, if◌then◌else◌, Ok, Err}
 use Rattle.record_dim.specs.declared.leaf_type.LeafType.{LeafType}
 use Rattle.record_dim.specs.declared.leaf_type.LeafType.TheVariants.{U64}
 use Rattle.record_dim.specs.LeafTypes.{is_signed}
 use Rattle.places.specs.Image.{entry}
 use Rattle.views.specs.Tables.{Table, leaf_count_of, leaf_type_of, answer_of}
-use Rattle.views.specs.declared.fault.StoreFault.{StoreFault}
-use Rattle.c_calls.specs.Answers.{Answer, store_refusal}
-use Rattle.c_calls.specs.declared.refusal.Refusal.TheVariants.{NoPlace, BadType}
+use Rattle.c_answers.specs.Answers.{Answer}
+use Rattle.c_answers.specs.Refusals.{told_store}
+use Rattle.c_answers.specs.declared.refusal.Refusal.TheVariants.{NoPlace, BadType}
 
 -- so many rows from one on, and a leaf, are those of a table
 abbrev pub is_run : Table → ℕ → ℕ → ℕ → Bool
@@ -30,11 +30,6 @@ read_by reads table first count leaf given = if is_run table first count leaf
 abbrev pub got : (LeafType → Bool) → ℕ → ℕ → Table → Answer ℤ
 got reads at leaf table = read_by reads table at 1 leaf (entry table.rows at leaf)
 
--- the answer of a store
-abbrev pub told_store : Result ℤ StoreFault → Answer (Unit {0})
-told_store (Ok kept) = Ok tt
-told_store (Err fault) = Err (store_refusal fault)
-
 -- what `llama_set` and `llama_set_u64` answer
 abbrev pub was_set : ℕ → ℕ → ℤ → Table → Answer (Unit {0})
-was_set at leaf value table = if is_run table at 1 leaf then told_store (answer_of table leaf value) else Err NoPlace
+was_set at leaf value table = if is_run table at 1 leaf then told_store at leaf (answer_of table leaf value) else Err NoPlace

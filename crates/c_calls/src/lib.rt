@@ -1,14 +1,16 @@
-//! What a library for C does with a view: each call as a function of the table, and its refusals, which are numbers in C.
+//! What a library for C does with a view: each call as a function of the table.
 #![tactic(auto)]
 
 mod by_index;
-mod copies;
-mod refusal;
+mod by_path;
+mod number;
 mod runs;
+mod stores;
 mod values;
 
 pub use by_index::row_of;
-pub use copies::copy_into;
-pub use refusal::{DONE, Refusal};
-pub use runs::get_run_signed;
-pub use values::{get_signed, get_unsigned, set};
+pub use by_path::leaf_of;
+pub use number::Number64;
+pub use runs::get_run;
+pub use stores::set_run;
+pub use values::{get, set};

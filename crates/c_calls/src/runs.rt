@@ -1,30 +1,34 @@
-// One leaf of rows one after another, to and from an array.
-ghost use Rattle.std.specs.Prelude.{◌≡◌, ◌+◌, ◌*◌, ◌%◌, ◌<◌, ◌≤◌, true, length, take, drop, ◌++◌, OnOk, OnErr};
+// One leaf of rows one after another, to an array.
+ghost use Rattle.std.specs.Prelude.{◌≡◌, ◌+◌, ◌*◌, ◌%◌, ◌<◌, ◌≤◌, true, length, map, take, drop, ◌++◌, OnOk, OnErr, All};
+ghost use Rattle.record_dim.specs.LeafTypes.{IsDeclared};
 ghost use Rattle.views.specs.NearStores.{IsNearColumn};
 ghost use Rattle.views.specs.Tables.{leaf_count_of, leaf_type_of};
 ghost use Rattle.c_calls.specs.Runs.{run_of, after_run};
-ghost use Rattle.c_calls.specs.Values.{reads_signed, read_by};
+ghost use Rattle.c_calls.specs.Values.{read_by};
+ghost use Rattle.c_calls.specs.RunLaws.{HasRead};
 
-use crate::refusal::Refusal;
-use crate::values::{is_run, leaf_type, reads_signed, signed_number};
+use crate::number::Number64;
+use crate::values::{is_run, leaf_type};
+use c_answers::Refusal;
+use record_dim::LeafType;
 use std::sync::ledger::{Blank, Ledger};
 use steps::Steps;
 use views::{NearColumn, View};
 
-/// The values of a leaf in as many rows as the array is long, from one row on, where each value of the leaf is an `i64`. On a refusal the array
-/// stays as it is.
-pub fn get_run_signed<L: Ledger>(
+/// The values of a leaf in as many rows as the array is long, from one row on, where each value of the leaf is a number of the caller's type. On
+/// a refusal the array stays as it is.
+pub fn get_run<N: Number64, L: Ledger>(
     view: &mut View,
     first: u64,
     leaf: usize,
-    values: &mut [i64],
+    values: &mut [N],
     blank: Blank,
 ) -> Result<(), Refusal>
     requires name { blank.name ≡ L.name }
     requires parts { blank.parts ≡ L.parts }
     requires some { 0 < blank.parts }
-    ensures answer { result ≡ read_by reads_signed view.old first (length values.old) leaf tt }
-    ensures values { OnOk result (values.new ≡ run_of first (length values.old) leaf view.old) }
+    ensures answer { result ≡ read_by N.reads view.old first (length values.old) leaf tt }
+    ensures values { OnOk result (map N.number values.new ≡ run_of first (length values.old) leaf view.old) }
     ensures read { OnOk result (view.new ≡ after_run first (length values.old) leaf view.old) }
     ensures none { OnErr result (values.new ≡ values.old) }
     ensures kept { OnErr result (view.new ≡ view.old) }
@@ -32,65 +36,70 @@ pub fn get_run_signed<L: Ledger>(
     if !is_run(view, first, values.len(), leaf) {
         return Err(Refusal::NoPlace);
     }
-    if !reads_signed(leaf_type(view, leaf)) {
+    let kind = leaf_type(view, leaf);
+    if !N::reads(kind) {
         return Err(Refusal::BadType);
     }
     let mut steps = Steps::<L>::new(blank);
-    read_run(view, first, leaf, values, &mut steps);
+    read_run(view, kind, first, leaf, values, &mut steps);
     Ok(())
 }
 
 // Reads a run, sixteen rows at a time where they stand side by side.
-fn read_run<L: Ledger>(
+fn read_run<N: Number64, L: Ledger>(
     view: &mut View,
+    kind: LeafType,
     first: u64,
     leaf: usize,
-    values: &mut [i64],
+    values: &mut [N],
     steps: &mut Steps<L>,
 )
     requires rows { first + length values.old ≤ length view.old.rows }
     requires leaf { leaf < leaf_count_of view.old }
-    requires signed { reads_signed (leaf_type_of view.old leaf) ≡ true }
-    ensures values { values.new ≡ run_of first (length values.old) leaf view.old }
+    requires kind { kind ≡ leaf_type_of view.old leaf }
+    requires reads { N.reads kind ≡ true }
+    ensures values { map N.number values.new ≡ run_of first (length values.old) leaf view.old }
     ensures read { view.new ≡ after_run first (length values.old) leaf view.old }
 {
     match view.near_column(leaf) {
-        Some(near) => read_near(view, &near, first, values, steps),
-        None => read_each(view, first, leaf, values, steps),
+        Some(near) => read_near(view, &near, kind, first, values, steps),
+        None => read_each(view, kind, first, leaf, values, steps),
     }
 }
 
 // Reads a run of a near leaf: rows up to the next block, whole blocks, and the rest.
-fn read_near<L: Ledger>(
+fn read_near<N: Number64, L: Ledger>(
     view: &mut View,
     near: &NearColumn,
+    kind: LeafType,
     first: u64,
-    values: &mut [i64],
+    values: &mut [N],
     steps: &mut Steps<L>,
 )
     requires near { IsNearColumn view.old near.now }
     requires rows { first + length values.old ≤ length view.old.rows }
-    requires signed { reads_signed (leaf_type_of view.old near.now.leaf) ≡ true }
-    ensures values { values.new ≡ run_of first (length values.old) near.now.leaf view.old }
+    requires kind { kind ≡ leaf_type_of view.old near.now.leaf }
+    requires reads { N.reads kind ≡ true }
+    ensures values { map N.number values.new ≡ run_of first (length values.old) near.now.leaf view.old }
     ensures same { view.new ≡ view.old }
 {
     let _rows = view.extents().count();
     let before = rows_before_block(first);
     if values.len() < before + 16 {
-        read_each(view, first, near.leaf, values, steps);
+        read_each(view, kind, first, near.leaf, values, steps);
         return;
     }
     let (front, rest) = values.split_at_mut(before);
-    read_each(view, first, near.leaf, front, steps);
+    read_each(view, kind, first, near.leaf, front, steps);
     let block = (first + before as u64) / 16;
     let blocks = rest.len() / 16;
     let (whole, back) = rest.split_at_mut(16 * blocks);
-    read_blocks(view, near, block, whole);
-    read_each(view, 16 * (block + blocks as u64), near.leaf, back, steps);
+    read_blocks(view, near, kind, block, whole);
+    read_each(view, kind, 16 * (block + blocks as u64), near.leaf, back, steps);
 }
 
 // How many rows stand from this one up to the next block of sixteen.
-fn rows_before_block(first: u64) -> usize
+pub(crate) fn rows_before_block(first: u64) -> usize
     ensures few { result < 16 }
     ensures block { (first + result) % 16 ≡ 0 }
 {
@@ -98,51 +107,93 @@ fn rows_before_block(first: u64) -> usize
 }
 
 // Reads whole blocks of sixteen rows.
-fn read_blocks(view: &View, near: &NearColumn, block: u64, values: &mut [i64])
+fn read_blocks<N: Number64>(
+    view: &View,
+    near: &NearColumn,
+    kind: LeafType,
+    block: u64,
+    values: &mut [N],
+)
     requires near { IsNearColumn view.now near.now }
     requires whole { length values.old % 16 ≡ 0 }
     requires rows { 16 * block + length values.old ≤ length view.now.rows }
-    ensures { values.new ≡ run_of (16 * block) (length values.old) near.now.leaf view.now }
+    requires kind { kind ≡ leaf_type_of view.now near.now.leaf }
+    requires reads { N.reads kind ≡ true }
+    ensures { map N.number values.new ≡ run_of (16 * block) (length values.old) near.now.leaf view.now }
 {
     let _rows = view.extents().count();
     for k in 0..values.len() / 16 {
         let numbers = view.near_block(near, block + k as u64).to_array();
-        put_block(values, 16 * k, &numbers);
+        put_block(kind, values, 16 * k, &numbers);
     }
 }
 
-// Puts sixteen numbers into an array, from a place on.
+// Puts sixteen values of a leaf into an array, from a place on.
 #[inline(always)]
-fn put_block(values: &mut [i64], at: usize, numbers: &[i64; 16])
-    requires { at + 16 ≤ length values.old }
-    ensures { values.new ≡ take at values.old ++ numbers.now ++ drop (at + 16) values.old }
+fn put_block<N: Number64>(kind: LeafType, values: &mut [N], at: usize, numbers: &[i64; 16])
+    requires room { at + 16 ≤ length values.old }
+    requires reads { N.reads kind ≡ true }
+    requires declared { All (IsDeclared kind) numbers.now }
+    ensures { map N.number values.new ≡ take at (map N.number values.old) ++ numbers.now ++ drop (at + 16) (map N.number values.old) }
 {
-    values[at..at + 16].copy_from_slice(numbers);
+    for lane in 0..16 {
+        values[at + lane] = N::of(kind, i128::from(numbers[lane]));
+    }
 }
 
-// Reads a run value by value.
-fn read_each<L: Ledger>(
+// Reads a run value by value: first those that are one load each.
+fn read_each<N: Number64, L: Ledger>(
     view: &mut View,
+    kind: LeafType,
     first: u64,
     leaf: usize,
-    values: &mut [i64],
+    values: &mut [N],
     steps: &mut Steps<L>,
 )
     requires rows { first + length values.old ≤ length view.old.rows }
     requires leaf { leaf < leaf_count_of view.old }
-    requires signed { reads_signed (leaf_type_of view.old leaf) ≡ true }
-    ensures values { values.new ≡ run_of first (length values.old) leaf view.old }
+    requires kind { kind ≡ leaf_type_of view.old leaf }
+    requires reads { N.reads kind ≡ true }
+    ensures values { map N.number values.new ≡ run_of first (length values.old) leaf view.old }
     ensures read { view.new ≡ after_run first (length values.old) leaf view.old }
+{
+    let done = read_wide(view, kind, first, leaf, values);
+    for k in done..values.len() {
+        let row = row_at(view, first, k);
+        values[k] = N::of(kind, view.get(row, leaf, steps));
+    }
+}
+
+// Reads values from the first on as long as each is one load, and tells how many. Nothing in the loop may change the view, so where the leaf
+// stands is found before it.
+fn read_wide<N: Number64>(
+    view: &View,
+    kind: LeafType,
+    first: u64,
+    leaf: usize,
+    values: &mut [N],
+) -> usize
+    requires rows { first + length values.old ≤ length view.now.rows }
+    requires leaf { leaf < leaf_count_of view.now }
+    requires kind { kind ≡ leaf_type_of view.now leaf }
+    requires reads { N.reads kind ≡ true }
+    ensures few { result ≤ length values.old }
+    ensures same_length { length values.new ≡ length values.old }
+    ensures read { HasRead leaf first result view.now view.now (map N.number values.old) (map N.number values.new) }
 {
     for k in 0..values.len() {
         let row = row_at(view, first, k);
-        values[k] = signed_number(view.get(row, leaf, steps));
+        match view.wide_value(row, leaf) {
+            Some(value) => values[k] = N::of(kind, value),
+            None => return k,
+        }
     }
+    values.len()
 }
 
 // The row so many behind another.
 #[inline(always)]
-fn row_at(view: &View, first: u64, k: usize) -> u64
+pub(crate) fn row_at(view: &View, first: u64, k: usize) -> u64
     requires { first + k < length view.now.rows }
     ensures { result ≡ first + k }
 {

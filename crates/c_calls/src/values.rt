@@ -1,62 +1,40 @@
 // One value of a view, as a number of the caller's type.
-ghost use Rattle.std.specs.Prelude.{◌≡◌, ◌+◌, ◌<◌, ◌≤◌, true, false, pos, length, OnOk, OnErr};
-ghost use Rattle.record_dim.specs.LeafTypes.{is_signed, IsIn};
+ghost use Rattle.std.specs.Prelude.{◌≡◌, ◌+◌, ◌<◌, ◌≤◌, true, length, OnOk, OnErr};
 ghost use Rattle.views.specs.Tables.{leaf_count_of, leaf_type_of, after_read, after_write};
-ghost use Rattle.c_calls.specs.Answers.{any_number};
-ghost use Rattle.c_calls.specs.Values.{is_run, reads_signed, reads_unsigned, got, was_set};
+ghost use Rattle.c_answers.specs.Answers.{answer_map};
+ghost use Rattle.c_calls.specs.Values.{is_run, got, was_set};
 
-use crate::refusal::Refusal;
+use crate::number::Number64;
+use c_answers::Refusal;
 use record_dim::LeafType;
 use std::sync::ledger::{Blank, Ledger};
 use steps::Steps;
 use views::View;
 
-/// The value of a leaf in a row, where each value of the leaf is an `i64`.
-pub fn get_signed<L: Ledger>(
+/// The value of a leaf in a row, where each value of the leaf is a number of the caller's type.
+#[inline(always)]
+pub fn get<N: Number64, L: Ledger>(
     view: &mut View,
     row: u64,
     leaf: usize,
     blank: Blank,
-) -> Result<i64, Refusal>
+) -> Result<N, Refusal>
     requires name { blank.name ≡ L.name }
     requires parts { blank.parts ≡ L.parts }
     requires some { 0 < blank.parts }
-    ensures got { result ≡ got reads_signed row leaf view.old }
+    ensures got { answer_map N.number result ≡ got N.reads row leaf view.old }
     ensures read { OnOk result (view.new ≡ after_read view.old row leaf) }
     ensures kept { OnErr result (view.new ≡ view.old) }
 {
     if !is_run(view, row, 1, leaf) {
         return Err(Refusal::NoPlace);
     }
-    if !reads_signed(leaf_type(view, leaf)) {
+    let kind = leaf_type(view, leaf);
+    if !N::reads(kind) {
         return Err(Refusal::BadType);
     }
     let mut steps = Steps::<L>::new(blank);
-    Ok(signed_number(view.get(row, leaf, &mut steps)))
-}
-
-/// The same as a `u64`, where each value of the leaf is one.
-pub fn get_unsigned<L: Ledger>(
-    view: &mut View,
-    row: u64,
-    leaf: usize,
-    blank: Blank,
-) -> Result<u64, Refusal>
-    requires name { blank.name ≡ L.name }
-    requires parts { blank.parts ≡ L.parts }
-    requires some { 0 < blank.parts }
-    ensures got { any_number result ≡ got reads_unsigned row leaf view.old }
-    ensures read { OnOk result (view.new ≡ after_read view.old row leaf) }
-    ensures kept { OnErr result (view.new ≡ view.old) }
-{
-    if !is_run(view, row, 1, leaf) {
-        return Err(Refusal::NoPlace);
-    }
-    if leaf_type(view, leaf).signed() {
-        return Err(Refusal::BadType);
-    }
-    let mut steps = Steps::<L>::new(blank);
-    Ok(unsigned_number(view.get(row, leaf, &mut steps)))
+    Ok(N::of(kind, view.get(row, leaf, &mut steps)))
 }
 
 /// Makes the value of a leaf in a row this one, as the view keeps it.
@@ -81,7 +59,7 @@ pub fn set<L: Ledger>(
     let mut steps = Steps::<L>::new(blank);
     match view.set(row, leaf, value, &mut steps) {
         Ok(()) => Ok(()),
-        Err(fault) => Err(Refusal::of_store(fault)),
+        Err(fault) => Err(Refusal::of_store(row, leaf, fault)),
     }
 }
 
@@ -104,30 +82,4 @@ pub(crate) fn leaf_type(view: &View, leaf: usize) -> LeafType
     ensures { result ≡ leaf_type_of view.now leaf }
 {
     view.schema().leaf_type(leaf)
-}
-
-/// Whether each value of a type is an `i64`.
-#[inline(always)]
-pub(crate) fn reads_signed(kind: LeafType) -> bool
-    ensures { result ≡ reads_signed kind }
-{
-    kind != LeafType::U64
-}
-
-/// A value of 64 bits with a sign.
-#[inline(always)]
-pub(crate) fn signed_number(value: i128) -> i64
-    requires { IsIn true 64 value }
-    ensures { result ≡ value }
-{
-    value as i64
-}
-
-/// One without a sign.
-#[inline(always)]
-pub(crate) fn unsigned_number(value: i128) -> u64
-    requires { IsIn false 64 value }
-    ensures { pos result ≡ value }
-{
-    value as u64
 }

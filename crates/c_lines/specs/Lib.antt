@@ -1,3 +1,8 @@
-pub mod Faults
+pub mod Told
 pub mod Lines
-pub mod FaultLaws
+pub mod Copies
+pub mod Relaid
+pub mod KernelLines
+pub mod Steps
+pub mod Makes
+pub mod Kernels

@@ -1,42 +1,84 @@
--- What a `record` line and a `view` line describe.
-use Rattle.std.specs.Prelude.{ℕ, ◌≡◌, Bool, true, false, List, length, None}
-use Rattle.extents.specs.Indices.{indices}
-use Rattle.extents.specs.Shapes.{extents_for}
+-- What the lines of a call describe: they are lines of the second version of the language, and mean what they mean in a script.
+use Rattle.std.specs.Prelude.{ℕ, ℤ, ◌^◌, List, [], length, nat_lt, Option, Some, None, Result, Ok, Err, if◌then◌else◌}
+use Rattle.csv_rows.specs.Datasets.{records_of, rows_of}
+use Rattle.csv_rows.specs.Loads.{dataset_of}
+use Rattle.csv_rows.specs.declared.fault.RowFault.{RowFault}
 use Rattle.extents.specs.declared.words.ExtentWord.{ExtentWord}
-use Rattle.line_grammar.specs.Reads.{Reads}
-use Rattle.line_grammar.specs.Sentences.{New, Define, View}
+use Rattle.line_grammar.specs.Sentences.{Sentence, New, Define, View, deepest}
 use Rattle.line_grammar.specs.declared.version.Version.TheVariants.{Two}
-use Rattle.kept_tables.specs.declared.mode.StoreMode.{StoreMode}
-use Rattle.kept_tables.specs.declared.mode.StoreMode.TheVariants.{Strict, Wrap}
-use Rattle.map_expr.specs.Terms.{Term}
-use Rattle.piece_bits.specs.Tables.{zeros}
-use Rattle.record_dim.specs.Trees.{Record}
-use Rattle.views.specs.Tables.{Table, owners_of, leaf_count_of}
-use Rattle.views.specs.Tallies.{no_tally}
+use Rattle.schema_lang.specs.LineOf.{line_of}
+use Rattle.views.specs.Tallies.{Write, all_accesses}
+use Rattle.views.specs.Tables.{Table, leaf_count_of, after_stores}
+use Rattle.worlds.specs.Define.{define}
+use Rattle.worlds.specs.Tables.{made, resolved}
+use Rattle.worlds.specs.View.{Named, named, new_table}
+use Rattle.worlds.specs.Worlds.{World, empty}
+use Rattle.c_answers.specs.Answers.{Answer, ◌>>=◌}
+use Rattle.c_answers.specs.declared.refusal.Refusal.TheVariants.{LineTooLong, Syntax, TooDeep, OtherLine, TooBig}
+use Rattle.c_answers.specs.declared.refusal.TextOf.{TextOf}
+use Rattle.c_answers.specs.declared.refusal.TextOf.TheVariants.{First, Second}
+use Rattle.c_lines.specs.Told.{told, row_refusal}
 
--- how a view stores, by whether its line has the word `wrap`
-abbrev pub mode_by : Bool → StoreMode
-mode_by true = Wrap
-mode_by false = Strict
 
--- a table of zeros to which there was no access, as a new view has it
-pub record IsZeros (new : New) (table : Table) : Type 0 where
-  pub extents : table.extents ≡ extents_for new.words None
-  pub mapping : table.mapping ≡ new.term
-  pub mode : table.mode ≡ mode_by new.wrap
-  pub rows : table.rows ≡ zeros (length (indices table.extents)) (leaf_count_of table)
-  pub tally : table.tally ≡ no_tally table.mapping (owners_of table) (leaf_count_of table)
+-- the line that a text is
+abbrev pub shallow : TextOf → Result Sentence ℕ → Answer Sentence
+shallow text (Err column) = Err (Syntax text column)
+shallow text (Ok sentence) = if nat_lt 32 (deepest sentence) then Err (TooDeep text) else Ok sentence
 
--- a text is a line, in the second version of the language, that makes a view of these words
-abbrev pub MakesView : List ℕ → List ℕ → List ExtentWord → Bool → Term → Type 0
-MakesView text schema words wrap term =
-    (name : List ℕ) × Reads Two text (View (record { name = name; schema = schema; words = words; wrap = wrap; term = term }))
+unfoldable pub line_told : TextOf → List ℕ → Answer Sentence
+line_told text bytes = if nat_lt 4096 (length bytes) then Err (LineTooLong text) else shallow text (line_of Two bytes)
 
--- a text names a record, and another makes a view of it, of which this table is the one of zeros
-pub record IsDescribed (first second : List ℕ) (table : Table) : Type 0 where
-  pub name : List ℕ
+-- the world behind a `record` line, and what a `view` line makes
+abbrev pub world_told : Sentence → Answer World
+world_told (Define name tree) = do
+  left ← told (define empty name tree)
+  Ok left.held
+world_told _ = Err (OtherLine First)
+
+abbrev pub new_told : Sentence → Answer New
+new_told (View new) = Ok new
+new_told _ = Err (OtherLine Second)
+
+-- a world with a record, and what makes a view in it, of two lines
+pub record Asked : Type 0 where
+  pub world : World
   pub new : New
-  pub names : Reads Two first (Define name (Record table.fields))
-  pub makes : Reads Two second (View new)
-  pub known : new.schema ≡ name
-  pub zeros : IsZeros new table
+
+abbrev pub asked : List ℕ → List ℕ → Answer Asked
+asked first second = do
+  definition ← line_told First first
+  world ← world_told definition
+  sentence ← line_told Second second
+  new ← new_told sentence
+  Ok (record { world = world; new = new })
+
+-- the table of zeros that two lines describe
+abbrev pub described : List ℕ → List ℕ → Answer Table
+described first second = do
+  what ← asked first second
+  told (new_table what.world what.new)
+
+-- a table with what it keeps of the values of a dataset, each written once
+abbrev pub with_dataset : Table → Result (List (List ℤ)) RowFault → Answer Table
+with_dataset table (Ok rows) = Ok (after_stores table rows (all_accesses Write (leaf_count_of table) (length table.rows)))
+with_dataset table (Err fault) = Err (row_refusal fault)
+
+-- the table of zeros for a dataset: `?` among the extents stands for what its rows leave
+abbrev pub zeros_for : Named → List ExtentWord → List ℕ → Answer Table
+zeros_for whole words csv = do
+  extents ← told (resolved words (Some (length (rows_of (records_of csv)))))
+  told (made [] whole.mode whole.fields extents whole.mapping)
+
+-- the table of a dataset that is not too long
+abbrev pub filled : World → New → List ℕ → Answer Table
+filled world new csv = do
+  whole ← told (named world new)
+  short ← (if nat_lt (2 ^ 28) (length csv) then Err TooBig else Ok tt)
+  zeros ← zeros_for whole new.words csv
+  with_dataset zeros (dataset_of zeros (records_of csv))
+
+-- the table that two lines and a dataset describe
+abbrev pub loaded : List ℕ → List ℕ → List ℕ → Answer Table
+loaded first second csv = do
+  what ← asked first second
+  filled what.world what.new csv

@@ -1,8 +1,15 @@
-//! A view for a caller who has no script: of the two lines that describe it.
+//! What a caller without a script asks for by lines, which mean what they mean in a script: views, new layouts and kernels. Beside them stand
+//! copies, which a new layout is made of.
 #![tactic(auto)]
 
-mod fault;
+mod copies;
+mod kernels;
+mod lines;
 mod make;
+mod relayout;
+mod told;
 
-pub use fault::LinesFault;
-pub use make::new_view;
+pub use copies::copy_into;
+pub use kernels::run_kernel;
+pub use make::{loaded_view, new_view};
+pub use relayout::lay_anew;

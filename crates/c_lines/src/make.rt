@@ -1,126 +1,139 @@
-// A view of the two lines that describe it.
-ghost use Rattle.std.specs.Prelude.{◌≡◌, ◌≤◌, true, false, IfOk, IfErr, OnOk, None, length};
-ghost use Rattle.extents.specs.Indices.{indices};
-ghost use Rattle.extents.specs.Shapes.{extents_for};
-ghost use Rattle.line_grammar.specs.Reads.{Reads};
-ghost use Rattle.line_grammar.specs.Sentences.{Define, View};
-ghost use Rattle.line_grammar.specs.declared.version.Version.TheVariants.{Two};
-ghost use Rattle.map_checks.specs.Mappings.{IsBuiltTerm};
+// A view of the two lines that describe it, and of a dataset.
+ghost use Rattle.std.specs.Prelude.{◌≡◌, ◌≤◌, ◌^◌, IfOk, OnOk, true, length};
+ghost use Rattle.csv_rows.specs.Datasets.{records_of, rows_of};
+ghost use Rattle.extents.specs.Shapes.{IsShape};
+ghost use Rattle.line_grammar.specs.Sentences.{sentence_of};
+ghost use Rattle.schema_lang.specs.Parsing.{IsWhole};
 ghost use Rattle.map_expr.specs.Terms.{term_of};
-ghost use Rattle.piece_bits.specs.Tables.{zeros};
-ghost use Rattle.record_dim.specs.Schemas.{schema_fields};
-ghost use Rattle.record_dim.specs.Trees.{Record, IsRecord, tree_of};
-ghost use Rattle.views.specs.Tables.{leaf_count_of, owners_of};
-ghost use Rattle.views.specs.Tallies.{no_tally};
-ghost use Rattle.c_lines.specs.Lines.{mode_by, IsDescribed, MakesView};
+ghost use Rattle.worlds.specs.View.{named};
+ghost use Rattle.command_checks.specs.Bases.{is_nameless};
+ghost use Rattle.c_answers.specs.Answers.{Tells};
+ghost use Rattle.c_lines.specs.Lines.{asked, described, loaded, new_told, world_told, zeros_for};
+ghost use Rattle.c_lines.specs.Makes.{asked_filled, asked_of, named_of, new_of, world_of};
+ghost use Rattle.c_lines.specs.Told.{told};
 
-use crate::fault::LinesFault;
-use extents::{BadExtents, ExtentWord, Extents, Shape};
-use line_grammar::{ExtentWords, Line, Version};
+use crate::lines::line_of;
+use crate::told::{answered, row_refusal};
+use blob_file::mode_by;
+use c_answers::{Refusal, TextOf};
+use command_checks::{MappingList, made, nameless, resolved, shaped};
+use csv_rows::{count_rows, load_rows};
+use extents::Shape;
+use line_grammar::{ExtentWords, Line};
 use map_expr::MapExpr;
-use record_dim::{Name, Schema};
-use schema_lang::{MAX_LINE_BYTES, parse_line};
+use record_dim::{MakeSchema, Name, Schema};
 use std::alloc::Global;
+use std::sync::ledger::{Blank, Ledger};
+use steps::Steps;
 use views::{StoreMode, View};
 
-/// The most bytes of a view: 2^28.
-const MAX_BYTES: u64 = 1 << 28;
+/// The most bytes of a dataset.
+const MAX_DATASET_BYTES: usize = 1 << 28;
 
-/// The view of zeros that a `record` line and a `view` line of that record describe. Its extents are numbers, and no name stands in its
-/// mapping.
-pub fn new_view(alloc: Global, first: &[u8], second: &[u8]) -> Result<View, LinesFault>
-    ensures { IfOk result (IsDescribed first.now second.now) }
+/// A record and its name.
+#[derive(Drop)]
+pub(crate) struct NamedRecord {
+    pub name: Name,
+    pub schema: Schema,
+}
+
+/// What makes a view, but for its name.
+#[derive(Drop)]
+pub(crate) struct NewView {
+    pub name: Name,
+    pub schema: Name,
+    pub words: ExtentWords,
+    pub wrap: bool,
+    pub expr: MapExpr,
+}
+
+/// A record, and what makes a view of it.
+#[derive(Drop)]
+pub(crate) struct Asked {
+    pub record: NamedRecord,
+    pub new: NewView,
+}
+
+/// What the words of a view stand for.
+#[derive(Drop)]
+pub(crate) struct Found {
+    pub mode: StoreMode,
+    pub expr: MapExpr,
+    pub shape: Shape,
+}
+
+/// The view of zeros that a `record` line and a `view` line describe, as in a script of these two lines.
+pub fn new_view(alloc: Global, first: &[u8], second: &[u8]) -> Result<View, Refusal>
+    ensures { Tells (λ view. view) (described first.now second.now) result }
 {
-    let named = named_record(alloc, first)?;
-    let new = new_line(alloc, second)?;
-    let made = view_of(alloc, &named, &new);
-    drop(new);
-    drop(named);
+    let asked = ask(alloc, first, second)?;
+    let made = zeros_of(alloc, &asked);
+    drop(asked);
     made
 }
 
-// The view of zeros of a record that a line makes.
-fn view_of(alloc: Global, named: &NamedRecord, new: &NewLine) -> Result<View, LinesFault>
-    ensures known { OnOk result (new.now.schema ≡ named.now.name) }
-    ensures fields { IfOk result (λ table. table.fields ≡ schema_fields named.now.schema) }
-    ensures extents { IfOk result (λ table. table.extents ≡ extents_for new.now.words None) }
-    ensures mapping { IfOk result (λ table. table.mapping ≡ term_of new.now.expr) }
-    ensures mode { IfOk result (λ table. table.mode ≡ mode_by new.now.wrap) }
-    ensures rows { IfOk result (λ table. table.rows ≡ zeros (length (indices table.extents)) (leaf_count_of table)) }
-    ensures tally { IfOk result (λ table. table.tally ≡ no_tally table.mapping (owners_of table) (leaf_count_of table)) }
+/// The view that they and a dataset describe, as of a `load` line: `?` among its extents stands for what the rows of the dataset leave.
+pub fn loaded_view<L: Ledger>(
+    alloc: Global,
+    first: &[u8],
+    second: &[u8],
+    csv: &[u8],
+    blank: Blank,
+) -> Result<View, Refusal>
+    requires name { blank.name ≡ L.name }
+    requires parts { blank.parts ≡ L.parts }
+    requires some { 0 < blank.parts }
+    ensures { Tells (λ view. view) (loaded first.now second.now csv.now) result }
 {
-    if new.schema != named.name {
-        return Err(LinesFault::Unknown);
-    }
-    if has_name(&new.expr) {
-        return Err(LinesFault::Named);
-    }
-    let extents = extents_of(new.words.as_slice())?;
-    let mode = mode_by(new.wrap);
-    match View::new_within(alloc, &named.schema, extents, &new.expr, mode, MAX_BYTES) {
-        Ok(made) => Ok(made),
-        Err(fault) => Err(LinesFault::Mapping(fault)),
-    }
+    let asked = ask(alloc, first, second)?;
+    let mut steps = Steps::<L>::new(blank);
+    let made = filled_view(alloc, &asked, csv, &mut steps);
+    drop(asked);
+    made
 }
 
-// A record, by its line.
-#[derive(Drop)]
-struct NamedRecord {
-    name: Name,
-    schema: Schema,
-}
-
-// What makes a view, by its line.
-#[derive(Drop)]
-struct NewLine {
-    schema: Name,
-    words: ExtentWords,
-    wrap: bool,
-    expr: MapExpr,
+// A record, and what makes a view of it, of two lines.
+fn ask(alloc: Global, first: &[u8], second: &[u8]) -> Result<Asked, Refusal>
+    ensures { Tells asked_of (asked first.now second.now) result }
+{
+    let line = line_of(alloc, first, TextOf::First)?;
+    let record = record_of(alloc, line)?;
+    let new = new_of(line_of(alloc, second, TextOf::Second)?)?;
+    Ok(Asked { record, new })
 }
 
 // The record that a line names.
-fn named_record(alloc: Global, text: &[u8]) -> Result<NamedRecord, LinesFault>
-    ensures { IfOk result (λ named. Reads Two text.now (Define named.name (Record (schema_fields named.schema)))) }
+#[tactic(auto, unfolding(worlds::specs::Define::define))]
+fn record_of(alloc: Global, line: Line) -> Result<NamedRecord, Refusal>
+    requires { IsWhole line }
+    ensures { Tells world_of (world_told (sentence_of line)) result }
 {
-    if text.len() > MAX_LINE_BYTES {
-        return Err(LinesFault::Long);
-    }
-    let line = match parse_line(alloc, text, Version::Two) {
-        Ok(line) => line,
-        Err(fault) => return Err(LinesFault::Record(fault)),
-    };
     match line {
         Line::Define { name, dim } => match Schema::new(alloc, dim) {
             Ok(schema) => Ok(NamedRecord { name, schema }),
-            Err(fault) => Err(LinesFault::Schema(fault)),
+            Err(MakeSchema::Bad(bad)) => Err(Refusal::BadRecord(bad)),
+            Err(MakeSchema::NoMemory) => Err(Refusal::NoMemory),
         },
         other => {
             drop(other);
-            Err(LinesFault::Other)
+            Err(Refusal::OtherLine(TextOf::First))
         }
     }
 }
 
 // What a line makes a view of.
-fn new_line(alloc: Global, text: &[u8]) -> Result<NewLine, LinesFault>
-    ensures { IfOk result (λ new. MakesView text.now new.schema new.words new.wrap (term_of new.expr)) }
+fn new_of(line: Line) -> Result<NewView, Refusal>
+    ensures { Tells new_of (new_told (sentence_of line)) result }
 {
-    if text.len() > MAX_LINE_BYTES {
-        return Err(LinesFault::Long);
-    }
-    let line = match parse_line(alloc, text, Version::Two) {
-        Ok(line) => line,
-        Err(fault) => return Err(LinesFault::View(fault)),
-    };
     match line {
         Line::View {
-            name: _,
+            name,
             schema,
             words,
             wrap,
             expr,
-        } => Ok(NewLine {
+        } => Ok(NewView {
+            name,
             schema,
             words,
             wrap,
@@ -128,59 +141,92 @@ fn new_line(alloc: Global, text: &[u8]) -> Result<NewLine, LinesFault>
         }),
         other => {
             drop(other);
-            Err(LinesFault::Other)
+            Err(Refusal::OtherLine(TextOf::Second))
         }
     }
 }
 
-// The extents of words that are all numbers.
-fn extents_of(words: &[ExtentWord]) -> Result<Extents, LinesFault>
-    ensures { IfOk result (λ extents. extents ≡ extents_for words.now None) }
+// The view of zeros that is asked for.
+#[tactic(auto, unfolding(worlds::specs::View::new_table))]
+fn zeros_of(alloc: Global, asked: &Asked) -> Result<View, Refusal>
+    ensures { Tells (λ view. view) (told (new_table (world_of asked.now.record) (new_of asked.now.new))) result }
 {
-    let shape = match Shape::new(words) {
-        Ok(shape) => shape,
-        Err(bad) => return Err(LinesFault::Extents(bad)),
+    let found = find(alloc, asked)?;
+    let extents = answered(resolved(&found.shape, asked.new.words.as_slice(), None))?;
+    answered(made(
+        alloc,
+        &[],
+        found.mode,
+        &asked.record.schema,
+        extents,
+        &found.expr,
+    ))
+}
+
+// What the words of the view that is asked for stand for.
+fn find(alloc: Global, asked: &Asked) -> Result<Found, Refusal>
+    ensures named { Tells (named_of asked.now.record) (told (named (world_of asked.now.record) (new_of asked.now.new))) result }
+    ensures nameless { IfOk result (λ found. is_nameless (term_of found.expr) ≡ true) }
+    ensures shape { IfOk result (λ found. found.shape ≡ asked.now.new.words) }
+    ensures is_shape { OnOk result (IsShape asked.now.new.words) }
+{
+    if asked.new.schema != asked.record.name {
+        return Err(Refusal::Unknown);
+    }
+    let expr = answered(nameless(alloc, &MappingList::new(alloc), &asked.new.expr))?;
+    let shape = answered(shaped(asked.new.words.as_slice()))?;
+    Ok(Found {
+        mode: mode_by(asked.new.wrap),
+        expr,
+        shape,
+    })
+}
+
+// The view that is asked for, with the values of a dataset.
+fn filled_view<L: Ledger>(
+    alloc: Global,
+    asked: &Asked,
+    csv: &[u8],
+    steps: &mut Steps<L>,
+) -> Result<View, Refusal>
+    ensures { Tells (λ view. view) (asked_filled asked.now csv.now) result }
+{
+    let found = find(alloc, asked)?;
+    if csv.len() > MAX_DATASET_BYTES {
+        return Err(Refusal::TooBig);
+    }
+    let mut view = zeros_for(alloc, asked, &found, csv)?;
+    match load_rows(alloc, csv, &mut view, steps) {
+        Ok(()) => Ok(view),
+        Err(fault) => {
+            drop(view);
+            Err(row_refusal(fault))
+        }
+    }
+}
+
+// The view of zeros that has as many rows as a dataset.
+fn zeros_for(alloc: Global, asked: &Asked, found: &Found, csv: &[u8]) -> Result<View, Refusal>
+    requires nameless { is_nameless (term_of found.now.expr) ≡ true }
+    requires shape { found.now.shape ≡ asked.now.new.words }
+    requires is_shape { IsShape asked.now.new.words }
+    ensures zeros { Tells (λ view. view) (zeros_for (named_of asked.now.record found.now) asked.now.new.words csv.now) result }
+    ensures rows { IfOk result (λ view. length view.rows ≡ length (rows_of (records_of csv.now))) }
+{
+    let Ok(rows) = count_rows(alloc, csv) else {
+        return Err(Refusal::NoMemory);
     };
-    if words.contains(&ExtentWord::Rows) {
-        return Err(LinesFault::Extents(BadExtents::NotDivisible));
-    }
-    match shape.resolve(None) {
-        Ok(extents) => Ok(extents),
-        Err(bad) => Err(LinesFault::Extents(bad)),
-    }
-}
-
-// The mode of a view whose line has, or has not, the word `wrap`.
-fn mode_by(wrap: bool) -> StoreMode
-    ensures { result ≡ mode_by wrap }
-{
-    if wrap {
-        StoreMode::Wrap
-    } else {
-        StoreMode::Strict
-    }
-}
-
-// Whether a name stands in a mapping.
-fn has_name(expr: &MapExpr) -> bool
-    ensures { result ≡ false → IsBuiltTerm (term_of expr.now) }
-{
-    match expr {
-        MapExpr::Named(_) => true,
-        MapExpr::Split {
-            path: _,
-            first,
-            rest,
-        } => has_name(first) || has_name(rest),
-        MapExpr::Byteswap(inner) => has_name(inner),
-        MapExpr::Bytesplit(inner) => has_name(inner),
-        MapExpr::Change {
-            from: _,
-            to: _,
-            inner,
-        } => has_name(inner),
-        MapExpr::Count(inner) => has_name(inner),
-        MapExpr::Heat { granule: _, inner } => has_name(inner),
-        _ => false,
-    }
+    let extents = answered(resolved(
+        &found.shape,
+        asked.new.words.as_slice(),
+        Some(rows),
+    ))?;
+    answered(made(
+        alloc,
+        &[],
+        found.mode,
+        &asked.record.schema,
+        extents,
+        &found.expr,
+    ))
 }

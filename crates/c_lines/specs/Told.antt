@@ -1,0 +1,47 @@
+-- What the model of scripts makes of a command, as the answer of a call.
+use Rattle.std.specs.Prelude.{ℕ, Result, Ok, Err}
+use Rattle.csv_rows.specs.declared.fault.RowFault.{RowFault}
+use Rattle.csv_rows.specs.declared.fault.RowFault.TheVariants as row
+use Rattle.lane_kernels.specs.declared.fault.KernelFault.{KernelFault}
+use Rattle.lane_kernels.specs.declared.fault.KernelFault.TheVariants as kernel
+use Rattle.worlds.specs.Outcomes.{Outcome, Goes, Faults, CannotRead}
+use Rattle.worlds.specs.declared.fault.CommandFault.{CommandFault}
+use Rattle.worlds.specs.declared.fault.CommandFault.TheVariants as command
+use Rattle.c_answers.specs.Answers.{Answer}
+use Rattle.c_answers.specs.declared.refusal.Refusal.{Refusal}
+use Rattle.c_answers.specs.declared.refusal.Refusal.TheVariants as refusal
+
+-- the refusal of what makes a view, or fits a kernel to one; nothing else but a limit refuses these
+abbrev pub refusal_of : CommandFault → Refusal
+refusal_of (command.Unknown name) = refusal.Unknown
+refusal_of (command.BadRecord bad) = refusal.BadRecord bad
+refusal_of (command.BadExtents bad) = refusal.BadExtents bad
+refusal_of (command.BadMapping bad) = refusal.BadMapping bad
+refusal_of (command.BadKernel bad) = refusal.BadKernel bad
+refusal_of _ = refusal.TooBig
+
+-- an outcome as an answer; none of these reads a file
+abbrev pub told : {A : Type 0} → Outcome A → Answer A
+told (Goes given) = Ok given
+told (Faults fault) = Err (refusal_of fault)
+told (CannotRead name) = Err refusal.TooBig
+
+-- the refusal of a dataset, and of a kernel that runs
+abbrev pub row_refusal : RowFault → Refusal
+row_refusal (row.MissingColumn leaf) = refusal.MissingColumn leaf
+row_refusal (row.ColumnTwice leaf) = refusal.ColumnTwice leaf
+row_refusal (row.ShortRow at leaf) = refusal.ShortRow at leaf
+row_refusal (row.Number at leaf) = refusal.Number at leaf
+row_refusal (row.Range at leaf) = refusal.Range at leaf
+row_refusal (row.Narrow at leaf) = refusal.Narrow at leaf
+row_refusal row.NoMemory = refusal.NoMemory
+
+abbrev pub kernel_refusal : KernelFault → Refusal
+kernel_refusal kernel.Empty = refusal.Empty
+kernel_refusal (kernel.Range at leaf) = refusal.Range at leaf
+kernel_refusal (kernel.Narrow at leaf) = refusal.Narrow at leaf
+
+-- an answer that gives nothing
+abbrev pub done_of : {A : Type 0} → Answer A → Answer (Unit {0})
+done_of (Ok given) = Ok tt
+done_of (Err refused) = Err refused

@@ -1,0 +1,30 @@
+// Copies between views.
+ghost use Rattle.std.specs.Prelude.{◌≡◌, ◌<◌};
+ghost use Rattle.c_lines.specs.Copies.{was_copied, source_after, target_after};
+
+use c_answers::Refusal;
+use layout_copy::{CopyFault, copy};
+use std::sync::ledger::{Blank, Ledger};
+use steps::Steps;
+use views::View;
+
+/// Makes the table of a view that of another, as far as it holds the values.
+pub fn copy_into<L: Ledger>(
+    source: &mut View,
+    target: &mut View,
+    blank: Blank,
+) -> Result<(), Refusal>
+    requires name { blank.name ≡ L.name }
+    requires parts { blank.parts ≡ L.parts }
+    requires some { 0 < blank.parts }
+    ensures answer { result ≡ was_copied source.old target.old }
+    ensures source { source.new ≡ source_after result source.old }
+    ensures target { target.new ≡ target_after result source.old target.old }
+{
+    let mut steps = Steps::<L>::new(blank);
+    match copy(source, target, &mut steps) {
+        Ok(()) => Ok(()),
+        Err(CopyFault::Mismatch) => Err(Refusal::Mismatch),
+        Err(CopyFault::Narrow { row, leaf }) => Err(Refusal::Narrow { row, leaf }),
+    }
+}

@@ -1,0 +1,82 @@
+// Kernels by their lines.
+ghost use Rattle.std.specs.Prelude.{◌≡◌, ◌<◌, ◌≤◌, IfOk};
+ghost use Rattle.line_grammar.specs.Sentences.{sentence_of};
+ghost use Rattle.lane_kernels.specs.Kernels.{IsKernelOf};
+ghost use Rattle.c_answers.specs.Answers.{Tells, TellsLeft};
+ghost use Rattle.c_lines.specs.KernelLines.{after_kernel, fitted, kernel_number, kernel_told};
+ghost use Rattle.c_lines.specs.Kernels.{fitted_of, written_of};
+
+use crate::lines::line_of;
+use crate::told::{answered, kernel_refusal};
+use c_answers::{Refusal, TextOf};
+use command_checks::fit_kernel;
+use lane_kernels::{Kernel, run_lanes};
+use line_grammar::{KernelText, Line};
+use std::alloc::Global;
+use std::sync::ledger::{Blank, Ledger};
+use steps::Steps;
+use views::View;
+
+/// A kernel as a line writes it.
+#[derive(Drop)]
+pub(crate) struct Written {
+    pub kernel: KernelText,
+    pub lanes: u32,
+}
+
+/// A kernel that can run on a view.
+#[derive(Drop)]
+pub(crate) struct Fitted {
+    pub kernel: Kernel,
+    pub lanes: usize,
+}
+
+/// Runs the kernel of a `kernel` line, which may name any view, and gives its number, if it gives one. A value that a strict view does not take
+/// leaves the rows before it changed.
+pub fn run_kernel<L: Ledger>(
+    alloc: Global,
+    view: &mut View,
+    line: &[u8],
+    blank: Blank,
+) -> Result<Option<i64>, Refusal>
+    requires name { blank.name ≡ L.name }
+    requires parts { blank.parts ≡ L.parts }
+    requires some { 0 < blank.parts }
+    ensures { TellsLeft (kernel_number line.now view.old) (after_kernel line.now view.old) view.old result view.new }
+{
+    let fit = fit_to(alloc, view, line)?;
+    let mut steps = Steps::<L>::new(blank);
+    match run_lanes(view, &fit.kernel, fit.lanes, &mut steps) {
+        Ok(number) => Ok(number),
+        Err(fault) => Err(kernel_refusal(fault)),
+    }
+}
+
+// The kernel of a line, fit to a view.
+fn fit_to(alloc: Global, view: &View, line: &[u8]) -> Result<Fitted, Refusal>
+    ensures fit { Tells fitted_of (fitted line.now view.now) result }
+    ensures able { IfOk result (λ fit. IsKernelOf view.now fit.kernel) }
+    ensures lanes { IfOk result (λ fit. (1 ≤ fit.lanes) × (fit.lanes ≤ 16)) }
+{
+    let written = kernel_of(line_of(alloc, line, TextOf::First)?)?;
+    let kernel = answered(fit_kernel(alloc, view, &written.kernel, written.lanes))?;
+    let lanes = written.lanes as usize;
+    Ok(Fitted { kernel, lanes })
+}
+
+// The kernel that a line names.
+fn kernel_of(line: Line) -> Result<Written, Refusal>
+    ensures { Tells written_of (kernel_told (sentence_of line)) result }
+{
+    match line {
+        Line::Kernel {
+            view: _,
+            kernel,
+            lanes,
+        } => Ok(Written { kernel, lanes }),
+        other => {
+            drop(other);
+            Err(Refusal::OtherLine(TextOf::First))
+        }
+    }
+}

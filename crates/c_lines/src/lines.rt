@@ -1,0 +1,31 @@
+// The line that a text of a call is.
+ghost use Rattle.std.specs.Prelude.{◌≡◌, ◌≤◌, IfOk};
+ghost use Rattle.line_grammar.specs.Sentences.{sentence_of};
+ghost use Rattle.schema_lang.specs.Parsing.{IsWhole};
+ghost use Rattle.c_answers.specs.Answers.{Tells};
+ghost use Rattle.c_lines.specs.Lines.{line_told};
+
+use c_answers::{Refusal, TextOf};
+use line_grammar::{Line, Version};
+use schema_lang::{LineFault, MAX_LINE_BYTES, parse_line};
+use std::alloc::Global;
+
+/// The line of the second version of the language that a text is.
+#[tactic(auto, unfolding(crate::specs::Lines::line_told))]
+pub fn line_of(alloc: Global, text: &[u8], which: TextOf) -> Result<Line, Refusal>
+    ensures told { Tells sentence_of (line_told which text.now) result }
+    ensures whole { IfOk result IsWhole }
+{
+    if text.len() > MAX_LINE_BYTES {
+        return Err(Refusal::LineTooLong(which));
+    }
+    match parse_line(alloc, text, Version::Two) {
+        Ok(line) => Ok(line),
+        Err(LineFault::Syntax { column }) => Err(Refusal::Syntax {
+            text: which,
+            column,
+        }),
+        Err(LineFault::TooDeep) => Err(Refusal::TooDeep(which)),
+        Err(LineFault::NoMemory) => Err(Refusal::NoMemory),
+    }
+}

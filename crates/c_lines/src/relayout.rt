@@ -1,0 +1,73 @@
+// A table that is laid out anew.
+ghost use Rattle.std.specs.Prelude.{◌≡◌, ◌<◌};
+ghost use Rattle.line_grammar.specs.Sentences.{sentence_of};
+ghost use Rattle.map_expr.specs.Terms.{term_of};
+ghost use Rattle.c_answers.specs.Answers.{Tells, TellsLeft};
+ghost use Rattle.c_lines.specs.Relaid.{after_relaid, mapping_told, relaid, zeros_told};
+ghost use Rattle.c_lines.specs.Told.{done_of};
+
+use crate::copies::copy_into;
+use crate::lines::line_of;
+use crate::told::answered;
+use c_answers::{Refusal, TextOf};
+use command_checks::{MappingList, made, nameless};
+use line_grammar::Line;
+use map_expr::MapExpr;
+use std::alloc::Global;
+use std::sync::ledger::{Blank, Ledger};
+use views::View;
+
+/// Lays the table of a view out as a `relayout` line says, which may name any view. On a refusal the old view stays; where the new one does not
+/// hold a value, it was read up to that. The old one lives until the new one has its values.
+pub fn lay_anew<L: Ledger>(
+    alloc: Global,
+    view: &mut View,
+    line: &[u8],
+    blank: Blank,
+) -> Result<(), Refusal>
+    requires name { blank.name ≡ L.name }
+    requires parts { blank.parts ≡ L.parts }
+    requires some { 0 < blank.parts }
+    ensures { TellsLeft (done_of (relaid line.now view.old)) (after_relaid (relaid line.now view.old) view.old) view.old result view.new }
+{
+    let mut fresh = zeros_like(alloc, view, line)?;
+    match copy_into::<L>(view, &mut fresh, blank) {
+        Ok(()) => {
+            *view = fresh;
+            Ok(())
+        }
+        Err(refusal) => {
+            drop(fresh);
+            Err(refusal)
+        }
+    }
+}
+
+// Zeros in the shape of a view, under the mapping of a line.
+fn zeros_like(alloc: Global, view: &View, line: &[u8]) -> Result<View, Refusal>
+    ensures { Tells (λ view. view) (zeros_told line.now view.now) result }
+{
+    let written = mapping_of(line_of(alloc, line, TextOf::First)?)?;
+    let expr = answered(nameless(alloc, &MappingList::new(alloc), &written))?;
+    answered(made(
+        alloc,
+        &[],
+        view.mode(),
+        view.schema(),
+        view.extents(),
+        &expr,
+    ))
+}
+
+// The mapping of a line.
+fn mapping_of(line: Line) -> Result<MapExpr, Refusal>
+    ensures { Tells term_of (mapping_told (sentence_of line)) result }
+{
+    match line {
+        Line::Relayout { view: _, expr } => Ok(expr),
+        other => {
+            drop(other);
+            Err(Refusal::OtherLine(TextOf::First))
+        }
+    }
+}
