@@ -1,6 +1,7 @@
-/* The time of llama_get_run and of llama_get beside loops of C over the same bytes: a leaf of a million rows, as soa, as aosoa and in bits.
+/* The time of llama_get_run, llama_set_run and llama_get beside C over the same bytes: a leaf of a million rows, as soa, as aosoa and in bits. What
+ * stands beside a run is a loop that is not inlined, and beside a single read an accessor that is.
  *
- * gcc -O2 -Iinclude bench/runs.c lib/libllama.a -o runs && ./runs 100
+ * gcc -std=gnu99 -O2 -Iinclude bench/runs.c lib/libllama.a -o runs && ./runs 100
  */
 #include <inttypes.h>
 #include <stdio.h>
@@ -10,7 +11,8 @@
 
 #include "llama.h"
 
-enum { ROWS = 1000000, LANES = 16, BITS = 20 };
+/* STRIDE has no factor in common with ROWS, so each row comes once. */
+enum { ROWS = 1000000, LANES = 16, BITS = 20, STRIDE = 1009 };
 
 static int64_t values[ROWS];
 
@@ -24,8 +26,9 @@ static void must(int32_t answer) {
 /* The leaf x of a view of ROWS rows, row r of which is r % 1000. */
 static void make(llama_view *view, const char *line) {
     static const char record[] = "record P { x: i32, y: u32 }";
-    uint64_t column = 0, row;
-    must(llama_new(view, (const uint8_t *)record, strlen(record), (const uint8_t *)line, strlen(line), &column));
+    llama_fault fault = LLAMA_NO_FAULT;
+    uint64_t row;
+    must(llama_new(view, (const uint8_t *)record, strlen(record), (const uint8_t *)line, strlen(line), &fault));
     for (row = 0; row < ROWS; row++) {
         must(llama_set(view, row, 0, (int64_t)(row % 1000)));
     }
@@ -51,33 +54,44 @@ static uint8_t *bytes_of(int form) {
     return bytes;
 }
 
-__attribute__((noinline)) static void loop_soa(const uint8_t *bytes, int64_t *into, uint64_t rows) {
-    uint64_t row;
-    for (row = 0; row < rows; row++) {
-        int32_t value;
-        memcpy(&value, bytes + 4 * row, 4);
-        into[row] = value;
-    }
+/* The accessors of the three layouts. */
+static inline int64_t get_soa(const uint8_t *bytes, uint64_t row) {
+    int32_t value;
+    memcpy(&value, bytes + 4 * row, 4);
+    return value;
 }
 
-__attribute__((noinline)) static void loop_aosoa(const uint8_t *bytes, int64_t *into, uint64_t rows) {
-    uint64_t row;
-    for (row = 0; row < rows; row++) {
-        int32_t value;
-        memcpy(&value, bytes + row / LANES * LANES * 8 + row % LANES * 4, 4);
-        into[row] = value;
-    }
+static inline int64_t get_aosoa(const uint8_t *bytes, uint64_t row) {
+    int32_t value;
+    memcpy(&value, bytes + row / LANES * LANES * 8 + row % LANES * 4, 4);
+    return value;
 }
 
-__attribute__((noinline)) static void loop_bits(const uint8_t *bytes, int64_t *into, uint64_t rows) {
-    uint64_t row;
-    for (row = 0; row < rows; row++) {
-        const uint64_t at = row * BITS;
-        uint32_t word;
-        memcpy(&word, bytes + at / 8, 4);
-        into[row] = (int32_t)(word >> at % 8 << (32 - BITS)) >> (32 - BITS);
-    }
+static inline int64_t get_bits(const uint8_t *bytes, uint64_t row) {
+    const uint64_t at = row * BITS;
+    uint32_t word;
+    memcpy(&word, bytes + at / 8, 4);
+    return (int32_t)(word >> at % 8 << (32 - BITS)) >> (32 - BITS);
 }
+
+/* A loop that reads a run, and one that sums single reads in an order that is not that of the rows. */
+#define LOOPS(form)                                                                                             \
+    __attribute__((noinline)) static void loop_##form(const uint8_t *bytes, int64_t *into, uint64_t rows) {     \
+        for (uint64_t row = 0; row < rows; row++) {                                                             \
+            into[row] = get_##form(bytes, row);                                                                 \
+        }                                                                                                       \
+    }                                                                                                           \
+    __attribute__((noinline)) static int64_t each_##form(const uint8_t *bytes, uint64_t rows) {                 \
+        int64_t sum = 0;                                                                                        \
+        for (uint64_t k = 0; k < rows; k++) {                                                                   \
+            sum += get_##form(bytes, k * STRIDE % rows);                                                        \
+        }                                                                                                       \
+        return sum;                                                                                             \
+    }
+
+LOOPS(soa)
+LOOPS(aosoa)
+LOOPS(bits)
 
 static double seconds(void) { return (double)clock() / CLOCKS_PER_SEC; }
 
@@ -89,42 +103,50 @@ int main(int argc, char **argv) {
     };
     static const char *const names[] = {"soa", "aosoa", "bits"};
     static void (*const loops[])(const uint8_t *, int64_t *, uint64_t) = {loop_soa, loop_aosoa, loop_bits};
+    static int64_t (*const eachs[])(const uint8_t *, uint64_t) = {each_soa, each_aosoa, each_bits};
     const int rounds = argc > 1 ? atoi(argv[1]) : 20;
-    int form;
-    for (form = 0; form < 3; form++) {
+    for (int form = 0; form < 3; form++) {
         llama_view view = LLAMA_NONE;
+        llama_fault fault = LLAMA_NO_FAULT;
         uint8_t *bytes = bytes_of(form);
-        double begin, by_loop, by_run, by_get;
+        double begin, by_loop, by_run, by_store, by_each, by_get;
         int64_t sum = 0, value = 0;
-        uint64_t row;
-        int round;
         make(&view, lines[form]);
         begin = seconds();
-        for (round = 0; round < rounds; round++) {
+        for (int round = 0; round < rounds; round++) {
             loops[form](bytes, values, ROWS);
             sum += values[round];
         }
         by_loop = seconds() - begin;
         begin = seconds();
-        for (round = 0; round < rounds; round++) {
+        for (int round = 0; round < rounds; round++) {
             must(llama_get_run(&view, 0, 0, values, ROWS));
             sum -= values[round];
         }
         by_run = seconds() - begin;
-        for (row = 0; row < ROWS; row++) {
+        for (uint64_t row = 0; row < ROWS; row++) {
             if (values[row] != (int64_t)(row % 1000)) {
                 fprintf(stderr, "row %" PRIu64 " differs\n", row);
                 return 1;
             }
         }
         begin = seconds();
-        for (row = 0; row < ROWS; row++) {
-            must(llama_get(&view, row, 0, &value));
-            sum += value;
+        for (int round = 0; round < rounds; round++) {
+            must(llama_set_run(&view, 0, 0, values, ROWS, &fault));
+        }
+        by_store = seconds() - begin;
+        begin = seconds();
+        sum += eachs[form](bytes, ROWS);
+        by_each = seconds() - begin;
+        begin = seconds();
+        for (uint64_t k = 0; k < ROWS; k++) {
+            must(llama_get(&view, k * STRIDE % ROWS, 0, &value));
+            sum -= value;
         }
         by_get = seconds() - begin;
-        printf("%-6s loop %.2f ns, llama_get_run %.2f ns (%.2f times), llama_get %.2f ns, sum %" PRId64 "\n", names[form], 1e9 * by_loop / rounds / ROWS,
-               1e9 * by_run / rounds / ROWS, by_run / by_loop, 1e9 * by_get / ROWS, sum);
+        printf("%-6s loop %.2f ns, llama_get_run %.2f ns (%.2f times), llama_set_run %.2f ns, accessor %.2f ns, llama_get %.2f ns (%.2f more), sum %" PRId64 "\n",
+               names[form], 1e9 * by_loop / rounds / ROWS, 1e9 * by_run / rounds / ROWS, by_run / by_loop, 1e9 * by_store / rounds / ROWS, 1e9 * by_each / ROWS,
+               1e9 * by_get / ROWS, 1e9 * (by_get - by_each) / ROWS, sum);
         llama_drop(&view);
         free(bytes);
     }

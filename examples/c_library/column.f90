@@ -8,13 +8,20 @@ module llama
     type(c_ptr) :: at = c_null_ptr
   end type
 
+  type, bind(c) :: llama_fault
+    integer(c_int32_t) :: cause = 0
+    integer(c_int64_t) :: row = 0
+    integer(c_size_t) :: leaf = 0
+    integer(c_int64_t) :: column = 0
+  end type
+
   interface
-    integer(c_int32_t) function llama_new(out, first, first_len, second, second_len, column) bind(c)
+    integer(c_int32_t) function llama_new(out, first, first_len, second, second_len, fault) bind(c)
       import
       type(llama_view), intent(inout) :: out
       character(kind=c_char), intent(in) :: first(*), second(*)
       integer(c_size_t), value :: first_len, second_len
-      integer(c_int64_t), intent(out) :: column
+      type(llama_fault), intent(inout) :: fault
     end function
 
     integer(c_int32_t) function llama_set(view, row, leaf, number) bind(c)
@@ -45,8 +52,9 @@ program column
   character(*), parameter :: record_line = 'record Atom { charge: i8, level: u32 }'
   character(*), parameter :: view_line = 'view Atoms : Atom [100] as bitsoa(8 { level: 20 }, row)'
   type(llama_view) :: view
-  integer(c_int64_t) :: stop_column, row, levels(100)
-  call must(llama_new(view, record_line, len(record_line, c_size_t), view_line, len(view_line, c_size_t), stop_column))
+  type(llama_fault) :: fault
+  integer(c_int64_t) :: row, levels(100)
+  call must(llama_new(view, record_line, len(record_line, c_size_t), view_line, len(view_line, c_size_t), fault))
   do row = 0, 99
     call must(llama_set(view, row, 1_c_size_t, row * row))
   end do

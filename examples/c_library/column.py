@@ -1,4 +1,4 @@
-"""A column of a view in a numpy array, which the library fills: nothing is copied on the way. LLAMA_LIBRARY names the library."""
+"""A column of a view from and to numpy arrays, which the library reads and fills: nothing is copied on the way. LLAMA_LIBRARY names the library."""
 import ctypes
 import os
 
@@ -11,9 +11,14 @@ class View(ctypes.Structure):
     _fields_ = [('full', ctypes.c_bool), ('at', ctypes.c_void_p)]
 
 
-library.llama_new.argtypes = [ctypes.POINTER(View), ctypes.c_char_p, ctypes.c_size_t, ctypes.c_char_p, ctypes.c_size_t, ctypes.POINTER(ctypes.c_uint64)]
+class Fault(ctypes.Structure):
+    _fields_ = [('cause', ctypes.c_int32), ('row', ctypes.c_uint64), ('leaf', ctypes.c_size_t), ('column', ctypes.c_uint64)]
+
+
+library.llama_new.argtypes = [ctypes.POINTER(View), ctypes.c_char_p, ctypes.c_size_t, ctypes.c_char_p, ctypes.c_size_t, ctypes.POINTER(Fault)]
 library.llama_set.argtypes = [ctypes.POINTER(View), ctypes.c_uint64, ctypes.c_size_t, ctypes.c_int64]
 library.llama_get_run.argtypes = [ctypes.POINTER(View), ctypes.c_uint64, ctypes.c_size_t, ctypes.POINTER(ctypes.c_int64), ctypes.c_size_t]
+library.llama_set_run.argtypes = [*library.llama_get_run.argtypes, ctypes.POINTER(Fault)]
 library.llama_drop.argtypes = [ctypes.POINTER(View)]
 library.llama_drop.restype = None
 
@@ -24,18 +29,24 @@ def must(answer):
 
 
 def make(view, first, second):
-    column = ctypes.c_uint64()
-    must(library.llama_new(view, first, len(first), second, len(second), column))
+    must(library.llama_new(view, first, len(first), second, len(second), Fault()))
+
+
+def numbers(values):
+    return values.ctypes.data_as(ctypes.POINTER(ctypes.c_int64))
 
 
 def read(view, first, leaf, values):
-    must(library.llama_get_run(view, first, leaf, values.ctypes.data_as(ctypes.POINTER(ctypes.c_int64)), len(values)))
+    must(library.llama_get_run(view, first, leaf, numbers(values), len(values)))
+
+
+def store(view, first, leaf, values):
+    must(library.llama_set_run(view, first, leaf, numbers(values), len(values), Fault()))
 
 
 view = View()
 make(view, b'record Cell { heat: i16, kind: u8 }', b'view Cells : Cell [100, 10] as soa(multi, row)')
-for row in range(1000):
-    must(library.llama_set(view, row, 0, row - 500))
+store(view, 0, 0, numpy.arange(-500, 500, dtype=numpy.int64))
 heat = numpy.zeros(300, dtype=numpy.int64)
 read(view, 350, 0, heat)
 print(heat[0], heat[-1], heat.sum())

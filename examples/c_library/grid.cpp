@@ -12,8 +12,8 @@
 class View {
 public:
     View(std::string_view record, std::string_view view) {
-        std::uint64_t column = 0;
-        must(llama_new(&handle_, bytes(record), record.size(), bytes(view), view.size(), &column));
+        llama_fault fault = LLAMA_NO_FAULT;
+        must(llama_new(&handle_, bytes(record), record.size(), bytes(view), view.size(), &fault));
     }
 
     View(const View &) = delete;

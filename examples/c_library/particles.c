@@ -25,8 +25,8 @@ static void must(int32_t answer, const char *call) {
 }
 
 static void make(llama_view *view, const char *line) {
-    uint64_t column = 0;
-    must(llama_new(view, (const uint8_t *)RECORD, strlen(RECORD), (const uint8_t *)line, strlen(line), &column), "llama_new");
+    llama_fault fault = LLAMA_NO_FAULT;
+    must(llama_new(view, (const uint8_t *)RECORD, strlen(RECORD), (const uint8_t *)line, strlen(line), &fault), "llama_new");
 }
 
 static int64_t sum_of(llama_view *view, size_t leaf, int64_t *values) {
@@ -54,9 +54,10 @@ static void copy_back(llama_view *view, int64_t *values) {
     llama_view other = LLAMA_NONE;
     const uint64_t index[] = {1000}, outside[] = {ROWS};
     uint64_t row = 0, rows = 0;
-    size_t leaf = 0, leaves = 0;
+    size_t leaves = 0;
+    llama_fault fault = LLAMA_NO_FAULT;
     make(&other, VIEWS[0]);
-    must(llama_copy(view, &other, &row, &leaf), "llama_copy");
+    must(llama_copy(view, &other, &fault), "llama_copy");
     must(llama_row(&other, index, 1, &row), "llama_row");
     must(llama_rows(&other, &rows), "llama_rows");
     must(llama_leaves(&other, &leaves), "llama_leaves");
@@ -75,12 +76,14 @@ int main(int argc, char **argv) {
     }
     for (form = 0; form < sizeof VIEWS / sizeof VIEWS[0]; form++) {
         int64_t value = 0;
+        llama_fault fault = LLAMA_NO_FAULT;
         make(&view, VIEWS[form]);
         for (row = 0; row < ROWS; row++) {
-            must(llama_set(&view, (uint64_t)row, X, 3 * row - 6000), "llama_set");
+            values[row] = 3 * row - 6000;
             must(llama_set(&view, (uint64_t)row, MASS, row), "llama_set");
             must(llama_set(&view, (uint64_t)row, ALIVE, row % 2), "llama_set");
         }
+        must(llama_set_run(&view, 0, X, values, ROWS, &fault), "llama_set_run");
         must(llama_get(&view, 1000, X, &value), "llama_get");
         printf("%" PRId64 " %" PRId64 " %" PRId64 " %" PRId64 "\n", value, sum_of(&view, X, values), sum_of(&view, MASS, values), sum_of(&view, ALIVE, values));
         printf("%d %d %d\n", (int)llama_set(&view, 0, MASS, 65536), (int)llama_get(&view, ROWS, X, &value), (int)llama_get(&view, 0, 3, &value));

@@ -1,21 +1,101 @@
--- What the calls that make a view and that measure one answer and leave.
-use Rattle.std.specs.Prelude.{ℕ, ◌≡◌, ℤ, pos, List, length, Bool, ◌&&◌, is_some, Option, Some, Ok}
-use Rattle.views.specs.Tables.{Table, leaf_count_of}
-use Rattle.c_calls.specs.Answers.{Answer}
-use Rattle.c_lines.specs.Lines.{IsDescribed}
+-- What calls answer and leave, by what their handles held.
+use Rattle.std.specs.Prelude.{ℕ, ◌≡◌, ◌⊎◌, ℤ, pos, List, length, Option, Some, None, Ok, Err}
+use Rattle.views.specs.Tables.{Table, leaf_count_of, owners_of, after_log}
+use Rattle.views.specs.Tallies.{Read, all_accesses}
+use Rattle.c_answers.specs.Answers.{Answer, Tells, TellsLeft, code_of, number_of, on_held}
+use Rattle.c_answers.specs.Faults.{fault_or, fault_of}
+use Rattle.c_answers.specs.declared.refusal.Fault.{Fault}
+use Rattle.c_answers.specs.declared.refusal.Refusal.TheVariants.{NoView, NoMemory}
+use Rattle.c_buffers.specs.Buffers.{TellsPut}
+use Rattle.c_lines.specs.Copies.{source_after, target_after, was_copied}
 
--- the handle holds what two lines describe where the call is done, and else what it held
-pub record IsNew (first second : List ℕ) (code : ℤ) (old new : Option Table) : Type 0 where
-  pub made : code ≡ pos 0 → (table : Table) × (new ≡ Some table) × IsDescribed first second table
-  pub kept : (code ≡ pos 0 → ⊥) → new ≡ old
-
--- how many rows and how many leaves a table has
+-- how many rows, leaves and blobs a table has
 abbrev pub row_count : Table → Answer ℕ
 row_count table = Ok (length table.rows)
 
 abbrev pub leaf_count : Table → Answer ℕ
 leaf_count table = Ok (leaf_count_of table)
 
--- two handles hold views
-abbrev pub are_held : Option Table → Option Table → Bool
-are_held source target = is_some source && is_some target
+abbrev pub blob_count : Table → Answer ℕ
+blob_count table = Ok (length (owners_of table))
+
+-- ---- views that are made
+
+-- what a handle holds after a call that makes a view
+abbrev pub held_or : Option Table → Answer Table → Option Table
+held_or old (Ok made) = Some made
+held_or old (Err refusal) = old
+
+-- a call that makes this view, or tells this refusal, but for want of memory: its number, its fault, and what the handle holds
+pub record IsMade (told : Answer Table) (code : ℤ) (old new : Option Table) (fault fault_new : Fault) : Type 0 where
+  pub answer : Answer Table
+  pub tells : Tells (λ view. view) told answer
+  pub code_is : code ≡ code_of answer
+  pub held : new ≡ held_or old answer
+  pub fault_is : fault_new ≡ fault_or fault answer
+
+-- ---- tables that are changed
+
+-- a call that answers this of a table and leaves that, but for want of memory, on a handle that held a table
+pub record IsChanged {A : Type 0} (told : Answer A) (after table : Table) (answer : Answer A) (new : Option Table) : Type 0 where
+  pub left : Table
+  pub tells : TellsLeft told after table answer left
+  pub held : new ≡ Some left
+
+-- the same on any handle
+abbrev pub Changes : {A : Type 0} → (Table → Answer A) → (Table → Table) → Option Table → Answer A → Option Table → Type 0
+Changes told after None answer new = (answer ≡ Err NoView) × (new ≡ None)
+Changes told after (Some table) answer new = IsChanged (told table) (after table) table answer new
+
+-- its number and its fault
+pub record IsDone {A : Type 0} (told : Table → Answer A) (after : Table → Table) (old new : Option Table) (code : ℤ) (fault fault_new : Fault) : Type 0 where
+  pub answer : Answer A
+  pub changes : Changes told after old answer new
+  pub code_is : code ≡ code_of answer
+  pub fault_is : fault_new ≡ fault_or fault answer
+
+-- the number that a kernel gives, and the caller's own where it gives none
+abbrev pub number_or : ℤ → Answer (Option ℤ) → ℤ
+number_or old (Ok (Some number)) = number
+number_or old (Ok None) = old
+number_or old (Err refusal) = old
+
+-- the same with the number of a kernel
+pub record IsKernel (told : Table → Answer (Option ℤ)) (after : Table → Table) (old new : Option Table) (code value value_new : ℤ) (fault fault_new : Fault) : Type 0 where
+  pub answer : Answer (Option ℤ)
+  pub changes : Changes told after old answer new
+  pub code_is : code ≡ code_of answer
+  pub value_is : value_new ≡ number_or value answer
+  pub fault_is : fault_new ≡ fault_or fault answer
+
+-- ---- two handles
+
+abbrev pub copy_told : Option Table → Option Table → Answer (Unit {0})
+copy_told (Some source) (Some target) = was_copied source target
+copy_told (Some source) None = Err NoView
+copy_told None target = Err NoView
+
+abbrev pub source_left : Option Table → Option Table → Option Table
+source_left (Some source) (Some target) = Some (source_after (was_copied source target) source)
+source_left (Some source) None = Some source
+source_left None target = None
+
+abbrev pub target_left : Option Table → Option Table → Option Table
+target_left (Some source) (Some target) = Some (target_after (was_copied source target) source target)
+target_left (Some source) None = None
+target_left None target = target
+
+-- ---- buffers
+
+-- a call that puts these bytes of a table into a buffer, but for want of memory: an empty handle has none
+pub record IsPutInto (told : Answer (List ℕ)) (code : ℤ) (buffer buffer_new : List ℕ) (needed needed_new : ℕ) : Type 0 where
+  pub answer : Answer (Unit {0})
+  pub tells : TellsPut told buffer needed answer buffer_new needed_new
+  pub code_is : code ≡ code_of answer
+
+-- the table of a handle after it was printed; where memory ran out, some values were read
+abbrev pub IsReadOnce : Option Table → ℤ → Option Table → Type 0
+IsReadOnce None code new = new ≡ None
+IsReadOnce (Some table) code new =
+    ((code ≡ number_of NoMemory) × (left : Table) × (new ≡ Some left) × (left ≡ record table { tally = left.tally }))
+    ⊎ (new ≡ Some (after_log table (all_accesses Read (leaf_count_of table) (length table.rows))))

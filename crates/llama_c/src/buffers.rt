@@ -1,0 +1,75 @@
+// What is copied into buffers of the caller.
+ghost use Rattle.std.specs.Prelude.{◌≡◌, Ok, None, pos};
+ghost use Rattle.c_answers.specs.Answers.{code_of, on_held};
+ghost use Rattle.c_buffers.specs.Buffers.{blob_told, buffer_after, file_told, needed_after, printed, put_told};
+ghost use Rattle.llama_c.specs.Calls.{IsPutInto, IsReadOnce};
+
+use crate::answers::code;
+use c_answers::Refusal;
+use c_buffers::{put_blob, put_file, put_table};
+use std::alloc::Global;
+use std::marker::Brand;
+use std::sync::ledger::Blank;
+use view_handles::Handle;
+
+/// The text of a table, as a script prints it.
+#[unsafe(no_mangle)]
+pub extern "C" fn llama_print(
+    alloc: Global,
+    view: &mut Handle,
+    text: &mut [u8],
+    needed: &mut usize,
+) -> i32
+    ensures empty { view.old.part.held ≡ None → result ≡ pos 1 }
+    ensures put { IsPutInto (on_held (λ table. Ok (printed table)) view.old.part.held) result text.old text.new needed.old needed.new }
+    ensures left { IsReadOnce view.old.part.held result view.new.part.held }
+{
+    let Some(mut held) = view.take(alloc) else {
+        return Refusal::NoView.number();
+    };
+    let answer = put_table::<Brand>(alloc, &mut held, text, needed, Blank::new(1));
+    *view = Handle::new(alloc, Some(held));
+    code(answer)
+}
+
+/// The bytes of the file that a view saves as.
+#[unsafe(no_mangle)]
+pub extern "C" fn llama_save(
+    alloc: Global,
+    view: &mut Handle,
+    bytes: &mut [u8],
+    needed: &mut usize,
+) -> i32
+    ensures empty { view.old.part.held ≡ None → result ≡ pos 1 }
+    ensures put { IsPutInto (on_held file_told view.old.part.held) result bytes.old bytes.new needed.old needed.new }
+    ensures left { view.new.part.held ≡ view.old.part.held }
+{
+    let Some(held) = view.take(alloc) else {
+        return Refusal::NoView.number();
+    };
+    let answer = put_file(alloc, &held, bytes, needed);
+    *view = Handle::new(alloc, Some(held));
+    code(answer)
+}
+
+/// The bytes of a blob of a view.
+#[unsafe(no_mangle)]
+pub extern "C" fn llama_blob(
+    alloc: Global,
+    view: &mut Handle,
+    blob: usize,
+    bytes: &mut [u8],
+    needed: &mut usize,
+) -> i32
+    ensures answer { result ≡ code_of (put_told (on_held (blob_told blob) view.old.part.held) bytes.old) }
+    ensures bytes { bytes.new ≡ buffer_after (on_held (blob_told blob) view.old.part.held) bytes.old }
+    ensures needed { needed.new ≡ needed_after (on_held (blob_told blob) view.old.part.held) needed.old }
+    ensures left { view.new.part.held ≡ view.old.part.held }
+{
+    let Some(held) = view.take(alloc) else {
+        return Refusal::NoView.number();
+    };
+    let answer = put_blob(&held, blob, bytes, needed);
+    *view = Handle::new(alloc, Some(held));
+    code(answer)
+}

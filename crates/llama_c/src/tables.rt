@@ -1,0 +1,88 @@
+// Calls on whole tables.
+ghost use Rattle.std.specs.Prelude.{◌≡◌};
+ghost use Rattle.c_answers.specs.Answers.{code_of};
+ghost use Rattle.c_answers.specs.Faults.{fault_or};
+ghost use Rattle.c_lines.specs.KernelLines.{after_kernel, kernel_number};
+ghost use Rattle.c_lines.specs.Relaid.{after_relaid, relaid};
+ghost use Rattle.c_lines.specs.Told.{done_of};
+ghost use Rattle.llama_c.specs.Calls.{copy_told, source_left, target_left, IsDone, IsKernel};
+
+use crate::answers::{refused, told};
+use c_answers::{DONE, Fault, Refusal};
+use c_lines::{copy_into, lay_anew, run_kernel};
+use std::alloc::Global;
+use std::marker::Brand;
+use std::sync::ledger::Blank;
+use view_handles::Handle;
+
+/// Makes the table of a view that of another with the same record and the same extents, as the target keeps its values. A strict target that
+/// does not hold a value has the rows before it; the fault names the row and the leaf of that value.
+#[unsafe(no_mangle)]
+pub extern "C" fn llama_copy(
+    alloc: Global,
+    source: &mut Handle,
+    target: &mut Handle,
+    fault: &mut Fault,
+) -> i32
+    ensures answer { result ≡ code_of (copy_told source.old.part.held target.old.part.held) }
+    ensures fault { fault.new ≡ fault_or fault.old (copy_told source.old.part.held target.old.part.held) }
+    ensures source { source.new.part.held ≡ source_left source.old.part.held target.old.part.held }
+    ensures target { target.new.part.held ≡ target_left source.old.part.held target.old.part.held }
+{
+    let Some(mut from) = source.take(alloc) else {
+        return refused(Refusal::NoView, fault);
+    };
+    let Some(mut to) = target.take(alloc) else {
+        *source = Handle::new(alloc, Some(from));
+        return refused(Refusal::NoView, fault);
+    };
+    let answer = copy_into::<Brand>(&mut from, &mut to, Blank::new(1));
+    *source = Handle::new(alloc, Some(from));
+    *target = Handle::new(alloc, Some(to));
+    told(answer, fault)
+}
+
+/// Lays the table of a view out as a `relayout` line says. On a refusal the old view stays.
+#[unsafe(no_mangle)]
+pub extern "C" fn llama_relayout(
+    alloc: Global,
+    view: &mut Handle,
+    line: &[u8],
+    fault: &mut Fault,
+) -> i32
+    ensures { IsDone (λ table. done_of (relaid line.now table)) (λ table. after_relaid (relaid line.now table) table)
+        view.old.part.held view.new.part.held result fault.old fault.new }
+{
+    let Some(mut held) = view.take(alloc) else {
+        return refused(Refusal::NoView, fault);
+    };
+    let answer = lay_anew::<Brand>(alloc, &mut held, line, Blank::new(1));
+    *view = Handle::new(alloc, Some(held));
+    told(answer, fault)
+}
+
+/// Runs the kernel of a `kernel` line over the rows of a view, and gives its number, if it gives one.
+#[unsafe(no_mangle)]
+pub extern "C" fn llama_kernel(
+    alloc: Global,
+    view: &mut Handle,
+    line: &[u8],
+    value: &mut i64,
+    fault: &mut Fault,
+) -> i32
+    ensures { IsKernel (kernel_number line.now) (after_kernel line.now) view.old.part.held view.new.part.held result value.old value.new fault.old fault.new }
+{
+    let Some(mut held) = view.take(alloc) else {
+        return refused(Refusal::NoView, fault);
+    };
+    let answer = run_kernel::<Brand>(alloc, &mut held, line, Blank::new(1));
+    *view = Handle::new(alloc, Some(held));
+    match answer {
+        Ok(Some(number)) => {
+            *value = number;
+            DONE
+        }
+        Ok(None) => DONE,
+        Err(refusal) => refused(refusal, fault),
+    }
+}
