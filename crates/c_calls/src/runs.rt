@@ -95,7 +95,14 @@ fn read_near<N: Number64, L: Ledger>(
     let blocks = rest.len() / 16;
     let (whole, back) = rest.split_at_mut(16 * blocks);
     read_blocks(view, near, kind, block, whole);
-    read_each(view, kind, 16 * (block + blocks as u64), near.leaf, back, steps);
+    read_each(
+        view,
+        kind,
+        16 * (block + blocks as u64),
+        near.leaf,
+        back,
+        steps,
+    );
 }
 
 // How many rows stand from this one up to the next block of sixteen.
