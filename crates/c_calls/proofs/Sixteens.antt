@@ -1,9 +1,9 @@
 -- Sixteen numbers that are put side by side.
-use Rattle.std.proofs.Common.{◌≡◌, ℕ, zero, suc, ◌+◌, ◌<◌, ◌≤◌, List, [], ◌∷◌, ◌++◌, length, take, set, replicate, ℤ, pos, Some, Result, Ok, Err, FitsSigned, w64, refl, sym, ap, subst, ◌∙◌, arith, take_all}
+use Rattle.std.proofs.Common.{◌≡◌, ℕ, zero, suc, ◌+◌, ◌<◌, ◌≤◌, List, [], ◌∷◌, ◌++◌, length, take, set, replicate, ℤ, pos, Some, Result, Ok, Err, FitsSigned, w64, refl, sym, ap, ◌∙◌, arith, take_all}
 use Rattle.std.specs.Result.{OkIff, result_ok}
 use Rattle.std.specs.Simd.Lanes.{Each1}
 use Rattle.std.proofs.lemmas.Int.{ints}
-use Rattle.std.proofs.lemmas.List.{length-replicate, length-set}
+use Rattle.std.proofs.lemmas.List.{length-set}
 use Rattle.std.proofs.lemmas.Simd.{Each1-replicate}
 use Rattle.lanes.specs.Blocks.{IsBlock}
 

@@ -1,8 +1,7 @@
 -- Runs of values that are stored in a leaf, one behind another.
 use Rattle.std.proofs.Common.{◌≡◌, ℕ, zero, suc, ◌+◌, ◌-◌, ◌*◌, ◌<◌, ◌≤◌, List, [], ◌∷◌, ◌++◌, length, map, take, drop, get_or, set, ℤ, Option, Some, None, Result, Ok, Err, refl, sym, ap, subst, ◌∙◌, arith, take_all}
-use Rattle.std.specs.List.{range_with_len}
 use Rattle.std.specs.Option.{option_or}
-use Rattle.std.proofs.lemmas.List.{append-nil, append_assoc, length-append, length-drop, get_or-map, length-map, length-take-le, map-append, drop-map, take-map, take-append-drop, take-append-le, take_more}
+use Rattle.std.proofs.lemmas.List.{length-append, length-drop, get_or-map, length-map, length-take-le, map-append, drop-map, take-map, take-append-drop, take-append-le, take_more}
 use Rattle.std.proofs.Math.Seq.{take-add, take-append-add, take-length}
 use Rattle.c_answers.specs.Answers.{Answer}
 use Rattle.c_answers.specs.Refusals.{store_refusal}
@@ -253,6 +252,23 @@ module _ {A : Type 0} (number : A → ℤ) (numbers : List A) where
       ap (λ (m : ℕ). take m (map number numbers)) is ∙ take-add at n (map number numbers)
       ∙ ap (λ (vs : List ℤ). take at (map number numbers) ++ vs)
       (ap (take n) (drop-map number at numbers) ∙ take-map number n (drop at numbers) ∙ ap (λ (m : ℕ). map number (take m (drop at numbers))) (sym same))
+
+  -- two parts of an array
+  parted : (at : ℕ) (front back : List A) → front ≡ take at numbers → back ≡ drop at numbers → map number front ++ map number back ≡ map number numbers
+  parted at front back first rest =
+      sym (map-append number front back) ∙ ap (λ (xs : List A). map number (xs ++ back)) first ∙ ap (λ (xs : List A). map number (take at numbers ++ xs)) rest
+      ∙ ap (map number) (take-append-drop at numbers)
+
+  module _ (at first leaf : ℕ) (front back : List A) (front_is : front ≡ take at numbers) (back_is : back ≡ drop at numbers) (old : Table) where
+    pub front_stopped : (new : Table) (refusal : Refusal) → IsSet first leaf (map number front) old new (Err refusal) → IsSet first leaf (map number numbers) old new (Err refusal)
+    front_stopped new refusal is =
+        subst (λ (vs : List ℤ). IsSet first leaf vs old new (Err refusal)) (parted at front back front_is back_is) (set_stopped first leaf (map number front) (map number back) old new refusal is)
+
+    pub back_then : (second : ℕ) (mid new : Table) (answer : Answer (Unit {0})) → second ≡ first + length front → IsSet first leaf (map number front) old mid (Ok tt)
+        → IsSet second leaf (map number back) mid new answer → IsSet first leaf (map number numbers) old new answer
+    back_then second mid new answer at_second one other =
+        subst (λ (vs : List ℤ). IsSet first leaf vs old new answer) (parted at front back front_is back_is)
+        (set_then first leaf second (map number front) (map number back) old mid new answer (omega (arith, at_second, length-map front number)) one other)
 
   -- and a block of sixteen
   pub block_long : (k : ℕ) → 16 * k + 16 ≤ length numbers → length (map number (take (16 * k + 16 - 16 * k) (drop (16 * k) numbers))) ≡ 16

@@ -1,8 +1,8 @@
-use Rattle.std.proofs.Common.{rules, ◌≡◌, ◌+◌, length, map, ℤ, w64, set, FitsSigned, SFits, to_z, of_z, arith, sym, ap, subst, ◌∙◌}
+use Rattle.std.proofs.Common.{rules, ◌+◌, map, ℤ, w64, set, FitsSigned, SFits, to_z, of_z, arith, sym, subst, ◌∙◌}
 use Rattle.std.specs.Int.{w128}
 use Rattle.std.proofs.lemmas.Int.{to_z-of_z}
 use Rattle.c_calls.proofs.StoredRuns.{value_more}
-use Rattle.c_calls.proofs.Sixteens.{HasLanes, lane_more, all_lanes, tried}
+use Rattle.c_calls.proofs.Sixteens.{HasLanes, lane_more, tried}
 use Rattle.c_calls.proofs.stores.block_of.Goals as goal
 
 pub loop-lane-preserved : goal.loop-lane-preserved

@@ -1,4 +1,4 @@
-use Rattle.std.proofs.Common.{◌≡◌, ◌*◌, length, map, List, ℤ, sym, ap, ◌∙◌, arith, take_all}
+use Rattle.std.proofs.Common.{◌*◌, map, List, ℤ, sym, ap, ◌∙◌, arith, take_all}
 use Rattle.std.proofs.lemmas.List.{length-map}
 use Rattle.views.specs.Columns.{column_writes, with_column}
 use Rattle.views.specs.Tables.{kept_of, after_stores}

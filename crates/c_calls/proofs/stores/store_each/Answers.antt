@@ -1,11 +1,10 @@
-use Rattle.std.proofs.Common.{rules, ◌≡◌, ◌+◌, ◌∷◌, [], length, map, take, Ok, Err, ℕ, ℤ, SFits, sym, ap, subst, ◌∙◌, arith}
+use Rattle.std.proofs.Common.{rules, ◌≡◌, ◌+◌, ◌∷◌, [], length, map, take, Ok, Err, ℤ, SFits, sym, ap, subst, ◌∙◌, arith}
 use Rattle.std.specs.Int.{w128}
 use Rattle.std.proofs.lemmas.Int.{to_z-of_z}
 use Rattle.std.proofs.lemmas.List.{length-map}
-use Rattle.c_answers.specs.Refusals.{store_refusal}
 use Rattle.views.specs.Stores.{told}
-use Rattle.views.specs.Tables.{Table, answer_of, leaf_count_of, after_write}
-use Rattle.c_calls.proofs.StoredRuns.{IsSet, nothing_set, one_set, one_refused, run_more, run_stopped, run_whole, value_more, left_as, still_rows}
+use Rattle.views.specs.Tables.{answer_of, after_write}
+use Rattle.c_calls.proofs.StoredRuns.{IsSet, nothing_set, one_set, one_refused, run_more, run_stopped, value_more, left_as, still_rows}
 use Rattle.c_calls.proofs.stores.store_each.Given.{Over}
 use Rattle.c_calls.proofs.stores.store_each.Goals as goal
 
