@@ -1,6 +1,5 @@
 // One leaf of rows one after another, from an array.
-ghost use Rattle.std.specs.Prelude.{◌≡◌, ◌+◌, ◌*◌, ◌%◌, ◌<◌, ◌≤◌, length, map, IfSome};
-ghost use Rattle.lanes.specs.Blocks.{IsBlock};
+ghost use Rattle.std.specs.Prelude.{◌≡◌, ◌+◌, ◌*◌, ◌%◌, ◌<◌, ◌≤◌, true, false, length, map, IfSome, None};
 ghost use Rattle.views.specs.NearStores.{IsNearColumn};
 ghost use Rattle.views.specs.Tables.{leaf_count_of};
 ghost use Rattle.c_calls.specs.Runs.{run_fault, told_run, stored_count, with_run, was_set_run, after_set_run};
