@@ -1,5 +1,5 @@
 // What is written, in memory.
-ghost use Rattle.std.specs.Prelude.{◌≡◌, Some};
+ghost use Rattle.std.specs.Prelude.{◌≡◌, [], Some};
 
 use layout_io::{Failed, Sink};
 use std::alloc::Global;
@@ -14,7 +14,7 @@ pub(crate) struct ByteSink {
 impl ByteSink {
     /// One that has taken nothing.
     pub fn new(alloc: Global) -> ByteSink
-        ensures { Some result.bytes.items ≡ Some [] }
+        ensures { result.bytes.items ≡ [] }
     {
         ByteSink {
             bytes: Vec::new(alloc),

@@ -5,11 +5,7 @@ ghost use Rattle.c_buffers.specs.Buffers.{buffer_after, needed_after, put_told};
 use c_answers::Refusal;
 
 /// Copies bytes to the front of a buffer that has room for them, and tells how many they are. Where it has none it stays as it is.
-pub(crate) fn copy_out(
-    bytes: &[u8],
-    buffer: &mut [u8],
-    needed: &mut usize,
-) -> Result<(), Refusal>
+pub(crate) fn copy_out(bytes: &[u8], buffer: &mut [u8], needed: &mut usize) -> Result<(), Refusal>
     ensures told { result ≡ put_told (Ok bytes.now) buffer.old }
     ensures buffer { buffer.new ≡ buffer_after (Ok bytes.now) buffer.old }
     ensures needed { needed.new ≡ needed_after (Ok bytes.now) needed.old }

@@ -38,7 +38,9 @@ pub fn open_view<L: Ledger>(alloc: Global, bytes: &[u8], blank: Blank) -> Result
     ensures { Tells (λ view. view) (opened_told bytes.now) result }
 {
     let mut steps = Steps::<L>::new(blank);
-    match read_file(alloc, bytes, &mut steps) {
+    let opened = read_file(alloc, bytes, &mut steps);
+    drop(steps);
+    match opened {
         Ok(view) => Ok(view),
         Err(fault) => Err(file_refusal(fault)),
     }

@@ -32,7 +32,9 @@ pub fn put_table<L: Ledger>(
 {
     let mut sink = ByteSink::new(alloc);
     let mut steps = Steps::<L>::new(blank);
-    match print_rows(view, &mut sink, &mut steps) {
+    let printed = print_rows(view, &mut sink, &mut steps);
+    drop(steps);
+    match printed {
         Ok(()) => copy_out(sink.taken(), buffer, needed),
         Err(_) => Err(Refusal::NoMemory),
     }

@@ -1,5 +1,5 @@
 // The blobs of a view.
-ghost use Rattle.std.specs.Prelude.{◌≡◌, ◌<◌, ◌++◌, drop, length};
+ghost use Rattle.std.specs.Prelude.{◌≡◌, ◌<◌, ◌≤◌, ◌++◌, Ok, drop, length};
 ghost use Rattle.views.specs.Tables.{owners_of};
 ghost use Rattle.c_buffers.specs.Buffers.{blob_told, buffer_after, needed_after, put_told};
 
@@ -29,13 +29,23 @@ pub fn put_blob(
     if blob >= blob_count(view) {
         return Err(Refusal::NoPlace);
     }
-    let bytes = view.blob(blob);
+    let bytes = blob_of(view, blob);
     *needed = bytes.len();
     if bytes.len() > buffer.len() {
         return Err(Refusal::NoRoom);
     }
     put_bytes(bytes, buffer);
     Ok(())
+}
+
+// The bytes of a blob of a view.
+fn blob_of(view: &View, blob: usize) -> &Blob
+    requires { blob < length (owners_of view.now) }
+    ensures { blob_told blob view.now ≡ Ok result.now }
+{
+    let bytes = view.blob(blob);
+    bytes.bytes_law();
+    bytes
 }
 
 // Makes the front of a buffer the bytes of a blob. The loop becomes a copy of sixteen at a time.
