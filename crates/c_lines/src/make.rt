@@ -245,12 +245,14 @@ fn zeros_for(alloc: Global, asked: &Asked, found: &Found, csv: &[u8]) -> Result<
         asked.new.words.as_slice(),
         Some(rows),
     ))?;
-    answered(made(
+    let view = answered(made(
         alloc,
         &[],
         found.mode,
         &asked.record.schema,
         extents,
         &found.expr,
-    ))
+    ))?;
+    let _rows = view.schema();
+    Ok(view)
 }
