@@ -1,0 +1,4 @@
+pub mod Copied
+pub mod Answering
+pub mod Making
+pub mod Relaying

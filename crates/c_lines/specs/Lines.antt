@@ -4,7 +4,7 @@ use Rattle.csv_rows.specs.Datasets.{records_of, rows_of}
 use Rattle.csv_rows.specs.Loads.{dataset_of}
 use Rattle.csv_rows.specs.declared.fault.RowFault.{RowFault}
 use Rattle.extents.specs.declared.words.ExtentWord.{ExtentWord}
-use Rattle.line_grammar.specs.Sentences.{Sentence, New, Define, View, deepest}
+use Rattle.line_grammar.specs.Sentences.{Sentence, New, Define, View, Load, deepest}
 use Rattle.line_grammar.specs.declared.version.Version.TheVariants.{Two}
 use Rattle.schema_lang.specs.LineOf.{line_of}
 use Rattle.views.specs.Tallies.{Write, all_accesses}
@@ -39,23 +39,28 @@ abbrev pub new_told : Sentence → Answer New
 new_told (View new) = Ok new
 new_told _ = Err (OtherLine Second)
 
+-- and a `load` line, whose file is not looked at
+abbrev pub load_told : Sentence → Answer New
+load_told (Load new file) = Ok new
+load_told _ = Err (OtherLine Second)
+
 -- a world with a record, and what makes a view in it, of two lines
 pub record Asked : Type 0 where
   pub world : World
   pub new : New
 
-abbrev pub asked : List ℕ → List ℕ → Answer Asked
-asked first second = do
+abbrev pub asked : (Sentence → Answer New) → List ℕ → List ℕ → Answer Asked
+asked makes first second = do
   definition ← line_told First first
   world ← world_told definition
   sentence ← line_told Second second
-  new ← new_told sentence
+  new ← makes sentence
   Ok (record { world = world; new = new })
 
 -- the table of zeros that two lines describe
 abbrev pub described : List ℕ → List ℕ → Answer Table
 described first second = do
-  what ← asked first second
+  what ← asked new_told first second
   told (new_table what.world what.new)
 
 -- a table with what it keeps of the values of a dataset, each written once
@@ -69,16 +74,20 @@ zeros_for whole words csv = do
   extents ← told (resolved words (Some (length (rows_of (records_of csv)))))
   told (made [] whole.mode whole.fields extents whole.mapping)
 
--- the table of a dataset that is not too long
+-- a dataset that is not too long
+abbrev pub short_told : List ℕ → Answer (Unit {0})
+short_told csv = if nat_lt (2 ^ 28) (length csv) then Err TooBig else Ok tt
+
+-- the table of such a dataset
 abbrev pub filled : World → New → List ℕ → Answer Table
 filled world new csv = do
   whole ← told (named world new)
-  short ← (if nat_lt (2 ^ 28) (length csv) then Err TooBig else Ok tt)
+  short ← short_told csv
   zeros ← zeros_for whole new.words csv
   with_dataset zeros (dataset_of zeros (records_of csv))
 
 -- the table that two lines and a dataset describe
 abbrev pub loaded : List ℕ → List ℕ → List ℕ → Answer Table
 loaded first second csv = do
-  what ← asked first second
+  what ← asked load_told first second
   filled what.world what.new csv

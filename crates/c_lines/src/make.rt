@@ -1,15 +1,15 @@
 // A view of the two lines that describe it, and of a dataset.
-ghost use Rattle.std.specs.Prelude.{◌≡◌, ◌≤◌, ◌^◌, IfOk, OnOk, true, length};
+ghost use Rattle.std.specs.Prelude.{◌≡◌, ◌<◌, IfOk, OnOk, true, length};
 ghost use Rattle.csv_rows.specs.Datasets.{records_of, rows_of};
 ghost use Rattle.extents.specs.Shapes.{IsShape};
 ghost use Rattle.line_grammar.specs.Sentences.{sentence_of};
 ghost use Rattle.schema_lang.specs.Parsing.{IsWhole};
 ghost use Rattle.map_expr.specs.Terms.{term_of};
-ghost use Rattle.worlds.specs.View.{named};
+ghost use Rattle.worlds.specs.View.{named, new_table};
 ghost use Rattle.command_checks.specs.Bases.{is_nameless};
 ghost use Rattle.c_answers.specs.Answers.{Tells};
-ghost use Rattle.c_lines.specs.Lines.{asked, described, loaded, new_told, world_told, zeros_for};
-ghost use Rattle.c_lines.specs.Makes.{asked_filled, asked_of, named_of, new_of, world_of};
+ghost use Rattle.c_lines.specs.Lines.{described, load_told, loaded, new_told, world_told, zeros_for};
+ghost use Rattle.c_lines.specs.Makes.{asked_filled, named_of, new_of, world_of};
 ghost use Rattle.c_lines.specs.Told.{told};
 
 use crate::lines::line_of;
@@ -66,13 +66,16 @@ pub(crate) struct Found {
 pub fn new_view(alloc: Global, first: &[u8], second: &[u8]) -> Result<View, Refusal>
     ensures { Tells (λ view. view) (described first.now second.now) result }
 {
-    let asked = ask(alloc, first, second)?;
+    let record = record_of(alloc, line_of(alloc, first, TextOf::First)?)?;
+    let new = new_of(line_of(alloc, second, TextOf::Second)?)?;
+    let asked = Asked { record, new };
     let made = zeros_of(alloc, &asked);
     drop(asked);
     made
 }
 
-/// The view that they and a dataset describe, as of a `load` line: `?` among its extents stands for what the rows of the dataset leave.
+/// The view of a dataset that a `record` line and a `load` line describe, as in a script of these two lines whose file holds the dataset; which file
+/// the line names is not looked at. `?` among the extents stands for what the rows of the dataset leave.
 pub fn loaded_view<L: Ledger>(
     alloc: Global,
     first: &[u8],
@@ -85,21 +88,13 @@ pub fn loaded_view<L: Ledger>(
     requires some { 0 < blank.parts }
     ensures { Tells (λ view. view) (loaded first.now second.now csv.now) result }
 {
-    let asked = ask(alloc, first, second)?;
+    let record = record_of(alloc, line_of(alloc, first, TextOf::First)?)?;
+    let new = load_of(line_of(alloc, second, TextOf::Second)?)?;
+    let asked = Asked { record, new };
     let mut steps = Steps::<L>::new(blank);
     let made = filled_view(alloc, &asked, csv, &mut steps);
     drop(asked);
     made
-}
-
-// A record, and what makes a view of it, of two lines.
-fn ask(alloc: Global, first: &[u8], second: &[u8]) -> Result<Asked, Refusal>
-    ensures { Tells asked_of (asked first.now second.now) result }
-{
-    let line = line_of(alloc, first, TextOf::First)?;
-    let record = record_of(alloc, line)?;
-    let new = new_of(line_of(alloc, second, TextOf::Second)?)?;
-    Ok(Asked { record, new })
 }
 
 // The record that a line names.
@@ -139,6 +134,35 @@ fn new_of(line: Line) -> Result<NewView, Refusal>
             wrap,
             expr,
         }),
+        other => {
+            drop(other);
+            Err(Refusal::OtherLine(TextOf::Second))
+        }
+    }
+}
+
+// What a line loads into a view; its file is not looked at.
+fn load_of(line: Line) -> Result<NewView, Refusal>
+    ensures { Tells new_of (load_told (sentence_of line)) result }
+{
+    match line {
+        Line::Load {
+            name,
+            schema,
+            words,
+            wrap,
+            expr,
+            file,
+        } => {
+            drop(file);
+            Ok(NewView {
+                name,
+                schema,
+                words,
+                wrap,
+                expr,
+            })
+        }
         other => {
             drop(other);
             Err(Refusal::OtherLine(TextOf::Second))
@@ -221,12 +245,14 @@ fn zeros_for(alloc: Global, asked: &Asked, found: &Found, csv: &[u8]) -> Result<
         asked.new.words.as_slice(),
         Some(rows),
     ))?;
-    answered(made(
+    let view = answered(made(
         alloc,
         &[],
         found.mode,
         &asked.record.schema,
         extents,
         &found.expr,
-    ))
+    ))?;
+    let _rows = view.schema();
+    Ok(view)
 }

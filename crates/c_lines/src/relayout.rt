@@ -1,5 +1,6 @@
 // A table that is laid out anew.
-ghost use Rattle.std.specs.Prelude.{◌≡◌, ◌<◌};
+ghost use Rattle.std.specs.Prelude.{◌≡◌, ◌<◌, IfOk};
+ghost use Rattle.layout_copy.specs.Copies.{AreAlike};
 ghost use Rattle.line_grammar.specs.Sentences.{sentence_of};
 ghost use Rattle.map_expr.specs.Terms.{term_of};
 ghost use Rattle.c_answers.specs.Answers.{Tells, TellsLeft};
@@ -45,7 +46,8 @@ pub fn lay_anew<L: Ledger>(
 
 // Zeros in the shape of a view, under the mapping of a line.
 fn zeros_like(alloc: Global, view: &View, line: &[u8]) -> Result<View, Refusal>
-    ensures { Tells (λ view. view) (zeros_told line.now view.now) result }
+    ensures told { Tells (λ view. view) (zeros_told line.now view.now) result }
+    ensures alike { IfOk result (AreAlike view.now) }
 {
     let written = mapping_of(line_of(alloc, line, TextOf::First)?)?;
     let expr = answered(nameless(alloc, &MappingList::new(alloc), &written))?;

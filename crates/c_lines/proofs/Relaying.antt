@@ -1,0 +1,167 @@
+-- Tables that are laid out anew, by the tests that refuse them and by the copy.
+use Rattle.std.specs.Prelude.{IfOk}
+use Rattle.std.proofs.Common.{◌≡◌, ◌⊎◌, inl, inr, ⊎_elim, ℕ, true, false, nat_lt, List, [], length, Option, Some, None, Result, Ok, Err, refl, sym, ap, subst, ◌∙◌}
+use Rattle.std.proofs.lemmas.Bool.{cases_Bool}
+use Rattle.layout_copy.specs.Copies.{AreAlike, Spot, refused_at}
+use Rattle.line_grammar.specs.Sentences as line
+use Rattle.line_grammar.specs.Sentences.{Sentence, deepest}
+use Rattle.line_grammar.specs.declared.version.Version.TheVariants.{Two}
+use Rattle.schema_lang.specs.LineOf.{line_of}
+use Rattle.map_expr.specs.Terms.{Term}
+use Rattle.kept_tables.specs.declared.mode.StoreMode.{StoreMode}
+use Rattle.views.specs.Tables.{Table, answer_of}
+use Rattle.worlds.specs.Names.{nameless}
+use Rattle.worlds.specs.Outcomes.{Outcome, Goes, Faults, CannotRead}
+use Rattle.worlds.specs.Tables.{made, zeros_of}
+use Rattle.worlds.specs.declared.fault.CommandFault.{CommandFault}
+use Rattle.worlds.specs.declared.fault.CommandFault.TheVariants as fault
+use Rattle.command_checks.specs.AlikeLaws.{alike}
+use Rattle.command_checks.specs.declared.fault.StepFault.{StepFault}
+use Rattle.c_answers.specs.Answers.{Answer, Tells, TellsLeft, ◌>>=◌}
+use Rattle.c_answers.specs.declared.refusal.Refusal.{Refusal}
+use Rattle.c_answers.specs.declared.refusal.Refusal.TheVariants.{NoMemory, Narrow}
+use Rattle.c_answers.specs.declared.refusal.TextOf.{TextOf}
+use Rattle.c_answers.specs.declared.refusal.TextOf.TheVariants.{First}
+use Rattle.c_lines.specs.Copies.{was_copied, source_after, target_after, told_rows}
+use Rattle.c_lines.specs.Lines.{line_told, shallow}
+use Rattle.c_lines.specs.Relaid.{after_relaid, mapping_told, relaid, zeros_told}
+use Rattle.c_lines.specs.Told.{told, done_of, refusal_of}
+use Rattle.c_lines.proofs.Answering.{Refuses}
+
+-- the zeros of a line in the shape of a table
+pub like_refused : (text : List ℕ) (table : Table) (sentence : Sentence) (term : Term) (refusal : Refusal) → line_told First text ≡ Ok sentence → mapping_told sentence ≡ Ok term →
+    Refuses (told (nameless [] term)) refusal → Refuses (zeros_told text table) refusal
+like_refused text table sentence term refusal one two (inl starved) = inl starved
+like_refused text table sentence term refusal one two (inr is) = inr (rw (one, two, is) refl)
+
+pub like_made : (text : List ℕ) (table : Table) (sentence : Sentence) (term whole : Term) (result : Answer Table) → line_told First text ≡ Ok sentence → mapping_told sentence ≡ Ok term → nameless [] term ≡ Goes whole →
+    Tells (λ view. view) (told (made [] table.mode table.fields table.extents whole)) result → Tells (λ view. view) (zeros_told text table) result
+like_made text table sentence term whole result one two goes tells = rw (one, two, goes) tells
+
+pub zeros_alike : (table : Table) (mode : StoreMode) (term : Term) (given : Result Table StepFault) → IfOk given (λ view. view ≡ zeros_of mode table.fields table.extents term) → IfOk given (AreAlike table)
+zeros_alike table mode term (Ok view) is = (sym (ap (λ (t : Table). t.fields) is), sym (ap (λ (t : Table). t.extents) is))
+zeros_alike table mode term (Err fault) is = tt
+
+-- an answer whose refusal leaves a table that was not read
+abbrev Plain : {A : Type 0} → Answer A → Type 0
+Plain (Ok given) = Unit {0}
+Plain (Err refusal) = (table : Table) → after_relaid (Err refusal) table ≡ table
+
+plain_then : {A B : Type 0} (first : Answer A) (next : A → Answer B) → Plain first → ((x : A) → Plain (next x)) → Plain (first >>= next)
+plain_then (Ok x) next one two = two x
+plain_then (Err refusal) next one two = one
+
+plain_shallow : (which : TextOf) (read : Result Sentence ℕ) → Plain (shallow which read)
+plain_shallow which (Err column) = λ table. refl
+plain_shallow which (Ok sentence) = ⊎_elim
+    (λ (deep : nat_lt 32 (deepest sentence) ≡ true). rw deep (λ table. refl))
+    (λ (low : nat_lt 32 (deepest sentence) ≡ false). rw low tt)
+    (cases_Bool (nat_lt 32 (deepest sentence)))
+
+plain_line : (which : TextOf) (text : List ℕ) → Plain (line_told which text)
+unfolding line_told
+plain_line which text = ⊎_elim
+    (λ (long : nat_lt 4096 (length text) ≡ true). rw long (λ table. refl))
+    (λ (short : nat_lt 4096 (length text) ≡ false). rw short (plain_shallow which (line_of Two text)))
+    (cases_Bool (nat_lt 4096 (length text)))
+
+plain_mapping : (sentence : Sentence) → Plain (mapping_told sentence)
+plain_mapping line.Blank = λ table. refl
+plain_mapping (line.Define a b) = λ table. refl
+plain_mapping (line.Mapping a b) = λ table. refl
+plain_mapping (line.View a) = λ table. refl
+plain_mapping (line.Load a b) = λ table. refl
+plain_mapping (line.Assign a b c d) = λ table. refl
+plain_mapping (line.Update a b c) = λ table. refl
+plain_mapping (line.Actors a b c d e f) = λ table. refl
+plain_mapping (line.Kernel a b c) = λ table. refl
+plain_mapping (line.Reduce a b c) = λ table. refl
+plain_mapping (line.Count a b) = λ table. refl
+plain_mapping (line.Copy a b) = λ table. refl
+plain_mapping (line.Relayout a b) = tt
+plain_mapping (line.Show a b) = λ table. refl
+plain_mapping (line.Drop a) = λ table. refl
+plain_mapping (line.Bytes a b) = λ table. refl
+plain_mapping (line.Save a) = λ table. refl
+plain_mapping (line.Open a b) = λ table. refl
+plain_mapping (line.Advise a b c d e) = λ table. refl
+plain_mapping (line.PrintWindow a b) = λ table. refl
+plain_mapping (line.Stencil a b c d e f) = λ table. refl
+
+plain_fault : (fault : CommandFault) (table : Table) → after_relaid (Err (refusal_of fault)) table ≡ table
+plain_fault (fault.Syntax a) table = refl
+plain_fault fault.TooDeep table = refl
+plain_fault fault.LineTooLong table = refl
+plain_fault fault.BadVersion table = refl
+plain_fault fault.ScriptTooLong table = refl
+plain_fault fault.TooBig table = refl
+plain_fault fault.BadIndex table = refl
+plain_fault fault.BadWindow table = refl
+plain_fault fault.Empty table = refl
+plain_fault fault.Mismatch table = refl
+plain_fault fault.NotCounted table = refl
+plain_fault fault.TooManyViews table = refl
+plain_fault (fault.Unknown a) table = refl
+plain_fault (fault.Taken a) table = refl
+plain_fault (fault.Twice a) table = refl
+plain_fault (fault.MissingColumn a) table = refl
+plain_fault (fault.ColumnTwice a) table = refl
+plain_fault (fault.BadRecord a) table = refl
+plain_fault (fault.BadExtents a) table = refl
+plain_fault (fault.BadMapping a) table = refl
+plain_fault (fault.BadKernel a) table = refl
+plain_fault (fault.BadFile a) table = refl
+plain_fault (fault.BadActors a) table = refl
+plain_fault (fault.BadStencil a) table = refl
+plain_fault (fault.BadAdvice a) table = refl
+plain_fault (fault.SharedByte a b) table = refl
+plain_fault (fault.ShortRow a b) table = refl
+plain_fault (fault.Number a b) table = refl
+plain_fault (fault.Range a b) table = refl
+plain_fault (fault.Narrow a b) table = refl
+plain_fault (fault.Overflow a) table = refl
+plain_fault (fault.DivideByZero a) table = refl
+
+plain_told : {A : Type 0} (outcome : Outcome A) → Plain (told outcome)
+plain_told (Goes given) = tt
+plain_told (Faults fault) = plain_fault fault
+plain_told (CannotRead name) = λ table. refl
+
+plain_zeros : (text : List ℕ) (table : Table) → Plain (zeros_told text table)
+plain_zeros text table = plain_then (line_told First text) _ (plain_line First text)
+    (λ sentence. plain_then (mapping_told sentence) _ (plain_mapping sentence)
+    (λ term. plain_then (told (nameless [] term)) _ (plain_told (nameless [] term))
+    (λ whole. plain_told (made [] table.mode table.fields table.extents whole))))
+
+-- no new table is made
+pub anew_refused : (text : List ℕ) (table : Table) (refusal : Refusal) (result : Answer (Unit {0})) → result ≡ Err refusal → Refuses (zeros_told text table) refusal →
+    TellsLeft (done_of (relaid text table)) (after_relaid (relaid text table) table) table result table
+anew_refused text table refusal result is (inl starved) = rw is (inl (starved, refl))
+anew_refused text table refusal result is (inr told_is) =
+    let plain : Plain {A = Table} (Err refusal) = rw told_is at (plain_zeros text table) in
+    rw (is, told_is) (inr (refl, sym (plain table)))
+
+-- the new table takes the old one's values
+same_answer : (table fresh : Table) → AreAlike table fresh → was_copied table fresh ≡ told_rows (refused_at (answer_of fresh) 0 table.rows)
+same_answer table fresh are = rw (alike table fresh are) refl
+
+pub laid_done : (text : List ℕ) (table fresh new : Table) → zeros_told text table ≡ Ok fresh → AreAlike table fresh → Ok tt ≡ was_copied table fresh → new ≡ target_after (Ok tt) table fresh →
+    TellsLeft (done_of (relaid text table)) (after_relaid (relaid text table) table) table (Ok tt) new
+laid_done text table fresh new zeros are done is =
+    let held : told_rows (refused_at (answer_of fresh) 0 table.rows) ≡ Ok tt = sym (same_answer table fresh are) ∙ sym done in
+    rw (zeros, held) (refl, is)
+
+left_alike : (table : Table) (refusal : Refusal) (what : Option Spot) → told_rows what ≡ Err refusal → source_after (Err refusal) table ≡ after_relaid (Err refusal) table
+left_alike table refusal None is = absurd (cc)
+left_alike table refusal (Some spot) is =
+    let same : Narrow spot.row spot.leaf ≡ refusal = cc in
+    subst (λ (r : Refusal). source_after (Err r) table ≡ after_relaid (Err r) table) same refl
+
+-- or does not take one of them
+pub laid_refused : (text : List ℕ) (table fresh left : Table) (refusal : Refusal) → zeros_told text table ≡ Ok fresh → AreAlike table fresh → Err refusal ≡ was_copied table fresh → left ≡ source_after (Err refusal) table →
+    TellsLeft (done_of (relaid text table)) (after_relaid (relaid text table) table) table (Err refusal) left
+laid_refused text table fresh left refusal zeros are refused is =
+    let what = refused_at (answer_of fresh) 0 table.rows in
+    let held : told_rows what ≡ Err refusal = sym (same_answer table fresh are) ∙ sym refused in
+    let same = left_alike table refusal what held in
+    rw (zeros, held) (inr (refl, is ∙ same))

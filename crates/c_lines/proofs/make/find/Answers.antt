@@ -1,0 +1,22 @@
+use Rattle.std.proofs.Common.{rules, ◌≡◌, []}
+use Rattle.map_expr.specs.Terms.{term_of}
+use Rattle.record_dim.specs.NameBytesLaws.{same_text}
+use Rattle.record_dim.specs.Schemas.{schema_fields}
+use Rattle.worlds.specs.Names.{nameless}
+use Rattle.worlds.specs.Outcomes.{Goes}
+use Rattle.command_checks.specs.Gives.{Gives}
+use Rattle.c_lines.specs.Makes.{named_of, new_of}
+use Rattle.c_lines.proofs.Answering.{goes_ok, ne_false, refused_test, tells_refused}
+use Rattle.c_lines.proofs.Making.{shape_refused}
+use Rattle.c_lines.proofs.make.find.Goals as goal
+
+pub returns-in_err-shape-clause-named : goal.returns-in_err-shape-clause-named
+returns-in_err-shape-clause-named c =
+    let refusal = c.in_err-shape.field-0.0 in
+    let asked = c.args.asked.now in
+    let mapping : Gives term_of c.nameless-2.result (nameless [] (term_of asked.new.expr)) = search rules in
+    let goes = goes_ok term_of c.nameless-2.result (nameless [] (term_of asked.new.expr)) c.in_ok-expr.expr c.in_ok-expr.ensures mapping in
+    let same = same_text asked.new.schema asked.record.name (ne_false c.ne.result _ c.ne.ensures c.if-ne.false) in
+    tells_refused (named_of asked.record) _ refusal c.from_residual-in_err-shape.result (search rules)
+    (shape_refused asked.record.name (schema_fields asked.record.schema) (new_of asked.new) (term_of c.in_ok-expr.expr) refusal same goes
+    (refused_test _ c.shaped.result _ refusal c.in_err-shape.ensures (rw c.as_slice.ensures at c.shaped.ensures.shaped)))
