@@ -1,16 +1,14 @@
 -- What is told of a test of the model, and of one thing after another.
 use Rattle.std.specs.Prelude.{IfOk}
-use Rattle.std.proofs.Common.{◌≡◌, ◌⊎◌, Bool, true, false, not, inl, inr, ⊎_elim, Result, Ok, Err, refl, sym, ap, ◌∙◌}
+use Rattle.std.proofs.Common.{◌≡◌, ◌⊎◌, Bool, true, false, not, inl, inr, ⊎_elim, Result, Ok, Err, refl, ap, ◌∙◌}
 use Rattle.worlds.specs.Outcomes.{Outcome, Goes, Faults, CannotRead}
-use Rattle.worlds.specs.declared.fault.CommandFault.{CommandFault}
-use Rattle.command_checks.specs.GivesLaws.{GivesUp-then}
-use Rattle.command_checks.specs.Gives.{Gives, GivesUp}
+use Rattle.command_checks.specs.Gives.{Gives}
 use Rattle.command_checks.specs.declared.fault.StepFault.{StepFault}
 use Rattle.command_checks.specs.declared.fault.StepFault.TheVariants as step
 use Rattle.c_answers.specs.Answers.{Answer, Tells, ◌>>=◌}
 use Rattle.c_answers.specs.declared.refusal.Refusal.{Refusal}
 use Rattle.c_answers.specs.declared.refusal.Refusal.TheVariants.{NoMemory}
-use Rattle.c_lines.specs.Told.{told, refusal_of}
+use Rattle.c_lines.specs.Told.{told}
 use Rattle.c_lines.specs.Steps.{answered}
 
 -- a refusal, or want of memory

@@ -1,29 +1,22 @@
 -- Views of the words of two lines, by the tests that refuse them.
-use Rattle.std.proofs.Common.{◌≡◌, ◌⊎◌, inl, inr, ⊎_elim, ℕ, Bool, true, false, nat_eq, nat_lt, List, [], length, Option, Some, None, Result, Ok, Err, refl, sym, ap, ◌∙◌}
+use Rattle.std.proofs.Common.{◌≡◌, inl, inr, ℕ, true, nat_eq, List, [], length, Some, None, Ok, Err, refl, ap}
 use Rattle.std.specs.Cmp.Lexicographic.{pointwise}
-use Rattle.std.proofs.lemmas.Bool.{false≢true, cases_Bool}
-use Rattle.record_dim.specs.Leaves.{first_fault}
-use Rattle.record_dim.specs.NameBytesLaws.{same_text, text_self}
-use Rattle.record_dim.specs.Trees.{Tree, Record, Fields}
-use Rattle.record_dim.specs.Schemas.{schema_fields}
-use Rattle.record_dim.specs.declared.fault.BadRecord.{BadRecord as Bad}
+use Rattle.record_dim.specs.NameBytesLaws.{text_self}
+use Rattle.record_dim.specs.Trees.{Fields}
 use Rattle.csv_rows.specs.Datasets.{records_of, rows_of}
 use Rattle.extents.specs.declared.words.ExtentWord.{ExtentWord}
-use Rattle.line_grammar.specs.Sentences.{New, Define}
+use Rattle.line_grammar.specs.Sentences.{New}
 use Rattle.map_expr.specs.Terms.{Term}
-use Rattle.kept_tables.specs.declared.mode.StoreMode.{StoreMode}
 use Rattle.views.specs.Tables.{Table}
-use Rattle.worlds.specs.Define.{define, fields_in}
 use Rattle.worlds.specs.Names.{nameless}
 use Rattle.worlds.specs.Outcomes.{Outcome, Goes, Faults, CannotRead, ◌>>=◌}
 use Rattle.worlds.specs.Tables.{made, resolved, shaped, mode_by}
 use Rattle.worlds.specs.View.{Named, named, new_table}
-use Rattle.worlds.specs.Worlds.{World, Entry, empty, added, same_name}
-use Rattle.command_checks.specs.GivesLaws.{goes_then}
+use Rattle.worlds.specs.Worlds.{World, empty, added}
 use Rattle.c_answers.specs.Answers.{Answer, Tells}
 use Rattle.c_answers.specs.declared.refusal.Refusal.{Refusal}
-use Rattle.c_answers.specs.declared.refusal.Refusal.TheVariants.{NoMemory, Unknown, BadRecord, TooBig}
-use Rattle.c_lines.specs.Lines.{world_told, zeros_for}
+use Rattle.c_answers.specs.declared.refusal.Refusal.TheVariants.{TooBig}
+use Rattle.c_lines.specs.Lines.{zeros_for}
 use Rattle.c_lines.specs.Told.{told, refusal_of}
 use Rattle.c_lines.proofs.Answering.{Refuses, told_goes}
 

@@ -1,6 +1,6 @@
 -- Tables that are laid out anew, by the tests that refuse them and by the copy.
 use Rattle.std.specs.Prelude.{IfOk}
-use Rattle.std.proofs.Common.{◌≡◌, ◌⊎◌, inl, inr, ⊎_elim, ℕ, true, false, nat_lt, List, [], length, Option, Some, None, Result, Ok, Err, refl, sym, ap, subst, ◌∙◌}
+use Rattle.std.proofs.Common.{◌≡◌, inl, inr, ⊎_elim, ℕ, true, false, nat_lt, List, [], length, Option, Some, None, Result, Ok, Err, refl, sym, ap, subst, ◌∙◌}
 use Rattle.std.proofs.lemmas.Bool.{cases_Bool}
 use Rattle.layout_copy.specs.Copies.{AreAlike, Spot, refused_at}
 use Rattle.line_grammar.specs.Sentences as line
@@ -19,7 +19,7 @@ use Rattle.command_checks.specs.AlikeLaws.{alike}
 use Rattle.command_checks.specs.declared.fault.StepFault.{StepFault}
 use Rattle.c_answers.specs.Answers.{Answer, Tells, TellsLeft, ◌>>=◌}
 use Rattle.c_answers.specs.declared.refusal.Refusal.{Refusal}
-use Rattle.c_answers.specs.declared.refusal.Refusal.TheVariants.{NoMemory, Narrow}
+use Rattle.c_answers.specs.declared.refusal.Refusal.TheVariants.{Narrow}
 use Rattle.c_answers.specs.declared.refusal.TextOf.{TextOf}
 use Rattle.c_answers.specs.declared.refusal.TextOf.TheVariants.{First}
 use Rattle.c_lines.specs.Copies.{was_copied, source_after, target_after, told_rows}

@@ -1,5 +1,5 @@
 -- What the lines of a call describe: they are lines of the second version of the language, and mean what they mean in a script.
-use Rattle.std.specs.Prelude.{ℕ, ℤ, ◌^◌, List, [], length, nat_lt, Option, Some, None, Result, Ok, Err, if◌then◌else◌}
+use Rattle.std.specs.Prelude.{ℕ, ℤ, ◌^◌, List, [], length, nat_lt, Some, Result, Ok, Err, if◌then◌else◌}
 use Rattle.csv_rows.specs.Datasets.{records_of, rows_of}
 use Rattle.csv_rows.specs.Loads.{dataset_of}
 use Rattle.csv_rows.specs.declared.fault.RowFault.{RowFault}
@@ -18,7 +18,6 @@ use Rattle.c_answers.specs.declared.refusal.Refusal.TheVariants.{LineTooLong, Sy
 use Rattle.c_answers.specs.declared.refusal.TextOf.{TextOf}
 use Rattle.c_answers.specs.declared.refusal.TextOf.TheVariants.{First, Second}
 use Rattle.c_lines.specs.Told.{told, row_refusal}
-
 
 -- the line that a text is
 abbrev pub shallow : TextOf → Result Sentence ℕ → Answer Sentence

@@ -1,5 +1,5 @@
 -- What the model of scripts makes of a command, as the answer of a call.
-use Rattle.std.specs.Prelude.{ℕ, Result, Ok, Err}
+use Rattle.std.specs.Prelude.{Ok, Err}
 use Rattle.csv_rows.specs.declared.fault.RowFault.{RowFault}
 use Rattle.csv_rows.specs.declared.fault.RowFault.TheVariants as row
 use Rattle.lane_kernels.specs.declared.fault.KernelFault.{KernelFault}

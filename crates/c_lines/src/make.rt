@@ -240,11 +240,7 @@ fn zeros_for(alloc: Global, asked: &Asked, found: &Found, csv: &[u8]) -> Result<
     let Ok(rows) = count_rows(alloc, csv) else {
         return Err(Refusal::NoMemory);
     };
-    let extents = answered(resolved(
-        &found.shape,
-        asked.new.words.as_slice(),
-        Some(rows),
-    ))?;
+    let extents = answered(resolved(&found.shape, asked.new.words.as_slice(), Some(rows)))?;
     let view = answered(made(
         alloc,
         &[],

@@ -1,9 +1,8 @@
-use Rattle.std.proofs.Common.{rules, ◌≡◌, []}
+use Rattle.std.proofs.Common.{rules, []}
 use Rattle.map_expr.specs.Terms.{term_of}
 use Rattle.record_dim.specs.NameBytesLaws.{same_text}
 use Rattle.record_dim.specs.Schemas.{schema_fields}
 use Rattle.worlds.specs.Names.{nameless}
-use Rattle.worlds.specs.Outcomes.{Goes}
 use Rattle.command_checks.specs.Gives.{Gives}
 use Rattle.c_lines.specs.Makes.{named_of, new_of}
 use Rattle.c_lines.proofs.Answering.{goes_ok, ne_false, refused_test, tells_refused}

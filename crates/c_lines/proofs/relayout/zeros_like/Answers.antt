@@ -1,4 +1,4 @@
-use Rattle.std.proofs.Common.{rules, ◌≡◌, []}
+use Rattle.std.proofs.Common.{rules, []}
 use Rattle.layout_copy.specs.Copies.{AreAlike}
 use Rattle.line_grammar.specs.Sentences.{sentence_of}
 use Rattle.map_expr.specs.Terms.{term_of}
