@@ -1,9 +1,9 @@
 -- What calls answer and leave, by what their handles held.
-use Rattle.std.specs.Prelude.{ℕ, ◌≡◌, ◌⊎◌, ℤ, pos, List, length, Option, Some, None, Ok, Err}
+use Rattle.std.specs.Prelude.{ℕ, ◌≡◌, ◌⊎◌, ℤ, List, length, Option, Some, None, Ok, Err}
 use Rattle.views.specs.Tables.{Table, leaf_count_of, owners_of, after_log}
 use Rattle.views.specs.Tallies.{Read, all_accesses}
-use Rattle.c_answers.specs.Answers.{Answer, Tells, TellsLeft, code_of, number_of, on_held}
-use Rattle.c_answers.specs.Faults.{fault_or, fault_of}
+use Rattle.c_answers.specs.Answers.{Answer, Tells, TellsLeft, code_of, number_of}
+use Rattle.c_answers.specs.Faults.{fault_or}
 use Rattle.c_answers.specs.declared.refusal.Fault.{Fault}
 use Rattle.c_answers.specs.declared.refusal.Refusal.TheVariants.{NoView, NoMemory}
 use Rattle.c_buffers.specs.Buffers.{TellsPut}
