@@ -8,10 +8,10 @@ pub returns-in-Some-clause-stored : goal.returns-in-Some-clause-stored
 returns-in-Some-clause-stored g c stored =
     let view = c.args.view.now in
     let leaf = c.args.near.now.leaf in
-    let row = 16 * c.args.block in
+    let first = 16 * c.args.block in
     let values = map g.N.Number64.number c.args.numbers.now in
     c.store_near.ensures.stored stored
-    ∙ ap (λ (vs : List ℤ). after_stores view (with_column leaf row (map (kept_of view leaf) vs) view.rows) (column_writes leaf place 16))
+    ∙ ap (λ (vs : List ℤ). after_stores view (with_column leaf first (map (kept_of view leaf) vs) view.rows) (column_writes leaf first 16))
     (c.in-Some.ensures ∙ sym (take_all 16 values (omega (arith, c.requires.sixteen, length-map c.args.numbers.now g.N.Number64.number))))
 
 pub returns-in-Some-clause-still : goal.returns-in-Some-clause-still
