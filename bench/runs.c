@@ -1,7 +1,7 @@
 /* The time of llama_get_run, llama_set_run and llama_get beside C over the same bytes: a leaf of a million rows, as soa, as aosoa and in bits. What
  * stands beside a run is a loop that is not inlined, and beside a single read an accessor that is.
  *
- * gcc -std=gnu99 -O2 -Iinclude bench/runs.c lib/libllama.a -o runs && ./runs 100
+ * gcc -std=gnu99 -O2 -Iinclude bench/runs.c lib/libllama.a -o runs && ./runs 100 [soa | aosoa | bits]
  */
 #include <inttypes.h>
 #include <stdio.h>
@@ -12,7 +12,7 @@
 #include "llama.h"
 
 /* STRIDE has no factor in common with ROWS, so each row comes once. */
-enum { ROWS = 1000000, LANES = 16, BITS = 20, STRIDE = 1009 };
+enum { ROWS = 1000000, LANES = 16, BITS = 20, STRIDE = 17 };
 
 static int64_t values[ROWS];
 
@@ -106,6 +106,9 @@ int main(int argc, char **argv) {
     static int64_t (*const eachs[])(const uint8_t *, uint64_t) = {each_soa, each_aosoa, each_bits};
     const int rounds = argc > 1 ? atoi(argv[1]) : 20;
     for (int form = 0; form < 3; form++) {
+        if (argc > 2 && strcmp(argv[2], names[form]) != 0) {
+            continue;
+        }
         llama_view view = LLAMA_NONE;
         llama_fault fault = LLAMA_NO_FAULT;
         uint8_t *bytes = bytes_of(form);

@@ -153,7 +153,7 @@ static void places_are_found(void) {
     EXPECT(llama_blobs(&view, &blobs), LLAMA_NO_VIEW);
     EXPECT(llama_row(&view, last, 2, &row), LLAMA_NO_VIEW);
     EXPECT(llama_leaf(&view, TEXT("n"), &leaf), LLAMA_NO_VIEW);
-    make(&view, "record P { pos: { x: i32, y: i32 }, h: u8[3] }", "view V : P [2, 3] as split(pos, soa(multi, row), aos(packed, row))");
+    make(&view, "record P { pos { x: i32, y: i32 }, h: u8[3] }", "view V : P [2, 3] as split(pos, soa(multi, row), aos(packed, row))");
     EXPECT(llama_rows(&view, &rows), LLAMA_DONE);
     EXPECT(rows, 6);
     EXPECT(llama_leaves(&view, &leaves), LLAMA_DONE);

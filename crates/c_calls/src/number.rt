@@ -1,5 +1,5 @@
 // Whole numbers as callers have them.
-ghost use Rattle.std.specs.Prelude.{◌≡◌, ℤ, Bool, true, pos};
+ghost use Rattle.std.specs.Prelude.{◌≡◌, ℤ, Bool, true, pos, map, All};
 ghost use Rattle.record_dim.specs.LeafTypes.{IsDeclared};
 ghost use Rattle.record_dim.specs.declared.leaf_type.LeafType.{LeafType};
 ghost use Rattle.c_calls.specs.Values.{reads_signed, reads_unsigned};
@@ -23,6 +23,12 @@ pub trait Number64: Copy {
         requires reads { reads kind ≡ true }
         ensures { number result ≡ value };
 
+    /// Sixteen values of such a type.
+    fn of_lanes(kind: LeafType, lanes: &[i64; 16]) -> [Self; 16]
+        requires declared { All (IsDeclared kind) lanes.now }
+        requires reads { reads kind ≡ true }
+        ensures { map number result ≡ lanes.now };
+
     /// The number as a value.
     fn value(self) -> i128
         ensures { result ≡ number self };
@@ -44,6 +50,11 @@ impl Number64 for i64 {
     }
 
     #[inline(always)]
+    fn of_lanes(_kind: LeafType, lanes: &[i64; 16]) -> [i64; 16] {
+        *lanes
+    }
+
+    #[inline(always)]
     fn value(self) -> i128 {
         i128::from(self)
     }
@@ -62,6 +73,15 @@ impl Number64 for u64 {
     #[inline(always)]
     fn of(_kind: LeafType, value: i128) -> u64 {
         value as u64
+    }
+
+    #[inline(always)]
+    fn of_lanes(kind: LeafType, lanes: &[i64; 16]) -> [u64; 16] {
+        let mut numbers = [0; 16];
+        for lane in 0..16 {
+            numbers[lane] = u64::of(kind, i128::from(lanes[lane]));
+        }
+        numbers
     }
 
     #[inline(always)]

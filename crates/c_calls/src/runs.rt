@@ -143,9 +143,16 @@ fn put_block<N: Number64>(kind: LeafType, values: &mut [N], at: usize, numbers: 
     requires declared { All (IsDeclared kind) numbers.now }
     ensures { map N.number values.new ≡ take at (map N.number values.old) ++ numbers.now ++ drop (at + 16) (map N.number values.old) }
 {
-    for lane in 0..16 {
-        values[at + lane] = N::of(kind, i128::from(numbers[lane]));
-    }
+    put_sixteen(values, at, &N::of_lanes(kind, numbers));
+}
+
+// The same of numbers of the caller's type.
+#[inline(always)]
+fn put_sixteen<N: Number64>(values: &mut [N], at: usize, numbers: &[N; 16])
+    requires { at + 16 ≤ length values.old }
+    ensures { values.new ≡ take at values.old ++ numbers.now ++ drop (at + 16) values.old }
+{
+    values[at..at + 16].copy_from_slice(numbers);
 }
 
 // Reads a run value by value: first those that are one load each.
