@@ -26,23 +26,23 @@ pub enum WideWay {
 /// The value of a leaf in a row that is one load, by the short form of its rule. Where the way is a constant, nothing is asked.
 #[inline(always)]
 pub fn wide_at(
-    map: &AnyMap,
+    mapping: &AnyMap,
     blobs: &[Blob],
     short: &ShortRule,
     way: WideWay,
     row: u64,
     leaf: usize,
 ) -> i128
-    requires row_in { row < ⟦<AnyMap as Mapping>⟧.slot_count map.now }
-    requires leaf_in { leaf < length (⟦<AnyMap as Mapping>⟧.cell_list map.now) }
-    requires laid { AreLaid (⟦<AnyMap as Mapping>⟧.layout map.now) blobs.now }
-    requires found { IsFoundIn (⟦<AnyMap as Mapping>⟧.layout map.now) (⟦<AnyMap as Mapping>⟧.slot_count map.now)
-        (map (λ cell. cell.kind) (⟦<AnyMap as Mapping>⟧.cell_list map.now)) (⟦<AnyMap as Mapping>⟧.hold_list map.now) leaf short.now }
+    requires row_in { row < ⟦<AnyMap as Mapping>⟧.slot_count mapping.now }
+    requires leaf_in { leaf < length (⟦<AnyMap as Mapping>⟧.cell_list mapping.now) }
+    requires laid { AreLaid (⟦<AnyMap as Mapping>⟧.layout mapping.now) blobs.now }
+    requires found { IsFoundIn (⟦<AnyMap as Mapping>⟧.layout mapping.now) (⟦<AnyMap as Mapping>⟧.slot_count mapping.now)
+        (map (λ cell. cell.kind) (⟦<AnyMap as Mapping>⟧.cell_list mapping.now)) (⟦<AnyMap as Mapping>⟧.hold_list mapping.now) leaf short.now }
     requires wide { IsWideRow way short.now (length (slice_index_or blobs.now short.now.blob [])) row }
-    ensures { result ≡ entry (table_in (⟦<AnyMap as Mapping>⟧.layout map.now) (⟦<AnyMap as Mapping>⟧.slot_count map.now)
-        (⟦<AnyMap as Mapping>⟧.hold_list map.now) blobs.now) row leaf }
+    ensures { result ≡ entry (table_in (⟦<AnyMap as Mapping>⟧.layout mapping.now) (⟦<AnyMap as Mapping>⟧.slot_count mapping.now)
+        (⟦<AnyMap as Mapping>⟧.hold_list mapping.now) blobs.now) row leaf }
 {
-    laws_of(map);
+    laws_of(mapping);
     let blob = &blobs[short.blob];
     match way {
         WideWay::Whole => whole_wide(blob, short.plain_start(row), &short.field),
