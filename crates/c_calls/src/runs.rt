@@ -249,19 +249,19 @@ fn sixteen_at<N: Number64>(
     wide: &WideColumn,
     way: WideWay,
     kind: LeafType,
-    row: u64,
+    first: u64,
 ) -> [N; 16]
     requires wide { IsWideColumn view.now wide.now }
     requires way { way ≡ wide.now.way }
-    requires wide_in { row + 16 ≤ wide.now.rows }
-    requires rows { row + 16 ≤ length view.now.rows }
+    requires wide_in { first + 16 ≤ wide.now.rows }
+    requires rows { first + 16 ≤ length view.now.rows }
     requires kind { kind ≡ leaf_type_of view.now wide.now.leaf }
     requires reads { N.reads kind ≡ true }
-    ensures { map N.number result ≡ run_of row 16 wide.now.leaf view.now }
+    ensures { map N.number result ≡ run_of first 16 wide.now.leaf view.now }
 {
-    let mut numbers = [N::of(kind, view.wide_value(wide, way, row)); 16];
+    let mut numbers = [N::of(kind, view.wide_value(wide, way, first)); 16];
     for lane in 0..16 {
-        let at = row_at(view, row, lane);
+        let at = row_at(view, first, lane);
         numbers[lane] = N::of(kind, view.wide_value(wide, way, at));
     }
     numbers
