@@ -15,7 +15,7 @@ use Rattle.instrument.specs.Counters.{granules_of}
 use Rattle.advisor.specs.Touched.{is_bit_in, holds_bit, touched_blob, touched}
 
 -- a test along renamed owners
-any_map : {X Y : Type 0} (test : Y → Bool) (f : X → Y) (xs : List X) → list_any test (map f xs) ≡ list_any (λ x. test (f x)) xs
+pub any_map : {X Y : Type 0} (test : Y → Bool) (f : X → Y) (xs : List X) → list_any test (map f xs) ≡ list_any (λ x. test (f x)) xs
 any_map test f [] = refl
 any_map test f (x ∷ xs) = ap (λ b. test (f x) || b) (any_map test f xs)
 
