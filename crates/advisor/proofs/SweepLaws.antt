@@ -1,5 +1,5 @@
 -- The granules that hold a bit of a cell are those that it touches in all rows, and those that its rules touch in all slots.
-use Rattle.std.proofs.Common.{◌≡◌, ℕ, ◌+◌, ◌<◌, ◌≤◌, ◌%◌, ◌==◌, Bool, true, List, All, map, length, get_or, refl, sym, ap, ◌∙◌, subst, arith}
+use Rattle.std.proofs.Common.{◌≡◌, ℕ, ◌+◌, ◌<◌, ◌≤◌, ◌==◌, Bool, true, List, All, length, get_or, refl, sym, ap, ◌∙◌, subst, arith}
 use Rattle.std.specs.List.{list_any, range_with_len}
 use Rattle.std.proofs.lemmas.Bool.{eq-eqb, eqb-true}
 use Rattle.std.proofs.lemmas.List.{length-map, get_or-map}
@@ -9,14 +9,13 @@ use Rattle.places.specs.Layout.{Owner}
 use Rattle.places.specs.Laws.{IsLaidOut, IsPiece}
 use Rattle.places.specs.Touched.{is_in_granule, is_touched, is_hot}
 use Rattle.places.specs.TouchedLaws.{touched_hot as pieces_hot}
-use Rattle.places.specs.declared.piece.Piece.{Piece}
 use Rattle.piece_rules.specs.PieceRules.{piece_in, pieces_in}
 use Rattle.piece_rules.specs.declared.rule.PieceRule.{PieceRule}
 use Rattle.map_any.specs.SlotRules.{ArePlacesOf}
 use Rattle.instrument.specs.Counters.{HeatCounts, IsInside}
 use Rattle.views.specs.Kept.{HasGranules}
 use Rattle.views.specs.CountLaws.{piece_inside}
-use Rattle.advisor.specs.Touched.{holds_bit, holds_cell}
+use Rattle.advisor.specs.Touched.{holds_cell}
 use Rattle.advisor.specs.TouchedLaws.{IsTouchedBy, same_tests, any_map, touched_hot}
 use Rattle.advisor.specs.Steady.{is_run_touched, are_slots_touched}
 

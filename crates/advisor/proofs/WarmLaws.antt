@@ -1,5 +1,5 @@
 -- Granules that were accessed, after accesses of which each touches some.
-use Rattle.std.proofs.Common.{◌≡◌, ℕ, zero, suc, ◌+◌, ◌/◌, ◌^◌, ◌<◌, ◌≤◌, ◌-◌, ◌*◌, ◌==◌, Bool, true, false, List, [], ◌∷◌, All, map, length, get_or, replicate, min, refl, sym, ap, ◌∙◌, subst, cond, take, drop, arith}
+use Rattle.std.proofs.Common.{◌≡◌, ℕ, suc, ◌+◌, ◌/◌, ◌^◌, ◌<◌, ◌≤◌, ◌-◌, ◌*◌, ◌==◌, Bool, true, false, List, [], ◌∷◌, map, length, get_or, replicate, min, refl, sym, ap, ◌∙◌, subst, cond, take, drop, arith}
 use Rattle.std.specs.Prelude.{◌||◌, not, count_by, if◌then◌else◌}
 use Rattle.std.specs.List.{list_any, range_with_len, sum_by}
 use Rattle.std.proofs.Math.Path.{fun_ext}

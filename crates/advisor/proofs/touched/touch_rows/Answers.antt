@@ -1,5 +1,4 @@
 use Rattle.std.proofs.Common.{◌≡◌, ℕ, Bool, List, get_or, map, sym, ap, ◌∙◌, subst, arith}
-use Rattle.std.specs.Prelude.{◌||◌}
 use Rattle.std.specs.List.{list_any, range_with_len}
 use Rattle.places.specs.Touched.{is_hot, is_touched}
 use Rattle.places.specs.TouchedLaws.{touched_same}
