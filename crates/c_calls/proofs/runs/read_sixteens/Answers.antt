@@ -1,4 +1,4 @@
-use Rattle.std.proofs.Common.{◌≡◌, ◌+◌, ◌*◌, ◌≤◌, ◌++◌, length, map, take, drop, ℕ, sym, ap, subst, ◌∙◌, arith}
+use Rattle.std.proofs.Common.{◌≡◌, ◌+◌, ◌*◌, ◌≤◌, ◌++◌, length, map, take, drop, ℕ, refl, sym, ap, subst, ◌∙◌, arith}
 use Rattle.std.proofs.lemmas.List.{drop-drop}
 use Rattle.views.specs.Columns.{column, column_reads}
 use Rattle.c_calls.proofs.Sixteens.{mapped_parts}
@@ -22,4 +22,12 @@ loop-k-preserved g c =
     (ap (map number) c.put_sixteen.ensures ∙ mapped_parts number c.loop-k.values c.sixteen_at-numbers.result _ (16 * k) (16 * k + 16) refl))
 
 pub returns-clause-read : goal.returns-clause-read
-returns-clause-read g c = record { filled = c.loop-k.invariant; log = sym (c.requires.wide.idle (column_reads c.args.wide.leaf c.args.first (16 * c.sixteens-blocks.result))) }
+returns-clause-read g c =
+    let number = g.N.Number64.number in
+    let leaf = c.args.wide.leaf in
+    let values = drop c.args.first (column leaf c.args.view.now.rows) in
+    let end : c.loop-k.k ≡ c.sixteens-blocks.result = omega arith in
+    record {
+      filled = subst (λ (n : ℕ). map number c.loop-k.values ≡ take (16 * n) values ++ drop (16 * n) (map number c.args.values.now)) end c.loop-k.invariant;
+      log = sym (c.requires.wide.idle (column_reads leaf c.args.first (16 * c.sixteens-blocks.result)));
+    }
