@@ -1,5 +1,6 @@
--- A table under the mapping of a line, and a kernel of a line, do what the commands of these lines do.
-use Rattle.std.proofs.Common.{◌≡◌, ℕ, ◌+◌, ◌*◌, ◌^◌, ◌≤◌, ℤ, Bool, List, [], Option, Some, None, Ok, Err, refl, ap}
+-- A table under the mapping of a line, a kernel of a line, and a copy do what the commands of these lines do.
+use Rattle.std.proofs.Common.{◌≡◌, ⊎_elim, ℕ, ◌+◌, ◌*◌, ◌^◌, ◌≤◌, ℤ, Bool, true, false, List, [], ◌∷◌, Option, Some, None, Ok, Err, refl, ap, ◌∙◌}
+use Rattle.std.proofs.lemmas.Bool.{cases_Bool}
 use Rattle.lane_kernels.specs.Kernels.{kernel_fault, number_of}
 use Rattle.lane_kernels.specs.declared.fault.KernelFault.{KernelFault}
 use Rattle.lane_kernels.specs.declared.fault.KernelFault.TheVariants as kernel
@@ -8,22 +9,23 @@ use Rattle.layout_copy.specs.Copies.{Spot, refused_at}
 use Rattle.layout_io.specs.Files.{File}
 use Rattle.line_grammar.specs.Sentences.{Relayout}
 use Rattle.map_expr.specs.Terms.{Term}
+use Rattle.record_dim.specs.NameBytesLaws.{same_text}
 use Rattle.record_dim.specs.Trees.{Fields}
 use Rattle.views.specs.Tables.{Table, answer_of}
-use Rattle.worlds.specs.Copy.{laid_anew, with_rows, relayout}
+use Rattle.worlds.specs.Copy.{all_read, are_alike, copied, copy, laid_anew, relayout, with_rows}
 use Rattle.worlds.specs.Kernel.{fit_kernel, kernel_run, number_text, run, run_fault}
 use Rattle.worlds.specs.Names.{nameless, text_of_leaf}
 use Rattle.worlds.specs.OnView.{Done, done_to, on_view, with_table}
 use Rattle.worlds.specs.Outcomes.{Outcome, Goes, Faults, CannotRead, ◌>>=◌, Left, quiet, shows}
 use Rattle.worlds.specs.Step.{step}
 use Rattle.worlds.specs.Tables.{live_bits, made}
-use Rattle.worlds.specs.Worlds.{World, Entry, found}
+use Rattle.worlds.specs.Worlds.{World, Entry, found, replaced, same_name}
 use Rattle.worlds.specs.declared.fault.CommandFault.TheVariants.{Narrow}
 use Rattle.c_answers.specs.Answers as answer
 use Rattle.c_answers.specs.Answers.{Answer}
 use Rattle.c_answers.specs.declared.refusal.TextOf.TheVariants.{First}
-use Rattle.c_lines.specs.Agreement.{Agrees, IsCause, IsLeft, KernelsAgree, LayoutsAgree}
-use Rattle.c_lines.specs.Copies.{target_after, told_rows}
+use Rattle.c_lines.specs.Agreement.{Agrees, CopiesAgree, IsCause, IsLeft, KernelsAgree, LayoutsAgree, both_left}
+use Rattle.c_lines.specs.Copies.{target_after, told_rows, was_copied}
 use Rattle.c_lines.specs.KernelLines.{Fitted, left_by, number_told, run_left}
 use Rattle.c_lines.specs.Lines.{line_told}
 use Rattle.c_lines.specs.Relaid.{after_relaid, relaid}
@@ -108,3 +110,29 @@ by_fit world name table lanes (CannotRead file) plain = absurd plain
 pub kernels_agree : KernelsAgree
 unfolding step on_view kernel_run
 kernels_agree line name kernel lanes world table files unread is has = rw (is, has) (by_fit world name table lanes (fit_kernel table.fields kernel lanes) (plain_kernel table.fields kernel lanes))
+
+-- another name stands for what it stood for
+found_other : (name other : List ℕ) (held : Table) (entries : List (Entry Table)) → same_name name other ≡ false → found other (replaced name held entries) ≡ found other entries
+found_other name other held [] differ = refl
+found_other name other held (entry ∷ entries) differ = ⊎_elim
+    (λ (is : same_name entry.name name ≡ true).
+    let same : entry.name ≡ name = same_text entry.name name is in
+    let apart : same_name entry.name other ≡ false = rw same differ in
+    rw (is, apart) refl)
+    (λ (no : same_name entry.name name ≡ false). rw (no, found_other name other held entries differ) refl)
+    (cases_Bool (same_name entry.name name))
+
+-- copies
+by_alike : (world : World) (name other : List ℕ) (source target : Table) (same : Bool) (spot : Option Spot) → are_alike source target ≡ same → refused_at (answer_of target) 0 source.rows ≡ spot →
+    Agrees target.fields (λ left done. IsLeft (both_left world name other (was_copied source target) source target) [] left)
+    (copied source target >>= λ new. quiet (with_table (with_table world name (all_read source)) other new)) (was_copied source target)
+unfolding copied with_rows
+by_alike world name other source target true None same is = rw (same, is) refl
+by_alike world name other source target true (Some spot) same is = rw (same, is) refl
+by_alike world name other source target false spot same is = rw same refl
+
+pub copies_agree : CopiesAgree
+unfolding step copy
+copies_agree name other world source target files unread differ has also =
+    let still : found other (replaced name (all_read source) world.views) ≡ Some target = found_other name other (all_read source) world.views differ ∙ also in
+    rw (has, still) (by_alike world name other source target (are_alike source target) (refused_at (answer_of target) 0 source.rows) refl refl)

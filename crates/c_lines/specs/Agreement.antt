@@ -3,7 +3,7 @@ use Rattle.std.specs.Prelude.{ℕ, ◌≡◌, ◌+◌, ◌*◌, ◌^◌, ◌≤�
 use Rattle.layout_io.specs.Files.{File, file_of}
 use Rattle.record_dim.specs.Trees.{Tree, Fields, End}
 use Rattle.kept_tables.specs.declared.mode.StoreMode.{StoreMode}
-use Rattle.line_grammar.specs.Sentences.{Sentence, New, Define, View, Load, Kernel, Relayout}
+use Rattle.line_grammar.specs.Sentences.{Sentence, New, Define, View, Load, Kernel, Copy, Relayout}
 use Rattle.line_grammar.specs.declared.line.KernelText.{KernelText}
 use Rattle.map_expr.specs.Terms.{Term}
 use Rattle.views.specs.Tables.{Table}
@@ -15,7 +15,7 @@ use Rattle.worlds.specs.Outcomes.{Outcome, Goes, Faults, ◌>>=◌, Left}
 use Rattle.worlds.specs.Step.{step}
 use Rattle.worlds.specs.Tables.{blob_bits, live_bits, made}
 use Rattle.worlds.specs.View.{with_view}
-use Rattle.worlds.specs.Worlds.{World, Entry, empty, found, added}
+use Rattle.worlds.specs.Worlds.{World, Entry, empty, found, added, same_name}
 use Rattle.worlds.specs.declared.fault.CommandFault.{CommandFault}
 use Rattle.worlds.specs.declared.fault.CommandFault.TheVariants as fault
 use Rattle.worlds.specs.declared.fault.UnknownName.{UnknownName}
@@ -23,6 +23,7 @@ use Rattle.c_answers.specs.Answers.{Answer}
 use Rattle.c_answers.specs.declared.refusal.Refusal.{Refusal}
 use Rattle.c_answers.specs.declared.refusal.Refusal.TheVariants as refusal
 use Rattle.c_answers.specs.declared.refusal.TextOf.TheVariants.{First, Second}
+use Rattle.c_lines.specs.Copies.{was_copied, source_after, target_after}
 use Rattle.c_lines.specs.KernelLines.{kernel_number, after_kernel}
 use Rattle.c_lines.specs.Lines.{line_told, described, filled, loaded}
 use Rattle.c_lines.specs.Relaid.{relaid, after_relaid}
@@ -37,6 +38,7 @@ IsCause fields (refusal.BadMapping bad) told = told ≡ fault.BadMapping bad
 IsCause fields (refusal.BadKernel bad) told = told ≡ fault.BadKernel bad
 IsCause fields refusal.TooBig told = told ≡ fault.TooBig
 IsCause fields refusal.Empty told = told ≡ fault.Empty
+IsCause fields refusal.Mismatch told = told ≡ fault.Mismatch
 IsCause fields (refusal.MissingColumn leaf) told = told ≡ fault.MissingColumn (text_of_leaf fields leaf)
 IsCause fields (refusal.ColumnTwice leaf) told = told ≡ fault.ColumnTwice (text_of_leaf fields leaf)
 IsCause fields (refusal.ShortRow row leaf) told = told ≡ fault.ShortRow row (text_of_leaf fields leaf)
@@ -106,3 +108,14 @@ KernelsAgree = (line name : List ℕ) (kernel : KernelText) (lanes : ℕ) (world
     line_told First line ≡ Ok (Kernel name kernel lanes) → found name world.views ≡ Some table →
     Agrees table.fields (λ left number. IsLeft (with_table world name (after_kernel line table)) (number_text number) left)
     (step world (Kernel name kernel lanes) files unread) (kernel_number line table)
+
+-- the world of two tables after a copy with this answer
+abbrev pub both_left : World → List ℕ → List ℕ → Answer (Unit {0}) → Table → Table → World
+both_left world name other answer source target = with_table (with_table world name (source_after answer source)) other (target_after answer source target)
+
+-- a copy of a table into another is that of a `copy` in a world in which both have their names
+abbrev pub CopiesAgree : Type 0
+CopiesAgree = (name other : List ℕ) (world : World) (source target : Table) (files : List File) (unread : Bool) →
+    same_name name other ≡ false → found name world.views ≡ Some source → found other world.views ≡ Some target →
+    Agrees target.fields (λ left done. IsLeft (both_left world name other (was_copied source target) source target) [] left)
+    (step world (Copy name other) files unread) (was_copied source target)

@@ -1,4 +1,4 @@
-use Rattle.c_lines.proofs.AgreeingChanges.{kernels_agree, layouts_agree}
+use Rattle.c_lines.proofs.AgreeingChanges.{copies_agree, kernels_agree, layouts_agree}
 use Rattle.c_lines.proofs.AgreeingViews.{datasets_agree, loads_agree, views_agree}
 use Rattle.c_lines.proofs.PlainTests.{tables_leave_room}
 use Rattle.c_lines.proofs.laws.lines_agree.Goals as goal
@@ -20,3 +20,6 @@ returns-clause-relayout c = layouts_agree
 
 pub returns-clause-kernel : goal.returns-clause-kernel
 returns-clause-kernel c = kernels_agree
+
+pub returns-clause-copy : goal.returns-clause-copy
+returns-clause-copy c = copies_agree
