@@ -1,38 +1,14 @@
 -- Copies of the blobs of a table.
-use Rattle.std.proofs.Common.{◌≡◌, ℕ, ◌+◌, ◌*◌, ◌/◌, ◌%◌, ◌^◌, ◌<◌, ◌≤◌, List, [], ◌∷◌, ◌++◌, length, map, get_or, take, replicate, sym, ap, ◌∙◌, arith}
-use Rattle.std.proofs.lemmas.List.{length-map, get_or-map, ext_get_or, take_more, take_all}
-use Rattle.std.proofs.lemmas.List.FromFn.{get_or-map-range_with_len, length-map-range_with_len}
+use Rattle.std.proofs.Common.{◌≡◌, ℕ, ◌+◌, ◌*◌, ◌/◌, ◌<◌, ◌≤◌, List, [], ◌∷◌, ◌++◌, length, map, get_or, take, replicate, sym, ap, ◌∙◌, arith}
+use Rattle.std.proofs.lemmas.List.{length-map, get_or-map, take_more, take_all}
 use Rattle.places.specs.Layout.{Owner}
 use Rattle.places.specs.Image.{bit_held, image}
-use Rattle.places.specs.NumbersLaws.{number_same}
-use Rattle.blobs.specs.Bits.{bit_of, bits_of, AreBytes}
-use Rattle.blobs.specs.BytesLaws.{number_of_byte}
-use Rattle.instrument.specs.BlobTexts.{byte_at, bytes_of}
+use Rattle.blobs.specs.Bits.{bits_of, AreBytes}
+use Rattle.instrument.specs.BlobTexts.{bytes_of}
+use Rattle.instrument.specs.BlobTextsLaws.{bytes_of_bits}
 use Rattle.views.specs.Tables.{Table, owners_of, blob_bits_of}
 use Rattle.views.specs.Tallies.{blob_lengths}
 use Rattle.actor_steps.specs.Jobs.{memory_of, fresh_of}
-
-bits_long : (bytes : List ℕ) → length (bits_of bytes) ≡ 8 * length bytes
-bits_long bytes = length-map-range_with_len (bit_of bytes) 0 (8 * length bytes)
-
-whole_byte : (byte : ℕ) → byte < 256 → byte / 2 ^ 0 % 2 ^ 8 ≡ byte
-whole_byte byte small = omega (arith, small)
-
-byte_is : (bytes : List ℕ) (at : ℕ) → at < length bytes → get_or bytes at 0 < 256 → get_or (bytes_of (bits_of bytes)) at 0 ≡ get_or bytes at 0
-byte_is bytes at small fits =
-    let eights : at < length (bits_of bytes) / 8 = omega (arith, bits_long bytes) in
-    get_or-map-range_with_len (byte_at (bits_of bytes)) 0 (length (bits_of bytes) / 8) at at 0 eights (omega arith)
-    ∙ number_same (λ k. get_or (bits_of bytes) (8 * at + k) 0) (λ k. bit_of bytes (8 * at + k)) 8
-    (λ k l. get_or-map-range_with_len (bit_of bytes) 0 (8 * length bytes) (8 * at + k) (8 * at + k) 0 (omega arith) (omega arith))
-    ∙ number_of_byte bytes (8 * at) at 0 8 (omega arith) (omega arith)
-    ∙ whole_byte (get_or bytes at 0) fits
-
--- bytes are those of their bits
-bytes_of_bits : (bytes : List ℕ) → AreBytes bytes → bytes_of (bits_of bytes) ≡ bytes
-bytes_of_bits bytes are =
-    let long : length (bytes_of (bits_of bytes)) ≡ length bytes =
-    omega (arith, length-map-range_with_len (byte_at (bits_of bytes)) 0 (length (bits_of bytes) / 8), bits_long bytes) in
-    ext_get_or 0 (bytes_of (bits_of bytes)) bytes long (λ at small. byte_is bytes at (omega (arith, small, long)) (are at))
 
 module _ (table : Table) where
   pub blob_count : length (memory_of table) ≡ length (owners_of table)

@@ -1,4 +1,6 @@
 pub mod WarmLaws
+pub mod SteadyLaws
+pub mod SweepLaws
 pub mod Chosen
 pub mod JudgedLaws
 pub mod SplitLaws

@@ -1,65 +1,28 @@
--- Granules that were accessed, after accesses to some cells of some rows.
-use Rattle.std.proofs.Common.{◌≡◌, ℕ, zero, suc, ◌+◌, ◌-◌, ◌/◌, ◌^◌, ◌<◌, ◌≤◌, ◌==◌, Bool, true, false, List, [], ◌∷◌, All, map, length, get_or, replicate, min, refl, sym, ap, ◌∙◌, subst, cond, arith}
+-- Granules that were accessed, after accesses of which each touches some.
+use Rattle.std.proofs.Common.{◌≡◌, ℕ, suc, ◌+◌, ◌/◌, ◌^◌, ◌<◌, ◌≤◌, ◌-◌, ◌*◌, ◌==◌, Bool, true, false, List, [], ◌∷◌, map, length, get_or, replicate, min, refl, sym, ap, ◌∙◌, subst, cond, take, drop, arith}
 use Rattle.std.specs.Prelude.{◌||◌, not, count_by, if◌then◌else◌}
-use Rattle.std.specs.List.{list_any, range_with_len, fold, sum_by}
-use Rattle.std.proofs.lemmas.Bool.{true≢false, ne_eqb, eq-eqb, eqb-true}
+use Rattle.std.specs.List.{list_any, range_with_len, sum_by}
+use Rattle.std.proofs.Math.Path.{fun_ext}
+use Rattle.std.proofs.lemmas.Bool.{ne_eqb}
+use Rattle.std.proofs.lemmas.Grind.{same_number_lists}
 use Rattle.std.proofs.lemmas.List.{length-map, length-replicate, get_or-map, get_or-replicate}
 use Rattle.std.proofs.lemmas.List.FromFn.{get_or-range_with_len, length-range_with_len}
-use Rattle.std.proofs.lemmas.List.Folds.{Any-from_list_any, list_any_at}
+use Rattle.std.proofs.lemmas.List.Folds.{Any-from_list_any, list_any_at, list_any_none}
 use Rattle.std.proofs.lemmas.List.Sums.{sum_by-cons, sum-map, sum_by-le-sum_by, count_by-le-length}
-use Rattle.places.specs.Layout.{Owner}
-use Rattle.places.specs.Laws.{IsLaidOut}
-use Rattle.places.specs.Touched.{is_hot}
-use Rattle.instrument.specs.Counters.{HeatCounts, raised, granules_of, granules_in, no_heat}
+use Rattle.places.specs.Layout.{Owner, Pad, Bit}
+use Rattle.places.specs.Touched.{is_touched}
+use Rattle.places.specs.declared.piece.Piece.{Piece}
+use Rattle.instrument.specs.Counters.{HeatCounts, IsInside, raised, granules_of, granules_in, heated_by, no_heat}
 use Rattle.instrument.specs.WarmingLaws.{length-warmed, length-heated, get-warmed, get-warmed_blob}
 use Rattle.views.specs.Kept.{HasGranules}
-use Rattle.views.specs.Tallies.{blob_lengths, granules_touched}
+use Rattle.views.specs.Tallies.{blob_lengths}
 use Rattle.views.specs.CountLaws.{blob_granules}
-use Rattle.advisor.specs.Touched.{holds_bit, touched_blob, touched}
-use Rattle.advisor.specs.TouchedLaws.{same_tests, touched_hot}
-use Rattle.advisor.specs.Warm.{is_warm}
+use Rattle.advisor.specs.Touched.{is_bit_in, holds_bit, holds_cell, touched_blob, touched}
+use Rattle.advisor.specs.TouchedLaws.{same_tests}
+use Rattle.advisor.proofs.SteadyLaws.{or_false}
+use Rattle.advisor.specs.Warm.{is_warm, IsCounted, warm_at, IsWarmed}
 
--- a granule that is counted, and whether it was accessed
-pub record IsCounted (heat : HeatCounts) (blob at : ℕ) : Type 0 where
-  pub blob_in : blob < length heat.blobs
-  pub at_in : at < length (get_or heat.blobs blob [])
-
-abbrev pub warm_at : HeatCounts → ℕ → ℕ → Bool
-warm_at heat blob at = is_warm (get_or (get_or heat.blobs blob []) at 0)
-
--- the counts after an access to each of some cells in a row, and in some rows
-abbrev pub row_heat : List (List Owner) → List ℕ → HeatCounts → ℕ → HeatCounts
-row_heat layout cells heat row = fold (λ counts cell. granules_touched layout row cell counts) heat cells
-
-abbrev pub rows_heat : List (List Owner) → List ℕ → HeatCounts → List ℕ → HeatCounts
-rows_heat layout cells heat rows = fold (row_heat layout cells) heat rows
-
-raised_warm : (hot : Bool) (count : ℕ) → is_warm (if hot then raised 1 count else count) ≡ (hot || is_warm count)
-raised_warm true count = ap not (ne_eqb (raised 1 count) 0 (λ e. (let is : min (count + 1) (2 ^ 64 - 1) ≡ 0 = e in omega (arith, is))))
-raised_warm false count = refl
-
--- one access
-one_warm : (layout : List (List Owner)) (row cell : ℕ) (heat : HeatCounts) (blob at : ℕ) → IsCounted heat blob at
-    → warm_at (granules_touched layout row cell heat) blob at ≡ (is_hot layout heat.granule row cell blob at || warm_at heat blob at)
-one_warm layout row cell heat blob at seen =
-    let hot = is_hot layout heat.granule row cell in
-    ap is_warm
-    (ap (λ counts. get_or counts at 0) (get-warmed 1 hot heat.blobs blob seen.blob_in) ∙ get-warmed_blob 1 (hot blob) (get_or heat.blobs blob []) at seen.at_in)
-    ∙ raised_warm (hot blob at) (get_or (get_or heat.blobs blob []) at 0)
-
-one_counted : (layout : List (List Owner)) (row cell : ℕ) (heat : HeatCounts) (blob at : ℕ) → IsCounted heat blob at → IsCounted (granules_touched layout row cell heat) blob at
-one_counted layout row cell heat blob at seen =
-    let hot = is_hot layout heat.granule row cell in
-    record {
-      blob_in = omega (arith, seen.blob_in, length-warmed 1 hot heat.blobs);
-      at_in = omega (arith, seen.at_in, length-heated 1 hot heat.blobs blob seen.blob_in);
-    }
-
--- what some accesses leave of a granule
-record IsAfter (heat new : HeatCounts) (blob at : ℕ) (hot : Bool) : Type 0 where
-  granule : new.granule ≡ heat.granule
-  counted : IsCounted new blob at
-  warm : warm_at new blob at ≡ (hot || warm_at heat blob at)
+-- ---- steps
 
 or_swap : (a b c : Bool) → (b || (a || c)) ≡ ((a || b) || c)
 or_swap true true c = refl
@@ -67,45 +30,85 @@ or_swap true false c = refl
 or_swap false true c = refl
 or_swap false false c = refl
 
-row_after : (layout : List (List Owner)) (cells : List ℕ) (heat : HeatCounts) (row blob at : ℕ) → IsCounted heat blob at
-    → IsAfter heat (row_heat layout cells heat row) blob at (list_any (λ cell. is_hot layout heat.granule row cell blob at) cells)
-row_after layout [] heat row blob at seen = record { granule = refl; counted = seen; warm = refl }
-row_after layout (cell ∷ cells) heat row blob at seen =
-    let first = one_warm layout row cell heat blob at seen in
-    let rest = row_after layout cells (granules_touched layout row cell heat) row blob at (one_counted layout row cell heat blob at seen) in
-    let others = list_any (λ c. is_hot layout heat.granule row c blob at) cells in
+-- nothing at first
+pub warmed_none : (heat : HeatCounts) (test : ℕ → ℕ → Bool) → ((blob at : ℕ) → test blob at ≡ false) → IsWarmed heat heat test
+warmed_none heat test none = record {
+  granule = refl;
+  blobs = refl;
+  counts = λ blob low. refl;
+  warm = λ blob at seen. ap (λ (hot : Bool). hot || warm_at heat blob at) (sym (none blob at));
+}
+
+-- what is counted stays counted
+counted_kept : (old new : HeatCounts) (test : ℕ → ℕ → Bool) → IsWarmed old new test → (blob at : ℕ) → IsCounted old blob at → IsCounted new blob at
+counted_kept old new test warmed blob at seen = record {
+  blob_in = omega (arith, seen.blob_in, warmed.blobs);
+  at_in = omega (arith, seen.at_in, warmed.counts blob seen.blob_in);
+}
+
+-- one step, and another
+pub warmed_more : {old now new : HeatCounts} {one two all : ℕ → ℕ → Bool} → IsWarmed old now one → IsWarmed now new two
+    → ((blob at : ℕ) → all blob at ≡ (one blob at || two blob at)) → IsWarmed old new all
+warmed_more {old} {now} {new} {one} {two} {all} first next either = record {
+  granule = next.granule ∙ first.granule;
+  blobs = next.blobs ∙ first.blobs;
+  counts = λ blob low. next.counts blob (omega (arith, low, first.blobs)) ∙ first.counts blob low;
+  warm = λ blob at seen. next.warm blob at (counted_kept old now one first blob at seen)
+      ∙ ap (λ (was : Bool). two blob at || was) (first.warm blob at seen)
+      ∙ or_swap (one blob at) (two blob at) (warm_at old blob at)
+      ∙ ap (λ (hot : Bool). hot || warm_at old blob at) (sym (either blob at));
+}
+
+-- tests that agree say the same of a step
+pub warmed_alike : {old new : HeatCounts} {one two : ℕ → ℕ → Bool} → IsWarmed old new one → ((blob at : ℕ) → one blob at ≡ two blob at) → IsWarmed old new two
+warmed_alike {old} {new} {one} {two} warmed same = record {
+  granule = warmed.granule;
+  blobs = warmed.blobs;
+  counts = warmed.counts;
+  warm = λ blob at seen. warmed.warm blob at seen ∙ ap (λ (hot : Bool). hot || warm_at old blob at) (same blob at);
+}
+
+-- an access to some pieces
+raised_warm : (hot : Bool) (count : ℕ) → is_warm (if hot then raised 1 count else count) ≡ (hot || is_warm count)
+raised_warm true count = ap not (ne_eqb (raised 1 count) 0 (λ e. (let is : min (count + 1) (2 ^ 64 - 1) ≡ 0 = e in omega (arith, is))))
+raised_warm false count = refl
+
+pub heated_warmed : (pieces : List Piece) (heat : HeatCounts) → IsWarmed heat (heated_by pieces heat) (is_touched heat.granule pieces)
+heated_warmed pieces heat =
+    let hot = is_touched heat.granule pieces in
     record {
-      granule = rest.granule;
-      counted = rest.counted;
-      warm = rest.warm ∙ ap (λ b. others || b) first ∙ or_swap (is_hot layout heat.granule row cell blob at) others (warm_at heat blob at);
+      granule = refl;
+      blobs = length-warmed 1 hot heat.blobs;
+      counts = λ blob low. length-heated 1 hot heat.blobs blob low;
+      warm = λ blob at seen. ap is_warm
+          (ap (λ counts. get_or counts at 0) (get-warmed 1 hot heat.blobs blob seen.blob_in) ∙ get-warmed_blob 1 (hot blob) (get_or heat.blobs blob []) at seen.at_in)
+          ∙ raised_warm (hot blob at) (get_or (get_or heat.blobs blob []) at 0);
     }
 
-rows_after : (layout : List (List Owner)) (cells : List ℕ) (heat : HeatCounts) (rows : List ℕ) (blob at : ℕ) → IsCounted heat blob at
-    → IsAfter heat (rows_heat layout cells heat rows) blob at (list_any (λ row. list_any (λ cell. is_hot layout heat.granule row cell blob at) cells) rows)
-rows_after layout cells heat [] blob at seen = record { granule = refl; counted = seen; warm = refl }
-rows_after layout cells heat (row ∷ rows) blob at seen =
-    let first = row_after layout cells heat row blob at seen in
-    let rest = rows_after layout cells (row_heat layout cells heat row) rows blob at first.counted in
-    let in_rows : ℕ → List ℕ → Bool = λ granule rs. list_any (λ r. list_any (λ cell. is_hot layout granule r cell blob at) cells) rs in
+-- ---- what a step keeps
+
+pub warmed_granules : {old new : HeatCounts} {test : ℕ → ℕ → Bool} (layout : List (List Owner)) → IsWarmed old new test → HasGranules layout old → HasGranules layout new
+warmed_granules {old} {new} {test} layout warmed has =
+    same_number_lists (map (length {A = ℕ}) new.blobs) (map (length {A = ℕ}) old.blobs)
+    (length-map new.blobs (length {A = ℕ}) ∙ warmed.blobs ∙ sym (length-map old.blobs (length {A = ℕ})))
+    (λ blob low.
+    (let inside : blob < length new.blobs = omega (arith, low, length-map new.blobs (length {A = ℕ})) in
+    let before : blob < length old.blobs = omega (arith, inside, warmed.blobs) in
+    get_or-map (length {A = ℕ}) new.blobs blob [] 0 inside ∙ warmed.counts blob before ∙ sym (get_or-map (length {A = ℕ}) old.blobs blob [] 0 before)))
+    ∙ has ∙ ap (λ (g : ℕ). map (granules_of g) (blob_lengths layout)) (sym warmed.granule)
+
+pub warmed_inside : {old new : HeatCounts} {test : ℕ → ℕ → Bool} → IsWarmed old new test → (piece : Piece) → IsInside old piece → IsInside new piece
+warmed_inside {old} {new} {test} warmed piece inside =
+    let long = warmed.counts piece.blob inside.blob_in in
     record {
-      granule = rest.granule ∙ first.granule;
-      counted = rest.counted;
-      warm = rest.warm ∙ ap (λ g. in_rows g rows || warm_at (row_heat layout cells heat row) blob at) first.granule
-          ∙ ap (λ b. in_rows heat.granule rows || b) first.warm
-          ∙ or_swap (list_any (λ cell. is_hot layout heat.granule row cell blob at) cells) (in_rows heat.granule rows) (warm_at heat blob at);
+      blob_in = omega (arith, inside.blob_in, warmed.blobs);
+      some = inside.some;
+      within = subst (λ (n : ℕ). piece.bit + piece.bits ≤ 8 * new.granule * n) (sym long)
+          (subst (λ (g : ℕ). piece.bit + piece.bits ≤ 8 * g * length (get_or old.blobs piece.blob [])) (sym warmed.granule) inside.within);
+      bound = inside.bound;
     }
 
-row_granule : (layout : List (List Owner)) (cells : List ℕ) (heat : HeatCounts) (row : ℕ) → (row_heat layout cells heat row).granule ≡ heat.granule
-row_granule layout [] heat row = refl
-row_granule layout (cell ∷ cells) heat row = row_granule layout cells (granules_touched layout row cell heat) row
-
-pub rows_granule : (layout : List (List Owner)) (cells : List ℕ) (heat : HeatCounts) (rows : List ℕ) → (rows_heat layout cells heat rows).granule ≡ heat.granule
-rows_granule layout cells heat [] = refl
-rows_granule layout cells heat (row ∷ rows) = rows_granule layout cells (row_heat layout cells heat row) rows ∙ row_granule layout cells heat row
-
-or_false : (b : Bool) → (b || false) ≡ b
-or_false true = refl
-or_false false = refl
+-- ---- what was accessed in the end
 
 -- at first there is no access
 pub cold_granules : (granule : ℕ) (bytes : List ℕ) → map (length {A = ℕ}) (no_heat granule bytes).blobs ≡ map (granules_of granule) bytes
@@ -150,54 +153,41 @@ warm_few layout heat has =
     sym (sum-map (length {A = ℕ}) heat.blobs) ∙ ap (λ (ns : List ℕ). sum_by (λ n. n) ns) has ∙ sum-map (granules_of heat.granule) (blob_lengths layout) in
     omega (arith, most, long)
 
-module _ (layout : List (List Owner)) (slots : ℕ) (widths : List ℕ) (laid : IsLaidOut layout slots widths) (granule : ℕ) (cells : List ℕ)
-    (inside : All (λ cell. cell < length widths) cells) where
-  -- a cell is one of these
-  is_one : ℕ → Bool
-  is_one cell = list_any (λ other. other == cell) cells
+-- a granule holds a bit of one of some cells where it holds a bit of some cell that is one of them
+any_swap : {X Y : Type 0} (test : X → Y → Bool) (xs : List X) (ys : List Y) → list_any (λ x. list_any (test x) ys) xs ≡ true → list_any (λ y. list_any (λ x. test x y) xs) ys ≡ true
+any_swap test xs ys e =
+    let x = Any-from_list_any (λ x. list_any (test x) ys) xs e in
+    let y = Any-from_list_any (test x.1) ys x.4 in
+    list_any_at (λ y. list_any (λ x. test x y) xs) ys y.0 y.1 y.2
+    (ap (λ other. list_any (λ x. test x other) xs) y.3 ∙ list_any_at (λ other. test other y.1) xs x.0 x.1 x.2 (ap (λ other. test other y.1) x.3 ∙ y.4))
 
-  hot_in : ℕ → ℕ → Bool
-  hot_in blob at = list_any (λ row. list_any (λ cell. is_hot layout granule row cell blob at) cells) (range_with_len 0 slots)
+one_bit : (cells : List ℕ) (owner : Owner) → list_any (λ cell. is_bit_in (λ other. cell == other) owner) cells ≡ is_bit_in (λ cell. list_any (λ other. other == cell) cells) owner
+one_bit cells Pad = list_any_none (λ cell. is_bit_in (λ other. cell == other) Pad) cells (λ k d low. refl)
+one_bit cells (Bit row cell bit) = refl
 
-  -- some access to one of these cells touches a granule exactly where it holds a bit of one
-  hot_is : (blob at : ℕ) → hot_in blob at ≡ holds_bit is_one granule (get_or layout blob []) at
-  unfolding is_one hot_in
-  hot_is blob at =
-      let by = touched_hot layout slots widths laid is_one granule blob at in
-      let rows = range_with_len 0 slots in
-      same_tests _ _
-      (λ (hot : list_any (λ row. list_any (λ cell. is_hot layout granule row cell blob at) cells) rows ≡ true).
-      (let r = Any-from_list_any (λ row. list_any (λ cell. is_hot layout granule row cell blob at) cells) rows hot in
-      let c = Any-from_list_any (λ cell. is_hot layout granule r.1 cell blob at) cells r.4 in
-      by.only r.1 c.1 (record {
-        passes = list_any_at (λ other. other == c.1) cells c.0 c.1 c.2 (eq-eqb (get_or cells c.0 c.1) c.1 c.3);
-        hot = c.4;
-      })))
-      (λ (holds : holds_bit is_one granule (get_or layout blob []) at ≡ true).
-      (let a = by.some holds in
-      let c = Any-from_list_any (λ other. other == a.1) cells a.4.passes in
-      let same : get_or cells c.0 c.1 ≡ a.1 = c.3 ∙ eqb-true c.1 a.1 c.4 in
-      let row : get_or rows a.0 0 ≡ a.0 = get_or-range_with_len 0 slots a.0 0 a.2 ∙ (let at : 0 + a.0 ≡ a.0 = omega arith in at) in
-      let in_row : list_any (λ cell. is_hot layout granule a.0 cell blob at) cells ≡ true =
-      list_any_at (λ cell. is_hot layout granule a.0 cell blob at) cells c.0 c.1 c.2 (ap (λ cell. is_hot layout granule a.0 cell blob at) same ∙ a.4.hot) in
-      list_any_at (λ row. list_any (λ cell. is_hot layout granule row cell blob at) cells) rows a.0 0 (omega (arith, a.2, length-range_with_len 0 slots))
-      (ap (λ row. list_any (λ cell. is_hot layout granule row cell blob at) cells) row ∙ in_row)))
+cells_hold : (layout : List (List Owner)) (granule : ℕ) (cells : List ℕ) (blob at : ℕ)
+    → list_any (λ cell. holds_cell layout granule cell blob at) cells ≡ holds_bit (λ cell. list_any (λ other. other == cell) cells) granule (get_or layout blob []) at
+cells_hold layout granule cells blob at =
+    let owners = take (8 * granule) (drop (8 * granule * at) (get_or layout blob [])) in
+    let bit : ℕ → Owner → Bool = λ cell owner. is_bit_in (λ other. cell == other) owner in
+    same_tests (list_any (λ cell. list_any (bit cell) owners) cells) (list_any (λ owner. list_any (λ cell. bit cell owner) cells) owners)
+    (any_swap bit cells owners) (any_swap (λ owner cell. bit cell owner) owners cells)
+    ∙ ap (λ (test : Owner → Bool). list_any test owners) (fun_ext (one_bit cells))
 
-  -- so the granules that were accessed are those that are touched
-  pub warm_touched : (heat : HeatCounts) → HasGranules layout heat → heat ≡ rows_heat layout cells (no_heat granule (blob_lengths layout)) (range_with_len 0 slots)
-      → sum_by (count_by is_warm) heat.blobs ≡ touched (λ cell. list_any (λ other. other == cell) cells) granule layout
-  unfolding is_one hot_in
-  warm_touched heat has is =
-      let rows = range_with_len 0 slots in
-      let start = no_heat granule (blob_lengths layout) in
-      let same : heat.granule ≡ granule = ap (λ (h : HeatCounts). h.granule) is ∙ rows_granule layout cells start rows in
-      let here = blob_granules layout heat has in
-      let first = blob_granules layout start (cold_granules granule (blob_lengths layout)) in
-      sums_alike (count_by is_warm) (touched_blob is_one granule) heat.blobs layout [] [] here.0 (λ b small.
-      (let long : length (get_or heat.blobs b []) ≡ granules_of granule (length (get_or layout b []) / 8) =
-      here.1 b small ∙ ap (λ g. granules_of g (length (get_or layout b []) / 8)) same in
-      counts_alike is_warm (holds_bit is_one granule (get_or layout b [])) (get_or heat.blobs b []) (λ at l.
-      (let counted : IsCounted start b at = record { blob_in = omega (arith, small, first.0); at_in = omega (arith, l, long, first.1 b small) } in
-      let after = rows_after layout cells start rows b at counted in
-      ap (λ h. warm_at h b at) is ∙ after.warm ∙ ap (λ w. hot_in b at || w) (cold granule (blob_lengths layout) b at counted) ∙ or_false (hot_in b at) ∙ hot_is b at))
-      ∙ ap (λ n. count_by (holds_bit is_one granule (get_or layout b [])) (range_with_len 0 n)) long))
+-- so the granules that were accessed are those that are touched
+pub warm_touched : (layout : List (List Owner)) (granule : ℕ) (cells : List ℕ) (heat : HeatCounts) → HasGranules layout heat
+    → IsWarmed (no_heat granule (blob_lengths layout)) heat (λ blob at. list_any (λ cell. holds_cell layout granule cell blob at) cells)
+    → sum_by (count_by is_warm) heat.blobs ≡ touched (λ cell. list_any (λ other. other == cell) cells) granule layout
+warm_touched layout granule cells heat has warmed =
+    let start = no_heat granule (blob_lengths layout) in
+    let is_one : ℕ → Bool = λ cell. list_any (λ other. other == cell) cells in
+    let here = blob_granules layout heat has in
+    let first = blob_granules layout start (cold_granules granule (blob_lengths layout)) in
+    sums_alike (count_by is_warm) (touched_blob is_one granule) heat.blobs layout [] [] here.0 (λ b small.
+    (let long : length (get_or heat.blobs b []) ≡ granules_of granule (length (get_or layout b []) / 8) =
+    here.1 b small ∙ ap (λ g. granules_of g (length (get_or layout b []) / 8)) warmed.granule in
+    counts_alike is_warm (holds_bit is_one granule (get_or layout b [])) (get_or heat.blobs b []) (λ at l.
+    (let counted : IsCounted start b at = record { blob_in = omega (arith, small, first.0); at_in = omega (arith, l, long, first.1 b small) } in
+    warmed.warm b at counted ∙ ap (λ (was : Bool). list_any (λ cell. holds_cell layout granule cell b at) cells || was) (cold granule (blob_lengths layout) b at counted)
+    ∙ or_false (list_any (λ cell. holds_cell layout granule cell b at) cells) ∙ cells_hold layout granule cells b at))
+    ∙ ap (λ n. count_by (holds_bit is_one granule (get_or layout b [])) (range_with_len 0 n)) long))

@@ -7,11 +7,12 @@ ghost use Rattle.advisor.specs.Passes.{reads, part_cost, leaves_in};
 
 use crate::pass::Pass;
 use crate::touched::touched;
-use places::{Cell, Mapping, laws_of};
+use map_any::SlotRules;
+use places::{Cell, laws_of};
 use std::alloc::{AllocError as NoMemory, Global};
 
 /// What passes over a mapping of these cells cost.
-pub fn part_cost<M: Mapping>(
+pub fn part_cost<M: SlotRules>(
     alloc: Global,
     mapping: &M,
     cells: &[Cell],

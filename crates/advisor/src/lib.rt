@@ -11,6 +11,7 @@ mod listed;
 mod mapped;
 mod pass;
 mod price;
+mod runs;
 mod sides;
 mod splits;
 mod suits;

@@ -1,13 +1,15 @@
 // How many granules of a mapping's blobs hold a bit of some of its cells.
 ghost use Rattle.std.specs.Prelude.{◌≡◌, ◌<◌, ◌≤◌, ◌^◌, ◌==◌, nat_le, All, [], IfOk, length, count_by, sum_by, slice_index_or};
-ghost use Rattle.std.specs.List.{fold, list_any};
+ghost use Rattle.std.specs.List.{list_any};
 ghost use Rattle.instrument.specs.Counters.{heat_counts, granules_in};
 ghost use Rattle.views.specs.Kept.{HasGranules};
-ghost use Rattle.views.specs.Tallies.{blob_lengths, granules_touched};
-ghost use Rattle.advisor.specs.Touched.{touched};
-ghost use Rattle.advisor.specs.Warm.{is_warm};
+ghost use Rattle.views.specs.Tallies.{blob_lengths};
+ghost use Rattle.advisor.specs.Touched.{holds_cell, touched};
+ghost use Rattle.advisor.specs.Warm.{is_warm, IsWarmed};
 
+use crate::runs::touch_slots;
 use instrument::{Heat, HeatFault, MAX_GRANULES};
+use map_any::SlotRules;
 use places::{Mapping, laws_of};
 use std::alloc::{AllocError as NoMemory, Global};
 
@@ -28,7 +30,7 @@ pub fn has_few_granules<M: Mapping>(mapping: &M, granule: u32) -> bool
 }
 
 /// How many granules of a mapping's blobs hold a bit of these cells in any slot. It takes memory for a number for each granule.
-pub fn touched<M: Mapping>(
+pub fn touched<M: SlotRules>(
     alloc: Global,
     mapping: &M,
     granule: u32,
@@ -47,8 +49,8 @@ pub fn touched<M: Mapping>(
         Err(HeatFault::NoMemory) => return Err(NoMemory),
         Err(HeatFault::TooBig) => unreachable!(),
     };
-    for row in 0..mapping.slots() {
-        touch_row(mapping, &mut heat, row, cells);
+    for cell in cells {
+        touch_cell(mapping, &mut heat, granule, *cell);
     }
     Ok(warm_granules(mapping, &heat))
 }
@@ -64,17 +66,30 @@ fn blob_lengths<M: Mapping>(alloc: Global, mapping: &M) -> Result<Vec<u64>, NoMe
     Ok(lengths)
 }
 
-// Counts an access to each of these cells in a row.
-fn touch_row<M: Mapping>(mapping: &M, heat: &mut Heat, row: u64, cells: &[usize])
-    requires row_in { row < M.slot_count mapping.now }
-    requires inside { All (λ cell. cell < length (M.cell_list mapping.now)) cells.now }
+// Counts accesses to a cell in each granule that holds a bit of it: by the slots of its rules, or else row by row.
+fn touch_cell<M: SlotRules>(mapping: &M, heat: &mut Heat, granule: u32, cell: usize)
+    requires granule { (heat_counts heat.old).granule ≡ granule }
+    requires inside { cell < length (M.cell_list mapping.now) }
     requires granules { HasGranules (M.layout mapping.now) (heat_counts heat.old) }
-    ensures counted { heat_counts heat.new ≡ fold (λ counts cell. granules_touched (M.layout mapping.now) row cell counts) (heat_counts heat.old) cells.now }
+    ensures warmed { IsWarmed (heat_counts heat.old) (heat_counts heat.new) (holds_cell (M.layout mapping.now) granule cell) }
     ensures granules { HasGranules (M.layout mapping.now) (heat_counts heat.new) }
 {
     laws_of(mapping);
-    for cell in cells {
-        heat.touch(&mapping.locate(row, *cell));
+    match mapping.slot_rules(cell) {
+        Some(rules) => touch_slots(heat, granule, rules.as_slice(), mapping.slots()),
+        None => touch_rows(mapping, heat, cell),
+    }
+}
+
+// Counts an access to a cell in each row.
+fn touch_rows<M: Mapping>(mapping: &M, heat: &mut Heat, cell: usize)
+    requires inside { cell < length (M.cell_list mapping.now) }
+    requires granules { HasGranules (M.layout mapping.now) (heat_counts heat.old) }
+    ensures { IsWarmed (heat_counts heat.old) (heat_counts heat.new) (holds_cell (M.layout mapping.now) (heat_counts heat.old).granule cell) }
+{
+    laws_of(mapping);
+    for row in 0..mapping.slots() {
+        heat.touch(&mapping.locate(row, cell));
     }
 }
 

@@ -1,40 +1,17 @@
 -- The bytes of bits, and the bits of the bytes of an image.
-use Rattle.std.proofs.Common.{◌≡◌, ℕ, ◌+◌, ◌*◌, ◌/◌, ◌%◌, ◌^◌, ◌<◌, ◌≤◌, ℤ, List, [], length, get_or, map, All, sym, ap, ◌∙◌, ⊎_elim, arith}
+use Rattle.std.proofs.Common.{◌≡◌, ℕ, ◌+◌, ◌*◌, ◌/◌, ◌%◌, ◌<◌, ◌≤◌, ℤ, List, [], length, get_or, map, All, sym, ap, ◌∙◌, ⊎_elim, arith}
 use Rattle.std.specs.Int.{bit_at}
 use Rattle.std.proofs.lemmas.Bool.{cases_lt}
-use Rattle.std.proofs.lemmas.List.{length-map, get_or-map, get_or_past, ext_get_or}
-use Rattle.std.proofs.lemmas.List.FromFn.{get_or-map-range_with_len, length-map-range_with_len}
+use Rattle.std.proofs.lemmas.List.{length-map, get_or-map, get_or_past}
+use Rattle.std.proofs.lemmas.List.FromFn.{get_or-map-range_with_len}
 use Rattle.places.specs.Layout.{Owner, Pad, Bit, owner_at}
 use Rattle.places.specs.Image.{entry, bit_held, image, IsImage}
-use Rattle.places.specs.NumbersLaws.{number_same, bit_number, digit_lt}
+use Rattle.places.specs.NumbersLaws.{bit_number, digit_lt}
 use Rattle.blobs.specs.Bits.{bit_of, bits_of, bit_in, AreBytes}
-use Rattle.blobs.specs.BytesLaws.{number_of_byte}
 use Rattle.instrument.specs.BlobTexts.{byte_at, bytes_of}
+use Rattle.instrument.specs.BlobTextsLaws.{length-bytes_of, bytes_of_bits}
 use Rattle.views.specs.Tables.{Table, owners_of, blob_bits_of}
 use Rattle.blob_file.specs.Saving.{blobs_of}
-use Rattle.blob_file.proofs.OneFile.{length-bytes_of}
-
--- ---- the bytes of the bits of bytes
-
-bits_long : (bytes : List ℕ) → length (bits_of bytes) ≡ 8 * length bytes
-bits_long bytes = length-map-range_with_len (bit_of bytes) 0 (8 * length bytes)
-
-whole_byte : (byte : ℕ) → byte < 256 → byte / 2 ^ 0 % 2 ^ 8 ≡ byte
-whole_byte byte small = omega (arith, small)
-
-byte_is : (bytes : List ℕ) (at : ℕ) → at < length bytes → get_or bytes at 0 < 256 → get_or (bytes_of (bits_of bytes)) at 0 ≡ get_or bytes at 0
-byte_is bytes at small fits =
-    let eights : at < length (bits_of bytes) / 8 = omega (arith, bits_long bytes) in
-    get_or-map-range_with_len (byte_at (bits_of bytes)) 0 (length (bits_of bytes) / 8) at at 0 eights (omega arith)
-    ∙ number_same (λ k. get_or (bits_of bytes) (8 * at + k) 0) (λ k. bit_of bytes (8 * at + k)) 8
-    (λ k l. get_or-map-range_with_len (bit_of bytes) 0 (8 * length bytes) (8 * at + k) (8 * at + k) 0 (omega arith) (omega arith))
-    ∙ number_of_byte bytes (8 * at) at 0 8 (omega arith) (omega arith)
-    ∙ whole_byte (get_or bytes at 0) fits
-
-pub bytes_of_bits : (bytes : List ℕ) → AreBytes bytes → bytes_of (bits_of bytes) ≡ bytes
-bytes_of_bits bytes are =
-    let long : length (bytes_of (bits_of bytes)) ≡ length bytes = omega (arith, length-bytes_of (bits_of bytes), bits_long bytes) in
-    ext_get_or 0 (bytes_of (bits_of bytes)) bytes long (λ at small. byte_is bytes at (omega (arith, small, long)) (are at))
 
 -- a blob of a table, by its bits
 pub blob_saved : (table : Table) (b : ℕ) (bytes : List ℕ) → b < length (owners_of table) → AreBytes bytes → bits_of bytes ≡ blob_bits_of table b → bytes ≡ get_or (blobs_of table) b []

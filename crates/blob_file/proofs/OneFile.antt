@@ -2,7 +2,6 @@
 use Rattle.std.proofs.Common.{◌≡◌, ℕ, ◌/◌, ◌<◌, ◌≤◌, ◌^◌, ℤ, List, [], ◌∷◌, ◌++◌, length, map, refl, sym, ap, ◌∙◌, arith, length-append}
 use Rattle.std.specs.Prelude.{codes}
 use Rattle.std.proofs.lemmas.List.{length-map}
-use Rattle.std.proofs.lemmas.List.FromFn.{length-map-range_with_len}
 use Rattle.line_tokens.specs.Ends.{NoEnd}
 use Rattle.line_grammar.specs.Sentences.{Sentence, New, Define, View, deepest}
 use Rattle.line_grammar.specs.Reads.{Reads}
@@ -15,7 +14,8 @@ use Rattle.kept_tables.specs.declared.mode.StoreMode.TheVariants.{Strict, Wrap}
 use Rattle.places.specs.Layout.{Owner}
 use Rattle.places.specs.Image.{bit_held, image}
 use Rattle.record_dim.specs.Trees.{Fields, Record}
-use Rattle.instrument.specs.BlobTexts.{byte_at, bytes_of}
+use Rattle.instrument.specs.BlobTexts.{bytes_of}
+use Rattle.instrument.specs.BlobTextsLaws.{length-bytes_of}
 use Rattle.layout_io.specs.Writing.{joined}
 use Rattle.views.specs.Tallies.{blob_lengths}
 use Rattle.blob_file.specs.Files.{Header, magic, four_bytes, is_wrap, record_line, view_line, record_text, view_text, header_text, file_of, IsShort, owners_by, image_bytes}
@@ -24,9 +24,6 @@ use Rattle.blob_file.specs.Statements.{OneFile}
 use Rattle.blob_file.proofs.Parts.{same_fronts, same_lines, same_numbers, same_blobs}
 
 -- ---- the bytes of an image have the lengths of the layout
-
-pub length-bytes_of : (bits : List ℕ) → length (bytes_of bits) ≡ length bits / 8
-length-bytes_of bits = length-map-range_with_len (byte_at bits) 0 (length bits / 8)
 
 image_lengths : (layout : List (List Owner)) (rows : List (List ℤ)) → map (length {A = ℕ}) (map bytes_of (image layout rows)) ≡ blob_lengths layout
 image_lengths [] rows = refl

@@ -1,9 +1,9 @@
 -- Sixteen numbers that are put side by side.
-use Rattle.std.proofs.Common.{◌≡◌, ℕ, zero, suc, ◌+◌, ◌<◌, ◌≤◌, List, [], ◌∷◌, ◌++◌, length, take, set, replicate, ℤ, pos, Some, Result, Ok, Err, FitsSigned, w64, refl, sym, ap, ◌∙◌, arith, take_all}
+use Rattle.std.proofs.Common.{◌≡◌, ℕ, zero, suc, ◌+◌, ◌<◌, ◌≤◌, List, [], ◌∷◌, ◌++◌, length, take, set, replicate, ℤ, pos, Some, map, drop, Result, Ok, Err, FitsSigned, w64, refl, sym, ap, ◌∙◌, arith, take_all}
 use Rattle.std.specs.Result.{OkIff, result_ok}
 use Rattle.std.specs.Simd.Lanes.{Each1}
 use Rattle.std.proofs.lemmas.Int.{ints}
-use Rattle.std.proofs.lemmas.List.{length-set}
+use Rattle.std.proofs.lemmas.List.{length-set, drop-map, map-append, take-map}
 use Rattle.std.proofs.lemmas.Simd.{Each1-replicate}
 use Rattle.lanes.specs.Blocks.{IsBlock}
 
@@ -43,3 +43,13 @@ all_lanes values lanes lane all end sixteen =
 pub tried : {E : Type 0} (P : Type 0) (result : Result ℤ E) (value given : ℤ) → OkIff result P value → Some given ≡ result_ok result → given ≡ value
 tried P (Ok one) value given is same = (let here : given ≡ one = cc same in here ∙ is.1)
 tried P (Err error) value given is same = absurd (cc same)
+
+-- the numbers of a list into which others were put
+pub mapped_parts : {N : Type 0} (number : N → ℤ) (old middle : List N) (numbers : List ℤ) (at end : ℕ) → map number middle ≡ numbers
+    → map number (take at old ++ middle ++ drop end old) ≡ take at (map number old) ++ numbers ++ drop end (map number old)
+mapped_parts number old middle numbers at end are =
+    map-append number (take at old ++ middle) (drop end old)
+    ∙ ap (λ (l : List ℤ). l ++ map number (drop end old)) (map-append number (take at old) middle)
+    ∙ ap (λ (l : List ℤ). l ++ map number middle ++ map number (drop end old)) (sym (take-map number at old))
+    ∙ ap (λ (l : List ℤ). take at (map number old) ++ l ++ map number (drop end old)) are
+    ∙ ap (λ (l : List ℤ). take at (map number old) ++ numbers ++ l) (sym (drop-map number end old))

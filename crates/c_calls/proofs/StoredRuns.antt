@@ -8,11 +8,13 @@ use Rattle.c_answers.specs.Refusals.{store_refusal}
 use Rattle.c_answers.specs.declared.refusal.Refusal.{Refusal}
 use Rattle.views.specs.AnswerLaws.{told_err, told_kept}
 use Rattle.views.specs.Columns.{column_writes, with_column, lane_fault, first_lane_fault}
-use Rattle.views.specs.NearStores.{IsNearIn, IsNearColumn}
+use Rattle.views.specs.ColumnsLaws.{no_column, length-with_column}
+use Rattle.views.specs.NearStores.{IsNearColumn}
+use Rattle.views.specs.NearStoresLaws.{near_still}
 use Rattle.views.specs.Stores.{told}
 use Rattle.views.specs.Stores as stores
-use Rattle.views.specs.Tables.{Table, leaf_types_of, owners_of, table_holds, answer_of, kept_of, after_stores, after_write}
-use Rattle.views.specs.Tallies.{Access, Write, Tally, tallied}
+use Rattle.views.specs.Tables.{Table, answer_of, kept_of, after_stores, after_write}
+use Rattle.views.specs.Tallies.{Access, Write}
 use Rattle.views.specs.TallyLaws.{after_log-none, after_stores-append}
 use Rattle.views.specs.declared.fault.LaneFault.{LaneFault}
 use Rattle.views.specs.declared.fault.StoreFault.{StoreFault}
@@ -76,18 +78,6 @@ fault_inside answer leaf lane (value ∷ values) fault is = of_first (answer lea
       omega (arith, at))
 
 -- ---- rows and accesses
-
-no_column : (leaf row : ℕ) (rows : List (List ℤ)) → with_column leaf row [] rows ≡ rows
-no_column leaf zero rows = refl
-no_column leaf (suc row) [] = refl
-no_column leaf (suc row) (numbers ∷ rows) = ap (λ (more : List (List ℤ)). numbers ∷ more) (no_column leaf row rows)
-
-row_count : (leaf row : ℕ) (values : List ℤ) (rows : List (List ℤ)) → length (with_column leaf row values rows) ≡ length rows
-row_count leaf zero [] rows = refl
-row_count leaf zero (value ∷ values) [] = refl
-row_count leaf zero (value ∷ values) (numbers ∷ rows) = ap suc (row_count leaf zero values rows)
-row_count leaf (suc row) values [] = refl
-row_count leaf (suc row) values (numbers ∷ rows) = ap suc (row_count leaf row values rows)
 
 column_behind : (leaf row at : ℕ) (xs ys : List ℤ) (rows : List (List ℤ)) → at ≡ row + length xs → with_column leaf at ys (with_column leaf row xs rows) ≡ with_column leaf row (xs ++ ys) rows
 column_behind leaf zero zero [] ys rows is = refl
@@ -302,21 +292,10 @@ module _ {A : Type 0} (number : A → ℤ) (numbers : List A) where
 pub still_rows : (first leaf : ℕ) (values : List ℤ) (old new : Table) (answer : Answer (Unit {0})) → IsSet first leaf values old new answer → length new.rows ≡ length old.rows
 still_rows first leaf values old new answer is =
     ap (λ (t : Table). length t.rows) is.left
-    ∙ row_count leaf first (map (kept_of old leaf) (take (stored_count (length values) (run_fault leaf values old)) values)) old.rows
-
-near_after : (old : Table) (rows : List (List ℤ)) (log : List Access) (near : NearColumn) → length rows ≡ length old.rows → IsNearColumn old near → IsNearColumn (after_stores old rows log) near
-near_after old rows log near count is =
-    let none : tallied (owners_of old) old.tally log ≡ old.tally = ap (λ (t : Table). t.tally) (is.idle log) in
-    record {
-      inside = is.inside;
-      stands = subst (λ (n : ℕ). IsNearIn (owners_of old) n (leaf_types_of old) (table_holds old) near) (sym count) is.stands;
-      idle = λ more.
-          ap (λ (t : Tally). let s : Table = record old { rows = rows; tally = t } in s)
-          (ap (λ (t : Tally). tallied (owners_of old) t more) none ∙ ap (λ (t : Table). t.tally) (is.idle more) ∙ sym none);
-    }
+    ∙ length-with_column leaf first (map (kept_of old leaf) (take (stored_count (length values) (run_fault leaf values old)) values)) old.rows
 
 pub still_near : (first leaf : ℕ) (values : List ℤ) (old new : Table) (answer : Answer (Unit {0})) (near : NearColumn) → IsSet first leaf values old new answer → IsNearColumn old near → IsNearColumn new near
 still_near first leaf values old new answer near is was =
     let stored = map (kept_of old leaf) (take (stored_count (length values) (run_fault leaf values old)) values) in
     subst (λ (t : Table). IsNearColumn t near) (sym is.left)
-    (near_after old (with_column leaf first stored old.rows) (column_writes leaf first (stored_count (length values) (run_fault leaf values old))) near (row_count leaf first stored old.rows) was)
+    (near_still old (with_column leaf first stored old.rows) (column_writes leaf first (stored_count (length values) (run_fault leaf values old))) near (length-with_column leaf first stored old.rows) was)

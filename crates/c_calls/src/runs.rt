@@ -3,6 +3,7 @@ ghost use Rattle.std.specs.Prelude.{◌≡◌, ◌+◌, ◌*◌, ◌%◌, ◌<�
 ghost use Rattle.record_dim.specs.LeafTypes.{IsDeclared};
 ghost use Rattle.views.specs.NearStores.{IsNearColumn};
 ghost use Rattle.views.specs.Tables.{leaf_count_of, leaf_type_of};
+ghost use Rattle.views.specs.WideColumns.{IsWideColumn};
 ghost use Rattle.c_calls.specs.Runs.{run_of, after_run};
 ghost use Rattle.c_calls.specs.Values.{read_by};
 ghost use Rattle.c_calls.specs.RunLaws.{HasRead};
@@ -13,7 +14,7 @@ use c_answers::Refusal;
 use record_dim::LeafType;
 use std::sync::ledger::{Blank, Ledger};
 use steps::Steps;
-use views::{NearColumn, View};
+use views::{NearColumn, View, WideColumn, WideWay};
 
 /// The values of a leaf in as many rows as the array is long, from one row on, where each value of the leaf is a number of the caller's type. On
 /// a refusal the array stays as it is.
@@ -178,8 +179,7 @@ fn read_each<N: Number64, L: Ledger>(
     }
 }
 
-// Reads values from the first on as long as each is one load, and tells how many. Nothing in the loop may change the view, so where the leaf
-// stands is found before it.
+// Reads values from the first on, sixteen at a time, as far as each is one load, and tells how many. How they stand is asked before the loop.
 fn read_wide<N: Number64>(
     view: &View,
     kind: LeafType,
@@ -195,14 +195,76 @@ fn read_wide<N: Number64>(
     ensures same_length { length values.new ≡ length values.old }
     ensures read { HasRead leaf first result view.now view.now (map N.number values.old) (map N.number values.new) }
 {
-    for k in 0..values.len() {
-        let row = row_at(view, first, k);
-        match view.wide_value(row, leaf) {
-            Some(value) => values[k] = N::of(kind, value),
-            None => return k,
-        }
+    let Some(wide) = view.wide_column(leaf) else {
+        return 0;
+    };
+    match wide.way {
+        WideWay::Whole => read_sixteens(view, wide, WideWay::Whole, kind, first, values),
+        WideWay::Blocks => read_sixteens(view, wide, WideWay::Blocks, kind, first, values),
+        WideWay::Turned => read_sixteens(view, wide, WideWay::Turned, kind, first, values),
+        WideWay::Field => read_sixteens(view, wide, WideWay::Field, kind, first, values),
     }
-    values.len()
+}
+
+// The same in a way that the caller knows, so that a loop asks nothing.
+#[inline(always)]
+fn read_sixteens<N: Number64>(
+    view: &View,
+    wide: WideColumn,
+    way: WideWay,
+    kind: LeafType,
+    first: u64,
+    values: &mut [N],
+) -> usize
+    requires wide { IsWideColumn view.now wide }
+    requires way { way ≡ wide.way }
+    requires rows { first + length values.old ≤ length view.now.rows }
+    requires kind { kind ≡ leaf_type_of view.now wide.leaf }
+    requires reads { N.reads kind ≡ true }
+    ensures few { result ≤ length values.old }
+    ensures same_length { length values.new ≡ length values.old }
+    ensures read { HasRead wide.leaf first result view.now view.now (map N.number values.old) (map N.number values.new) }
+{
+    let blocks = sixteens(wide.rows, first, values.len());
+    for k in 0..blocks {
+        let row = row_at(view, first, 16 * k);
+        let numbers = sixteen_at(view, &wide, way, kind, row);
+        put_sixteen(values, 16 * k, &numbers);
+    }
+    16 * blocks
+}
+
+// How many times sixteen of so many rows stand from one on, up to an end.
+fn sixteens(end: u64, first: u64, count: usize) -> usize
+    ensures few { 16 * result ≤ count }
+    ensures inside { 0 < result → first + 16 * result ≤ end }
+{
+    (end.saturating_sub(first).min(count as u64) / 16) as usize
+}
+
+// The values of a leaf in sixteen rows. They are gathered apart from the caller's array, so that no store is thought to change where they stand.
+#[inline(always)]
+fn sixteen_at<N: Number64>(
+    view: &View,
+    wide: &WideColumn,
+    way: WideWay,
+    kind: LeafType,
+    first: u64,
+) -> [N; 16]
+    requires wide { IsWideColumn view.now wide.now }
+    requires way { way ≡ wide.now.way }
+    requires wide_in { first + 16 ≤ wide.now.rows }
+    requires rows { first + 16 ≤ length view.now.rows }
+    requires kind { kind ≡ leaf_type_of view.now wide.now.leaf }
+    requires reads { N.reads kind ≡ true }
+    ensures { map N.number result ≡ run_of first 16 wide.now.leaf view.now }
+{
+    let mut numbers = [N::of(kind, view.wide_value(wide, way, first)); 16];
+    for lane in 0..16 {
+        let at = row_at(view, first, lane);
+        numbers[lane] = N::of(kind, view.wide_value(wide, way, at));
+    }
+    numbers
 }
 
 // The row so many behind another.

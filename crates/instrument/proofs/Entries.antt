@@ -1,33 +1,10 @@
 -- Bytes, their bits and their numbers.
-use Rattle.std.proofs.Common.{◌≡◌, ℕ, ◌+◌, ◌*◌, ◌/◌, ◌%◌, ◌^◌, ◌<◌, ◌≤◌, List, [], ◌∷◌, length, get_or, sym, ap, refl, ◌∙◌, arith}
+use Rattle.std.proofs.Common.{◌≡◌, ℕ, ◌+◌, ◌<◌, ◌≤◌, List, [], ◌∷◌, length, get_or, sym, ap, refl, ◌∙◌, arith}
 use Rattle.std.specs.List.{enumerate_from}
-use Rattle.std.proofs.lemmas.List.FromFn.{get_or-enumerate_from, length-enumerate_from, get_or-map-range_with_len, length-map-range_with_len}
-use Rattle.places.specs.NumbersLaws.{number_same}
-use Rattle.blobs.specs.Bits.{bit_of, bits_of}
-use Rattle.blobs.specs.BytesLaws.{number_of_byte}
-use Rattle.instrument.specs.BlobTexts.{byte_at, bytes_of, line_end}
-
-bits_long : (bytes : List ℕ) → length (bits_of bytes) ≡ 8 * length bytes
-bits_long bytes = length-map-range_with_len (bit_of bytes) 0 (8 * length bytes)
-
--- as many bytes as before
-pub bytes_long : (bytes : List ℕ) → length (bytes_of (bits_of bytes)) ≡ length bytes
-bytes_long bytes =
-    let eights : length (bits_of bytes) / 8 ≡ length bytes = omega (arith, bits_long bytes) in
-    length-map-range_with_len (byte_at (bits_of bytes)) 0 (length (bits_of bytes) / 8) ∙ eights
-
--- and each is what it was
-whole_byte : (byte : ℕ) → byte < 256 → byte / 2 ^ 0 % 2 ^ 8 ≡ byte
-whole_byte byte small = omega (arith, small)
-
-byte_is : (bytes : List ℕ) (at : ℕ) → at < length bytes → get_or bytes at 0 < 256 → get_or (bytes_of (bits_of bytes)) at 0 ≡ get_or bytes at 0
-byte_is bytes at small fits =
-    let eights : at < length (bits_of bytes) / 8 = omega (arith, bits_long bytes) in
-    get_or-map-range_with_len (byte_at (bits_of bytes)) 0 (length (bits_of bytes) / 8) at at 0 eights (omega arith)
-    ∙ number_same (λ k. get_or (bits_of bytes) (8 * at + k) 0) (λ k. bit_of bytes (8 * at + k)) 8
-    (λ k l. get_or-map-range_with_len (bit_of bytes) 0 (8 * length bytes) (8 * at + k) (8 * at + k) 0 (omega arith) (omega arith))
-    ∙ number_of_byte bytes (8 * at) at 0 8 (omega arith) (omega arith)
-    ∙ whole_byte (get_or bytes at 0) fits
+use Rattle.std.proofs.lemmas.List.FromFn.{get_or-enumerate_from, length-enumerate_from}
+use Rattle.blobs.specs.Bits.{bits_of}
+use Rattle.instrument.specs.BlobTexts.{bytes_of, line_end}
+use Rattle.instrument.specs.BlobTextsLaws.{bytes_long, byte_is}
 
 -- the byte of a number
 pub byte_entry : (bytes : List ℕ) (at byte : ℕ) → at < length bytes → byte < 256 → byte ≡ get_or bytes at 0 →

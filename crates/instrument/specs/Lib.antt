@@ -1,4 +1,5 @@
 pub mod BlobTexts
+pub mod BlobTextsLaws
 pub mod Counters
 pub mod Touching
 pub mod TimesLaws

@@ -6,3 +6,4 @@ pub mod Filling
 pub mod ArrayLaws
 pub mod EvenLaws
 pub mod CellFacts
+pub mod SlotRows

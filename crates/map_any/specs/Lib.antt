@@ -1,5 +1,6 @@
 pub mod AnyLaws
 pub mod LeafRules
+pub mod SlotRules
 pub mod Maps
 pub mod Counters
 pub mod Runs

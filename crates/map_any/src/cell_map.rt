@@ -10,11 +10,13 @@ ghost use Rattle.map_plans.specs.Plans.{IsPlanOf};
 ghost use Rattle.map_plans.specs.Ruled.{IsRuleOf};
 
 use crate::planned::planned;
+use crate::slot_rules::SlotRules;
 use extents::Extents;
+use linearize::Order;
 use map_checks::{MakeMap, hold_at, kind_at};
 use map_expr::MapExpr;
 use map_plans::{Plan, Rule, slot_of_row};
-use piece_rules::pieces_in;
+use piece_rules::{PieceRules, pieces_in};
 use places::{Cell, CellList, Hold, Mapping, Pieces};
 use record_dim::{LeafType, Schema};
 use std::alloc::Global;
@@ -118,4 +120,14 @@ impl Mapping for CellMap {
     ghost laws = { λ m. any_laws (term_of m.expr) m.extents (schema_fields m.schema) m.cells.items m.plan.holds m.built m.numbers m.full m.made.held };
 
     ghost holds_cells = { λ m. cell_holds (term_of m.expr) m.extents (schema_fields m.schema) m.cells.items m.plan m.made };
+}
+
+impl SlotRules for CellMap {
+    fn slot_rules(&self, cell: usize) -> Option<&PieceRules> {
+        let rule = self.rule(cell);
+        match rule.order {
+            Order::Row | Order::Col => Some(&rule.pieces),
+            Order::Morton => None,
+        }
+    }
 }

@@ -9,6 +9,7 @@ mod leaf_rule;
 mod leaf_rules;
 mod planned;
 mod runs;
+mod slot_rules;
 mod strategy;
 
 pub use any::AnyMap;
@@ -19,4 +20,5 @@ pub use map_checks::{HoldList, MakeMap};
 pub use map_expr::{BadMapping, MapExpr, MapExprList};
 pub use map_plans::{LengthList, Rule};
 pub use short_rules::{Field, ShortRule, Walk, Wide, Word};
+pub use slot_rules::SlotRules;
 pub use strategy::Strategy;

@@ -3,18 +3,18 @@ use Rattle.std.proofs.Common.{◌≡◌, ℕ, ◌+◌, ◌*◌, ◌/◌, ◌^◌
 use Rattle.std.specs.Prelude.{◌||◌, is_some, sum_by}
 use Rattle.std.proofs.lemmas.Bool.{le-ltb, lt-leb, ltb-false}
 use Rattle.std.proofs.lemmas.List.{length-map}
-use Rattle.std.proofs.lemmas.List.FromFn.{length-map-range_with_len}
 use Rattle.std.proofs.lemmas.List.Sums.{sum_by-cons}
 use Rattle.layout_io.specs.Files.{File, file_of}
 use Rattle.layout_io.specs.Writing.{joined}
 use Rattle.places.specs.Layout.{Owner}
 use Rattle.places.specs.Image.{bit_held, image}
-use Rattle.instrument.specs.BlobTexts.{byte_at, bytes_of}
+use Rattle.instrument.specs.BlobTexts.{bytes_of}
+use Rattle.instrument.specs.BlobTextsLaws.{length-bytes_of}
 use Rattle.extents.specs.Indices.{indices}
 use Rattle.line_grammar.specs.Sentences.{Open}
 use Rattle.views.specs.Tables.{Table, owners_of, leaf_count_of}
 use Rattle.views.specs.Tallies.{Tally, Write, all_accesses, no_tally, tallied}
-use Rattle.blob_file.specs.Files.{Header, magic, four_bytes, record_text, view_text, header_text, IsShort, IsFile}
+use Rattle.blob_file.specs.Files.{Header, magic, four_bytes, record_text, view_text, header_text, IsShort}
 use Rattle.blob_file.specs.Files as saved_file
 use Rattle.blob_file.specs.Headers.{CanLie}
 use Rattle.blob_file.specs.Opened.{Saved, opened, table_of, rows_in}
@@ -61,9 +61,6 @@ was_saved table done goes =
     }
 
 -- ---- a file is not too long to be opened
-
-length-bytes_of : (bits : List ℕ) → length (bytes_of bits) ≡ length bits / 8
-length-bytes_of bits = length-map-range_with_len (byte_at bits) 0 (length bits / 8)
 
 image_length : (layout : List (List Owner)) (rows : List (List ℤ)) → 8 * length (joined (map bytes_of (image layout rows))) ≤ sum_by (length {A = Owner}) layout
 image_length [] rows = omega arith

@@ -4,8 +4,7 @@ use Rattle.std.specs.Result.{IsErrAnd}
 use Rattle.std.specs.Prelude.{◌*◌, not, nat_lt, sum_by, slice_set, filter, Option, Some, None}
 use Rattle.std.proofs.lemmas.Bool.{and_parts, leb-true}
 use Rattle.std.proofs.lemmas.Bool.Decides.{nat_tests}
-use Rattle.std.proofs.lemmas.List.{length-map, length-set, ext_get_or}
-use Rattle.std.proofs.lemmas.List.FromFn.{get_or-map-range_with_len, length-map-range_with_len}
+use Rattle.std.proofs.lemmas.List.{length-map, length-set}
 use Rattle.std.proofs.Math.Seq.{drop-cons}
 use Rattle.actors.specs.Runs.{Run, uncounted, started_run, after_turns}
 use Rattle.actor_steps.specs.Confluence.{State, moved, turned}
@@ -18,10 +17,7 @@ use Rattle.actor_steps.specs.Schedules.{next, entries, schedule_of, idle_with, r
 use Rattle.actor_steps.specs.Shared.{shared_byte}
 use Rattle.line_grammar.specs.Sentences.{Value, Assignment}
 use Rattle.places.specs.Image.{image, bit_held}
-use Rattle.places.specs.NumbersLaws.{number_same}
-use Rattle.blobs.specs.Bits.{bit_of, bits_of, AreBytes}
-use Rattle.blobs.specs.BytesLaws.{number_of_byte}
-use Rattle.instrument.specs.BlobTexts.{byte_at, bytes_of}
+use Rattle.instrument.specs.BlobTexts.{bytes_of}
 use Rattle.row_updates.specs.Rows.{Setting, updated_of}
 use Rattle.expr_lang.specs.Terms.{Term}
 use Rattle.row_updates.specs.Logs.{update_log}
@@ -205,24 +201,3 @@ stored_back table now view bound rows test settings test_is settings_are read up
     let goes : updated_of table bound.test bound.settings (length table.rows) ≡ Ok rows = rw (test_is, settings_are, read) at updated in
     let left : view ≡ after_stores (after_log table (reads_in log)) rows (writes_in log) = rw (test_is, settings_are, read) at stored in
     (goes, left ∙ sym (read_stored table rows (reads_in log) (writes_in log)))
-
--- the bytes of the bits of bytes
-bits_long : (bytes : List ℕ) → length (bits_of bytes) ≡ 8 * length bytes
-bits_long bytes = length-map-range_with_len (bit_of bytes) 0 (8 * length bytes)
-
-whole_byte : (byte : ℕ) → byte < 256 → byte / 2 ^ 0 % 2 ^ 8 ≡ byte
-whole_byte byte small = omega (arith, small)
-
-byte_is : (bytes : List ℕ) (at : ℕ) → at < length bytes → get_or bytes at 0 < 256 → get_or (bytes_of (bits_of bytes)) at 0 ≡ get_or bytes at 0
-byte_is bytes at small fits =
-    let eights : at < length (bits_of bytes) / 8 = omega (arith, bits_long bytes) in
-    get_or-map-range_with_len (byte_at (bits_of bytes)) 0 (length (bits_of bytes) / 8) at at 0 eights (omega arith)
-    ∙ number_same (λ k. get_or (bits_of bytes) (8 * at + k) 0) (λ k. bit_of bytes (8 * at + k)) 8
-    (λ k l. get_or-map-range_with_len (bit_of bytes) 0 (8 * length bytes) (8 * at + k) (8 * at + k) 0 (omega arith) (omega arith))
-    ∙ number_of_byte bytes (8 * at) at 0 8 (omega arith) (omega arith)
-    ∙ whole_byte (get_or bytes at 0) fits
-
-pub bytes_of_bits : (bytes : List ℕ) → AreBytes bytes → bytes_of (bits_of bytes) ≡ bytes
-bytes_of_bits bytes are =
-    let long : length (bytes_of (bits_of bytes)) ≡ length bytes = omega (arith, length-map-range_with_len (byte_at (bits_of bytes)) 0 (length (bits_of bytes) / 8), bits_long bytes) in
-    ext_get_or 0 (bytes_of (bits_of bytes)) bytes long (λ at small. byte_is bytes at (omega (arith, small, long)) (are at))

@@ -9,8 +9,8 @@ use Rattle.views.specs.NearStores.{IsNearColumn}
 use Rattle.views.specs.Tallies.{Access, Write}
 use Rattle.views.specs.TallyLaws.{after_log-none, after_stores-append}
 use Rattle.views.specs.Tables.{Table, IsTable, leaf_count_of, kept_of, after_stores, after_write}
-use Rattle.views.proofs.NearColumnLaws.{near_still}
-use Rattle.views.proofs.StoredLaws.{no_column, entry_more}
+use Rattle.views.specs.NearStoresLaws.{near_still}
+use Rattle.views.specs.ColumnsLaws.{no_column, entry_more}
 use Rattle.subviews.specs.SubViews.{rows_of}
 use Rattle.subviews.specs.declared.blocks.NearPair.{NearPair}
 use Rattle.subviews.specs.declared.rounds.Plan.{Plan}

@@ -23,7 +23,6 @@ pub fn print_window<K: Sink, L: Ledger>(
     sink: &mut K,
     steps: &mut Steps<L>,
 ) -> Result<(), Failed>
-    requires window { sub.old.window.now.0 ≡ sub.old.view.now.extents }
     ensures writes { Writes K.taken K.faults sink.old sink.new result
         (print_text (texts_of sub.old.view.now.fields) (sub_table sub.old.window.now sub.old.view.now.rows)) }
     ensures read { OnOk result (sub.new.view.now ≡ after_log sub.old.view.now (sub_reads sub.old.window.now (leaf_count_of sub.old.view.now))) }
@@ -43,7 +42,6 @@ fn put_rows<K: Sink, L: Ledger>(
     sink: &mut K,
     steps: &mut Steps<L>,
 ) -> Result<(), Failed>
-    requires window { sub.old.window.now.0 ≡ sub.old.view.now.extents }
     ensures puts { Puts K.taken K.faults sink.old sink.new buffer.old buffer.new result
         (flat_map (λ row. comma_line (map decimal_text row)) (sub_table sub.old.window.now sub.old.view.now.rows)) }
     ensures read { OnOk result (sub.new.view.now ≡ after_log sub.old.view.now (sub_reads sub.old.window.now (leaf_count_of sub.old.view.now))) }

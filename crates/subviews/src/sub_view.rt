@@ -15,6 +15,7 @@ use views::{StoreFault, View, laws_of_table};
 pub struct SubView<'a> {
     pub(crate) view: &'a mut View,
     window: &'a Window,
+    ghost tied: { window.now.0 ≡ view.now.extents },
 }
 
 impl<'a> SubView<'a> {
@@ -48,7 +49,6 @@ impl SubView<'_> {
 
     /// The value of a leaf in a row. It takes one step.
     pub fn get<L: Ledger>(&mut self, row: u64, leaf: usize, steps: &mut Steps<L>) -> i128
-        requires window { self.old.window.now.0 ≡ self.old.view.now.extents }
         requires row_in { row < length (rows_of self.old.window.now) }
         requires leaf_in { leaf < leaf_count_of self.old.view.now }
         ensures value { result ≡ entry self.old.view.now.rows (outer_row self.old.window.now row) leaf }
@@ -70,7 +70,6 @@ impl SubView<'_> {
         value: i128,
         steps: &mut Steps<L>,
     ) -> Result<(), StoreFault>
-        requires window { self.old.window.now.0 ≡ self.old.view.now.extents }
         requires row_in { row < length (rows_of self.old.window.now) }
         requires leaf_in { leaf < leaf_count_of self.old.view.now }
         ensures answer { result ≡ told (answer_of self.old.view.now leaf value) }

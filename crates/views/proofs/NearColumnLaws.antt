@@ -24,10 +24,10 @@ use Rattle.near_leaves.proofs.Nears.{rule_near, rule_numbers}
 use Rattle.views.specs.Columns.{column}
 use Rattle.kept_tables.specs.declared.mode.StoreMode.{StoreMode}
 use Rattle.views.specs.Kept.{IsKept, IsMappingOf}
-use Rattle.views.specs.NearStores.{IsNearIn, IsNearColumn}
+use Rattle.views.specs.NearStores.{IsNearIn}
 use Rattle.views.specs.Stores.{Fits}
-use Rattle.views.specs.Tables.{Table, leaf_count_of, leaf_types_of, owners_of, table_holds, after_log, after_stores}
-use Rattle.views.specs.Tallies.{Access, Tally, tallied}
+use Rattle.views.specs.Tables.{Table, leaf_count_of, leaf_types_of, owners_of, table_holds, after_log}
+use Rattle.views.specs.Tallies.{Access, Tally}
 use Rattle.views.specs.declared.near_column.NearColumn.{NearColumn}
 use Rattle.views.proofs.NearLaws.{near_there, near_shown}
 use Rattle.views.proofs.NearStoreLaws.{near_blob}
@@ -55,32 +55,21 @@ lanes_inside least greatest values first is many all k small =
 
 -- ---- the same under equal layouts
 
-pub near_same : (near : NearColumn) {layout there : List (List Owner)} {slots rows : ℕ} {kinds types : List LeafType} {holds stored : List Hold} → layout ≡ there → slots ≡ rows → kinds ≡ types → holds ≡ stored
-    → IsNearIn layout slots kinds holds near → IsNearIn there rows types stored near
-near_same near {layout} {there} {slots} {rows} {kinds} {types} {holds} {stored} one two three four is =
-    subst (λ (h : List Hold). IsNearIn there rows types h near) four
-    (subst (λ (k : List LeafType). IsNearIn there rows k holds near) three
-    (subst (λ (n : ℕ). IsNearIn there n kinds holds near) two
-    (subst (λ (l : List (List Owner)). IsNearIn l slots kinds holds near) one is)))
-
--- a near leaf of a table is one after stores
-pub near_still : (old : Table) (rows : List (List ℤ)) (log : List Access) (near : NearColumn) → length rows ≡ length old.rows → IsNearColumn old near → IsNearColumn (after_stores old rows log) near
-near_still old rows log near count is =
-    let none : tallied (owners_of old) old.tally log ≡ old.tally = ap (λ (t : Table). t.tally) (is.idle log) in
-    record {
-      inside = is.inside;
-      stands = subst (λ (n : ℕ). IsNearIn (owners_of old) n (leaf_types_of old) (table_holds old) near) (sym count) is.stands;
-      idle = λ more.
-          ap (λ (t : Tally). let s : Table = record old { rows = rows; tally = t } in s)
-          (ap (λ (t : Tally). tallied (owners_of old) t more) none ∙ ap (λ (t : Table). t.tally) (is.idle more) ∙ sym none);
-    }
+pub same_place : (P : List (List Owner) → ℕ → List LeafType → List Hold → Type 0) {layout there : List (List Owner)} {slots rows : ℕ} {kinds types : List LeafType} {holds stored : List Hold}
+    → layout ≡ there → slots ≡ rows → kinds ≡ types → holds ≡ stored → P layout slots kinds holds → P there rows types stored
+same_place P {layout} {there} {slots} {rows} {kinds} {types} {holds} {stored} one two three four is =
+    subst (λ (h : List Hold). P there rows types h) four
+    (subst (λ (k : List LeafType). P there rows k holds) three
+    (subst (λ (n : ℕ). P there n kinds holds) two
+    (subst (λ (l : List (List Owner)). P l slots kinds holds) one is)))
 
 -- what a mapping finds of a leaf, a view of it shows
-pub found_seen : (seen : Table) (leaf : ℕ) (found : Option NearColumn) (P : NearColumn → Type 0) (counted : Bool) → IfSome found P → IfSome found (λ near. near.leaf ≡ leaf)
-    → (is_some found ≡ true → counted ≡ false) → leaf < leaf_count_of seen → (counted ≡ false → (log : List Access) → after_log seen log ≡ seen)
-    → ((near : NearColumn) → P near → IsNearIn (owners_of seen) (length seen.rows) (leaf_types_of seen) (table_holds seen) near) → IfSome found (IsNearColumn seen)
-found_seen seen leaf None P counted is at uncounted inside idle same = tt
-found_seen seen leaf (Some near) P counted is at uncounted inside idle same = record { inside = omega (arith, at, inside); stands = same near is; idle = idle (uncounted refl) }
+pub found_seen : {Column : Type 0} (seen : Table) (leaf : ℕ) (leaf_in : Column → ℕ) (found : Option Column) (P Q : Column → Type 0) (counted : Bool) → IfSome found P
+    → IfSome found (λ column. leaf_in column ≡ leaf) → (is_some found ≡ true → counted ≡ false) → leaf < leaf_count_of seen
+    → (counted ≡ false → (log : List Access) → after_log seen log ≡ seen)
+    → ((column : Column) → P column → leaf_in column < leaf_count_of seen → ((log : List Access) → after_log seen log ≡ seen) → Q column) → IfSome found Q
+found_seen seen leaf leaf_in None P Q counted is at uncounted inside idle shown = tt
+found_seen seen leaf leaf_in (Some column) P Q counted is at uncounted inside idle shown = shown column is (omega (arith, at, inside)) (idle (uncounted refl))
 
 -- ---- a block of sixteen rows
 
@@ -127,15 +116,15 @@ module _ {layout : List (List Owner)} {slots : ℕ} (kinds : List LeafType) (hol
         from ∙ ap (λ (xs : List ℤ). take 16 (drop (16 * block) xs)) shown ∙ ap (λ (n : ℕ). take 16 (drop (16 * block) (take n values))) parts
         ∙ ap (take 16) (drop-take (16 * block) 16 values) ∙ take-take 16 16 (drop (16 * block) values) (omega arith)
 
--- ---- what a view and its mapping say of a near leaf
+-- ---- what a view and its mapping say of where a leaf stands
 
 module _ {mode : StoreMode} (schema : Schema) (extents : List ℕ) (expr : MapExpr) (blobs : List (List ℕ)) (kept : IsKept mode (term_of expr) extents (schema_fields schema) blobs) {tally : Tally} (seen : Table)
     (is : seen_from mode schema extents expr blobs tally ≡ seen) {mapped : Term} {inside : List ℕ} {layout : List (List Owner)} {slots : ℕ} {cells : List Cell} {holds : List Hold}
-    (mapping : IsMappingOf (term_of expr) extents (schema_fields schema) mapped inside layout slots cells holds) (near : NearColumn) where
+    (mapping : IsMappingOf (term_of expr) extents (schema_fields schema) mapped inside layout slots cells holds) where
   layouts : layout ≡ owners_of seen
   layouts = mapping.layout_is ∙ ap (λ (t : Table). owners_of t) is
 
-  rows_are : slots ≡ length seen.rows
+  pub rows_are : slots ≡ length seen.rows
   rows_are = mapping.slots_are ∙ sym (rows_seen schema extents expr blobs kept seen is)
 
   types : map (λ cell. cell.kind) cells ≡ leaf_types_of seen
@@ -144,14 +133,25 @@ module _ {mode : StoreMode} (schema : Schema) (extents : List ℕ) (expr : MapEx
   stored : holds ≡ table_holds seen
   stored = mapping.holds_are ∙ ap (λ (t : Table). table_holds t) is
 
-  pub near_shown_there : IsNearIn layout slots (map (λ cell. cell.kind) cells) holds near → IsNearIn (owners_of seen) (length seen.rows) (leaf_types_of seen) (table_holds seen) near
-  near_shown_there = near_same near layouts rows_are types stored
+  module _ (P : List (List Owner) → ℕ → List LeafType → List Hold → Type 0) where
+    pub shown_there : P layout slots (map (λ cell. cell.kind) cells) holds → P (owners_of seen) (length seen.rows) (leaf_types_of seen) (table_holds seen)
+    shown_there = same_place P layouts rows_are types stored
 
-  pub near_here : IsNearIn (owners_of seen) (length seen.rows) (leaf_types_of seen) (table_holds seen) near → IsNearIn layout slots (map (λ cell. cell.kind) cells) holds near
-  near_here = near_same near (sym layouts) (sym rows_are) (sym types) (sym stored)
+    pub shown_here : P (owners_of seen) (length seen.rows) (leaf_types_of seen) (table_holds seen) → P layout slots (map (λ cell. cell.kind) cells) holds
+    shown_here = same_place P (sym layouts) (sym rows_are) (sym types) (sym stored)
 
-  pub near_leaf_in : near.leaf < leaf_count_of seen → near.leaf < length cells
-  near_leaf_in there = omega (arith, cell_count mapping, leaf_seen schema extents expr blobs kept seen is near.leaf there)
+  pub leaf_here : (leaf : ℕ) → leaf < leaf_count_of seen → leaf < length cells
+  leaf_here leaf there = omega (arith, cell_count mapping, leaf_seen schema extents expr blobs kept seen is leaf there)
 
-  pub near_rows_in : (block : ℕ) → 16 * (block + 1) ≤ length seen.rows → 16 * (block + 1) ≤ slots
-  near_rows_in block there = omega (arith, there, rows_are)
+  module _ (near : NearColumn) where
+    pub near_shown_there : IsNearIn layout slots (map (λ cell. cell.kind) cells) holds near → IsNearIn (owners_of seen) (length seen.rows) (leaf_types_of seen) (table_holds seen) near
+    near_shown_there = shown_there (λ l n k h. IsNearIn l n k h near)
+
+    pub near_here : IsNearIn (owners_of seen) (length seen.rows) (leaf_types_of seen) (table_holds seen) near → IsNearIn layout slots (map (λ cell. cell.kind) cells) holds near
+    near_here = shown_here (λ l n k h. IsNearIn l n k h near)
+
+    pub near_leaf_in : near.leaf < leaf_count_of seen → near.leaf < length cells
+    near_leaf_in = leaf_here near.leaf
+
+    pub near_rows_in : (block : ℕ) → 16 * (block + 1) ≤ length seen.rows → 16 * (block + 1) ≤ slots
+    near_rows_in block there = omega (arith, there, rows_are)

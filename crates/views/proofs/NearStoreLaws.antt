@@ -45,7 +45,8 @@ use Rattle.views.proofs.AccessLaws.{blob_there, word_there, word_put, word_lies}
 use Rattle.views.proofs.KeptLaws.{raw_shape, hold_some}
 use Rattle.views.proofs.Opened.{seen_from}
 use Rattle.views.proofs.StoreLaws.{map_same}
-use Rattle.views.proofs.StoredLaws.{first_taken, no_column, entry_more}
+use Rattle.views.specs.ColumnsLaws.{no_column, entry_more}
+use Rattle.views.proofs.StoredLaws.{first_taken}
 
 -- ---- a lane after the other
 

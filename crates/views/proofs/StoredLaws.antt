@@ -1,5 +1,5 @@
 -- The values of one leaf that are stored, a lane at a time.
-use Rattle.std.proofs.Common.{◌≡◌, ℕ, zero, suc, ◌+◌, ◌<◌, ◌≤◌, List, [], ◌∷◌, ◌++◌, length, take, drop, set, get_or, ℤ, pos, Some, None, Ok, Err, refl, sym, ap, ◌∙◌, arith, subst, drop-cons, length-take, take_all, FitsSigned, to_z, of_z, w64}
+use Rattle.std.proofs.Common.{◌≡◌, ℕ, zero, suc, ◌+◌, ◌<◌, ◌≤◌, List, [], ◌∷◌, ◌++◌, length, take, drop, get_or, ℤ, pos, Some, None, Ok, Err, refl, sym, ap, ◌∙◌, arith, subst, drop-cons, length-take, take_all, FitsSigned, to_z, of_z, w64}
 use Rattle.std.specs.Prelude.{Option, Result}
 use Rattle.std.specs.Int.{w128}
 use Rattle.std.proofs.lemmas.Int.{to_z-of_z}
@@ -13,6 +13,7 @@ use Rattle.views.specs.Tables.{Table, leaf_type_of, after_raw, after_stores}
 use Rattle.views.specs.Tallies.{Write}
 use Rattle.views.specs.TallyLaws.{after_log-none, after_stores-append}
 use Rattle.views.specs.Columns.{column_writes, with_column, lane_fault, first_lane_fault}
+use Rattle.views.specs.ColumnsLaws.{no_column, entry_more}
 use Rattle.views.specs.declared.fault.StoreFault.{StoreFault}
 use Rattle.views.specs.declared.fault.LaneFault.{LaneFault}
 
@@ -52,32 +53,6 @@ fault_here answer leaf lane values fault inside refused =
     let value = get_or values lane (pos 0) in
     ap (first_lane_fault answer leaf lane) (drop-cons values lane (pos 0) inside)
     ∙ ap (λ (r : Result ℤ StoreFault). option_or (lane_fault lane r) (first_lane_fault answer leaf (lane + 1) (drop (suc lane) values))) (told_err (answer leaf value) fault refused)
-
--- no value, and one more
-pub no_column : (leaf row : ℕ) (rows : List (List ℤ)) → with_column leaf row [] rows ≡ rows
-no_column leaf zero rows = refl
-no_column leaf (suc row) [] = refl
-no_column leaf (suc row) (numbers ∷ rows) = ap (λ (more : List (List ℤ)). numbers ∷ more) (no_column leaf row rows)
-
-pub length-with_column : (leaf row : ℕ) (values : List ℤ) (rows : List (List ℤ)) → length (with_column leaf row values rows) ≡ length rows
-length-with_column leaf zero [] rows = refl
-length-with_column leaf zero (value ∷ values) [] = refl
-length-with_column leaf zero (value ∷ values) (numbers ∷ rows) = ap suc (length-with_column leaf zero values rows)
-length-with_column leaf (suc row) values [] = refl
-length-with_column leaf (suc row) values (numbers ∷ rows) = ap suc (length-with_column leaf row values rows)
-
-pub entry_more : (leaf row lane at : ℕ) (values : List ℤ) (rows : List (List ℤ)) → lane < length values → at ≡ row + lane → at < length rows
-    → with_entry (with_column leaf row (take lane values) rows) at leaf (get_or values lane (pos 0)) ≡ with_column leaf row (take (suc lane) values) rows
-entry_more leaf row lane at [] rows inside place below = absurd (omega arith)
-entry_more leaf row lane at (value ∷ values) [] inside place below = absurd (omega arith)
-entry_more leaf zero zero zero (value ∷ values) (numbers ∷ rows) inside place below = ap (λ (more : List (List ℤ)). set numbers leaf value ∷ more) (sym (no_column leaf zero rows))
-entry_more leaf zero zero (suc at) (value ∷ values) (numbers ∷ rows) inside place below = absurd (omega arith)
-entry_more leaf zero (suc lane) zero (value ∷ values) (numbers ∷ rows) inside place below = absurd (omega arith)
-entry_more leaf zero (suc lane) (suc at) (value ∷ values) (numbers ∷ rows) inside place below =
-    ap (λ (more : List (List ℤ)). set numbers leaf value ∷ more) (entry_more leaf zero lane at values rows (omega arith) (omega arith) (omega arith))
-entry_more leaf (suc row) lane zero (value ∷ values) (numbers ∷ rows) inside place below = absurd (omega arith)
-entry_more leaf (suc row) lane (suc at) (value ∷ values) (numbers ∷ rows) inside place below =
-    ap (λ (more : List (List ℤ)). numbers ∷ more) (entry_more leaf row lane at (value ∷ values) rows inside (omega arith) (omega arith))
 
 -- the values of the first so many lanes are stored
 pub record HasStored (leaf row lane : ℕ) (old table : Table) (values : List ℤ) : Type 0 where

@@ -11,10 +11,13 @@ pub mod TallyLaws
 pub mod OrderLaws
 pub mod Entries
 pub mod Columns
+pub mod ColumnsLaws
 pub mod Moves
 pub mod MovesLaws
 pub mod UncountedLaws
 pub mod NearStores
+pub mod NearStoresLaws
+pub mod WideColumns
 pub mod Pieces
 pub mod SpanLaws
 pub mod CutLaws

@@ -14,6 +14,8 @@ mod row;
 mod rows;
 mod store;
 mod view;
+mod wide;
+mod wide_column;
 
 pub use fault::{LaneFault, MakeView, StoreFault};
 pub use kept_tables::StoreMode;
@@ -21,3 +23,5 @@ pub use laws::{counts_are_entries, laws_of_table};
 pub use near_column::NearColumn;
 pub use row::RowRef;
 pub use view::{BlobList, View};
+pub use wide::WideWay;
+pub use wide_column::WideColumn;

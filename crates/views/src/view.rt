@@ -278,23 +278,10 @@ impl View {
         ensures declared { IsDeclared (leaf_type_of self.old leaf) result }
         ensures same { self.new ≡ after_read self.old row leaf }
     {
-        match self.wide_value(row, leaf) {
+        match wide_read(&self.map, self.blobs.as_slice(), row, leaf) {
             Some(value) => value,
             None => self.far_value(row, leaf),
         }
-    }
-
-    /// The value of a leaf in a row that is one load of eight bytes, in a view that counts nothing: what `get` gives. A loop that reads one leaf
-    /// finds once, and not in each turn, where it stands. None says nothing.
-    #[inline(always)]
-    pub fn wide_value(&self, row: u64, leaf: usize) -> Option<i128>
-        requires row_in { row < length self.now.rows }
-        requires leaf_in { leaf < leaf_count_of self.now }
-        ensures value { IfSome result (λ value. value ≡ entry self.now.rows row leaf) }
-        ensures declared { IfSome result (IsDeclared (leaf_type_of self.now leaf)) }
-        ensures same { is_some result ≡ true → after_read self.now row leaf ≡ self.now }
-    {
-        wide_read(&self.map, self.blobs.as_slice(), row, leaf)
     }
 
     // The same by all of the short form, and else by the whole rule. It stands apart, so that a loop holds the near way alone.

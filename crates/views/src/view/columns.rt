@@ -2,16 +2,21 @@
 ghost use Rattle.std.specs.Prelude.{◌≡◌, ◌+◌, ◌-◌, ◌*◌, ◌/◌, ◌<◌, ◌≤◌, ◌++◌, pos, true, false, OnOk, OnErr, IfErr, IfSome, Some, None, is_some, List, [], length, map, take, drop, replicate, slice_index_or};
 ghost use Rattle.std.specs.Simd.Lanes.{Each1};
 ghost use Rattle.lanes.specs.Blocks.{IsBlock, IsNarrow};
+ghost use Rattle.record_dim.specs.LeafTypes.{IsDeclared};
+ghost use Rattle.places.specs.Image.{entry};
 ghost use Rattle.views.specs.Columns.{in_leaf, column, column_reads, column_writes, with_column, first_lane_fault, IsNarrowLeaf};
 ghost use Rattle.views.specs.NearStores.{IsNearColumn};
-ghost use Rattle.views.specs.Tables.{answer_of, kept_of, leaf_count_of, after_log, after_read, after_stores};
+ghost use Rattle.views.specs.Tables.{answer_of, kept_of, leaf_count_of, leaf_type_of, after_log, after_read, after_stores};
 ghost use Rattle.views.specs.Tallies.{Access};
+ghost use Rattle.views.specs.WideColumns.{IsWideColumn};
 
 use super::View;
 use crate::fault::LaneFault;
 use crate::near::{block_of, near_leaf};
 use crate::near_column::{NearColumn, column_of};
 use crate::near_store::put_block;
+use crate::wide::{WideWay, wide_at};
+use crate::wide_column::{WideColumn, wide_column_of};
 use lanes::Block;
 use near_leaves::Near;
 use std::simd::Simd;
@@ -147,6 +152,36 @@ impl View {
         }
         put_block(&self.map, &mut self.blobs, near, block, &values.to_array());
         true
+    }
+
+    /// Where the values of a leaf stand that are one load each, in a view that counts nothing. None says nothing.
+    pub fn wide_column(&self, leaf: usize) -> Option<WideColumn>
+        requires { leaf < leaf_count_of self.now }
+        ensures wide { IfSome result (IsWideColumn self.now) }
+        ensures leaf { IfSome result (λ column. column.leaf ≡ leaf) }
+    {
+        wide_column_of(&self.map, self.blobs.as_slice(), leaf)
+    }
+
+    /// The value of such a leaf in one of these rows, as `get` gives it; the way is that of the column. Where it is a constant, it is one load. It
+    /// takes no step.
+    #[inline(always)]
+    pub fn wide_value(&self, column: &WideColumn, way: WideWay, row: u64) -> i128
+        requires column { IsWideColumn self.now column.now }
+        requires way { way ≡ column.now.way }
+        requires wide_in { row < column.now.rows }
+        requires row_in { row < length self.now.rows }
+        ensures value { result ≡ entry self.now.rows row column.now.leaf }
+        ensures declared { IsDeclared (leaf_type_of self.now column.now.leaf) result }
+    {
+        wide_at(
+            &self.map,
+            self.blobs.as_slice(),
+            &column.short,
+            way,
+            row,
+            column.leaf,
+        )
     }
 
     // The value of a leaf of at most 32 bits in a row.

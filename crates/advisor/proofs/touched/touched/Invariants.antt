@@ -1,13 +1,14 @@
-use Rattle.std.proofs.Common.{◌≡◌}
-use Rattle.std.specs.List.{range_with_len}
+use Rattle.std.proofs.Common.{take}
+use Rattle.std.specs.List.{list_any}
 use Rattle.instrument.specs.Counters.{heat_counts, no_heat}
 use Rattle.views.specs.Kept.{HasGranules}
 use Rattle.views.specs.Tallies.{blob_lengths}
-use Rattle.advisor.proofs.WarmLaws.{rows_heat}
+use Rattle.advisor.specs.Touched.{holds_cell}
+use Rattle.advisor.specs.Warm.{IsWarmed}
 use Rattle.advisor.proofs.touched.touched.Given as goal
 
-abbrev pub invariant-loop-row : goal.invariant-loop-row
-invariant-loop-row g l = let layout = g.M.Mapping.layout l.mapping in record {
-  counted : heat_counts l.heat ≡ rows_heat layout l.cells (no_heat l.granule (blob_lengths layout)) (range_with_len 0 l.row);
+abbrev pub invariant-loop-cell : goal.invariant-loop-cell
+invariant-loop-cell g l = let layout = g.M.Mapping.layout l.mapping in record {
+  warmed : IsWarmed (no_heat l.granule (blob_lengths layout)) (heat_counts l.heat) (λ blob at. list_any (λ cell. holds_cell layout l.granule cell blob at) (take l.cell-index l.cells));
   granules : HasGranules layout (heat_counts l.heat);
 }

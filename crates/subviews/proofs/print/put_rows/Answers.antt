@@ -20,7 +20,7 @@ put_row-requires g c =
     let view = c.args.sub.now.view.now in
     let small : c.loop-row.row < length (rows_of window) = omega (arith, c.count-row-end.ensures, c.loop-row-test.true) in
     let log = flat_map (row_accesses Read (leaf_count_of view)) (take c.loop-row.row (rows_of window)) in
-    let below = row_below window view c.loop-row.sub.view.now log (outer_row window c.loop-row.row) c.requires.window c.laws_of_table.ensures.table c.loop-row.invariant.1 (Contains-get_or (rows_of window) c.loop-row.row 0 small) in
+    let below = row_below window view c.loop-row.sub.view.now log (outer_row window c.loop-row.row) c.args.sub.now.tied c.laws_of_table.ensures.table c.loop-row.invariant.1 (Contains-get_or (rows_of window) c.loop-row.row 0 small) in
     let outer : c.outer-outer.result ≡ outer_row window c.loop-row.row = rw c.loop-row.invariant.2 at c.outer-outer.ensures.row in
     omega (arith, below, outer)
 

@@ -7,7 +7,7 @@ use Rattle.views.specs.Columns.{column, column_writes, with_column}
 use Rattle.views.specs.Tallies.{Read, Write}
 use Rattle.views.specs.TallyLaws.{after_log-none}
 use Rattle.views.specs.Tables.{Table, answer_of, kept_of}
-use Rattle.views.proofs.StoredLaws.{length-with_column}
+use Rattle.views.specs.ColumnsLaws.{length-with_column}
 use Rattle.subviews.specs.SubViews.{rows_of}
 use Rattle.subviews.specs.Plans.{IsNearPair, IsWalk}
 use Rattle.subviews.proofs.Growth.{run_from}

@@ -12,10 +12,11 @@ use Rattle.views.specs.Kept.{raw_under, table_under, tally_of}
 use Rattle.views.specs.NearStores.{IsNearColumn}
 use Rattle.views.specs.Stores.{Fits, kind_at, told}
 use Rattle.views.specs.Tables.{Table, answer_of, kept_of, leaf_type_of, table_holds, after_log, after_stores}
-use Rattle.views.proofs.NearColumnLaws.{lanes_inside, near_here, near_leaf_in, near_rows_in, near_still}
+use Rattle.views.specs.NearStoresLaws.{near_still}
+use Rattle.views.proofs.NearColumnLaws.{lanes_inside, near_here, near_leaf_in, near_rows_in}
 use Rattle.views.proofs.NearStoreLaws.{kept_column, table_column, none_refused, seen_column}
 use Rattle.views.proofs.Opened.{laid_there, leaf_seen, raw_same, some_seen}
-use Rattle.views.proofs.StoredLaws.{length-with_column}
+use Rattle.views.specs.ColumnsLaws.{length-with_column}
 use Rattle.views.proofs.StoreLaws.{fit_answer, fit_kept, map_same}
 use Rattle.views.proofs.view.View.store_near.Goals as goal
 use Rattle.views.proofs.view.View.store_near.Goals.{After-to_array, After-put_block}

@@ -5,7 +5,8 @@ use Rattle.std.proofs.lemmas.List.{get_or-map, length-map}
 use Rattle.kept_numbers.specs.Kept.{declared}
 use Rattle.views.specs.Stores.{told}
 use Rattle.views.specs.Tables.{Table, answer_of, kept_of, leaf_type_of, IsSettledIn}
-use Rattle.views.proofs.StoredLaws.{nothing_stored, stored_more, lane_taken, length-with_column, passed, all_stored}
+use Rattle.views.specs.ColumnsLaws.{length-with_column}
+use Rattle.views.proofs.StoredLaws.{nothing_stored, stored_more, lane_taken, passed, all_stored}
 use Rattle.views.proofs.view.View.store_values.Goals as goal
 
 pub loop-lane-init : goal.loop-lane-init

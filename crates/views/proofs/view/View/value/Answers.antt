@@ -1,5 +1,53 @@
-use Rattle.std.proofs.Common.{sym, refl}
+use Rattle.std.proofs.Common.{ℤ, ◌≡◌, false, refl, sym, ap, ◌∙◌, subst, arith, rules, SFits}
+use Rattle.std.specs.Int.{w128}
+use Rattle.std.proofs.lemmas.Int.{to_z-of_z}
+use Rattle.record_dim.specs.LeafTypes.{IsDeclared}
+use Rattle.map_expr.specs.Terms.{term_of}
+use Rattle.map_any.specs.Counters.{is_counted}
+use Rattle.views.specs.Kept.{tally_of}
+use Rattle.views.specs.Tables.{leaf_type_of}
+use Rattle.views.specs.Tallies.{Read}
+use Rattle.views.specs.CountLaws.{idle_tallied}
+use Rattle.views.proofs.Opened.{rows_seen, leaf_seen, cell_count, laid_here, sign_seen, declared_seen, seen_touched}
 use Rattle.views.proofs.view.View.value.Goals as goal
 
+pub wide_read-requires-clause-row_in : goal.wide_read-requires-clause-row_in
+wide_read-requires-clause-row_in c =
+    let a = c.self.inside in
+    omega (arith, c.requires.row_in, c.self.invariant.0.slots_are, rows_seen a.schema a.extents a.expr a.blobs.items c.self.invariant.1 c.args.self.now c.self.view_is)
+
+pub wide_read-requires-clause-leaf_in : goal.wide_read-requires-clause-leaf_in
+wide_read-requires-clause-leaf_in c =
+    let a = c.self.inside in
+    omega (arith, cell_count c.self.invariant.0, leaf_seen a.schema a.extents a.expr a.blobs.items c.self.invariant.1 c.args.self.now c.self.view_is c.args.leaf c.requires.leaf_in)
+
+pub wide_read-requires-clause-laid : goal.wide_read-requires-clause-laid
+wide_read-requires-clause-laid c =
+    laid_here c.self.invariant.0 c.as_slice.result.now c.self.inside.blobs.items c.as_slice.ensures.value c.self.invariant.1.laid
+
+pub returns-in-Some-clause-value : goal.returns-in-Some-clause-value
+returns-in-Some-clause-value c =
+    let a = c.self.inside in
+    let fits : SFits w128 c.in-Some.value = search rules in
+    to_z-of_z w128 c.in-Some.value fits ∙ c.in-Some.ensures.value
+    ∙ sign_seen a.schema a.extents a.expr a.blobs.items c.self.invariant.1 c.args.self.now c.self.view_is c.self.invariant.0 c.as_slice.result.now c.as_slice.ensures.value c.args.row c.args.leaf
+    c.requires.row_in c.requires.leaf_in (c.in-Some.ensures.sign refl)
+
+pub returns-in-Some-clause-declared : goal.returns-in-Some-clause-declared
+returns-in-Some-clause-declared c =
+    let a = c.self.inside in
+    let seen = c.args.self.now in
+    let fits : SFits w128 c.in-Some.value = search rules in
+    let read = c.in-Some.ensures.value
+    ∙ sign_seen a.schema a.extents a.expr a.blobs.items c.self.invariant.1 seen c.self.view_is c.self.invariant.0 c.as_slice.result.now c.as_slice.ensures.value c.args.row c.args.leaf
+    c.requires.row_in c.requires.leaf_in (c.in-Some.ensures.sign refl) in
+    subst (λ (v : ℤ). IsDeclared (leaf_type_of seen c.args.leaf) v) (sym read ∙ sym (to_z-of_z w128 c.in-Some.value fits))
+    (declared_seen a.schema a.extents a.expr a.blobs.items c.self.invariant.1 seen c.self.view_is c.args.row c.args.leaf c.requires.row_in c.requires.leaf_in)
+
 pub returns-in-Some-clause-same : goal.returns-in-Some-clause-same
-returns-in-Some-clause-same c = sym (c.in-Some.ensures.same refl)
+returns-in-Some-clause-same c =
+    let a = c.self.inside in
+    let access = Read c.args.row c.args.leaf in
+    let idle : is_counted (term_of a.expr) ≡ false = ap is_counted (sym c.self.invariant.0.term_is) ∙ c.in-Some.ensures.uncounted refl in
+    sym c.self.view_is
+    ∙ seen_touched a.schema a.extents a.expr a.blobs.items c.self.view_is access (tally_of a.counts a.heat) (sym (idle_tallied access idle c.self.invariant.2))

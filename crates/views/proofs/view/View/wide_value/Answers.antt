@@ -1,56 +1,62 @@
-use Rattle.std.proofs.Common.{ℤ, ◌≡◌, false, Option, Some, None, IfSome, is_some, true, sym, ap, ◌∙◌, subst, refl, arith}
+use Rattle.std.proofs.Common.{[], length, get_or, rules, sym, subst, SFits, ◌∙◌, arith}
+use Rattle.std.specs.Int.{w128}
+use Rattle.std.proofs.lemmas.Int.{to_z-of_z}
 use Rattle.record_dim.specs.LeafTypes.{IsDeclared}
-use Rattle.map_expr.specs.Terms.{term_of}
-use Rattle.map_any.specs.Counters.{is_counted}
-use Rattle.places.specs.Image.{entry}
-use Rattle.views.specs.Kept.{tally_of}
 use Rattle.views.specs.Tables.{leaf_type_of}
-use Rattle.views.specs.Tallies.{Read}
-use Rattle.views.specs.CountLaws.{idle_tallied}
-use Rattle.views.proofs.Opened.{rows_seen, leaf_seen, cell_count, laid_here, sign_seen, declared_seen, seen_touched}
+use Rattle.views.specs.WideColumns.{IsWideIn, IsWideRow}
+use Rattle.views.specs.declared.wide.WideWay.{WideWay}
+use Rattle.views.proofs.NearColumnLaws.{leaf_here, rows_are, shown_here}
+use Rattle.views.proofs.Opened.{declared_seen, laid_here, sign_seen}
+use Rattle.views.proofs.WideLaws.{bytes_laid}
 use Rattle.views.proofs.view.View.wide_value.Goals as goal
 
--- what holds of a number, holds of the one that an option has, if it has one
-some_holds : (found : Option ℤ) (number : ℤ) (P : ℤ → Type 0) → IfSome found (λ v. v ≡ number) → (is_some found ≡ true → P number) → IfSome found P
-some_holds None number P is holds = tt
-some_holds (Some v) number P is holds = subst P (sym is) (holds refl)
-
-pub wide_read-requires-clause-row_in : goal.wide_read-requires-clause-row_in
-wide_read-requires-clause-row_in c =
+pub wide_at-requires-clause-row_in : goal.wide_at-requires-clause-row_in
+wide_at-requires-clause-row_in c =
     let a = c.self.inside in
-    omega (arith, c.requires.row_in, c.self.invariant.0.slots_are, rows_seen a.schema a.extents a.expr a.blobs.items c.self.invariant.1 c.args.self.now c.self.view_is)
+    omega (arith, c.requires.row_in, rows_are a.schema a.extents a.expr a.blobs.items c.self.invariant.1 c.args.self.now c.self.view_is c.self.invariant.0)
 
-pub wide_read-requires-clause-leaf_in : goal.wide_read-requires-clause-leaf_in
-wide_read-requires-clause-leaf_in c =
+pub wide_at-requires-clause-leaf_in : goal.wide_at-requires-clause-leaf_in
+wide_at-requires-clause-leaf_in c =
     let a = c.self.inside in
-    omega (arith, cell_count c.self.invariant.0, leaf_seen a.schema a.extents a.expr a.blobs.items c.self.invariant.1 c.args.self.now c.self.view_is c.args.leaf c.requires.leaf_in)
+    leaf_here a.schema a.extents a.expr a.blobs.items c.self.invariant.1 c.args.self.now c.self.view_is c.self.invariant.0 c.args.column.now.leaf c.requires.column.inside
 
-pub wide_read-requires-clause-laid : goal.wide_read-requires-clause-laid
-wide_read-requires-clause-laid c =
-    laid_here c.self.invariant.0 c.as_slice.result.now c.self.inside.blobs.items c.as_slice.ensures.value c.self.invariant.1.laid
+pub wide_at-requires-clause-laid : goal.wide_at-requires-clause-laid
+wide_at-requires-clause-laid c = laid_here c.self.invariant.0 c.as_slice.result.now c.self.inside.blobs.items c.as_slice.ensures.value c.self.invariant.1.laid
+
+pub wide_at-requires-clause-found : goal.wide_at-requires-clause-found
+wide_at-requires-clause-found c =
+    let a = c.self.inside in
+    (shown_here a.schema a.extents a.expr a.blobs.items c.self.invariant.1 c.args.self.now c.self.view_is c.self.invariant.0 (λ l n k h. IsWideIn l n k h c.args.column.now) c.requires.column.stands).found
+
+pub wide_at-requires-clause-wide : goal.wide_at-requires-clause-wide
+wide_at-requires-clause-wide c =
+    let a = c.self.inside in
+    let column = c.args.column.now in
+    let here = shown_here a.schema a.extents a.expr a.blobs.items c.self.invariant.1 c.args.self.now c.self.view_is c.self.invariant.0 (λ l n k h. IsWideIn l n k h column) c.requires.column.stands in
+    let laid = laid_here c.self.invariant.0 c.as_slice.result.now a.blobs.items c.as_slice.ensures.value c.self.invariant.1.laid in
+    let bytes = length (get_or c.as_slice.result.now column.short.blob []) in
+    subst (λ (w : WideWay). IsWideRow w column.short bytes c.args.row) (sym c.requires.way)
+    (here.wide bytes (bytes_laid _ c.as_slice.result.now column.short.blob laid) c.args.row c.requires.wide_in)
 
 pub returns-clause-value : goal.returns-clause-value
 returns-clause-value c =
     let a = c.self.inside in
-    let seen = c.args.self.now in
-    some_holds c.wide_read.result _ (λ v. v ≡ entry seen.rows c.args.row c.args.leaf) c.wide_read.ensures.value (λ some.
-    sign_seen a.schema a.extents a.expr a.blobs.items c.self.invariant.1 seen c.self.view_is c.self.invariant.0 c.as_slice.result.now c.as_slice.ensures.value c.args.row c.args.leaf
-    c.requires.row_in c.requires.leaf_in (c.wide_read.ensures.sign some))
+    let column = c.args.column.now in
+    let fits : SFits w128 c.wide_at.result = search rules in
+    let here = shown_here a.schema a.extents a.expr a.blobs.items c.self.invariant.1 c.args.self.now c.self.view_is c.self.invariant.0 (λ l n k h. IsWideIn l n k h column) c.requires.column.stands in
+    to_z-of_z w128 c.wide_at.result fits ∙ c.wide_at.ensures
+    ∙ sign_seen a.schema a.extents a.expr a.blobs.items c.self.invariant.1 c.args.self.now c.self.view_is c.self.invariant.0 c.as_slice.result.now c.as_slice.ensures.value c.args.row column.leaf
+    c.requires.row_in c.requires.column.inside here.found.sign
 
 pub returns-clause-declared : goal.returns-clause-declared
 returns-clause-declared c =
     let a = c.self.inside in
     let seen = c.args.self.now in
-    some_holds c.wide_read.result _ (IsDeclared (leaf_type_of seen c.args.leaf)) c.wide_read.ensures.value (λ some.
-    subst (IsDeclared (leaf_type_of seen c.args.leaf)) (sym
-    (sign_seen a.schema a.extents a.expr a.blobs.items c.self.invariant.1 seen c.self.view_is c.self.invariant.0 c.as_slice.result.now c.as_slice.ensures.value c.args.row c.args.leaf
-    c.requires.row_in c.requires.leaf_in (c.wide_read.ensures.sign some)))
-    (declared_seen a.schema a.extents a.expr a.blobs.items c.self.invariant.1 seen c.self.view_is c.args.row c.args.leaf c.requires.row_in c.requires.leaf_in))
-
-pub returns-clause-same : goal.returns-clause-same
-returns-clause-same c some =
-    let a = c.self.inside in
-    let access = Read c.args.row c.args.leaf in
-    let idle : is_counted (term_of a.expr) ≡ false = ap is_counted (sym c.self.invariant.0.term_is) ∙ c.wide_read.ensures.uncounted some in
-    sym (sym c.self.view_is
-    ∙ seen_touched a.schema a.extents a.expr a.blobs.items c.self.view_is access (tally_of a.counts a.heat) (sym (idle_tallied access idle c.self.invariant.2)))
+    let column = c.args.column.now in
+    let fits : SFits w128 c.wide_at.result = search rules in
+    let here = shown_here a.schema a.extents a.expr a.blobs.items c.self.invariant.1 seen c.self.view_is c.self.invariant.0 (λ l n k h. IsWideIn l n k h column) c.requires.column.stands in
+    let read = to_z-of_z w128 c.wide_at.result fits ∙ c.wide_at.ensures
+    ∙ sign_seen a.schema a.extents a.expr a.blobs.items c.self.invariant.1 seen c.self.view_is c.self.invariant.0 c.as_slice.result.now c.as_slice.ensures.value c.args.row column.leaf
+    c.requires.row_in c.requires.column.inside here.found.sign in
+    subst (IsDeclared (leaf_type_of seen column.leaf)) (sym read)
+    (declared_seen a.schema a.extents a.expr a.blobs.items c.self.invariant.1 seen c.self.view_is c.args.row column.leaf c.requires.row_in c.requires.column.inside)

@@ -1,0 +1,245 @@
+-- Slots whose pieces follow each other by at most a granule touch the granules of one long piece.
+use Rattle.std.proofs.Common.{◌≡◌, ℕ, zero, suc, ◌+◌, ◌-◌, ◌*◌, ◌/◌, ◌%◌, ◌<◌, ◌≤◌, ◌^◌, max, Bool, true, false, refl, sym, ap, ◌∙◌, ⊎_elim, get_or, arith}
+use Rattle.std.specs.Prelude.{◌==◌, ◌||◌, min, nat_lt}
+use Rattle.std.specs.List.{list_any, range_with_len}
+use Rattle.std.proofs.Math.Nat.{mod-lt}
+use Rattle.std.proofs.lemmas.Bool.{cases_lt, and_from, and_parts, eq-eqb, eqb-true, lt-ltb, ltb-true}
+use Rattle.std.proofs.lemmas.List.FromFn.{get_or-range_with_len, length-range_with_len}
+use Rattle.std.proofs.lemmas.List.Folds.{Any-from_list_any, list_any_at}
+use Rattle.std.proofs.lemmas.Grind.{div_ceil_times}
+use Rattle.std.proofs.lemmas.Nat.{div-mul-add, mod-mul-add, div-add-mod', mul-le}
+use Rattle.places.specs.Touched.{is_in_granule}
+use Rattle.places.specs.declared.piece.Piece.{Piece}
+use Rattle.instrument.specs.Counters.{HeatCounts, IsInside}
+use Rattle.piece_rules.specs.PieceRules.{begin_in, piece_in}
+use Rattle.piece_rules.specs.declared.rule.PieceRule.{PieceRule}
+use Rattle.advisor.specs.Steady.{IsSteady, HasSteps, is_run_touched, long_piece}
+use Rattle.advisor.specs.TouchedLaws.{same_tests}
+
+-- ---- which slots are
+
+begin_at : (rule : PieceRule) (block lane : ℕ) → lane < rule.lanes → begin_in rule (block * rule.lanes + lane) ≡ rule.base + block * rule.block + lane * rule.lane
+begin_at rule block lane low =
+    ap (λ (n : ℕ). rule.base + n * rule.block + (block * rule.lanes + lane) % rule.lanes * rule.lane) (div-mul-add block rule.lanes lane low)
+    ∙ ap (λ (n : ℕ). rule.base + block * rule.block + n * rule.lane) (mod-mul-add block rule.lanes lane low)
+
+module _ (wide : ℕ) (rule : PieceRule) where
+  in_block : (block lane : ℕ) → lane + 1 < rule.lanes → begin_in rule (block * rule.lanes + (lane + 1)) ≡ begin_in rule (block * rule.lanes + lane) + rule.lane
+  in_block block lane low =
+      let more : (lane + 1) * rule.lane ≡ lane * rule.lane + rule.lane = grind arith in
+      begin_at rule block (lane + 1) low
+      ∙ (let e : rule.base + block * rule.block + (lane + 1) * rule.lane ≡ rule.base + block * rule.block + lane * rule.lane + rule.lane = omega arith in e)
+      ∙ ap (λ (n : ℕ). n + rule.lane) (sym (begin_at rule block lane (omega arith)))
+
+  -- those of a block
+  pub block_steady : (block count : ℕ) → rule.lane ≤ wide → count ≤ rule.lanes → IsSteady wide rule (block * rule.lanes) count
+  block_steady block count lane few = record {
+    on = λ slot l. omega (arith, in_block block slot (omega (arith, l, few)));
+    near = λ slot l. omega (arith, lane, in_block block slot (omega (arith, l, few)));
+  }
+
+  to_block : 0 < rule.lanes → (block : ℕ) → begin_in rule ((block + 1) * rule.lanes + 0) + (rule.lanes - 1) * rule.lane ≡ begin_in rule (block * rule.lanes + (rule.lanes - 1)) + rule.block
+  to_block lanes block =
+      let first : begin_in rule ((block + 1) * rule.lanes + 0) ≡ rule.base + (block + 1) * rule.block + 0 * rule.lane = begin_at rule (block + 1) 0 lanes in
+      let last : begin_in rule (block * rule.lanes + (rule.lanes - 1)) ≡ rule.base + block * rule.block + (rule.lanes - 1) * rule.lane = begin_at rule block (rule.lanes - 1) (omega (arith, lanes)) in
+      let more : (block + 1) * rule.block ≡ block * rule.block + rule.block = grind arith in
+      omega arith
+
+  step : HasSteps wide rule → (slot : ℕ) → (begin_in rule slot ≤ begin_in rule (slot + 1)) × (begin_in rule (slot + 1) ≤ begin_in rule slot + wide)
+  step steps slot =
+      let lanes = rule.some in
+      let block = slot / rule.lanes in
+      let lane = slot % rule.lanes in
+      let parts : block * rule.lanes + lane ≡ slot = div-add-mod' slot rule.lanes in
+      let inside : lane < rule.lanes = mod-lt slot lanes in
+      let here : begin_in rule (block * rule.lanes + lane) ≡ begin_in rule slot = ap (begin_in rule) parts in
+      ⊎_elim
+      (λ (low : lane + 1 < rule.lanes).
+      (let next : begin_in rule (block * rule.lanes + (lane + 1)) ≡ begin_in rule (slot + 1) = ap (begin_in rule) (omega arith) in
+      let more = in_block block lane low in
+      (omega (arith, here, next, more), omega (arith, here, next, more, steps.lane))))
+      (λ (last : rule.lanes ≤ lane + 1).
+      (let all : (block + 1) * rule.lanes ≡ block * rule.lanes + rule.lanes = grind arith in
+      let next : begin_in rule ((block + 1) * rule.lanes + 0) ≡ begin_in rule (slot + 1) = ap (begin_in rule) (omega arith) in
+      let end : begin_in rule (block * rule.lanes + (rule.lanes - 1)) ≡ begin_in rule slot = ap (begin_in rule) (omega arith) in
+      let more = to_block lanes block in
+      (omega (arith, end, next, more, steps.on), omega (arith, end, next, more, steps.near))))
+      (cases_lt (lane + 1) rule.lanes)
+
+  -- any, where blocks follow each other so, too
+  pub all_steady : HasSteps wide rule → (start count : ℕ) → IsSteady wide rule start count
+  all_steady steps start count = record {
+    on = λ slot l. (let next : begin_in rule (start + slot + 1) ≡ begin_in rule (start + (slot + 1)) = ap (begin_in rule) (omega arith) in
+        omega (arith, next, (step steps (start + slot)).0));
+    near = λ slot l. (let next : begin_in rule (start + slot + 1) ≡ begin_in rule (start + (slot + 1)) = ap (begin_in rule) (omega arith) in
+        omega (arith, next, (step steps (start + slot)).1));
+  }
+
+  -- one slot alone
+  pub one_steady : (start count : ℕ) → count ≤ 1 → IsSteady wide rule start count
+  one_steady start count few = record { on = λ slot l. absurd (omega (arith, l, few)); near = λ slot l. absurd (omega (arith, l, few)) }
+
+-- ---- what they touch
+
+next_granule : (granule at : ℕ) → 8 * granule * (at + 1) ≡ 8 * granule * at + 8 * granule
+next_granule granule at = grind arith
+
+-- a piece that ends behind a granule's begin and begins before its end
+touches : (granule at : ℕ) (piece : Piece) → 1 ≤ granule → 0 < piece.bits → 8 * granule * at < piece.bit + piece.bits → piece.bit < 8 * granule * (at + 1)
+    → is_in_granule granule piece.blob at piece ≡ true
+touches granule at piece some bits past before =
+    let next = next_granule granule at in
+    and_from (piece.blob == piece.blob) (nat_lt (max piece.bit (8 * granule * at)) (min (piece.bit + piece.bits) (8 * granule * (at + 1))))
+    (eq-eqb piece.blob piece.blob refl)
+    (lt-ltb (max piece.bit (8 * granule * at)) (min (piece.bit + piece.bits) (8 * granule * (at + 1))) (omega (arith, past, before, next, bits, some)))
+
+touched : (granule blob at : ℕ) (piece : Piece) → is_in_granule granule blob at piece ≡ true → (piece.blob ≡ blob) × (8 * granule * at < piece.bit + piece.bits) × (piece.bit < 8 * granule * (at + 1))
+touched granule blob at piece e =
+    let meets : Bool = nat_lt (max piece.bit (8 * granule * at)) (min (piece.bit + piece.bits) (8 * granule * (at + 1))) in
+    let both = and_parts (piece.blob == blob) meets e in
+    let meet = ltb-true (max piece.bit (8 * granule * at)) (min (piece.bit + piece.bits) (8 * granule * (at + 1))) both.1 in
+    (eqb-true piece.blob blob both.0, omega (arith, meet), omega (arith, meet))
+
+module _ (granule : ℕ) (rule : PieceRule) (start count : ℕ) (some : 1 ≤ granule) (steady : IsSteady (8 * granule) rule start count) where
+  later : (slot more : ℕ) → slot + more < count → begin_in rule (start + slot) ≤ begin_in rule (start + (slot + more))
+  later slot zero l = (let e : begin_in rule (start + slot) ≡ begin_in rule (start + (slot + 0)) = ap (begin_in rule) (omega arith) in omega (arith, e))
+  later slot (suc more) l =
+      let e : begin_in rule (start + (slot + more + 1)) ≡ begin_in rule (start + (slot + suc more)) = ap (begin_in rule) (omega arith) in
+      omega (arith, later slot more (omega (arith, l)), steady.on (slot + more) (omega (arith, l)), e)
+
+  -- the last slot begins at most so far behind the first
+  far : (more : ℕ) → more < count → begin_in rule (start + more) ≤ begin_in rule (start + 0) + more * (8 * granule)
+  far zero l = omega arith
+  far (suc more) l =
+      let e : begin_in rule (start + (more + 1)) ≡ begin_in rule (start + suc more) = ap (begin_in rule) (omega arith) in
+      let wider : suc more * (8 * granule) ≡ more * (8 * granule) + 8 * granule = grind arith in
+      omega (arith, far more (omega (arith, l)), steady.near more (omega (arith, l)), e, wider)
+
+  between : 0 < rule.bits → (slot at : ℕ) → slot < count → 8 * granule * at < begin_in rule (start + slot) + rule.bits → begin_in rule (start + 0) < 8 * granule * (at + 1)
+      → (one : ℕ) × (one < count) × (is_in_granule granule rule.blob at (piece_in rule (start + one)) ≡ true)
+  between filled zero at l past before = (0, l, touches granule at (piece_in rule (start + 0)) some filled past before)
+  between filled (suc slot) at l past before =
+      ⊎_elim
+      (λ (low : 8 * granule * at < begin_in rule (start + slot) + rule.bits). between filled slot at (omega (arith, l)) low before)
+      (λ (high : begin_in rule (start + slot) + rule.bits ≤ 8 * granule * at).
+      (let more = steady.near slot (omega (arith, l)) in
+      let same : begin_in rule (start + (slot + 1)) ≡ begin_in rule (start + suc slot) = ap (begin_in rule) (omega arith) in
+      let next = next_granule granule at in
+      (suc slot, l, touches granule at (piece_in rule (start + suc slot)) some filled past (omega (arith, more, same, high, filled, next)))))
+      (cases_lt (8 * granule * at) (begin_in rule (start + slot) + rule.bits))
+
+  -- from the first to the last slot
+  pub long_ends : 0 < count → begin_in rule start ≤ begin_in rule (start + (count - 1))
+  long_ends any =
+      let last = count - 1 in
+      let zero_is : begin_in rule (start + 0) ≡ begin_in rule start = ap (begin_in rule) (omega arith) in
+      let up : begin_in rule (start + 0) ≤ begin_in rule (start + (0 + last)) = later 0 last (omega (arith, any)) in
+      let e : begin_in rule (start + (0 + last)) ≡ begin_in rule (start + last) = ap (begin_in rule) (omega arith) in
+      omega (arith, up, e, zero_is)
+
+  pub long_fits : 0 < count → (count - 1) * (8 * granule) + rule.bits < 2 ^ 32 → (long_piece rule start count).bits < 2 ^ 32
+  long_fits any narrow =
+      let zero_is : begin_in rule (start + 0) ≡ begin_in rule start = ap (begin_in rule) (omega arith) in
+      omega (arith, far (count - 1) (omega (arith, any)), zero_is, narrow)
+
+  -- the long piece touches a granule exactly where one of the slots does
+  pub long_touches : 0 < count → 0 < rule.bits → (blob at : ℕ) → is_in_granule granule blob at (long_piece rule start count) ≡ is_run_touched granule rule start count blob at
+  long_touches any filled blob at =
+      let last = count - 1 in
+      let slots = range_with_len start count in
+      let zero_is : begin_in rule (start + 0) ≡ begin_in rule start = ap (begin_in rule) (omega arith) in
+      let end : begin_in rule start ≤ begin_in rule (start + last) = long_ends any in
+      same_tests _ _
+      (λ (e : is_in_granule granule blob at (long_piece rule start count) ≡ true).
+      (let t = touched granule blob at (long_piece rule start count) e in
+      let found = between filled last at (omega (arith, any)) (omega (arith, t.1, end)) (omega (arith, t.2, zero_is)) in
+      let one = found.0 in
+      let here : get_or slots one 0 ≡ start + one = get_or-range_with_len start count one 0 found.1 in
+      let hit : is_in_granule granule blob at (piece_in rule (start + one)) ≡ true =
+      ap (λ (b : ℕ). is_in_granule granule b at (piece_in rule (start + one))) (sym t.0) ∙ found.2 in
+      list_any_at (λ slot. is_in_granule granule blob at (piece_in rule slot)) slots one 0 (omega (arith, found.1, length-range_with_len start count))
+      (ap (λ (n : ℕ). is_in_granule granule blob at (piece_in rule n)) here ∙ hit)))
+      (λ (e : list_any (λ slot. is_in_granule granule blob at (piece_in rule slot)) slots ≡ true).
+      (let found = Any-from_list_any (λ slot. is_in_granule granule blob at (piece_in rule slot)) slots e in
+      let k = found.0 in
+      let small : k < count = omega (arith, found.2, length-range_with_len start count) in
+      let slot : found.1 ≡ start + k = sym found.3 ∙ get_or-range_with_len start count k found.1 small in
+      let t = touched granule blob at (piece_in rule found.1) found.4 in
+      let same : begin_in rule found.1 ≡ begin_in rule (start + k) = ap (begin_in rule) slot in
+      let first : begin_in rule (start + 0) ≤ begin_in rule (start + (0 + k)) = later 0 k (omega (arith, small)) in
+      let zero_k : begin_in rule (start + (0 + k)) ≡ begin_in rule (start + k) = ap (begin_in rule) (omega arith) in
+      let rest : k + (last - k) ≡ last = omega (arith, small) in
+      let up : begin_in rule (start + k) ≤ begin_in rule (start + (k + (last - k))) = later k (last - k) (omega (arith, small, rest, any)) in
+      let top : begin_in rule (start + (k + (last - k))) ≡ begin_in rule (start + last) = ap (λ (n : ℕ). begin_in rule (start + n)) rest in
+      ap (λ (b : ℕ). is_in_granule granule b at (long_piece rule start count)) (sym t.0)
+      ∙ touches granule at (long_piece rule start count) some (omega (arith, filled, end))
+      (omega (arith, t.1, same, up, top, end)) (omega (arith, t.2, same, first, zero_k, zero_is))))
+
+-- what two pieces make is the long piece from the one to the other
+pub long_is : (rule : PieceRule) (start count bits : ℕ) (first last : Piece) → first ≡ piece_in rule start → last ≡ piece_in rule (start + (count - 1)) → bits ≡ rule.bits
+    → (let p : Piece = record first { bits = last.bit + bits - first.bit } in p) ≡ long_piece rule start count
+long_is rule start count bits first last begins ends wide =
+    ap (λ (f : Piece). (let p : Piece = record f { bits = last.bit + bits - f.bit } in p)) begins
+    ∙ ap (λ (l : Piece). (let p : Piece = record (piece_in rule start) { bits = l.bit + bits - begin_in rule start } in p)) ends
+    ∙ ap (λ (n : ℕ). (let p : Piece = record (piece_in rule start) { bits = begin_in rule (start + (count - 1)) + n - begin_in rule start } in p)) wide
+
+-- a long piece lies in the granules that its last slot lies in
+pub long_inside : (heat : HeatCounts) (rule : PieceRule) (start count : ℕ) → begin_in rule start ≤ begin_in rule (start + (count - 1))
+    → IsInside heat (piece_in rule (start + (count - 1))) → IsInside heat (long_piece rule start count)
+long_inside heat rule start count end last = record {
+  blob_in = last.blob_in;
+  some = omega (arith, end, last.some);
+  within = omega (arith, end, last.within);
+  bound = omega (arith, end, last.bound);
+}
+
+-- ---- more slots
+
+or_more : (a b c : Bool) → (a || (b || c)) ≡ ((a || b) || c)
+or_more true b c = refl
+or_more false b c = refl
+
+-- some numbers, and those behind them
+any_cut : (p : ℕ → Bool) (a m n : ℕ) → list_any p (range_with_len a (m + n)) ≡ (list_any p (range_with_len a m) || list_any p (range_with_len (a + m) n))
+any_cut p a zero n =
+    let left : 0 + n ≡ n = omega arith in
+    let right : a ≡ a + 0 = omega arith in
+    ap (λ (k : ℕ). list_any p (range_with_len a k)) left ∙ ap (λ (k : ℕ). list_any p (range_with_len k n)) right
+any_cut p a (suc m) n =
+    let e : suc m + n ≡ suc (m + n) = omega arith in
+    let next : a + 1 + m ≡ a + suc m = omega arith in
+    ap (λ (k : ℕ). list_any p (range_with_len a k)) e
+    ∙ ap (λ (b : Bool). p a || b) (any_cut p (a + 1) m n ∙ ap (λ (k : ℕ). list_any p (range_with_len (a + 1) m) || list_any p (range_with_len k n)) next)
+    ∙ or_more (p a) (list_any p (range_with_len (a + 1) m)) (list_any p (range_with_len (a + suc m) n))
+
+pub or_false : (b : Bool) → (b || false) ≡ b
+or_false true = refl
+or_false false = refl
+
+-- one number more
+pub any_more : (p : ℕ → Bool) (n : ℕ) → list_any p (range_with_len 0 (n + 1)) ≡ (list_any p (range_with_len 0 n) || p n)
+any_more p n =
+    let at : 0 + n ≡ n = omega arith in
+    any_cut p 0 n 1 ∙ ap (λ (b : Bool). list_any p (range_with_len 0 n) || b) (or_false (p (0 + n)) ∙ ap p at)
+
+pub touched_more : (granule : ℕ) (rule : PieceRule) (start more total : ℕ) → start + more ≡ total → (blob at : ℕ)
+    → is_run_touched granule rule 0 total blob at ≡ (is_run_touched granule rule 0 start blob at || is_run_touched granule rule start more blob at)
+touched_more granule rule start more total sum blob at =
+    let test : ℕ → Bool = λ slot. is_in_granule granule blob at (piece_in rule slot) in
+    let begins : 0 + start ≡ start = omega arith in
+    ap (λ (n : ℕ). list_any test (range_with_len 0 n)) (sym sum) ∙ any_cut test 0 start more
+    ∙ ap (λ (n : ℕ). list_any test (range_with_len 0 start) || list_any test (range_with_len n more)) begins
+
+-- a run that is not behind the last begins below their number
+pub run_begins : (slots most run : ℕ) → 0 < most → run < slots / most + min 1 (slots % most) → run * most < slots
+run_begins slots most run some low =
+    let past = (div_ceil_times slots most some).1 in
+    let next : (run + 1) * most ≤ (slots / most + min 1 (slots % most)) * most = mul-le (run + 1) most (slots / most + min 1 (slots % most)) most (omega (arith, low)) (omega arith) in
+    let more : (run + 1) * most ≡ run * most + most = grind arith in
+    omega (arith, past, next, more)
+
+-- and ends where the next one does, or at their number
+pub run_ends : (slots most run : ℕ) → run * most < slots → min (run * most) slots + min most (slots - run * most) ≡ min ((run + 1) * most) slots
+run_ends slots most run low =
+    let more : (run + 1) * most ≡ run * most + most = grind arith in
+    omega (arith, low, more)

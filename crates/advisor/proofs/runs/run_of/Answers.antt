@@ -1,0 +1,9 @@
+use Rattle.std.proofs.Common.{ℕ, ◌*◌, subst}
+use Rattle.advisor.specs.Steady.{HasSteps}
+use Rattle.advisor.proofs.SteadyLaws.{all_steady}
+use Rattle.advisor.proofs.runs.run_of.Goals as goal
+
+pub returns-then-has_steps-clause-steady : goal.returns-then-has_steps-clause-steady
+returns-then-has_steps-clause-steady c = λ run count few.
+    let rule = c.args.rule.now in
+    all_steady (8 * c.args.granule) rule (subst (λ (g : ℕ). HasSteps (8 * g) rule) c.from-wide.ensures (c.has_steps.ensures c.if-has_steps.true)) _ count

@@ -1,0 +1,57 @@
+-- By rows and by columns each slot is that of a row.
+use Rattle.std.proofs.Common.{◌≡◌, ◌⊎◌, ⊎_elim, ℕ, ◌<◌, List, [], length, Some, inl, inr, refl, sym, ap, ◌∙◌, subst, arith}
+use Rattle.std.specs.Prelude.{reverse, slice_get}
+use Rattle.std.proofs.lemmas.List.{reverse-reverse}
+use Rattle.std.proofs.lemmas.Option.{get_or_from_slice_get}
+use Rattle.extents.specs.Indices.{indices, IsInside}
+use Rattle.extents.specs.IndicesLaws.{inside_of_entry, row_of_inside}
+use Rattle.extents.specs.declared.order.Order.{Order}
+use Rattle.extents.specs.declared.order.Order.TheVariants.{Row, Col}
+use Rattle.linearize.proofs.SlotLemmas.{product_count}
+use Rattle.linearize.specs.Slots.{slot_at, slot_count, index_at}
+use Rattle.linearize.specs.SlotsLaws.{place_in_is, slot_at_below, slot_at_by_rows, entry_of_row, IsInside-reverse}
+use Rattle.places.specs.Layout.{Owner}
+use Rattle.places.specs.Laws.{IsLocated}
+use Rattle.piece_rules.specs.PieceRules.{pieces_in}
+use Rattle.map_plans.specs.Ruled.{IsRuleOf}
+use Rattle.map_plans.specs.declared.rule.Rule.{Rule}
+use Rattle.map_any.specs.SlotRules.{ArePlacesOf}
+
+-- there are as many slots as rows, and each is that of a row
+pub record HasRows (order : Order) (extents : List ℕ) : Type 0 where
+  pub many : slot_count order extents ≡ length (indices extents)
+  pub row : (slot : ℕ) → slot < length (indices extents) → (row : ℕ) × (row < length (indices extents)) × (slot_at order extents row ≡ slot)
+
+by_rows : (extents : List ℕ) → HasRows Row extents
+by_rows extents = record { many = refl; row = λ slot low. (slot, low, slot_at_by_rows extents slot low) }
+
+by_columns : (extents : List ℕ) → HasRows Col extents
+by_columns extents =
+    let turned = reverse extents in
+    let many : slot_count Col extents ≡ length (indices extents) = product_count Col extents (inr refl) ∙ sym (product_count Row extents (inl refl)) in
+    record {
+      many = many;
+      row = λ slot low.
+          (let index : List ℕ = index_at (reverse extents) slot in
+          let entry : slice_get (indices (reverse extents)) slot ≡ Some index = entry_of_row (reverse extents) slot (omega (arith, low, many)) in
+          let inside : IsInside extents (reverse index) =
+          subst (λ (e : List ℕ). IsInside e (reverse index)) (reverse-reverse extents) (IsInside-reverse (reverse extents) index (inside_of_entry (reverse extents) slot index entry)) in
+          let row = row_of_inside extents (reverse index) inside in
+          let same : reverse (index_at extents row.0) ≡ index = ap reverse (get_or_from_slice_get (indices extents) row.0 (reverse index) [] row.2) ∙ reverse-reverse index in
+          (row.0, row.1, place_in_is (reverse extents) (reverse (index_at extents row.0)) slot (entry ∙ ap Some (sym same))));
+    }
+
+pub has_rows : (order : Order) (extents : List ℕ) → (order ≡ Row) ⊎ (order ≡ Col) → HasRows order extents
+has_rows order extents either =
+    ⊎_elim (λ (is : order ≡ Row). subst (λ (o : Order). HasRows o extents) (sym is) (by_rows extents))
+    (λ (is : order ≡ Col). subst (λ (o : Order). HasRows o extents) (sym is) (by_columns extents)) either
+
+-- so a rule has the places of its cell in all rows
+pub all_places : (layout : List (List Owner)) (extents : List ℕ) (cell width : ℕ) (rule : Rule) → IsRuleOf layout extents cell width rule → HasRows rule.order extents
+    → ArePlacesOf layout (length (indices extents)) cell width rule.pieces.items
+all_places layout extents cell width rule is has = record {
+  some = λ slot low.
+      (let row = has.row slot low in
+      (row.0, row.1, subst (λ (s : ℕ). IsLocated layout row.0 cell width (pieces_in rule.pieces.items s)) row.2 (is.places row.0 row.1)));
+  each = λ row low. (slot_at rule.order extents row, omega (arith, slot_at_below rule.order extents row low, has.many), is.places row low);
+}
