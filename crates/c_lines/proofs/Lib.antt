@@ -2,3 +2,8 @@ pub mod Copied
 pub mod Answering
 pub mod Making
 pub mod Relaying
+pub mod Agreeing
+pub mod Datasets
+pub mod PlainTests
+pub mod AgreeingViews
+pub mod AgreeingChanges

@@ -6,3 +6,4 @@ pub mod KernelLines
 pub mod Steps
 pub mod Makes
 pub mod Kernels
+pub mod Agreement

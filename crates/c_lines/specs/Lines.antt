@@ -1,5 +1,5 @@
 -- What the lines of a call describe: they are lines of the second version of the language, and mean what they mean in a script.
-use Rattle.std.specs.Prelude.{ℕ, ℤ, ◌^◌, List, [], length, nat_lt, Some, Result, Ok, Err, if◌then◌else◌}
+use Rattle.std.specs.Prelude.{ℕ, ℤ, ◌^◌, Bool, true, false, List, [], length, nat_lt, Some, Result, Ok, Err, if◌then◌else◌}
 use Rattle.csv_rows.specs.Datasets.{records_of, rows_of}
 use Rattle.csv_rows.specs.Loads.{dataset_of}
 use Rattle.csv_rows.specs.declared.fault.RowFault.{RowFault}
@@ -10,11 +10,13 @@ use Rattle.schema_lang.specs.LineOf.{line_of}
 use Rattle.views.specs.Tallies.{Write, all_accesses}
 use Rattle.views.specs.Tables.{Table, leaf_count_of, after_stores}
 use Rattle.worlds.specs.Define.{define}
+use Rattle.worlds.specs.Outcomes.{refused_if}
 use Rattle.worlds.specs.Tables.{made, resolved}
 use Rattle.worlds.specs.View.{Named, named, new_table}
 use Rattle.worlds.specs.Worlds.{World, empty}
+use Rattle.worlds.specs.declared.fault.CommandFault.TheVariants.{TooBig}
 use Rattle.c_answers.specs.Answers.{Answer, ◌>>=◌}
-use Rattle.c_answers.specs.declared.refusal.Refusal.TheVariants.{LineTooLong, Syntax, TooDeep, OtherLine, TooBig}
+use Rattle.c_answers.specs.declared.refusal.Refusal.TheVariants.{LineTooLong, Syntax, TooDeep, OtherLine}
 use Rattle.c_answers.specs.declared.refusal.TextOf.{TextOf}
 use Rattle.c_answers.specs.declared.refusal.TextOf.TheVariants.{First, Second}
 use Rattle.c_lines.specs.Told.{told, row_refusal}
@@ -27,39 +29,36 @@ shallow text (Ok sentence) = if nat_lt 32 (deepest sentence) then Err (TooDeep t
 unfoldable pub line_told : TextOf → List ℕ → Answer Sentence
 line_told text bytes = if nat_lt 4096 (length bytes) then Err (LineTooLong text) else shallow text (line_of Two bytes)
 
--- the world behind a `record` line, and what a `view` line makes
+-- the world behind a `record` line
 abbrev pub world_told : Sentence → Answer World
 world_told (Define name tree) = do
   left ← told (define empty name tree)
   Ok left.held
 world_told _ = Err (OtherLine First)
 
-abbrev pub new_told : Sentence → Answer New
-new_told (View new) = Ok new
-new_told _ = Err (OtherLine Second)
-
--- and a `load` line, whose file is not looked at
-abbrev pub load_told : Sentence → Answer New
-load_told (Load new file) = Ok new
-load_told _ = Err (OtherLine Second)
+-- what a `view` line makes, or, where a dataset is loaded, a `load` line, whose file is not looked at
+abbrev pub new_told : Bool → Sentence → Answer New
+new_told false (View new) = Ok new
+new_told true (Load new file) = Ok new
+new_told loads _ = Err (OtherLine Second)
 
 -- a world with a record, and what makes a view in it, of two lines
 pub record Asked : Type 0 where
   pub world : World
   pub new : New
 
-abbrev pub asked : (Sentence → Answer New) → List ℕ → List ℕ → Answer Asked
-asked makes first second = do
+abbrev pub asked : Bool → List ℕ → List ℕ → Answer Asked
+asked loads first second = do
   definition ← line_told First first
   world ← world_told definition
   sentence ← line_told Second second
-  new ← makes sentence
+  new ← new_told loads sentence
   Ok (record { world = world; new = new })
 
 -- the table of zeros that two lines describe
 abbrev pub described : List ℕ → List ℕ → Answer Table
 described first second = do
-  what ← asked new_told first second
+  what ← asked false first second
   told (new_table what.world what.new)
 
 -- a table with what it keeps of the values of a dataset, each written once
@@ -73,20 +72,16 @@ zeros_for whole words csv = do
   extents ← told (resolved words (Some (length (rows_of (records_of csv)))))
   told (made [] whole.mode whole.fields extents whole.mapping)
 
--- a dataset that is not too long
-abbrev pub short_told : List ℕ → Answer (Unit {0})
-short_told csv = if nat_lt (2 ^ 28) (length csv) then Err TooBig else Ok tt
-
--- the table of such a dataset
+-- the table of a dataset, which is not too long
 abbrev pub filled : World → New → List ℕ → Answer Table
 filled world new csv = do
   whole ← told (named world new)
-  short ← short_told csv
+  short ← told (refused_if (nat_lt (2 ^ 28) (length csv)) TooBig)
   zeros ← zeros_for whole new.words csv
   with_dataset zeros (dataset_of zeros (records_of csv))
 
 -- the table that two lines and a dataset describe
 abbrev pub loaded : List ℕ → List ℕ → List ℕ → Answer Table
 loaded first second csv = do
-  what ← asked load_told first second
+  what ← asked true first second
   filled what.world what.new csv

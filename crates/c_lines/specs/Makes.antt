@@ -20,9 +20,6 @@ world_of named = record empty { records = added named.name (schema_fields named.
 abbrev pub new_of : NewView → New
 new_of new = record { name = new.name; schema = new.schema; words = new.words; wrap = new.wrap; term = term_of new.expr }
 
-abbrev pub asked_of : Asked → lines.Asked
-asked_of asked = record { world = world_of asked.record; new = new_of asked.new }
-
 abbrev pub named_of : NamedRecord → Found → Named
 named_of named found = record { fields = schema_fields named.schema; mode = found.mode; mapping = term_of found.expr }
 

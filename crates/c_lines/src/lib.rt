@@ -4,6 +4,7 @@
 
 mod copies;
 mod kernels;
+mod laws;
 mod lines;
 mod make;
 mod relayout;
@@ -11,5 +12,6 @@ mod told;
 
 pub use copies::copy_into;
 pub use kernels::run_kernel;
+pub use laws::lines_agree;
 pub use make::{loaded_view, new_view};
 pub use relayout::lay_anew;

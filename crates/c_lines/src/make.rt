@@ -8,7 +8,7 @@ ghost use Rattle.map_expr.specs.Terms.{term_of};
 ghost use Rattle.worlds.specs.View.{named, new_table};
 ghost use Rattle.command_checks.specs.Bases.{is_nameless};
 ghost use Rattle.c_answers.specs.Answers.{Tells};
-ghost use Rattle.c_lines.specs.Lines.{described, load_told, loaded, new_told, world_told, zeros_for};
+ghost use Rattle.c_lines.specs.Lines.{described, loaded, new_told, world_told, zeros_for};
 ghost use Rattle.c_lines.specs.Makes.{asked_filled, named_of, new_of, world_of};
 ghost use Rattle.c_lines.specs.Told.{told};
 
@@ -67,7 +67,7 @@ pub fn new_view(alloc: Global, first: &[u8], second: &[u8]) -> Result<View, Refu
     ensures { Tells (λ view. view) (described first.now second.now) result }
 {
     let record = record_of(alloc, line_of(alloc, first, TextOf::First)?)?;
-    let new = new_of(line_of(alloc, second, TextOf::Second)?)?;
+    let new = new_of(line_of(alloc, second, TextOf::Second)?, false)?;
     let asked = Asked { record, new };
     let made = zeros_of(alloc, &asked);
     drop(asked);
@@ -89,7 +89,7 @@ pub fn loaded_view<L: Ledger>(
     ensures { Tells (λ view. view) (loaded first.now second.now csv.now) result }
 {
     let record = record_of(alloc, line_of(alloc, first, TextOf::First)?)?;
-    let new = load_of(line_of(alloc, second, TextOf::Second)?)?;
+    let new = new_of(line_of(alloc, second, TextOf::Second)?, true)?;
     let asked = Asked { record, new };
     let mut steps = Steps::<L>::new(blank);
     let made = filled_view(alloc, &asked, csv, &mut steps);
@@ -116,9 +116,9 @@ fn record_of(alloc: Global, line: Line) -> Result<NamedRecord, Refusal>
     }
 }
 
-// What a line makes a view of.
-fn new_of(line: Line) -> Result<NewView, Refusal>
-    ensures { Tells new_of (new_told (sentence_of line)) result }
+// What a `view` line makes a view of, or a `load` line, whose file is not looked at.
+fn new_of(line: Line, loads: bool) -> Result<NewView, Refusal>
+    ensures { Tells new_of (new_told loads (sentence_of line)) result }
 {
     match line {
         Line::View {
@@ -127,42 +127,27 @@ fn new_of(line: Line) -> Result<NewView, Refusal>
             words,
             wrap,
             expr,
-        } => Ok(NewView {
+        } if !loads => Ok(NewView {
             name,
             schema,
             words,
             wrap,
             expr,
         }),
-        other => {
-            drop(other);
-            Err(Refusal::OtherLine(TextOf::Second))
-        }
-    }
-}
-
-// What a line loads into a view; its file is not looked at.
-fn load_of(line: Line) -> Result<NewView, Refusal>
-    ensures { Tells new_of (load_told (sentence_of line)) result }
-{
-    match line {
         Line::Load {
             name,
             schema,
             words,
             wrap,
             expr,
-            file,
-        } => {
-            drop(file);
-            Ok(NewView {
-                name,
-                schema,
-                words,
-                wrap,
-                expr,
-            })
-        }
+            file: _,
+        } if loads => Ok(NewView {
+            name,
+            schema,
+            words,
+            wrap,
+            expr,
+        }),
         other => {
             drop(other);
             Err(Refusal::OtherLine(TextOf::Second))

@@ -1,0 +1,138 @@
+-- A table under the mapping of a line, a kernel of a line, and a copy do what the commands of these lines do.
+use Rattle.std.proofs.Common.{◌≡◌, ⊎_elim, ℕ, ◌+◌, ◌*◌, ◌^◌, ◌≤◌, ℤ, Bool, true, false, List, [], ◌∷◌, Option, Some, None, Ok, Err, refl, ap, ◌∙◌}
+use Rattle.std.proofs.lemmas.Bool.{cases_Bool}
+use Rattle.lane_kernels.specs.Kernels.{kernel_fault, number_of}
+use Rattle.lane_kernels.specs.declared.fault.KernelFault.{KernelFault}
+use Rattle.lane_kernels.specs.declared.fault.KernelFault.TheVariants as kernel
+use Rattle.lane_kernels.specs.declared.kernel.Kernel.{Kernel}
+use Rattle.layout_copy.specs.Copies.{Spot, refused_at}
+use Rattle.layout_io.specs.Files.{File}
+use Rattle.line_grammar.specs.Sentences.{Relayout}
+use Rattle.map_expr.specs.Terms.{Term}
+use Rattle.record_dim.specs.NameBytesLaws.{same_text}
+use Rattle.record_dim.specs.Trees.{Fields}
+use Rattle.views.specs.Tables.{Table, answer_of}
+use Rattle.worlds.specs.Copy.{all_read, are_alike, copied, copy, laid_anew, relayout, with_rows}
+use Rattle.worlds.specs.Kernel.{fit_kernel, kernel_run, number_text, run, run_fault}
+use Rattle.worlds.specs.Names.{nameless, text_of_leaf}
+use Rattle.worlds.specs.OnView.{Done, done_to, on_view, with_table}
+use Rattle.worlds.specs.Outcomes.{Outcome, Goes, Faults, CannotRead, ◌>>=◌, Left, quiet, shows}
+use Rattle.worlds.specs.Step.{step}
+use Rattle.worlds.specs.Tables.{live_bits, made}
+use Rattle.worlds.specs.Worlds.{World, Entry, found, replaced, same_name}
+use Rattle.worlds.specs.declared.fault.CommandFault.TheVariants.{Narrow}
+use Rattle.c_answers.specs.Answers as answer
+use Rattle.c_answers.specs.Answers.{Answer}
+use Rattle.c_answers.specs.declared.refusal.TextOf.TheVariants.{First}
+use Rattle.c_lines.specs.Agreement.{Agrees, CopiesAgree, IsCause, IsLeft, KernelsAgree, LayoutsAgree, both_left}
+use Rattle.c_lines.specs.Copies.{target_after, told_rows, was_copied}
+use Rattle.c_lines.specs.KernelLines.{Fitted, left_by, number_told, run_left}
+use Rattle.c_lines.specs.Lines.{line_told}
+use Rattle.c_lines.specs.Relaid.{after_relaid, relaid}
+use Rattle.c_lines.specs.Told.{told, done_of, kernel_refusal}
+use Rattle.c_lines.proofs.Agreeing.{Any, IsPlain, agrees_then, agrees_left}
+use Rattle.c_lines.proofs.PlainTests.{plain_kernel, plain_made, plain_nameless, same_made}
+
+-- the rows of the old table
+abbrev laid_told : Table → Table → Option Spot → Answer Table
+laid_told table zeros spot = answer.◌>>=◌ (told_rows spot) (λ held. Ok (target_after (Ok tt) table zeros))
+
+by_spot : (fields : Fields) (table zeros : Table) (spot : Option Spot) → zeros.fields ≡ fields → refused_at (answer_of zeros) 0 table.rows ≡ spot →
+    Agrees fields (λ a b. a ≡ b) (with_rows zeros table.rows) (laid_told table zeros (refused_at (answer_of zeros) 0 table.rows))
+unfolding with_rows
+by_spot fields table zeros None same is = rw is refl
+by_spot fields table zeros (Some spot) same is =
+    let path : Narrow spot.row (text_of_leaf zeros.fields spot.leaf) ≡ Narrow spot.row (text_of_leaf fields spot.leaf) = ap (λ (f : Fields). Narrow spot.row (text_of_leaf f spot.leaf)) same in
+    rw is path
+
+-- the new table takes its name
+given_agrees : (fields : Fields) (table : Table) (world_of : Table → World) (outcome : Outcome Left) (given : Answer Table) → Agrees fields (λ left new. IsLeft (world_of new) [] left) outcome given →
+    Agrees fields (λ left done. IsLeft (world_of (after_relaid given table)) [] left) outcome (done_of given)
+given_agrees fields table world_of (Goes left) (Ok new) agrees = agrees
+given_agrees fields table world_of (Goes left) (Err refused) agrees = absurd agrees
+given_agrees fields table world_of (Faults fault) (Ok new) agrees = absurd agrees
+given_agrees fields table world_of (Faults fault) (Err refused) agrees = agrees
+given_agrees fields table world_of (CannotRead name) given agrees = absurd agrees
+
+by_mapping : (world : World) (name : List ℕ) (table : Table) (mapping : Outcome Term) → live_bits world.views + 8 * 2 ^ 28 ≤ 8 * 2 ^ 30 → IsPlain Any mapping →
+    Agrees table.fields (λ left new. IsLeft (with_table world name new) [] left) (mapping >>= λ whole. laid_anew world.views table whole >>= λ new. quiet (with_table world name new))
+    (answer.◌>>=◌ (answer.◌>>=◌ (told mapping) (λ whole. told (made [] table.mode table.fields table.extents whole))) (λ zeros. laid_told table zeros (refused_at (answer_of zeros) 0 table.rows)))
+unfolding laid_anew
+by_mapping world name table (Goes whole) space plain = rw (same_made world.views table.mode table.fields table.extents whole space)
+    (agrees_left table.fields (λ new. with_table world name new) _ _
+    (agrees_then (λ zeros. zeros.fields ≡ table.fields) table.fields (λ a b. a ≡ b) (made [] table.mode table.fields table.extents whole) _ _ (plain_made [] table.mode table.fields table.extents whole)
+    (λ zeros same. by_spot table.fields table zeros (refused_at (answer_of zeros) 0 table.rows) same refl)))
+by_mapping world name table (Faults cause) space plain = plain table.fields
+by_mapping world name table (CannotRead file) space plain = absurd plain
+
+tables_agree : (line name : List ℕ) (term : Term) (world : World) (table : Table) (files : List File) (unread : Bool) →
+    line_told First line ≡ Ok (Relayout name term) → world.mappings ≡ [] → found name world.views ≡ Some table → live_bits world.views + 8 * 2 ^ 28 ≤ 8 * 2 ^ 30 →
+    Agrees table.fields (λ left new. IsLeft (with_table world name new) [] left) (step world (Relayout name term) files unread) (relaid line table)
+unfolding step relayout
+tables_agree line name term world table files unread is none has space =
+    let inner : nameless world.mappings term ≡ nameless [] term = ap (λ (m : List (Entry Term)). nameless m term) none in
+    rw (is, inner, has) (by_mapping world name table (nameless [] term) space (plain_nameless [] term))
+
+pub layouts_agree : LayoutsAgree
+layouts_agree line name term world table files unread is none has space = given_agrees table.fields table (λ new. with_table world name new) (step world (Relayout name term) files unread) (relaid line table)
+    (tables_agree line name term world table files unread is none has space)
+
+-- a kernel that runs
+kernel_cause : (fields : Fields) (cause : KernelFault) → IsCause fields (kernel_refusal cause) (run_fault fields cause)
+kernel_cause fields kernel.Empty = refl
+kernel_cause fields (kernel.Range row leaf) = refl
+kernel_cause fields (kernel.Narrow row leaf) = refl
+
+-- a kernel that is fit, with its lanes, and the number that it gives
+abbrev fitting : Outcome Kernel → ℕ → Answer Fitted
+fitting fit lanes = answer.◌>>=◌ (told fit) (λ kernel. Ok (record { kernel = kernel; lanes = lanes }))
+
+abbrev number_by : Answer Fitted → Table → Answer (Option ℤ)
+number_by given table = answer.◌>>=◌ given (λ fit. number_told (kernel_fault (answer_of table) fit.kernel table.rows) (number_of fit.kernel table.rows))
+
+-- what such a command leaves of a world
+abbrev shown : World → List ℕ → Table → Outcome Done → Outcome Left
+shown world name table outcome = done_to table outcome >>= λ new. shows (with_table world name new.held) new.text
+
+by_fault : (world : World) (name : List ℕ) (table : Table) (fit : Fitted) (cause : Option KernelFault) → kernel_fault (answer_of table) fit.kernel table.rows ≡ cause →
+    Agrees table.fields (λ left number. IsLeft (with_table world name (run_left fit table (kernel_fault (answer_of table) fit.kernel table.rows))) (number_text number) left)
+    (shown world name table (run table fit.kernel)) (number_told (kernel_fault (answer_of table) fit.kernel table.rows) (number_of fit.kernel table.rows))
+by_fault world name table fit None is = rw is refl
+by_fault world name table fit (Some cause) is = rw is (kernel_cause table.fields cause)
+
+by_fit : (world : World) (name : List ℕ) (table : Table) (lanes : ℕ) (fit : Outcome Kernel) → IsPlain Any fit →
+    Agrees table.fields (λ left number. IsLeft (with_table world name (left_by (fitting fit lanes) table)) (number_text number) left)
+    (shown world name table (fit >>= run table)) (number_by (fitting fit lanes) table)
+by_fit world name table lanes (Goes kernel) plain = by_fault world name table (record { kernel = kernel; lanes = lanes }) (kernel_fault (answer_of table) kernel table.rows) refl
+by_fit world name table lanes (Faults cause) plain = plain table.fields
+by_fit world name table lanes (CannotRead file) plain = absurd plain
+
+pub kernels_agree : KernelsAgree
+unfolding step on_view kernel_run
+kernels_agree line name kernel lanes world table files unread is has = rw (is, has) (by_fit world name table lanes (fit_kernel table.fields kernel lanes) (plain_kernel table.fields kernel lanes))
+
+-- another name stands for what it stood for
+found_other : (name other : List ℕ) (held : Table) (entries : List (Entry Table)) → same_name name other ≡ false → found other (replaced name held entries) ≡ found other entries
+found_other name other held [] differ = refl
+found_other name other held (entry ∷ entries) differ = ⊎_elim
+    (λ (is : same_name entry.name name ≡ true).
+    let same : entry.name ≡ name = same_text entry.name name is in
+    let apart : same_name entry.name other ≡ false = rw same differ in
+    rw (is, apart) refl)
+    (λ (no : same_name entry.name name ≡ false). rw (no, found_other name other held entries differ) refl)
+    (cases_Bool (same_name entry.name name))
+
+-- copies
+by_alike : (world : World) (name other : List ℕ) (source target : Table) (same : Bool) (spot : Option Spot) → are_alike source target ≡ same → refused_at (answer_of target) 0 source.rows ≡ spot →
+    Agrees target.fields (λ left done. IsLeft (both_left world name other (was_copied source target) source target) [] left)
+    (copied source target >>= λ new. quiet (with_table (with_table world name (all_read source)) other new)) (was_copied source target)
+unfolding copied with_rows
+by_alike world name other source target true None same is = rw (same, is) refl
+by_alike world name other source target true (Some spot) same is = rw (same, is) refl
+by_alike world name other source target false spot same is = rw same refl
+
+pub copies_agree : CopiesAgree
+unfolding step copy
+copies_agree name other world source target files unread differ has also =
+    let still : found other (replaced name (all_read source) world.views) ≡ Some target = found_other name other (all_read source) world.views differ ∙ also in
+    rw (has, still) (by_alike world name other source target (are_alike source target) (refused_at (answer_of target) 0 source.rows) refl refl)

@@ -1,0 +1,116 @@
+-- A view that two lines describe, with or without a dataset, is that of the commands of these lines.
+use Rattle.std.specs.Prelude.{if◌then◌else◌, unwrap_or}
+use Rattle.std.proofs.Common.{◌≡◌, ℕ, ◌^◌, ℤ, nat_lt, Bool, true, false, List, [], length, Option, Some, None, Result, Ok, Err, refl, sym, ap, ◌∙◌}
+use Rattle.csv_rows.specs.Datasets.{records_of, rows_of}
+use Rattle.csv_rows.specs.Loads.{dataset_of}
+use Rattle.csv_rows.specs.declared.fault.RowFault.{RowFault}
+use Rattle.csv_rows.specs.declared.fault.RowFault.TheVariants as row
+use Rattle.layout_io.specs.Files.{File, file_of}
+use Rattle.line_grammar.specs.Sentences.{New, Define, View, Load}
+use Rattle.record_dim.specs.Leaves.{first_fault}
+use Rattle.record_dim.specs.Trees.{Tree, Fields, End}
+use Rattle.record_dim.specs.declared.fault.BadRecord.{BadRecord}
+use Rattle.views.specs.Tables.{Table}
+use Rattle.worlds.specs.Define.{define, fields_in}
+use Rattle.worlds.specs.Load.{filled, load, loaded, loaded_table, row_fault}
+use Rattle.worlds.specs.Outcomes.{refused_if}
+use Rattle.worlds.specs.Step.{step}
+use Rattle.worlds.specs.Tables.{made, resolved}
+use Rattle.worlds.specs.View.{named, new_table, view, with_view}
+use Rattle.worlds.specs.Worlds.{World, added, found, same_name}
+use Rattle.worlds.specs.declared.fault.CommandFault.TheVariants.{TooBig}
+use Rattle.c_answers.specs.declared.refusal.TextOf.TheVariants.{First, Second}
+use Rattle.c_lines.specs.Agreement.{Agrees, IsCause, IsLeft, DatasetsAgree, LoadsAgree, ViewsAgree, both_steps, fields_for, world_with}
+use Rattle.c_lines.specs.Lines as lines
+use Rattle.c_lines.specs.Lines.{described, line_told, with_dataset}
+use Rattle.c_lines.specs.Told.{told, row_refusal}
+use Rattle.c_lines.proofs.Agreeing.{Any, plain_any, plain_then, plain_if, agrees_told, agrees_then, agrees_behind, agrees_left}
+use Rattle.c_lines.proofs.Datasets.{IsOwn, own_rows}
+use Rattle.c_lines.proofs.PlainTests.{plain_made, plain_named, plain_resolved}
+
+-- the values of a dataset
+row_cause : (fields : Fields) (fault : RowFault) → IsOwn {A = List (List ℤ)} (Err fault) → IsCause fields (row_refusal fault) (row_fault fields fault)
+row_cause fields (row.MissingColumn leaf) own = refl
+row_cause fields (row.ColumnTwice leaf) own = refl
+row_cause fields (row.ShortRow at leaf) own = refl
+row_cause fields (row.Number at leaf) own = refl
+row_cause fields (row.Range at leaf) own = refl
+row_cause fields (row.Narrow at leaf) own = refl
+row_cause fields row.NoMemory own = absurd own
+
+by_rows : (fields : Fields) (table : Table) (csv : List ℕ) (rows : Result (List (List ℤ)) RowFault) → table.fields ≡ fields → dataset_of table (records_of csv) ≡ rows → IsOwn rows →
+    Agrees fields (λ a b. a ≡ b) (filled table (records_of csv)) (with_dataset table (dataset_of table (records_of csv)))
+by_rows fields table csv (Ok rows) same is own = rw is refl
+by_rows fields table csv (Err fault) same is own =
+    let cause : IsCause fields (row_refusal fault) (row_fault table.fields fault) = rw same (row_cause fields fault own) in
+    rw is cause
+
+values_agree : (fields : Fields) (table : Table) (csv : List ℕ) → table.fields ≡ fields → Agrees fields (λ a b. a ≡ b) (filled table (records_of csv)) (with_dataset table (dataset_of table (records_of csv)))
+values_agree fields table csv same = by_rows fields table csv (dataset_of table (records_of csv)) same refl (own_rows table (records_of csv))
+
+-- the table of a dataset
+tables_agree : (world : World) (fields : Fields) (new : New) (file csv : List ℕ) (files : List File) → world.views ≡ [] → ((f : Fields) → found new.schema world.records ≡ Some f → f ≡ fields) → file_of files file ≡ Some csv →
+    Agrees fields (λ a b. a ≡ b) (loaded_table world new file files false) (lines.filled world new csv)
+unfolding loaded_table loaded
+tables_agree world fields new file csv files none only has =
+    agrees_then (λ whole. whole.fields ≡ fields) fields (λ a b. a ≡ b) (named world new) _ _ (plain_named world new fields none only)
+    (λ whole same. rw (has, none)
+    (let long = nat_lt (2 ^ 28) (length csv) in
+    let rows = Some (length (rows_of (records_of csv))) in
+    agrees_then (λ passed. long ≡ false) fields (λ a b. a ≡ b) (refused_if long TooBig) _ _ (plain_if long TooBig (λ f. refl))
+    (λ short any. agrees_behind Any (λ table. table.fields ≡ whole.fields) fields (λ a b. a ≡ b) (resolved new.words rows) (λ extents. made [] whole.mode whole.fields extents whole.mapping) _ _
+    (plain_resolved new.words rows) (λ extents more. plain_made [] whole.mode whole.fields extents whole.mapping)
+    (λ zeros is. values_agree fields zeros csv (is ∙ same)))))
+
+step_agrees : (world : World) (fields : Fields) (new : New) (file csv : List ℕ) (files : List File) → world.views ≡ [] → ((f : Fields) → found new.schema world.records ≡ Some f → f ≡ fields) → file_of files file ≡ Some csv →
+    Agrees fields (λ left table. IsLeft (with_view world new.name table) [] left) (step world (Load new file) files false) (lines.filled world new csv)
+unfolding step load
+step_agrees world fields new file csv files none only has = agrees_left fields (λ table. with_view world new.name table) (loaded_table world new file files false) (lines.filled world new csv)
+    (tables_agree world fields new file csv files none only has)
+
+pub loads_agree : LoadsAgree
+loads_agree world new file csv files none has = step_agrees world (fields_for world new) new file csv files none (λ f is. sym (ap (λ (known : Option Fields). unwrap_or known End) is)) has
+
+-- a world of one record
+abbrev of_record : List ℕ → Fields → World
+of_record name fields = record { records = added name fields []; mappings = []; views = [] }
+
+if_found : (same : Bool) (fields f : Fields) → (if same then Some fields else None) ≡ Some f → f ≡ fields
+if_found true fields f is = cc
+if_found false fields f is = absurd (cc)
+
+only_one : (name schema : List ℕ) (fields f : Fields) → found schema (added name fields []) ≡ Some f → f ≡ fields
+only_one name schema fields f is = if_found (same_name name schema) fields f is
+
+-- views of zeros
+new_agrees : (name : List ℕ) (fields : Fields) (new : New) (files : List File) →
+    Agrees fields (λ left table. IsLeft (world_with name fields new table) [] left) (step (of_record name fields) (View new) files false) (told (new_table (of_record name fields) new))
+unfolding step view new_table
+new_agrees name fields new files =
+    let world = of_record name fields in
+    agrees_left fields (λ table. with_view world new.name table) (new_table world new) (told (new_table world new))
+    (agrees_told Any fields (new_table world new)
+    (plain_then (λ whole. whole.fields ≡ fields) Any (named world new) _ (plain_named world new fields refl (λ f is. only_one name new.schema fields f is))
+    (λ whole same. plain_then Any Any (resolved new.words None) _ (plain_resolved new.words None)
+    (λ extents any. plain_any (λ table. table.fields ≡ whole.fields) (made [] whole.mode whole.fields extents whole.mapping) (plain_made [] whole.mode whole.fields extents whole.mapping)))))
+
+views_by : (first second name : List ℕ) (tree : Tree) (new : New) (files : List File) (bad : Option BadRecord) → line_told First first ≡ Ok (Define name tree) → line_told Second second ≡ Ok (View new) → first_fault tree ≡ bad →
+    Agrees (fields_in tree) (λ left table. IsLeft (world_with name (fields_in tree) new table) [] left) (both_steps (Define name tree) (View new) files) (described first second)
+unfolding step define
+views_by first second name tree new files (Some bad) one two is = rw (one, two, is) refl
+views_by first second name tree new files None one two is = rw (one, two, is) (new_agrees name (fields_in tree) new files)
+
+pub views_agree : ViewsAgree
+views_agree first second name tree new files one two = views_by first second name tree new files (first_fault tree) one two refl
+
+-- views of datasets
+datasets_by : (first second name : List ℕ) (tree : Tree) (new : New) (file csv : List ℕ) (files : List File) (bad : Option BadRecord) →
+    line_told First first ≡ Ok (Define name tree) → line_told Second second ≡ Ok (Load new file) → file_of files file ≡ Some csv → first_fault tree ≡ bad →
+    Agrees (fields_in tree) (λ left table. IsLeft (world_with name (fields_in tree) new table) [] left) (both_steps (Define name tree) (Load new file) files) (lines.loaded first second csv)
+unfolding step define
+datasets_by first second name tree new file csv files (Some bad) one two has is = rw (one, two, is) refl
+datasets_by first second name tree new file csv files None one two has is = rw (one, two, is)
+    (step_agrees (of_record name (fields_in tree)) (fields_in tree) new file csv files refl (λ f known. only_one name new.schema (fields_in tree) f known) has)
+
+pub datasets_agree : DatasetsAgree
+datasets_agree first second name tree new file csv files one two has = datasets_by first second name tree new file csv files (first_fault tree) one two has refl
