@@ -16,7 +16,7 @@ use Rattle.short_rules.specs.Walks.{leads}
 use Rattle.short_rules.specs.Wides.{is_turned_width, IsAsWhole, IsAsTurned, IsWide}
 use Rattle.short_rules.specs.declared.short.ShortRule.{ShortRule}
 use Rattle.short_rules.specs.declared.wide.Wide.{Wide}
-use Rattle.near_leaves.proofs.Spreads.{plain_leads, blocks_lead}
+pub use Rattle.near_leaves.proofs.Spreads.{plain_leads, blocks_lead}
 use Rattle.views.specs.WideColumns.{IsWideRow, rows_by}
 use Rattle.views.specs.declared.wide.WideWay.{WideWay}
 use Rattle.views.specs.declared.wide.WideWay.TheVariants as way

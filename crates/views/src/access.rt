@@ -7,12 +7,11 @@ ghost use Rattle.piece_bits.specs.Tables.{AreLaid, hold_at, table_in, with_entry
 ghost use Rattle.views.specs.Kept.{HasSign};
 
 use crate::view::BlobList;
-use crate::wide::{WideWay, wide_at};
 use blobs::Blob;
 use map_any::{AnyMap, Word};
 use piece_bits::{
-    read_entry, read_piece, read_scattered, read_word, write_entry, write_piece, write_scattered,
-    write_word,
+    field_wide, read_entry, read_piece, read_scattered, read_word, turned_wide, whole_wide,
+    write_entry, write_piece, write_scattered, write_word,
 };
 use places::{Mapping, laws_of};
 
@@ -27,19 +26,24 @@ pub fn wide_read(map: &AnyMap, blobs: &[Blob], row: u64, leaf: usize) -> Option<
     ensures sign { is_some result ≡ true → HasSign (⟦<AnyMap as Mapping>⟧.cell_list map.now) (⟦<AnyMap as Mapping>⟧.hold_list map.now) leaf }
     ensures uncounted { is_some result ≡ true → is_counted (term_of_map map.now) ≡ false }
 {
+    laws_of(map);
     let rule = map.short(leaf);
     let short = &rule.short;
     if row < rule.wide.whole {
-        return Some(wide_at(map, blobs, short, WideWay::Whole, row, leaf));
+        let start = short.plain_start(row);
+        return Some(whole_wide(&blobs[short.blob], start, &short.field));
     }
     if row < rule.wide.blocks {
-        return Some(wide_at(map, blobs, short, WideWay::Blocks, row, leaf));
+        let start = short.block_start(row);
+        return Some(whole_wide(&blobs[short.blob], start, &short.field));
     }
     if row < rule.wide.turned {
-        return Some(wide_at(map, blobs, short, WideWay::Turned, row, leaf));
+        let start = short.plain_start(row);
+        return Some(turned_wide(&blobs[short.blob], start, &short.field));
     }
     if row < rule.wide.field {
-        return Some(wide_at(map, blobs, short, WideWay::Field, row, leaf));
+        let start = short.plain_start(row);
+        return Some(field_wide(&blobs[short.blob], start, &short.field));
     }
     None
 }
