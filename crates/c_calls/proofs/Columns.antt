@@ -1,5 +1,5 @@
 -- The values of a leaf of a view.
-use Rattle.std.proofs.Common.{◌≡◌, ℕ, ◌<◌, [], length, sym, subst, arith}
+use Rattle.std.proofs.Common.{ℕ, ◌<◌, [], length, sym, subst, arith}
 use Rattle.std.specs.List.{All}
 use Rattle.std.proofs.lemmas.List.{get_or-map, length-map}
 use Rattle.record_dim.specs.LeafTypes.{IsDeclared}

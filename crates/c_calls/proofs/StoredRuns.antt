@@ -3,9 +3,9 @@ use Rattle.std.proofs.Common.{◌≡◌, ℕ, zero, suc, ◌+◌, ◌-◌, ◌*�
 use Rattle.std.specs.Option.{option_or}
 use Rattle.std.proofs.lemmas.List.{length-append, length-drop, get_or-map, length-map, length-take-le, map-append, drop-map, take-map, take-append-drop, take-append-le, take_more}
 use Rattle.std.proofs.Math.Seq.{take-add, take-append-add, take-length}
-use Rattle.c_answers.specs.Answers.{Answer}
-use Rattle.c_answers.specs.Refusals.{store_refusal}
-use Rattle.c_answers.specs.declared.refusal.Refusal.{Refusal}
+use Rattle.c_calls.specs.Answers.{Answer}
+use Rattle.c_calls.specs.Refusals.{store_refusal}
+use Rattle.c_calls.specs.declared.refusal.Refusal.{Refusal}
 use Rattle.views.specs.AnswerLaws.{told_err, told_kept}
 use Rattle.views.specs.Columns.{column_writes, with_column, lane_fault, first_lane_fault}
 use Rattle.views.specs.ColumnsLaws.{no_column, length-with_column}

@@ -1,3 +1,7 @@
+pub mod Answers
+pub mod Faults
+pub mod Refusals
 pub mod Values
 pub mod Runs
 pub mod RunLaws
+pub mod Buffers

@@ -4,10 +4,10 @@ use Rattle.record_dim.specs.declared.leaf_type.LeafType.{LeafType}
 use Rattle.views.specs.Columns.{column, column_reads, column_writes, with_column, first_lane_fault}
 use Rattle.views.specs.declared.fault.LaneFault.{LaneFault}
 use Rattle.views.specs.Tables.{Table, after_log, after_stores, answer_of, kept_of}
-use Rattle.c_answers.specs.Answers.{Answer}
-use Rattle.c_answers.specs.Refusals.{store_refusal}
+use Rattle.c_calls.specs.Answers.{Answer}
+use Rattle.c_calls.specs.Refusals.{store_refusal}
 use Rattle.c_calls.specs.Values.{is_run, read_by}
-use Rattle.c_answers.specs.declared.refusal.Refusal.TheVariants.{NoPlace}
+use Rattle.c_calls.specs.declared.refusal.Refusal.TheVariants.{NoPlace}
 
 -- the values of a leaf in so many rows from one on
 abbrev pub run_of : ℕ → ℕ → ℕ → Table → List ℤ

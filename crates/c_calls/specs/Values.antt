@@ -5,9 +5,9 @@ use Rattle.record_dim.specs.declared.leaf_type.LeafType.TheVariants.{U64}
 use Rattle.record_dim.specs.LeafTypes.{is_signed}
 use Rattle.places.specs.Image.{entry}
 use Rattle.views.specs.Tables.{Table, leaf_count_of, leaf_type_of, answer_of}
-use Rattle.c_answers.specs.Answers.{Answer}
-use Rattle.c_answers.specs.Refusals.{told_store}
-use Rattle.c_answers.specs.declared.refusal.Refusal.TheVariants.{NoPlace, BadType}
+use Rattle.c_calls.specs.Answers.{Answer}
+use Rattle.c_calls.specs.Refusals.{told_store}
+use Rattle.c_calls.specs.declared.refusal.Refusal.TheVariants.{NoPlace, BadType}
 
 -- so many rows from one on, and a leaf, are those of a table
 abbrev pub is_run : Table → ℕ → ℕ → ℕ → Bool

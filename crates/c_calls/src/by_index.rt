@@ -1,9 +1,9 @@
 // Rows by their indices.
 ghost use Rattle.std.specs.Prelude.{◌≡◌, IfOk, IfErr, Some, Contains, slice_get};
 ghost use Rattle.extents.specs.Indices.{indices};
-ghost use Rattle.c_answers.specs.declared.refusal.Refusal.TheVariants.{NoPlace};
+ghost use Rattle.c_calls.specs.declared.refusal.Refusal.TheVariants.{NoPlace};
 
-use c_answers::Refusal;
+use crate::refusal::Refusal;
 use views::View;
 
 /// The row of an index, or `NoPlace` where there is none.

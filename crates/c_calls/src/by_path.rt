@@ -1,9 +1,9 @@
 // Leaves by their paths.
 ghost use Rattle.std.specs.Prelude.{◌≡◌, IfOk, IfErr, Some, Contains, slice_get};
 ghost use Rattle.record_dim.specs.Leaves.{texts_of};
-ghost use Rattle.c_answers.specs.declared.refusal.Refusal.TheVariants.{NoPlace};
+ghost use Rattle.c_calls.specs.declared.refusal.Refusal.TheVariants.{NoPlace};
 
-use c_answers::Refusal;
+use crate::refusal::Refusal;
 use views::View;
 
 /// The leaf whose path has this text, as `pos.x` and `h[2]`, or `NoPlace` where there is none.

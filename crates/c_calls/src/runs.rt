@@ -9,8 +9,8 @@ ghost use Rattle.c_calls.specs.Values.{read_by};
 ghost use Rattle.c_calls.specs.RunLaws.{HasRead};
 
 use crate::number::Number64;
+use crate::refusal::Refusal;
 use crate::values::{is_run, leaf_type};
-use c_answers::Refusal;
 use record_dim::LeafType;
 use std::sync::ledger::{Blank, Ledger};
 use steps::Steps;

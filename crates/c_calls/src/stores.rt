@@ -5,9 +5,9 @@ ghost use Rattle.views.specs.Tables.{leaf_count_of};
 ghost use Rattle.c_calls.specs.Runs.{run_fault, told_run, stored_count, with_run, was_set_run, after_set_run};
 
 use crate::number::Number64;
+use crate::refusal::Refusal;
 use crate::runs::{row_at, rows_before_block};
 use crate::values::is_run;
-use c_answers::Refusal;
 use lanes::Block;
 use std::sync::ledger::{Blank, Ledger};
 use steps::Steps;
@@ -32,9 +32,25 @@ pub fn set_run<N: Number64, L: Ledger>(
         return Err(Refusal::NoPlace);
     }
     let mut steps = Steps::<L>::new(blank);
+    store_run(view, first, leaf, values, &mut steps)
+}
+
+// Stores a run, sixteen rows at a time where they stand side by side.
+fn store_run<N: Number64, L: Ledger>(
+    view: &mut View,
+    first: u64,
+    leaf: usize,
+    values: &[N],
+    steps: &mut Steps<L>,
+) -> Result<(), Refusal>
+    requires rows { first + length values.now ≤ length view.old.rows }
+    requires leaf { leaf < leaf_count_of view.old }
+    ensures answer { result ≡ told_run first leaf (run_fault leaf (map N.number values.now) view.old) }
+    ensures left { view.new ≡ with_run first leaf (map N.number values.now) (stored_count (length values.now) (run_fault leaf (map N.number values.now) view.old)) view.old }
+{
     match view.near_column(leaf) {
-        Some(near) => store_near(view, &near, first, values, &mut steps),
-        None => store_each(view, first, leaf, values, &mut steps),
+        Some(near) => store_near(view, &near, first, values, steps),
+        None => store_each(view, first, leaf, values, steps),
     }
 }
 

@@ -1,11 +1,11 @@
 // One value of a view, as a number of the caller's type.
 ghost use Rattle.std.specs.Prelude.{◌≡◌, ◌+◌, ◌<◌, ◌≤◌, true, length, OnOk, OnErr};
 ghost use Rattle.views.specs.Tables.{leaf_count_of, leaf_type_of, after_read, after_write};
-ghost use Rattle.c_answers.specs.Answers.{answer_map};
+ghost use Rattle.c_calls.specs.Answers.{answer_map};
 ghost use Rattle.c_calls.specs.Values.{is_run, got, was_set};
 
 use crate::number::Number64;
-use c_answers::Refusal;
+use crate::refusal::Refusal;
 use record_dim::LeafType;
 use std::sync::ledger::{Blank, Ledger};
 use steps::Steps;

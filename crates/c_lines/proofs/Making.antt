@@ -1,9 +1,11 @@
 -- Views of the words of two lines, by the tests that refuse them.
-use Rattle.std.proofs.Common.{◌≡◌, inl, inr, ℕ, true, nat_eq, List, [], length, Some, None, Ok, Err, refl, ap}
+use Rattle.std.proofs.Common.{◌≡◌, inl, inr, ℕ, ◌^◌, ◌≤◌, true, false, nat_eq, nat_lt, List, [], length, Option, Some, None, Ok, Err, refl, sym, ap, subst, arith}
+use Rattle.std.proofs.lemmas.Bool.Decides.{nat_tests}
 use Rattle.std.specs.Cmp.Lexicographic.{pointwise}
 use Rattle.record_dim.specs.NameBytesLaws.{text_self}
 use Rattle.record_dim.specs.Trees.{Fields}
 use Rattle.csv_rows.specs.Datasets.{records_of, rows_of}
+use Rattle.csv_rows.specs.Loads.{dataset_of}
 use Rattle.extents.specs.declared.words.ExtentWord.{ExtentWord}
 use Rattle.line_grammar.specs.Sentences.{New}
 use Rattle.map_expr.specs.Terms.{Term}
@@ -13,12 +15,13 @@ use Rattle.worlds.specs.Outcomes.{Outcome, Goes, Faults, CannotRead, ◌>>=◌}
 use Rattle.worlds.specs.Tables.{made, resolved, shaped, mode_by}
 use Rattle.worlds.specs.View.{Named, named, new_table}
 use Rattle.worlds.specs.Worlds.{World, empty, added}
-use Rattle.c_answers.specs.Answers.{Answer, Tells}
-use Rattle.c_answers.specs.declared.refusal.Refusal.{Refusal}
-use Rattle.c_answers.specs.declared.refusal.Refusal.TheVariants.{TooBig}
-use Rattle.c_lines.specs.Lines.{zeros_for}
+use Rattle.c_calls.specs.Answers as answer
+use Rattle.c_calls.specs.Answers.{Answer, Tells}
+use Rattle.c_calls.specs.declared.refusal.Refusal.{Refusal}
+use Rattle.c_calls.specs.declared.refusal.Refusal.TheVariants.{TooBig}
+use Rattle.c_lines.specs.Lines.{filled_as, with_dataset, zeros_for}
 use Rattle.c_lines.specs.Told.{told, refusal_of}
-use Rattle.c_lines.proofs.Answering.{Refuses, told_goes}
+use Rattle.c_lines.proofs.Answering.{Refuses, refused_then, told_goes}
 
 -- a world of one record
 abbrev pub one_record : List ℕ → Fields → World
@@ -57,27 +60,42 @@ pub new_refused : (world : World) (new : New) (refusal : Refusal) → Refuses (t
 unfolding new_table
 new_refused world new refusal refuses = told_refused (named world new) (λ whole. resolved new.words None >>= λ extents. made world.views whole.mode whole.fields extents whole.mapping) refusal refuses
 
-pub extents_refused : (world : World) (new : New) (whole : Named) (refusal : Refusal) → told (named world new) ≡ Ok whole → Refuses (told (resolved new.words None)) refusal → Refuses (told (new_table world new)) refusal
-unfolding new_table
-extents_refused world new whole refusal is refuses = told_later (named world new) (λ w. resolved new.words None >>= λ extents. made world.views w.mode w.fields extents w.mapping) whole refusal (told_goes (named world new) whole is)
-    (told_refused (resolved new.words None) (λ extents. made world.views whole.mode whole.fields extents whole.mapping) refusal refuses)
+-- one test of the model after another, as answers
+told_then : {A B : Type 0} (first : Outcome A) (next : A → Outcome B) → told (first >>= next) ≡ answer.◌>>=◌ (told first) (λ x. told (next x))
+told_then (Goes x) next = refl
+told_then (Faults fault) next = refl
+told_then (CannotRead name) next = refl
 
-pub table_made : (world : World) (new : New) (whole : Named) (extents : List ℕ) (result : Answer Table) → world.views ≡ [] → told (named world new) ≡ Ok whole → resolved new.words None ≡ Goes extents →
-    Tells (λ table. table) (told (made [] whole.mode whole.fields extents whole.mapping)) result → Tells (λ table. table) (told (new_table world new)) result
+pub table_made : (world : World) (new : New) (whole : Named) (result : Answer Table) → world.views ≡ [] → told (named world new) ≡ Ok whole →
+    Tells (λ table. table) (zeros_for whole new.words None) result → Tells (λ table. table) (told (new_table world new)) result
 unfolding new_table
-table_made world new whole extents result none is goes tells =
-    let views = world.views in
+table_made world new whole result none is tells =
     let words : named world new ≡ Goes whole = told_goes (named world new) whole is in
-    rw (words, goes, none) tells
+    let same = told_then (resolved new.words None) (λ extents. made [] whole.mode whole.fields extents whole.mapping) in
+    rw (words, none) (subst (λ (a : Answer Table). Tells (λ table. table) a result) (sym same) tells)
 
--- the table of zeros for a dataset
-abbrev pub dataset_extents : List ExtentWord → List ℕ → Outcome (List ℕ)
-dataset_extents words csv = resolved words (Some (length (rows_of (records_of csv))))
+-- the table of zeros where the words stand for this
+pub zeros_refused : (whole : Named) (words : List ExtentWord) (rows : Option ℕ) (refusal : Refusal) → Refuses (told (resolved words rows)) refusal → Refuses (zeros_for whole words rows) refusal
+zeros_refused whole words rows refusal (inl starved) = inl starved
+zeros_refused whole words rows refusal (inr is) = inr (rw is refl)
 
-pub zeros_refused : (whole : Named) (words : List ExtentWord) (csv : List ℕ) (refusal : Refusal) → Refuses (told (dataset_extents words csv)) refusal → Refuses (zeros_for whole words csv) refusal
-zeros_refused whole words csv refusal (inl starved) = inl starved
-zeros_refused whole words csv refusal (inr is) = inr (rw is refl)
+pub zeros_made : (whole : Named) (words : List ExtentWord) (rows : Option ℕ) (extents : List ℕ) (result : Answer Table) → resolved words rows ≡ Goes extents →
+    Tells (λ table. table) (told (made [] whole.mode whole.fields extents whole.mapping)) result → Tells (λ table. table) (zeros_for whole words rows) result
+zeros_made whole words rows extents result goes tells = rw goes tells
 
-pub zeros_made : (whole : Named) (words : List ExtentWord) (csv extents : List ℕ) (result : Answer Table) → dataset_extents words csv ≡ Goes extents →
-    Tells (λ table. table) (told (made [] whole.mode whole.fields extents whole.mapping)) result → Tells (λ table. table) (zeros_for whole words csv) result
-zeros_made whole words csv extents result goes tells = rw goes tells
+-- and with the values of a dataset, which is not too long
+is_short : (csv : List ℕ) → length csv ≤ 2 ^ 28 → nat_lt (2 ^ 28) (length csv) ≡ false
+is_short csv short = grind (arith, nat_tests)
+
+pub filled_refused : (whole : Named) (words : List ExtentWord) (csv : List ℕ) (rows : ℕ) (refusal : Refusal) (result : Answer Table) → length csv ≤ 2 ^ 28 → rows ≡ length (rows_of (records_of csv)) →
+    result ≡ Err refusal → Refuses (zeros_for whole words (Some rows)) refusal → Tells (λ table. table) (filled_as whole words csv) result
+filled_refused whole words csv rows refusal result short many is refuses =
+    let zeros = zeros_for whole words (Some (length (rows_of (records_of csv)))) in
+    let same : Refuses zeros refusal = subst (λ (n : ℕ). Refuses (zeros_for whole words (Some n)) refusal) many refuses in
+    rw (is_short csv short) (refused_then (λ table. table) zeros (λ table. with_dataset table (dataset_of table (records_of csv))) refusal result is same)
+
+pub filled_made : (whole : Named) (words : List ExtentWord) (csv : List ℕ) (rows : ℕ) (zeros : Table) (result : Answer Table) → length csv ≤ 2 ^ 28 → rows ≡ length (rows_of (records_of csv)) →
+    zeros_for whole words (Some rows) ≡ Ok zeros → Tells (λ table. table) (with_dataset zeros (dataset_of zeros (records_of csv))) result → Tells (λ table. table) (filled_as whole words csv) result
+filled_made whole words csv rows zeros result short many made tells =
+    let same : zeros_for whole words (Some (length (rows_of (records_of csv)))) ≡ Ok zeros = subst (λ (n : ℕ). zeros_for whole words (Some n) ≡ Ok zeros) many made in
+    rw (is_short csv short) (subst (λ (given : Answer Table). Tells (λ table. table) (answer.◌>>=◌ given (λ table. with_dataset table (dataset_of table (records_of csv)))) result) (sym same) tells)

@@ -17,26 +17,27 @@ use Rattle.worlds.specs.declared.fault.CommandFault.{CommandFault}
 use Rattle.worlds.specs.declared.fault.CommandFault.TheVariants as fault
 use Rattle.command_checks.specs.AlikeLaws.{alike}
 use Rattle.command_checks.specs.declared.fault.StepFault.{StepFault}
-use Rattle.c_answers.specs.Answers.{Answer, Tells, TellsLeft, ◌>>=◌}
-use Rattle.c_answers.specs.declared.refusal.Refusal.{Refusal}
-use Rattle.c_answers.specs.declared.refusal.Refusal.TheVariants.{Narrow}
-use Rattle.c_answers.specs.declared.refusal.TextOf.{TextOf}
-use Rattle.c_answers.specs.declared.refusal.TextOf.TheVariants.{First}
+use Rattle.c_calls.specs.Answers.{Answer, Tells, TellsLeft, ◌>>=◌}
+use Rattle.c_calls.specs.declared.refusal.Refusal.{Refusal}
+use Rattle.c_calls.specs.declared.refusal.Refusal.TheVariants.{Narrow}
+use Rattle.c_calls.specs.declared.refusal.TextOf.{TextOf}
+use Rattle.c_calls.specs.declared.refusal.TextOf.TheVariants.{First}
 use Rattle.c_lines.specs.Copies.{was_copied, source_after, target_after, told_rows}
 use Rattle.c_lines.specs.Lines.{line_told, shallow}
-use Rattle.c_lines.specs.Relaid.{after_relaid, mapping_told, relaid, zeros_told}
+use Rattle.c_lines.specs.Relaid.{after_relaid, mapping_told, relaid, whole_told, zeros_told}
 use Rattle.c_lines.specs.Told.{told, done_of, refusal_of}
 use Rattle.c_lines.proofs.Answering.{Refuses}
 
--- the zeros of a line in the shape of a table
-pub like_refused : (text : List ℕ) (table : Table) (sentence : Sentence) (term : Term) (refusal : Refusal) → line_told First text ≡ Ok sentence → mapping_told sentence ≡ Ok term →
-    Refuses (told (nameless [] term)) refusal → Refuses (zeros_told text table) refusal
-like_refused text table sentence term refusal one two (inl starved) = inl starved
-like_refused text table sentence term refusal one two (inr is) = inr (rw (one, two, is) refl)
+-- the mapping of a line
+pub whole_as : {A : Type 0} (view : A → Term) (text : List ℕ) (sentence : Sentence) (term : Term) (result : Answer A) → line_told First text ≡ Ok sentence → mapping_told sentence ≡ Ok term →
+    Tells view (told (nameless [] term)) result → Tells view (whole_told text) result
+whole_as view text sentence term result one two tells = rw (one, two) tells
 
-pub like_made : (text : List ℕ) (table : Table) (sentence : Sentence) (term whole : Term) (result : Answer Table) → line_told First text ≡ Ok sentence → mapping_told sentence ≡ Ok term → nameless [] term ≡ Goes whole →
+-- zeros under it in the shape of a table
+pub zeros_as : (text : List ℕ) (table : Table) (whole : Term) (result : Answer Table) → whole_told text ≡ Ok whole →
     Tells (λ view. view) (told (made [] table.mode table.fields table.extents whole)) result → Tells (λ view. view) (zeros_told text table) result
-like_made text table sentence term whole result one two goes tells = rw (one, two, goes) tells
+zeros_as text table whole result is tells =
+    subst (λ (given : Answer Term). Tells (λ view. view) (given >>= λ whole. told (made [] table.mode table.fields table.extents whole)) result) (sym is) tells
 
 pub zeros_alike : (table : Table) (mode : StoreMode) (term : Term) (given : Result Table StepFault) → IfOk given (λ view. view ≡ zeros_of mode table.fields table.extents term) → IfOk given (AreAlike table)
 zeros_alike table mode term (Ok view) is = (sym (ap (λ (t : Table). t.fields) is), sym (ap (λ (t : Table). t.extents) is))
@@ -127,11 +128,12 @@ plain_told (Goes given) = tt
 plain_told (Faults fault) = plain_fault fault
 plain_told (CannotRead name) = λ table. refl
 
+plain_whole : (text : List ℕ) → Plain (whole_told text)
+plain_whole text = plain_then (line_told First text) _ (plain_line First text)
+    (λ sentence. plain_then (mapping_told sentence) _ (plain_mapping sentence) (λ term. plain_told (nameless [] term)))
+
 plain_zeros : (text : List ℕ) (table : Table) → Plain (zeros_told text table)
-plain_zeros text table = plain_then (line_told First text) _ (plain_line First text)
-    (λ sentence. plain_then (mapping_told sentence) _ (plain_mapping sentence)
-    (λ term. plain_then (told (nameless [] term)) _ (plain_told (nameless [] term))
-    (λ whole. plain_told (made [] table.mode table.fields table.extents whole))))
+plain_zeros text table = plain_then (whole_told text) _ (plain_whole text) (λ whole. plain_told (made [] table.mode table.fields table.extents whole))
 
 -- no new table is made
 pub anew_refused : (text : List ℕ) (table : Table) (refusal : Refusal) (result : Answer (Unit {0})) → result ≡ Err refusal → Refuses (zeros_told text table) refusal →

@@ -19,10 +19,10 @@ use Rattle.worlds.specs.Worlds.{World, Entry, empty, found, added, same_name}
 use Rattle.worlds.specs.declared.fault.CommandFault.{CommandFault}
 use Rattle.worlds.specs.declared.fault.CommandFault.TheVariants as fault
 use Rattle.worlds.specs.declared.fault.UnknownName.{UnknownName}
-use Rattle.c_answers.specs.Answers.{Answer}
-use Rattle.c_answers.specs.declared.refusal.Refusal.{Refusal}
-use Rattle.c_answers.specs.declared.refusal.Refusal.TheVariants as refusal
-use Rattle.c_answers.specs.declared.refusal.TextOf.TheVariants.{First, Second}
+use Rattle.c_calls.specs.Answers.{Answer}
+use Rattle.c_calls.specs.declared.refusal.Refusal.{Refusal}
+use Rattle.c_calls.specs.declared.refusal.Refusal.TheVariants as refusal
+use Rattle.c_calls.specs.declared.refusal.TextOf.TheVariants.{First, Second}
 use Rattle.c_lines.specs.Copies.{was_copied, source_after, target_after}
 use Rattle.c_lines.specs.KernelLines.{kernel_number, after_kernel}
 use Rattle.c_lines.specs.Lines.{line_told, described, filled, loaded}

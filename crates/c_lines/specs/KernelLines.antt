@@ -9,9 +9,9 @@ use Rattle.line_grammar.specs.Sentences.{Sentence}
 use Rattle.line_grammar.specs.declared.line.KernelText.{KernelText}
 use Rattle.views.specs.Tables.{Table, answer_of, kept_of, after_stores}
 use Rattle.worlds.specs.Kernel.{fit_kernel}
-use Rattle.c_answers.specs.Answers.{Answer, ◌>>=◌}
-use Rattle.c_answers.specs.declared.refusal.Refusal.TheVariants.{OtherLine}
-use Rattle.c_answers.specs.declared.refusal.TextOf.TheVariants.{First}
+use Rattle.c_calls.specs.Answers.{Answer, ◌>>=◌}
+use Rattle.c_calls.specs.declared.refusal.Refusal.TheVariants.{OtherLine}
+use Rattle.c_calls.specs.declared.refusal.TextOf.TheVariants.{First}
 use Rattle.c_lines.specs.Lines.{line_told}
 use Rattle.c_lines.specs.Told.{told, kernel_refusal}
 
@@ -29,12 +29,16 @@ pub record Fitted : Type 0 where
   pub kernel : Kernel
   pub lanes : ℕ
 
+abbrev pub fitted_as : Written → Table → Answer Fitted
+fitted_as written table = do
+  kernel ← told (fit_kernel table.fields written.kernel written.lanes)
+  Ok (record { kernel = kernel; lanes = written.lanes })
+
 abbrev pub fitted : List ℕ → Table → Answer Fitted
 fitted text table = do
   sentence ← line_told First text
   written ← kernel_told sentence
-  kernel ← told (fit_kernel table.fields written.kernel written.lanes)
-  Ok (record { kernel = kernel; lanes = written.lanes })
+  fitted_as written table
 
 -- the number that it gives, or its first fault
 abbrev pub number_told : Option KernelFault → Option ℤ → Answer (Option ℤ)

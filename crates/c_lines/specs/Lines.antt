@@ -1,5 +1,5 @@
 -- What the lines of a call describe: they are lines of the second version of the language, and mean what they mean in a script.
-use Rattle.std.specs.Prelude.{ℕ, ℤ, ◌^◌, Bool, true, false, List, [], length, nat_lt, Some, Result, Ok, Err, if◌then◌else◌}
+use Rattle.std.specs.Prelude.{ℕ, ℤ, ◌^◌, Bool, true, false, List, [], length, nat_lt, Option, Some, Result, Ok, Err, if◌then◌else◌}
 use Rattle.csv_rows.specs.Datasets.{records_of, rows_of}
 use Rattle.csv_rows.specs.Loads.{dataset_of}
 use Rattle.csv_rows.specs.declared.fault.RowFault.{RowFault}
@@ -15,10 +15,10 @@ use Rattle.worlds.specs.Tables.{made, resolved}
 use Rattle.worlds.specs.View.{Named, named, new_table}
 use Rattle.worlds.specs.Worlds.{World, empty}
 use Rattle.worlds.specs.declared.fault.CommandFault.TheVariants.{TooBig}
-use Rattle.c_answers.specs.Answers.{Answer, ◌>>=◌}
-use Rattle.c_answers.specs.declared.refusal.Refusal.TheVariants.{LineTooLong, Syntax, TooDeep, OtherLine}
-use Rattle.c_answers.specs.declared.refusal.TextOf.{TextOf}
-use Rattle.c_answers.specs.declared.refusal.TextOf.TheVariants.{First, Second}
+use Rattle.c_calls.specs.Answers.{Answer, ◌>>=◌}
+use Rattle.c_calls.specs.declared.refusal.Refusal.TheVariants.{LineTooLong, Syntax, TooDeep, OtherLine}
+use Rattle.c_calls.specs.declared.refusal.TextOf.{TextOf}
+use Rattle.c_calls.specs.declared.refusal.TextOf.TheVariants.{First, Second}
 use Rattle.c_lines.specs.Told.{told, row_refusal}
 
 -- the line that a text is
@@ -66,19 +66,24 @@ abbrev pub with_dataset : Table → Result (List (List ℤ)) RowFault → Answer
 with_dataset table (Ok rows) = Ok (after_stores table rows (all_accesses Write (leaf_count_of table) (length table.rows)))
 with_dataset table (Err fault) = Err (row_refusal fault)
 
--- the table of zeros for a dataset: `?` among the extents stands for what its rows leave
-abbrev pub zeros_for : Named → List ExtentWord → List ℕ → Answer Table
-zeros_for whole words csv = do
-  extents ← told (resolved words (Some (length (rows_of (records_of csv)))))
+-- the table of zeros where the words of a view stand for this: `?` among the extents stands for what so many rows leave
+abbrev pub zeros_for : Named → List ExtentWord → Option ℕ → Answer Table
+zeros_for whole words rows = do
+  extents ← told (resolved words rows)
   told (made [] whole.mode whole.fields extents whole.mapping)
 
--- the table of a dataset, which is not too long
+-- that of a dataset, which is not too long
+abbrev pub filled_as : Named → List ExtentWord → List ℕ → Answer Table
+filled_as whole words csv = do
+  short ← told (refused_if (nat_lt (2 ^ 28) (length csv)) TooBig)
+  zeros ← zeros_for whole words (Some (length (rows_of (records_of csv))))
+  with_dataset zeros (dataset_of zeros (records_of csv))
+
+-- the table of a dataset for a view in a world
 abbrev pub filled : World → New → List ℕ → Answer Table
 filled world new csv = do
   whole ← told (named world new)
-  short ← told (refused_if (nat_lt (2 ^ 28) (length csv)) TooBig)
-  zeros ← zeros_for whole new.words csv
-  with_dataset zeros (dataset_of zeros (records_of csv))
+  filled_as whole new.words csv
 
 -- the table that two lines and a dataset describe
 abbrev pub loaded : List ℕ → List ℕ → List ℕ → Answer Table

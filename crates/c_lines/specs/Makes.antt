@@ -6,7 +6,7 @@ use Rattle.record_dim.specs.Schemas.{schema_fields}
 use Rattle.worlds.specs.View.{Named}
 use Rattle.worlds.specs.Worlds.{World, empty, added}
 use Rattle.c_lines.specs.Lines as lines
-use Rattle.c_answers.specs.Answers.{Answer}
+use Rattle.c_calls.specs.Answers.{Answer}
 use Rattle.views.specs.Tables.{Table}
 use Rattle.c_lines.specs.declared.make.Asked.{Asked}
 use Rattle.c_lines.specs.declared.make.Found.{Found}
@@ -22,6 +22,9 @@ new_of new = record { name = new.name; schema = new.schema; words = new.words; w
 
 abbrev pub named_of : NamedRecord → Found → Named
 named_of named found = record { fields = schema_fields named.schema; mode = found.mode; mapping = term_of found.expr }
+
+abbrev pub asked_of : Asked → lines.Asked
+asked_of asked = record { world = world_of asked.record; new = new_of asked.new }
 
 -- the table of a dataset
 abbrev pub asked_filled : Asked → List ℕ → Answer Table

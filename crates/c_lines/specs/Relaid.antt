@@ -6,9 +6,9 @@ use Rattle.map_expr.specs.Terms.{Term}
 use Rattle.views.specs.Tables.{Table, answer_of, after_log}
 use Rattle.worlds.specs.Names.{nameless}
 use Rattle.worlds.specs.Tables.{made}
-use Rattle.c_answers.specs.Answers.{Answer, ◌>>=◌}
-use Rattle.c_answers.specs.declared.refusal.Refusal.TheVariants.{OtherLine, Narrow}
-use Rattle.c_answers.specs.declared.refusal.TextOf.TheVariants.{First}
+use Rattle.c_calls.specs.Answers.{Answer, ◌>>=◌}
+use Rattle.c_calls.specs.declared.refusal.Refusal.TheVariants.{OtherLine, Narrow}
+use Rattle.c_calls.specs.declared.refusal.TextOf.TheVariants.{First}
 use Rattle.c_lines.specs.Copies.{told_rows, target_after, reads_until}
 use Rattle.c_lines.specs.Lines.{line_told}
 use Rattle.c_lines.specs.Told.{told}
@@ -18,12 +18,17 @@ abbrev pub mapping_told : Sentence → Answer Term
 mapping_told (Relayout name term) = Ok term
 mapping_told _ = Err (OtherLine First)
 
+-- the mapping of the text of a line; no other one has a name
+abbrev pub whole_told : List ℕ → Answer Term
+whole_told line = do
+  sentence ← line_told First line
+  term ← mapping_told sentence
+  told (nameless [] term)
+
 -- a table of zeros like another one, under the mapping of a line
 abbrev pub zeros_told : List ℕ → Table → Answer Table
 zeros_told line table = do
-  sentence ← line_told First line
-  term ← mapping_told sentence
-  whole ← told (nameless [] term)
+  whole ← whole_told line
   told (made [] table.mode table.fields table.extents whole)
 
 -- the table under the mapping of a line, each of its values written once

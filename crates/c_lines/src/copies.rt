@@ -2,7 +2,7 @@
 ghost use Rattle.std.specs.Prelude.{◌≡◌, ◌<◌};
 ghost use Rattle.c_lines.specs.Copies.{was_copied, source_after, target_after};
 
-use c_answers::Refusal;
+use c_calls::Refusal;
 use layout_copy::{CopyFault, copy};
 use std::sync::ledger::{Blank, Ledger};
 use steps::Steps;

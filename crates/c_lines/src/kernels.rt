@@ -2,13 +2,13 @@
 ghost use Rattle.std.specs.Prelude.{◌≡◌, ◌<◌, ◌≤◌, IfOk};
 ghost use Rattle.line_grammar.specs.Sentences.{sentence_of};
 ghost use Rattle.lane_kernels.specs.Kernels.{IsKernelOf};
-ghost use Rattle.c_answers.specs.Answers.{Tells, TellsLeft};
-ghost use Rattle.c_lines.specs.KernelLines.{after_kernel, fitted, kernel_number, kernel_told};
+ghost use Rattle.c_calls.specs.Answers.{Tells, TellsLeft};
+ghost use Rattle.c_lines.specs.KernelLines.{after_kernel, fitted, fitted_as, kernel_number, kernel_told};
 ghost use Rattle.c_lines.specs.Kernels.{fitted_of, written_of};
 
 use crate::lines::line_of;
 use crate::told::{answered, kernel_refusal};
-use c_answers::{Refusal, TextOf};
+use c_calls::{Refusal, TextOf};
 use command_checks::fit_kernel;
 use lane_kernels::{Kernel, run_lanes};
 use line_grammar::{KernelText, Line};
@@ -59,6 +59,17 @@ fn fit_to(alloc: Global, view: &View, line: &[u8]) -> Result<Fitted, Refusal>
     ensures lanes { IfOk result (λ fit. (1 ≤ fit.lanes) × (fit.lanes ≤ 16)) }
 {
     let written = kernel_of(line_of(alloc, line, TextOf::First)?)?;
+    let fit = fit_written(alloc, view, &written);
+    drop(written);
+    fit
+}
+
+// A kernel that is written, fit to a view.
+fn fit_written(alloc: Global, view: &View, written: &Written) -> Result<Fitted, Refusal>
+    ensures fit { Tells fitted_of (fitted_as (written_of written.now) view.now) result }
+    ensures able { IfOk result (λ fit. IsKernelOf view.now fit.kernel) }
+    ensures lanes { IfOk result (λ fit. (1 ≤ fit.lanes) × (fit.lanes ≤ 16)) }
+{
     let kernel = answered(fit_kernel(alloc, view, &written.kernel, written.lanes))?;
     let lanes = written.lanes as usize;
     Ok(Fitted { kernel, lanes })

@@ -1,21 +1,22 @@
 // A view of the two lines that describe it, and of a dataset.
-ghost use Rattle.std.specs.Prelude.{◌≡◌, ◌<◌, IfOk, OnOk, true, length};
+ghost use Rattle.std.specs.Prelude.{◌≡◌, ◌<◌, IfOk, IfSome, OnOk, true, length};
 ghost use Rattle.csv_rows.specs.Datasets.{records_of, rows_of};
+ghost use Rattle.csv_rows.specs.Loads.{dataset_of};
 ghost use Rattle.extents.specs.Shapes.{IsShape};
 ghost use Rattle.line_grammar.specs.Sentences.{sentence_of};
 ghost use Rattle.schema_lang.specs.Parsing.{IsWhole};
 ghost use Rattle.map_expr.specs.Terms.{term_of};
 ghost use Rattle.worlds.specs.View.{named, new_table};
 ghost use Rattle.command_checks.specs.Bases.{is_nameless};
-ghost use Rattle.c_answers.specs.Answers.{Tells};
-ghost use Rattle.c_lines.specs.Lines.{described, loaded, new_told, world_told, zeros_for};
-ghost use Rattle.c_lines.specs.Makes.{asked_filled, named_of, new_of, world_of};
+ghost use Rattle.c_calls.specs.Answers.{Tells};
+ghost use Rattle.c_lines.specs.Lines.{asked, described, filled_as, loaded, new_told, with_dataset, world_told, zeros_for};
+ghost use Rattle.c_lines.specs.Makes.{asked_filled, asked_of, named_of, new_of, world_of};
 ghost use Rattle.c_lines.specs.Told.{told};
 
 use crate::lines::line_of;
 use crate::told::{answered, row_refusal};
 use blob_file::mode_by;
-use c_answers::{Refusal, TextOf};
+use c_calls::{Refusal, TextOf};
 use command_checks::{MappingList, made, nameless, resolved, shaped};
 use csv_rows::{count_rows, load_rows};
 use extents::Shape;
@@ -66,9 +67,7 @@ pub(crate) struct Found {
 pub fn new_view(alloc: Global, first: &[u8], second: &[u8]) -> Result<View, Refusal>
     ensures { Tells (λ view. view) (described first.now second.now) result }
 {
-    let record = record_of(alloc, line_of(alloc, first, TextOf::First)?)?;
-    let new = new_of(line_of(alloc, second, TextOf::Second)?, false)?;
-    let asked = Asked { record, new };
+    let asked = asked_by(alloc, first, second, false)?;
     let made = zeros_of(alloc, &asked);
     drop(asked);
     made
@@ -88,13 +87,20 @@ pub fn loaded_view<L: Ledger>(
     requires some { 0 < blank.parts }
     ensures { Tells (λ view. view) (loaded first.now second.now csv.now) result }
 {
-    let record = record_of(alloc, line_of(alloc, first, TextOf::First)?)?;
-    let new = new_of(line_of(alloc, second, TextOf::Second)?, true)?;
-    let asked = Asked { record, new };
+    let asked = asked_by(alloc, first, second, true)?;
     let mut steps = Steps::<L>::new(blank);
     let made = filled_view(alloc, &asked, csv, &mut steps);
     drop(asked);
     made
+}
+
+// What a `record` line asks for, and behind it a `view` line or a `load` line.
+fn asked_by(alloc: Global, first: &[u8], second: &[u8], loads: bool) -> Result<Asked, Refusal>
+    ensures { Tells asked_of (asked loads first.now second.now) result }
+{
+    let record = record_of(alloc, line_of(alloc, first, TextOf::First)?)?;
+    let new = new_of(line_of(alloc, second, TextOf::Second)?, loads)?;
+    Ok(Asked { record, new })
 }
 
 // The record that a line names.
@@ -161,15 +167,9 @@ fn zeros_of(alloc: Global, asked: &Asked) -> Result<View, Refusal>
     ensures { Tells (λ view. view) (told (new_table (world_of asked.now.record) (new_of asked.now.new))) result }
 {
     let found = find(alloc, asked)?;
-    let extents = answered(resolved(&found.shape, asked.new.words.as_slice(), None))?;
-    answered(made(
-        alloc,
-        &[],
-        found.mode,
-        &asked.record.schema,
-        extents,
-        &found.expr,
-    ))
+    let made = zeros_for(alloc, asked, &found, None);
+    drop(found);
+    made
 }
 
 // What the words of the view that is asked for stand for.
@@ -201,10 +201,48 @@ fn filled_view<L: Ledger>(
     ensures { Tells (λ view. view) (asked_filled asked.now csv.now) result }
 {
     let found = find(alloc, asked)?;
+    let made = filled_as(alloc, asked, &found, csv, steps);
+    drop(found);
+    made
+}
+
+// The same, where its words stand for this.
+fn filled_as<L: Ledger>(
+    alloc: Global,
+    asked: &Asked,
+    found: &Found,
+    csv: &[u8],
+    steps: &mut Steps<L>,
+) -> Result<View, Refusal>
+    requires nameless { is_nameless (term_of found.now.expr) ≡ true }
+    requires shape { found.now.shape ≡ asked.now.new.words }
+    requires is_shape { IsShape asked.now.new.words }
+    ensures { Tells (λ view. view) (filled_as (named_of asked.now.record found.now) asked.now.new.words csv.now) result }
+{
     if csv.len() > MAX_DATASET_BYTES {
         return Err(Refusal::TooBig);
     }
-    let mut view = zeros_for(alloc, asked, &found, csv)?;
+    let Ok(rows) = count_rows(alloc, csv) else {
+        return Err(Refusal::NoMemory);
+    };
+    with_rows(
+        alloc,
+        csv,
+        zeros_for(alloc, asked, found, Some(rows))?,
+        steps,
+    )
+}
+
+// A view of zeros with the values of a dataset of as many rows.
+fn with_rows<L: Ledger>(
+    alloc: Global,
+    csv: &[u8],
+    mut view: View,
+    steps: &mut Steps<L>,
+) -> Result<View, Refusal>
+    requires rows { length view.rows ≡ length (rows_of (records_of csv.now)) }
+    ensures { Tells (λ view. view) (with_dataset view (dataset_of view (records_of csv.now))) result }
+{
     match load_rows(alloc, csv, &mut view, steps) {
         Ok(()) => Ok(view),
         Err(fault) => {
@@ -214,18 +252,20 @@ fn filled_view<L: Ledger>(
     }
 }
 
-// The view of zeros that has as many rows as a dataset.
-fn zeros_for(alloc: Global, asked: &Asked, found: &Found, csv: &[u8]) -> Result<View, Refusal>
+// The view of zeros where its words stand for this: `?` stands for what so many rows leave.
+fn zeros_for(
+    alloc: Global,
+    asked: &Asked,
+    found: &Found,
+    rows: Option<u64>,
+) -> Result<View, Refusal>
     requires nameless { is_nameless (term_of found.now.expr) ≡ true }
     requires shape { found.now.shape ≡ asked.now.new.words }
     requires is_shape { IsShape asked.now.new.words }
-    ensures zeros { Tells (λ view. view) (zeros_for (named_of asked.now.record found.now) asked.now.new.words csv.now) result }
-    ensures rows { IfOk result (λ view. length view.rows ≡ length (rows_of (records_of csv.now))) }
+    ensures zeros { Tells (λ view. view) (zeros_for (named_of asked.now.record found.now) asked.now.new.words rows) result }
+    ensures rows { IfOk result (λ view. IfSome rows (λ count. length view.rows ≡ count)) }
 {
-    let Ok(rows) = count_rows(alloc, csv) else {
-        return Err(Refusal::NoMemory);
-    };
-    let extents = answered(resolved(&found.shape, asked.new.words.as_slice(), Some(rows)))?;
+    let extents = answered(resolved(&found.shape, asked.new.words.as_slice(), rows))?;
     let view = answered(made(
         alloc,
         &[],

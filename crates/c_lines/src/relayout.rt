@@ -1,20 +1,22 @@
 // A table that is laid out anew.
-ghost use Rattle.std.specs.Prelude.{◌≡◌, ◌<◌, IfOk};
+ghost use Rattle.std.specs.Prelude.{◌≡◌, ◌<◌, IfOk, true};
 ghost use Rattle.layout_copy.specs.Copies.{AreAlike};
 ghost use Rattle.line_grammar.specs.Sentences.{sentence_of};
 ghost use Rattle.map_expr.specs.Terms.{term_of};
-ghost use Rattle.c_answers.specs.Answers.{Tells, TellsLeft};
-ghost use Rattle.c_lines.specs.Relaid.{after_relaid, mapping_told, relaid, zeros_told};
+ghost use Rattle.command_checks.specs.Bases.{is_nameless};
+ghost use Rattle.c_calls.specs.Answers.{Tells, TellsLeft};
+ghost use Rattle.c_lines.specs.Relaid.{after_relaid, mapping_told, relaid, whole_told, zeros_told};
 ghost use Rattle.c_lines.specs.Told.{done_of};
 
 use crate::copies::copy_into;
 use crate::lines::line_of;
 use crate::told::answered;
-use c_answers::{Refusal, TextOf};
+use c_calls::{Refusal, TextOf};
 use command_checks::{MappingList, made, nameless};
 use line_grammar::Line;
 use map_expr::MapExpr;
 use std::alloc::Global;
+use std::mem;
 use std::sync::ledger::{Blank, Ledger};
 use views::View;
 
@@ -34,7 +36,7 @@ pub fn lay_anew<L: Ledger>(
     let mut fresh = zeros_like(alloc, view, line)?;
     match copy_into::<L>(view, &mut fresh, blank) {
         Ok(()) => {
-            *view = fresh;
+            drop(mem::replace(view, fresh));
             Ok(())
         }
         Err(refusal) => {
@@ -49,16 +51,28 @@ fn zeros_like(alloc: Global, view: &View, line: &[u8]) -> Result<View, Refusal>
     ensures told { Tells (λ view. view) (zeros_told line.now view.now) result }
     ensures alike { IfOk result (AreAlike view.now) }
 {
-    let written = mapping_of(line_of(alloc, line, TextOf::First)?)?;
-    let expr = answered(nameless(alloc, &MappingList::new(alloc), &written))?;
-    answered(made(
+    let expr = nameless_of(alloc, line)?;
+    let zeros = answered(made(
         alloc,
         &[],
         view.mode(),
         view.schema(),
         view.extents(),
         &expr,
-    ))
+    ));
+    drop(expr);
+    zeros
+}
+
+// The mapping of a line, which names no other.
+fn nameless_of(alloc: Global, line: &[u8]) -> Result<MapExpr, Refusal>
+    ensures told { Tells term_of (whole_told line.now) result }
+    ensures nameless { IfOk result (λ expr. is_nameless (term_of expr) ≡ true) }
+{
+    let written = mapping_of(line_of(alloc, line, TextOf::First)?)?;
+    let expr = answered(nameless(alloc, &MappingList::new(alloc), &written));
+    drop(written);
+    expr
 }
 
 // The mapping of a line.

@@ -1,13 +1,12 @@
 // Views that are made and let go.
 ghost use Rattle.std.specs.Prelude.{◌≡◌, pos, None, IfOk};
-ghost use Rattle.c_answers.specs.Answers.{Tells};
-ghost use Rattle.c_buffers.specs.Buffers.{opened_told};
+ghost use Rattle.c_calls.specs.Answers.{Tells};
+ghost use Rattle.c_calls.specs.Buffers.{opened_told};
 ghost use Rattle.c_lines.specs.Lines.{described, loaded};
 ghost use Rattle.llama_c.specs.Calls.{IsMade};
 
 use crate::answers::refused;
-use c_answers::{DONE, Fault, Refusal};
-use c_buffers::open_view;
+use c_calls::{DONE, Fault, Refusal, open_view};
 use c_lines::{loaded_view, new_view};
 use std::alloc::Global;
 use std::marker::Brand;

@@ -1,8 +1,8 @@
 // What C holds of a view.
 ghost use Rattle.std.specs.Prelude.{◌≡◌, Some, None, is_some, option_map};
 
+use crate::box_parts::Parts;
 use crate::part::Part;
-use box_parts::Parts;
 use std::alloc::Global;
 use std::{mem, ptr};
 use views::View;

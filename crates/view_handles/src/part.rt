@@ -3,7 +3,7 @@ ghost use Rattle.std.specs.Prelude.{◌≡◌, IsSome, Option, Some, None};
 ghost use Rattle.views.specs.Tables.{Table};
 ghost use Rattle.view_handles.specs.Owned.{held_coded, part_owns};
 
-use box_parts::Parts;
+use crate::box_parts::Parts;
 use std::alloc::Global;
 use std::marker::Model;
 use views::View;

@@ -38,3 +38,27 @@ returns-clause-same g c =
     let count = length c.split_at_mut-whole.result.1.now in
     let same : c.read_each-2.new.view ≡ c.args.view.now = c.read_each-2.ensures.read ∙ c.requires.near.idle _ in
     c.read_each-3.ensures.read ∙ ap (λ (t : Table). after_run third count leaf t) same ∙ c.requires.near.idle (column_reads leaf third count)
+
+pub overflow_add-before : goal.overflow_add-before
+overflow_add-before g c = omega arith
+
+pub overflow_mul-blocks : goal.overflow_mul-blocks
+overflow_mul-blocks g c = omega arith
+
+pub overflow_add-block-2 : goal.overflow_add-block-2
+overflow_add-block-2 g c = omega arith
+
+pub split_at_mut-front-requires : goal.split_at_mut-front-requires
+split_at_mut-front-requires g c = omega arith
+
+pub split_at_mut-whole-requires : goal.split_at_mut-whole-requires
+split_at_mut-whole-requires g c = omega arith
+
+pub read_each-requires-clause-rows : goal.read_each-requires-clause-rows
+read_each-requires-clause-rows g c = omega arith
+
+pub read_each-requires-2-clause-rows : goal.read_each-requires-2-clause-rows
+read_each-requires-2-clause-rows g c = omega arith
+
+pub read_blocks-requires-clause-whole : goal.read_blocks-requires-clause-whole
+read_blocks-requires-clause-whole g c = omega arith

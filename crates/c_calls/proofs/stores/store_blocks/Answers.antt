@@ -2,7 +2,7 @@ use Rattle.std.proofs.Common.{rules, ◌≡◌, ◌+◌, ◌-◌, ◌*◌, true,
 use Rattle.std.proofs.lemmas.List.{length-take}
 use Rattle.views.specs.NearStores.{IsNearColumn}
 use Rattle.views.specs.Tables.{Table}
-use Rattle.c_answers.specs.Answers.{Answer}
+use Rattle.c_calls.specs.Answers.{Answer}
 use Rattle.c_calls.proofs.StoredRuns.{IsSet, nothing_set, all_set, set_as, left_as, run_stopped, block_long, block_more, still_rows, still_near}
 use Rattle.c_calls.proofs.stores.store_blocks.Given.{Over}
 use Rattle.c_calls.proofs.stores.store_blocks.Goals.{then-not-is_stored_at_once+in_ok-store_each, else-not-is_stored_at_once}

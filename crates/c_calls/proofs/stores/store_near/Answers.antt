@@ -1,5 +1,5 @@
 use Rattle.std.proofs.Common.{rules, ◌≡◌, ◌+◌, ◌*◌, ◌/◌, length, map, Ok, Err, arith, ◌∙◌}
-use Rattle.c_answers.specs.Answers.{Answer}
+use Rattle.c_calls.specs.Answers.{Answer}
 use Rattle.c_calls.proofs.StoredRuns.{IsSet, set_as, left_as, front_stopped, back_then, still_rows, still_near}
 use Rattle.c_calls.proofs.stores.store_near.Given.{Over}
 use Rattle.c_calls.proofs.stores.store_near.Goals as goal

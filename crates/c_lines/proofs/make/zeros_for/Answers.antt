@@ -1,10 +1,11 @@
-use Rattle.std.proofs.Common.{rules, ◌≡◌, ◌∙◌, ℕ, List, length, Ok, ap}
+use Rattle.std.proofs.Common.{rules, ◌≡◌, ◌∙◌, ℕ, List, length, IfSome, Ok, sym, ap, subst}
 use Rattle.extents.specs.Indices.{indices}
 use Rattle.views.specs.Tables.{Table}
 use Rattle.worlds.specs.Outcomes.{Goes}
+use Rattle.worlds.specs.Tables.{resolved}
 use Rattle.c_lines.specs.Makes.{named_of}
 use Rattle.c_lines.proofs.Answering.{goes_ok, if_answered, refused_test, tells_as, tells_answered, tells_refused}
-use Rattle.c_lines.proofs.Making.{dataset_extents, zeros_refused, zeros_made}
+use Rattle.c_lines.proofs.Making.{zeros_refused, zeros_made}
 use Rattle.c_lines.proofs.make.zeros_for.Goals as goal
 
 pub returns-in_err-extents-clause-zeros : goal.returns-in_err-extents-clause-zeros
@@ -12,24 +13,24 @@ returns-in_err-extents-clause-zeros c =
     let asked = c.args.asked.now in
     let refusal = c.in_err-extents.field-0.0 in
     tells_refused (λ (view : Table). view) _ refusal _ (search rules)
-    (zeros_refused (named_of asked.record c.args.found.now) asked.new.words c.args.csv.now refusal
-    (refused_test _ c.resolved.result _ refusal c.in_err-extents.ensures (rw (c.as_slice.ensures, c.in-Ok.ensures) at c.resolved.ensures.extents)))
+    (zeros_refused (named_of asked.record c.args.found.now) asked.new.words c.args.rows refusal
+    (refused_test _ c.resolved.result _ refusal c.in_err-extents.ensures (rw c.as_slice.ensures at c.resolved.ensures.extents)))
 
 pub returns-in_err-view-clause-zeros : goal.returns-in_err-view-clause-zeros
 returns-in_err-view-clause-zeros c =
     let asked = c.args.asked.now in
     let refusal = c.in_err-view.field-0.0 in
     let extents = c.in_ok-extents.extents in
-    let goes : dataset_extents asked.new.words c.args.csv.now ≡ Goes extents = goes_ok _ c.resolved.result _ extents c.in_ok-extents.ensures (rw (c.as_slice.ensures, c.in-Ok.ensures) at c.resolved.ensures.extents) in
-    zeros_made (named_of asked.record c.args.found.now) asked.new.words c.args.csv.now extents c.from_residual-in_err-view.result goes
+    let goes : resolved asked.new.words c.args.rows ≡ Goes extents = goes_ok _ c.resolved.result _ extents c.in_ok-extents.ensures (rw c.as_slice.ensures at c.resolved.ensures.extents) in
+    zeros_made (named_of asked.record c.args.found.now) asked.new.words c.args.rows extents c.from_residual-in_err-view.result goes
     (tells_refused (λ (view : Table). view) _ refusal c.from_residual-in_err-view.result (search rules) (refused_test (λ (view : Table). view) c.made.result _ refusal c.in_err-view.ensures c.made.ensures.made))
 
 pub returns-clause-zeros : goal.returns-clause-zeros
 returns-clause-zeros c =
     let asked = c.args.asked.now in
     let extents = c.in_ok-extents.extents in
-    let goes : dataset_extents asked.new.words c.args.csv.now ≡ Goes extents = goes_ok _ c.resolved.result _ extents c.in_ok-extents.ensures (rw (c.as_slice.ensures, c.in-Ok.ensures) at c.resolved.ensures.extents) in
-    zeros_made (named_of asked.record c.args.found.now) asked.new.words c.args.csv.now extents (Ok c.in_ok-view.view) goes
+    let goes : resolved asked.new.words c.args.rows ≡ Goes extents = goes_ok _ c.resolved.result _ extents c.in_ok-extents.ensures (rw c.as_slice.ensures at c.resolved.ensures.extents) in
+    zeros_made (named_of asked.record c.args.found.now) asked.new.words c.args.rows extents (Ok c.in_ok-view.view) goes
     (tells_as (λ (view : Table). view) _ (Ok c.in_ok-view.view) _ c.in_ok-view.ensures (tells_answered (λ (view : Table). view) c.made.result _ c.made.ensures.made))
 
 pub returns-clause-rows : goal.returns-clause-rows
@@ -37,5 +38,6 @@ returns-clause-rows c =
     let view = c.in_ok-view.view in
     let extents = c.in_ok-extents.extents in
     let same : view.extents ≡ extents = if_answered (λ (v : Table). v.extents ≡ extents) c.made.result (Ok view) c.in_ok-view.ensures c.made.ensures.extents in
-    let count : length (indices extents) ≡ c.in-Ok.rows = if_answered (λ (e : List ℕ). length (indices e) ≡ c.in-Ok.rows) c.resolved.result (Ok extents) c.in_ok-extents.ensures c.resolved.ensures.rows in
-    c.schema-rows.ensures.table.rows ∙ ap (λ (e : List ℕ). length (indices e)) same ∙ count ∙ c.in-Ok.ensures
+    let many : length view.rows ≡ length (indices extents) = c.schema-rows.ensures.table.rows ∙ ap (λ (e : List ℕ). length (indices e)) same in
+    subst (λ (n : ℕ). IfSome c.args.rows (λ count. n ≡ count)) (sym many)
+    (if_answered (λ (e : List ℕ). IfSome c.args.rows (λ count. length (indices e) ≡ count)) c.resolved.result (Ok extents) c.in_ok-extents.ensures c.resolved.ensures.rows)

@@ -1,0 +1,15 @@
+use Rattle.std.proofs.Common.{rules, []}
+use Rattle.line_grammar.specs.Sentences.{sentence_of}
+use Rattle.map_expr.specs.Terms.{term_of}
+use Rattle.worlds.specs.Names.{nameless}
+use Rattle.command_checks.specs.Gives.{Gives}
+use Rattle.c_lines.proofs.Answering.{tells_as, tells_answered}
+use Rattle.c_lines.proofs.Relaying.{whole_as}
+use Rattle.c_lines.proofs.relayout.nameless_of.Goals as goal
+
+pub returns-clause-told : goal.returns-clause-told
+returns-clause-told c =
+    let written = c.in_ok-written.written in
+    let mapping : Gives term_of c.nameless-2.result (nameless [] (term_of written)) = search rules in
+    whole_as term_of c.args.line.now (sentence_of c.in_ok-line_of.field-0) (term_of written) c.answered-expr.result c.in_ok-line_of.ensures.told c.in_ok-written.ensures
+    (tells_as term_of _ c.answered-expr.result _ c.answered-expr.ensures (tells_answered term_of c.nameless-2.result _ mapping))
