@@ -14,12 +14,13 @@ use Rattle.views.specs.NearStoresLaws.{near_still}
 use Rattle.views.specs.Stores.{told}
 use Rattle.views.specs.Stores as stores
 use Rattle.views.specs.Tables.{Table, answer_of, kept_of, after_stores, after_write}
-use Rattle.views.specs.Tallies.{Access, Write}
+use Rattle.views.specs.Tallies.{Write}
 use Rattle.views.specs.TallyLaws.{after_log-none, after_stores-append}
 use Rattle.views.specs.declared.fault.LaneFault.{LaneFault}
 use Rattle.views.specs.declared.fault.StoreFault.{StoreFault}
 use Rattle.views.specs.declared.near_column.NearColumn.{NearColumn}
 use Rattle.c_calls.specs.Runs.{run_fault, told_run, stored_count, with_run}
+use Rattle.c_calls.specs.RunLaws.{range_behind}
 
 -- ---- the first fault
 
@@ -96,15 +97,6 @@ one_entry leaf zero value (numbers ∷ rows) = refl
 one_entry leaf (suc row) value [] = refl
 one_entry leaf (suc row) value (numbers ∷ rows) = ap (λ (more : List (List ℤ)). numbers ∷ more) (one_entry leaf row value rows)
 
-writes_behind : (leaf row first second at : ℕ) → at ≡ row + first → column_writes leaf row first ++ column_writes leaf at second ≡ column_writes leaf row (first + second)
-writes_behind leaf row zero second at is =
-    (let same : at ≡ row = omega (arith, is) in
-    let count : second ≡ zero + second = omega arith in
-    ap (λ (r : ℕ). column_writes leaf r second) same ∙ ap (column_writes leaf row) count)
-writes_behind leaf row (suc first) second at is =
-    (let count : suc (first + second) ≡ suc first + second = omega arith in
-    ap (λ (log : List Access). Write row leaf ∷ log) (writes_behind leaf (row + 1) first second at (omega (arith, is))) ∙ ap (column_writes leaf row) count)
-
 -- ---- one run behind another
 
 run_behind : (first leaf count second : ℕ) (xs ys : List ℤ) (old : Table) → second ≡ first + length xs
@@ -115,7 +107,7 @@ run_behind first leaf count second xs ys old is =
     let all : take (length xs) xs ≡ xs = take-length xs in
     let at : second ≡ first + length (map keep xs) = omega (arith, is, length-map xs keep) in
     after_stores-append old rows (with_column leaf second (map keep (take count ys)) rows) (column_writes leaf first (length xs)) (column_writes leaf second count)
-    ∙ ap (after_stores old (with_column leaf second (map keep (take count ys)) rows)) (writes_behind leaf first (length xs) count second is)
+    ∙ ap (after_stores old (with_column leaf second (map keep (take count ys)) rows)) (range_behind (λ at. Write at leaf) first (length xs) count second is)
     ∙ ap (λ (r : List (List ℤ)). after_stores old r (column_writes leaf first (length xs + count)))
     (ap (λ (vs : List ℤ). with_column leaf second (map keep (take count ys)) (with_column leaf first (map keep vs) old.rows)) all
     ∙ column_behind leaf first second (map keep xs) (map keep (take count ys)) old.rows at

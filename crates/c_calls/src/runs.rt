@@ -1,7 +1,6 @@
 // One leaf of rows one after another, to an array.
-ghost use Rattle.std.specs.Prelude.{◌≡◌, ◌+◌, ◌*◌, ◌%◌, ◌<◌, ◌≤◌, true, length, map, take, drop, ◌++◌, OnOk, OnErr, All};
+ghost use Rattle.std.specs.Prelude.{◌≡◌, ◌+◌, ◌*◌, ◌/◌, ◌%◌, ◌<◌, ◌≤◌, true, length, map, take, drop, ◌++◌, OnOk, OnErr, All};
 ghost use Rattle.record_dim.specs.LeafTypes.{IsDeclared};
-ghost use Rattle.views.specs.NearStores.{IsNearColumn};
 ghost use Rattle.views.specs.Tables.{leaf_count_of, leaf_type_of};
 ghost use Rattle.views.specs.WideColumns.{IsWideColumn};
 ghost use Rattle.c_calls.specs.Runs.{run_of, after_run};
@@ -11,10 +10,11 @@ ghost use Rattle.c_calls.specs.RunLaws.{HasRead};
 use crate::number::Number64;
 use crate::refusal::Refusal;
 use crate::values::{is_run, leaf_type};
+use near_leaves::{LaneWord, Near};
 use record_dim::LeafType;
 use std::sync::ledger::{Blank, Ledger};
 use steps::Steps;
-use views::{NearColumn, View, WideColumn, WideWay};
+use views::{View, WideColumn, WideWay};
 
 /// The values of a leaf in as many rows as the array is long, from one row on, where each value of the leaf is a number of the caller's type. On
 /// a refusal the array stays as it is.
@@ -46,7 +46,7 @@ pub fn get_run<N: Number64, L: Ledger>(
     Ok(())
 }
 
-// Reads a run, sixteen rows at a time where they stand side by side.
+// Reads a run: the rows up to the next block of sixteen, and the others.
 fn read_run<N: Number64, L: Ledger>(
     view: &mut View,
     kind: LeafType,
@@ -62,48 +62,11 @@ fn read_run<N: Number64, L: Ledger>(
     ensures values { map N.number values.new ≡ run_of first (length values.old) leaf view.old }
     ensures read { view.new ≡ after_run first (length values.old) leaf view.old }
 {
-    match view.near_column(leaf) {
-        Some(near) => read_near(view, &near, kind, first, values, steps),
-        None => read_each(view, kind, first, leaf, values, steps),
-    }
-}
-
-// Reads a run of a near leaf: rows up to the next block, whole blocks, and the rest.
-fn read_near<N: Number64, L: Ledger>(
-    view: &mut View,
-    near: &NearColumn,
-    kind: LeafType,
-    first: u64,
-    values: &mut [N],
-    steps: &mut Steps<L>,
-)
-    requires near { IsNearColumn view.old near.now }
-    requires rows { first + length values.old ≤ length view.old.rows }
-    requires kind { kind ≡ leaf_type_of view.old near.now.leaf }
-    requires reads { N.reads kind ≡ true }
-    ensures values { map N.number values.new ≡ run_of first (length values.old) near.now.leaf view.old }
-    ensures same { view.new ≡ view.old }
-{
     let _rows = view.extents().count();
-    let before = rows_before_block(first);
-    if values.len() < before + 16 {
-        read_each(view, kind, first, near.leaf, values, steps);
-        return;
-    }
+    let before = rows_before_block(first).min(values.len());
     let (front, rest) = values.split_at_mut(before);
-    read_each(view, kind, first, near.leaf, front, steps);
-    let block = (first + before as u64) / 16;
-    let blocks = rest.len() / 16;
-    let (whole, back) = rest.split_at_mut(16 * blocks);
-    read_blocks(view, near, kind, block, whole);
-    read_each(
-        view,
-        kind,
-        16 * (block + blocks as u64),
-        near.leaf,
-        back,
-        steps,
-    );
+    read_each(view, kind, first, leaf, front, steps);
+    read_each(view, kind, first + before as u64, leaf, rest, steps);
 }
 
 // How many rows stand from this one up to the next block of sixteen.
@@ -114,26 +77,50 @@ pub(crate) fn rows_before_block(first: u64) -> usize
     ((16 - first % 16) % 16) as usize
 }
 
-// Reads whole blocks of sixteen rows.
-fn read_blocks<N: Number64>(
-    view: &View,
-    near: &NearColumn,
+// Reads whole blocks of sixteen rows that stand side by side, from one on, and tells how many values these are. Which word they are is asked
+// before the loop.
+fn read_blocks<N: Number64>(near: &Near<'_>, kind: LeafType, block: u64, values: &mut [N]) -> usize
+    requires rows { 16 * block + 16 * (length values.old / 16) ≤ length near.now.numbers }
+    requires declared { All (IsDeclared kind) near.now.numbers }
+    requires reads { N.reads kind ≡ true }
+    ensures count { result ≡ 16 * (length values.old / 16) }
+    ensures same_length { length values.new ≡ length values.old }
+    ensures put { map N.number values.new ≡ take result (drop (16 * block) near.now.numbers) ++ drop result (map N.number values.old) }
+{
+    match near.word() {
+        LaneWord::U8 => put_blocks(near, LaneWord::U8, kind, block, values),
+        LaneWord::U16 => put_blocks(near, LaneWord::U16, kind, block, values),
+        LaneWord::U32 => put_blocks(near, LaneWord::U32, kind, block, values),
+        LaneWord::I8 => put_blocks(near, LaneWord::I8, kind, block, values),
+        LaneWord::I16 => put_blocks(near, LaneWord::I16, kind, block, values),
+        LaneWord::I32 => put_blocks(near, LaneWord::I32, kind, block, values),
+    }
+}
+
+// The same of a word that the caller knows, so that a loop asks nothing.
+#[inline(always)]
+fn put_blocks<N: Number64>(
+    near: &Near<'_>,
+    word: LaneWord,
     kind: LeafType,
     block: u64,
     values: &mut [N],
-)
-    requires near { IsNearColumn view.now near.now }
-    requires whole { length values.old % 16 ≡ 0 }
-    requires rows { 16 * block + length values.old ≤ length view.now.rows }
-    requires kind { kind ≡ leaf_type_of view.now near.now.leaf }
+) -> usize
+    requires word { word ≡ near.now.word }
+    requires rows { 16 * block + 16 * (length values.old / 16) ≤ length near.now.numbers }
+    requires declared { All (IsDeclared kind) near.now.numbers }
     requires reads { N.reads kind ≡ true }
-    ensures { map N.number values.new ≡ run_of (16 * block) (length values.old) near.now.leaf view.now }
+    ensures count { result ≡ 16 * (length values.old / 16) }
+    ensures same_length { length values.new ≡ length values.old }
+    ensures put { map N.number values.new ≡ take result (drop (16 * block) near.now.numbers) ++ drop result (map N.number values.old) }
 {
-    let _rows = view.extents().count();
-    for k in 0..values.len() / 16 {
-        let numbers = view.near_block(near, block + k as u64).to_array();
+    let _blocks = near.blocks();
+    let blocks = values.len() / 16;
+    for k in 0..blocks {
+        let numbers = near.block(block + k as u64, word).to_array();
         put_block(kind, values, 16 * k, &numbers);
     }
+    16 * blocks
 }
 
 // Puts sixteen values of a leaf into an array, from a place on.
@@ -153,10 +140,21 @@ fn put_sixteen<N: Number64>(values: &mut [N], at: usize, numbers: &[N; 16])
     requires { at + 16 ≤ length values.old }
     ensures { values.new ≡ take at values.old ++ numbers.now ++ drop (at + 16) values.old }
 {
-    values[at..at + 16].copy_from_slice(numbers);
+    fill(&mut values[at..at + 16], numbers);
 }
 
-// Reads a run value by value: first those that are one load each.
+// Makes sixteen places these numbers, each by a store of its own: they go there from where they were loaded, several at once.
+#[inline(always)]
+fn fill<N: Number64>(places: &mut [N], numbers: &[N; 16])
+    requires { length places.old ≡ 16 }
+    ensures { places.new ≡ numbers.now }
+{
+    for lane in 0..16 {
+        places[lane] = numbers[lane];
+    }
+}
+
+// Reads a run: as far as it goes sixteen rows at a time, and the rest value by value.
 fn read_each<N: Number64, L: Ledger>(
     view: &mut View,
     kind: LeafType,
@@ -172,11 +170,36 @@ fn read_each<N: Number64, L: Ledger>(
     ensures values { map N.number values.new ≡ run_of first (length values.old) leaf view.old }
     ensures read { view.new ≡ after_run first (length values.old) leaf view.old }
 {
-    let done = read_wide(view, kind, first, leaf, values);
+    let done = read_at_once(view, kind, first, leaf, values);
     for k in done..values.len() {
         let row = row_at(view, first, k);
         values[k] = N::of(kind, view.get(row, leaf, steps));
     }
+}
+
+// Reads values from the first on, sixteen at a time, as far as they stand in blocks or each is one load, and tells how many.
+fn read_at_once<N: Number64>(
+    view: &View,
+    kind: LeafType,
+    first: u64,
+    leaf: usize,
+    values: &mut [N],
+) -> usize
+    requires rows { first + length values.old ≤ length view.now.rows }
+    requires leaf { leaf < leaf_count_of view.now }
+    requires kind { kind ≡ leaf_type_of view.now leaf }
+    requires reads { N.reads kind ≡ true }
+    ensures few { result ≤ length values.old }
+    ensures same_length { length values.new ≡ length values.old }
+    ensures read { HasRead leaf first result view.now view.now (map N.number values.old) (map N.number values.new) }
+{
+    let _rows = view.extents().count();
+    if first % 16 == 0 {
+        if let Some(near) = view.near(leaf) {
+            return read_blocks(&near, kind, first / 16, values);
+        }
+    }
+    read_wide(view, kind, first, leaf, values)
 }
 
 // Reads values from the first on, sixteen at a time, as far as each is one load, and tells how many. How they stand is asked before the loop.

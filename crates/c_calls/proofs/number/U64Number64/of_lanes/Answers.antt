@@ -14,7 +14,7 @@ loop-lane-preserved c =
     let is : value ≡ pos c.of.result = sym (c.of.ensures ∙ to_z-of_z w128 c.from.result wide ∙ c.from.ensures ∙ to_z-of_z w64 value narrow) in
     map-set (λ (n : ℕ). pos n) c.loop-lane.numbers lane c.of.result
     ∙ ap (λ (l : List ℤ). set l lane (pos c.of.result)) c.loop-lane.invariant
-    ∙ set_more c.args.lanes.now (replicate 16 (pos 0)) lane (pos c.of.result) (omega (arith, c.told-lanes)) (omega arith) is
+    ∙ set_more c.args.lanes.now (replicate 16 (pos 0)) lane (pos c.of.result) (pos 0) (omega (arith, c.told-lanes)) (omega arith) is
 
 pub returns : goal.returns
 returns c =
