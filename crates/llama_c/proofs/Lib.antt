@@ -1,1 +1,3 @@
+pub mod BoxWalks
+pub mod PartWalks
 pub mod Held

@@ -5,11 +5,11 @@ ghost use Rattle.c_calls.specs.Buffers.{blob_told, buffer_after, file_told, need
 ghost use Rattle.llama_c.specs.Calls.{IsPutInto, IsReadOnce};
 
 use crate::answers::code;
+use crate::handle::Handle;
 use c_calls::{Refusal, put_blob, put_file, put_table};
 use std::alloc::Global;
 use std::marker::Brand;
 use std::sync::ledger::Blank;
-use view_handles::Handle;
 
 /// The text of a table, as a script prints it.
 #[unsafe(no_mangle)]

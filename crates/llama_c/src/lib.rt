@@ -1,9 +1,12 @@
-//! Views for callers in C. Each call takes the view out of its handle, does its work on it, and puts it back.
+//! Views for callers in C, each in a handle that owns it. Each call takes the view out of its handle, does its work on it, and puts it back.
 #![tactic(auto)]
 
 mod answers;
+mod box_parts;
 mod buffers;
+mod handle;
 mod measures;
+mod part;
 mod runs;
 mod tables;
 mod values;

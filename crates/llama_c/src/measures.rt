@@ -5,9 +5,9 @@ ghost use Rattle.record_dim.specs.Leaves.{texts_of};
 ghost use Rattle.c_calls.specs.Answers.{code_of, given_or, on_held};
 ghost use Rattle.llama_c.specs.Calls.{blob_count, leaf_count, row_count};
 
+use crate::handle::Handle;
 use c_calls::{DONE, Refusal, blob_count, leaf_of, row_of};
 use std::alloc::Global;
-use view_handles::Handle;
 
 /// How many rows a view has.
 #[unsafe(no_mangle)]

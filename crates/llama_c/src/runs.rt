@@ -6,11 +6,11 @@ ghost use Rattle.c_calls.specs.Runs.{after_run, after_set_run, got_run, was_set_
 ghost use Rattle.c_calls.specs.Values.{reads_signed, reads_unsigned};
 
 use crate::answers::{code, refused, told};
+use crate::handle::Handle;
 use c_calls::{Fault, Refusal, get_run, set_run};
 use std::alloc::Global;
 use std::marker::Brand;
 use std::sync::ledger::Blank;
-use view_handles::Handle;
 
 /// The values of a leaf in as many rows as the array is long, from one row on, where each value of the leaf is an `int64_t`.
 #[unsafe(no_mangle)]

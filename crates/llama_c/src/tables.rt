@@ -8,12 +8,12 @@ ghost use Rattle.c_lines.specs.Told.{done_of};
 ghost use Rattle.llama_c.specs.Calls.{copy_told, source_left, target_left, IsDone, IsKernel};
 
 use crate::answers::{refused, told};
+use crate::handle::Handle;
 use c_calls::{DONE, Fault, Refusal};
 use c_lines::{copy_into, lay_anew, run_kernel};
 use std::alloc::Global;
 use std::marker::Brand;
 use std::sync::ledger::Blank;
-use view_handles::Handle;
 
 /// Makes the table of a view that of another with the same record and the same extents, as the target keeps its values. A strict target that
 /// does not hold a value has the rows before it; the fault names the row and the leaf of that value.

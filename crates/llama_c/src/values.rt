@@ -5,11 +5,11 @@ ghost use Rattle.c_calls.specs.Answers.{code_of, given_or, held_after, on_held};
 ghost use Rattle.c_calls.specs.Values.{got, was_set, reads_signed, reads_unsigned};
 
 use crate::answers::code;
+use crate::handle::Handle;
 use c_calls::{DONE, Refusal, get, set};
 use std::alloc::Global;
 use std::marker::Brand;
 use std::sync::ledger::Blank;
-use view_handles::Handle;
 
 /// The value of a leaf in a row, where each value of the leaf is an `int64_t`.
 #[unsafe(no_mangle)]

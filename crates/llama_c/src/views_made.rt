@@ -6,12 +6,12 @@ ghost use Rattle.c_lines.specs.Lines.{described, loaded};
 ghost use Rattle.llama_c.specs.Calls.{IsMade};
 
 use crate::answers::refused;
+use crate::handle::Handle;
 use c_calls::{DONE, Fault, Refusal, open_view};
 use c_lines::{loaded_view, new_view};
 use std::alloc::Global;
 use std::marker::Brand;
 use std::sync::ledger::Blank;
-use view_handles::Handle;
 use views::{MakeView, View};
 
 /// The version of the interface: it grows where a call is added, and its hundreds where one changes.

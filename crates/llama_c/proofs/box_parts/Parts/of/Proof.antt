@@ -1,9 +1,9 @@
 -- `of` takes the box apart by the call of std, and its parts own what the box owned.
-use Rattle.view_handles.proofs.BoxWalks.{◌≡◌, refl, ap, ◌∙◌, List, [], ◌∷◌, ◌++◌, Fn, Args, a_type, dcons, dnil, inst_fn, bare, Val, vstruct, of_list, id⊢, never, fst∗, ftrue, fsep, WpFn, sem, fact, tables, ‵, raw, ◌⊛◌, some, later, prop, ◌$◌, ◌∵◌, !, qed, move, drop, use1, join, split, split3, pick, rewrite, regoal, fsplit, fjoin, fpick, feq_l, suffices, await, done, whole, sub, agg, stop, fld, no_more, and_then, of_opd, returns, enter, alloc_all, pass_all, free_all, look_at, get, get_in, sets, lands_as, no, bounded, Ptr, RawPtr, block_ptr, null_ptr, ptr_val, in_a_block, plain, heard, nothing, only, Tuple, calls_at, triple_of, framed, says, Stays, stay_dropped, walk_of, ends_at, token, handle_tells, Goes-blank, proved_at, box_owns, Bx, D, τ, R, P, B, word, box_typed, box_out, box_in, tokens, alive}
-use Rattle.view_handles.specs.contracts.box_parts.Parts as parts
-use Rattle.view_handles.specs.contracts.box_parts.Parts.of as f
-use Rattle.view_handles.proofs.box_parts.Parts.of.Statement.{statement}
-use Rattle.view_handles.proofs.box_parts.Parts.of.Code as code
+use Rattle.llama_c.proofs.BoxWalks.{◌≡◌, refl, ap, ◌∙◌, List, [], ◌∷◌, ◌++◌, Fn, Args, a_type, dcons, dnil, inst_fn, bare, Val, vstruct, of_list, id⊢, never, fst∗, ftrue, fsep, WpFn, sem, fact, tables, ‵, raw, ◌⊛◌, some, later, prop, ◌$◌, ◌∵◌, !, qed, move, drop, use1, join, split, split3, pick, rewrite, regoal, fsplit, fjoin, fpick, feq_l, suffices, await, done, whole, sub, agg, stop, fld, no_more, and_then, of_opd, returns, enter, alloc_all, pass_all, free_all, look_at, get, get_in, sets, lands_as, no, bounded, Ptr, RawPtr, block_ptr, null_ptr, ptr_val, in_a_block, plain, heard, nothing, only, Tuple, calls_at, triple_of, framed, says, Stays, stay_dropped, walk_of, ends_at, token, handle_tells, Goes-blank, proved_at, box_owns, Bx, D, τ, R, P, B, word, box_typed, box_out, box_in, tokens, alive}
+use Rattle.llama_c.specs.contracts.box_parts.Parts as parts
+use Rattle.llama_c.specs.contracts.box_parts.Parts.of as f
+use Rattle.llama_c.proofs.box_parts.Parts.of.Statement.{statement}
+use Rattle.llama_c.proofs.box_parts.Parts.of.Code as code
 use Rattle.std.specs.contracts.boxed.Box.into_raw_with_allocator as g
 use Rattle.std.proofs.boxed.Box.into_raw_with_allocator.Met.{met}
 

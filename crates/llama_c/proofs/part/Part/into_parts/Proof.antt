@@ -1,9 +1,9 @@
 -- `into_parts` gives the pointer its type back; what a full part owns is what the parts own.
-use Rattle.view_handles.proofs.PartWalks.{Option, IsSome, refl, sym, List, [], ◌∷◌, ◌++◌, Val, id⊢, ftrue, fsep, WpFn, fact, tables, ‵, raw, ◌⊛◌, prop, ◌$◌, ◌∵◌, !, qed, move, drop, use1, join, split, regoal, rewrite, fsplit, fjoin, suffices, done, whole, sub, agg, stop, fld, no_more, and_then, of_opd, returns, enter, alloc_all, pass_all, free_all, look_at, get, get_in, sets, yes, plain, heard, nothing, says, Stays, stay_dropped, walk_of, ends_at, Goes-dropped, proved_at, D, B, word, box_typed, box_out, box_in, E, Taken, value_in}
-use Rattle.view_handles.specs.contracts.part.Part as part
-use Rattle.view_handles.specs.contracts.part.Part.into_parts as f
-use Rattle.view_handles.proofs.part.Part.into_parts.Statement.{statement}
-use Rattle.view_handles.proofs.part.Part.into_parts.Code as code
+use Rattle.llama_c.proofs.PartWalks.{Option, IsSome, refl, sym, List, [], ◌∷◌, ◌++◌, Val, id⊢, ftrue, fsep, WpFn, fact, tables, ‵, raw, ◌⊛◌, prop, ◌$◌, ◌∵◌, !, qed, move, drop, use1, join, split, regoal, rewrite, fsplit, fjoin, suffices, done, whole, sub, agg, stop, fld, no_more, and_then, of_opd, returns, enter, alloc_all, pass_all, free_all, look_at, get, get_in, sets, yes, plain, heard, nothing, says, Stays, stay_dropped, walk_of, ends_at, Goes-dropped, proved_at, D, B, word, box_typed, box_out, box_in, E, Taken, value_in}
+use Rattle.llama_c.specs.contracts.part.Part as part
+use Rattle.llama_c.specs.contracts.part.Part.into_parts as f
+use Rattle.llama_c.proofs.part.Part.into_parts.Statement.{statement}
+use Rattle.llama_c.proofs.part.Part.into_parts.Code as code
 
 abbrev stayed : Stays f.ended.signature.params f.ended.kept
 stayed = (stay_dropped (plain (λ _. part.the_row)) yes, tt)

@@ -1,9 +1,9 @@
 -- `of_parts` keeps the pointer under another type, and owns what the parts owned.
-use Rattle.view_handles.proofs.PartWalks.{Some, refl, List, [], ◌∷◌, ◌++◌, Val, emp, id⊢, ftrue, fsep, WpFn, tables, ‵, raw, ◌⊛◌, prop, ◌$◌, ◌∵◌, !, qed, move, drop, use1, join, split, regoal, fsplit, fjoin, suffices, done, whole, sub, agg, stop, fld, no_more, and_then, of_opd, returns, enter, alloc_all, pass_all, free_all, look_at, get, get_in, sets, yes, plain, nothing, says, Stays, stay_dropped, walk_of, ends_at, Goes-dropped, proved_at, D, B, word, box_typed, box_out, box_in, E, Taken}
-use Rattle.view_handles.specs.contracts.part.Part as part
-use Rattle.view_handles.specs.contracts.part.Part.of_parts as f
-use Rattle.view_handles.proofs.part.Part.of_parts.Statement.{statement}
-use Rattle.view_handles.proofs.part.Part.of_parts.Code as code
+use Rattle.llama_c.proofs.PartWalks.{Some, refl, List, [], ◌∷◌, ◌++◌, Val, emp, id⊢, ftrue, fsep, WpFn, tables, ‵, raw, ◌⊛◌, prop, ◌$◌, ◌∵◌, !, qed, move, drop, use1, join, split, regoal, fsplit, fjoin, suffices, done, whole, sub, agg, stop, fld, no_more, and_then, of_opd, returns, enter, alloc_all, pass_all, free_all, look_at, get, get_in, sets, yes, plain, nothing, says, Stays, stay_dropped, walk_of, ends_at, Goes-dropped, proved_at, D, B, word, box_typed, box_out, box_in, E, Taken}
+use Rattle.llama_c.specs.contracts.part.Part as part
+use Rattle.llama_c.specs.contracts.part.Part.of_parts as f
+use Rattle.llama_c.proofs.part.Part.of_parts.Statement.{statement}
+use Rattle.llama_c.proofs.part.Part.of_parts.Code as code
 
 abbrev stayed : Stays f.ended.signature.params f.ended.kept
 stayed = (stay_dropped (plain (λ _. Taken)) yes, tt)

@@ -1,9 +1,9 @@
 -- `empty` packs a pointer and the handle, and owns nothing behind the pointer.
-use Rattle.view_handles.proofs.PartWalks.{None, refl, List, [], ◌∷◌, ◌++◌, Val, emp, ftrue, fsep, WpFn, tables, ‵, raw, ◌⊛◌, prop, ◌$◌, ◌∵◌, !, qed, move, drop, use1, join, split, regoal, fsplit, fjoin, suffices, done, agg, no_more, and_then, returns, enter, alloc_all, pass_all, free_all, look_at, get, sets, yes, plain, nothing, says, Stays, stay_dropped, walk_of, ends_at, Goes-dropped, proved_at, handle_tells, feq_l, feq_i, fpack, Valss, within, shape, to, id⊢, RawPtr, ptr_val, rawptr_Lawful, E, packed, packed_typed}
-use Rattle.view_handles.specs.contracts.part.Part as part
-use Rattle.view_handles.specs.contracts.part.Part.empty as f
-use Rattle.view_handles.proofs.part.Part.empty.Statement.{statement}
-use Rattle.view_handles.proofs.part.Part.empty.Code as code
+use Rattle.llama_c.proofs.PartWalks.{None, refl, List, [], ◌∷◌, ◌++◌, Val, emp, ftrue, fsep, WpFn, tables, ‵, raw, ◌⊛◌, prop, ◌$◌, ◌∵◌, !, qed, move, drop, use1, join, split, regoal, fsplit, fjoin, suffices, done, agg, no_more, and_then, returns, enter, alloc_all, pass_all, free_all, look_at, get, sets, yes, plain, nothing, says, Stays, stay_dropped, walk_of, ends_at, Goes-dropped, proved_at, handle_tells, feq_l, feq_i, fpack, Valss, within, shape, to, id⊢, RawPtr, ptr_val, rawptr_Lawful, E, packed, packed_typed}
+use Rattle.llama_c.specs.contracts.part.Part as part
+use Rattle.llama_c.specs.contracts.part.Part.empty as f
+use Rattle.llama_c.proofs.part.Part.empty.Statement.{statement}
+use Rattle.llama_c.proofs.part.Part.empty.Code as code
 
 abbrev stayed : Stays f.ended.signature.params f.ended.kept
 stayed = (stay_dropped (plain (λ _. RawPtr)) yes, (stay_dropped (plain (λ _. E.al.row)) yes, tt))

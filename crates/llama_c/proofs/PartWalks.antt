@@ -14,7 +14,7 @@ use Rattle.std.specs.contracts.impls.GlobalAllocator.TheImpl.{ghosts, dict}
 use Rattle.std.proofs.alloc.Global.TheLaws as heap_laws
 use Rattle.views.specs.contracts.view.View as view
 use Rattle.views.proofs.view.View.TheLaws as view_laws
-use Rattle.view_handles.specs.contracts.box_parts.Parts as parts
+use Rattle.llama_c.specs.contracts.box_parts.Parts as parts
 pub use mathlib.Core.Path.{◌≡◌, refl, sym, subst, ap}
 pub use mathlib.Core.List.{List, [], ◌∷◌, ◌++◌}
 pub use Rattle.std.specs.Prelude.{Option, Some, None, IsSome}
