@@ -99,7 +99,8 @@ two_runs leaf first a b second total table xs ys at_second all are then =
     ∙ sym (take_both a b (drop first values)) ∙ ap (λ (n : ℕ). take n (drop first values)) (sym all)
 
 -- what is said of rows one after another, of two runs of them
-pub range_behind : {A : Type 0} (f : ℕ → A) (row first second at : ℕ) → at ≡ row + first → map f (range_with_len row first) ++ map f (range_with_len at second) ≡ map f (range_with_len row (first + second))
+pub range_behind : {A : Type 0} (f : ℕ → A) (row first second at : ℕ) → at ≡ row + first
+    → map f (range_with_len row first) ++ map f (range_with_len at second) ≡ map f (range_with_len row (first + second))
 range_behind f row zero second at is =
     (let same : at ≡ row = omega (arith, is) in
     let count : second ≡ zero + second = omega arith in
