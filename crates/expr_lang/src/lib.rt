@@ -3,6 +3,7 @@
 
 mod binding;
 mod bound;
+mod chain;
 mod evaluation;
 mod expr;
 mod fault;
@@ -11,7 +12,7 @@ mod row;
 mod short;
 
 pub use binding::bind;
-pub use bound::{Bound, Operand};
+pub use bound::{Bound, Chain, Link, Links, Operand, Step};
 pub use evaluation::eval;
 pub use expr::{BinOp, Expr};
 pub use fault::{BindFault, EvalFault};
