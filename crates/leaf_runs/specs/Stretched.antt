@@ -6,8 +6,9 @@ use Rattle.blobs.specs.Bits.{bit_of}
 use Rattle.piece_bits.specs.Words.{word_bit, word_place, word_signed, word_width, IsWord}
 use Rattle.piece_bits.specs.declared.field.Field.{Field}
 use Rattle.piece_bits.specs.declared.word.Word.{Word}
-use Rattle.short_rules.specs.Stretches.{stretch_place, IsDigitsOf}
+use Rattle.short_rules.specs.Stretches.{stretch_place}
 use Rattle.short_rules.specs.declared.short.ShortRule.{ShortRule}
+use Rattle.short_rules.specs.declared.stretch.Spread.TheVariants.{Digits}
 use Rattle.short_rules.specs.declared.stretch.Stretch.{Stretch}
 use Rattle.leaf_runs.specs.Lows.{low_64}
 
@@ -23,7 +24,7 @@ stretched_at short stretch bytes k = number_at short.word short.field bytes (str
 -- so many rows of a stretch stand within so many bytes, each at one place
 pub record HasRoom (short : ShortRule) (stretch : Stretch) (rows bytes : ℕ) : Type 0 where
   pub form : IsWord short.word short.field
-  pub digits : (k : ℕ) → k < rows → IsDigitsOf stretch k
+  pub digits : stretch.spread ≡ Digits → rows ≤ 16
   pub places : (k : ℕ) → k < rows → stretch_place stretch k < 2 ^ 64
   pub room : (k : ℕ) → k < rows → word_bit short.word (stretch_place stretch k) + word_width short.word short.field ≤ 8 * bytes
 
