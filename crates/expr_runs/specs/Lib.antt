@@ -1,0 +1,5 @@
+pub mod Exacts
+pub mod ExactsLaws
+pub mod Mosts
+pub mod Lanes
+pub mod ChainLaws
