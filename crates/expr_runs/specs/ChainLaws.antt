@@ -11,6 +11,7 @@ use Rattle.expr_lang.specs.declared.bound.Step.TheVariants as step
 use Rattle.expr_lang.specs.Terms.{Term, IsWithin}
 use Rattle.expr_lang.specs.Chains.{step_term, links_term, IsStepWithin, AreWithin}
 use Rattle.expr_runs.specs.Exacts.{IsSafe}
+use Rattle.expr_runs.specs.Steps.{IsStepSafe, AreStepsSafe}
 
 -- what holds for the whole holds for the front, where it does so for one step
 front : (P : Term ℕ → Type 0) → ((term : Term ℕ) (s : Step) → P (step_term term s) → P term) → (term : Term ℕ) (l : Links) → P (links_term term l) → P term
@@ -45,8 +46,20 @@ module _ (leaves places : List ℕ) where
   safe_back term step.Not h = h
   safe_back term (step.Binary' op first rest) h = h.0
 
+  safe_step : (term : Term ℕ) (s : Step) → IsSafe leaves places (step_term term s) → IsStepSafe leaves places s
+  safe_step term step.Neg h = tt
+  safe_step term step.Not h = tt
+  safe_step term (step.Binary' op first rest) h = (h.1, h.2)
+
   pub safe_front : (term : Term ℕ) (l : Links) → IsSafe leaves places (links_term term l) → IsSafe leaves places term
   safe_front = front (IsSafe leaves places) safe_back
+
+  pub safe_steps : (term : Term ℕ) (l : Links) → IsSafe leaves places (links_term term l) → AreStepsSafe leaves places l
+  safe_steps term links.End h = tt
+  safe_steps term (links.More' p s rest) h = (safe_step term s (safe_front (step_term term s) rest h), safe_steps (step_term term s) rest h)
+
+  pub safe_rest : (all rest after : Links) (s : Step) (p : _) → all ≡ links.More' p s rest → after ≡ rest → AreStepsSafe leaves places all → AreStepsSafe leaves places after
+  safe_rest all rest after s p is two safe = subst (AreStepsSafe leaves places) (sym two) (subst (AreStepsSafe leaves places) is safe).1
 
 -- the front is one step longer
 pub one_more : (all rest after : Links) (s done : Step) (p : _) (term : Term ℕ) → all ≡ links.More' p s rest → done ≡ s → after ≡ rest

@@ -3,3 +3,5 @@ pub mod ExactsLaws
 pub mod Mosts
 pub mod Lanes
 pub mod ChainLaws
+pub mod Steps
+pub mod StepLaws

@@ -3,6 +3,8 @@
 
 mod bounds;
 mod operators;
+mod step;
 
 pub use bounds::most;
 pub use operators::{apply, apply_number, invert, negate};
+pub use step::{apply_step, lone_number};
