@@ -17,7 +17,7 @@ use Rattle.short_rules.specs.Stretches.{stretch_place}
 use Rattle.short_rules.specs.declared.short.ShortRule.{ShortRule}
 use Rattle.short_rules.specs.declared.stretch.Stretch.{Stretch}
 use Rattle.leaf_runs.specs.Lows.{low_64, IsWithin64}
-use Rattle.leaf_runs.specs.Stretched.{number_at, stretched_at, AreRead}
+use Rattle.leaf_runs.specs.Stretched.{number_at, stretched_at, HaveRead}
 
 within_of : (signed : Bool) (width : ℕ) (value : ℤ) → 1 ≤ width → width ≤ 64 → IsIn signed width value → IsWithin64 value
 within_of true width value some narrow inside =
@@ -52,24 +52,21 @@ pub same_number : (short : ShortRule) (stretch : Stretch) (bytes : List ℕ) (k 
 same_number short stretch bytes k place word value same there is =
     is ∙ ap (λ (w : Word). low_64 (number_at w short.field bytes place)) same ∙ ap (λ (p : ℕ). low_64 (number_at short.word short.field bytes p)) there
 
--- the numbers of the first so many rows are read
-pub record HaveRead (short : ShortRule) (stretch : Stretch) (bytes : List ℕ) (done : ℕ) (old values : List ℤ) : Type 0 where
-  pub count : length values ≡ length old
-  pub each : (k : ℕ) → k < done → get_or values k (pos 0) ≡ low_64 (stretched_at short stretch bytes k)
+-- no number, and one more
+pub none_read : (short : ShortRule) (stretch : Stretch) (bytes : List ℕ) (at : ℕ) (old : List ℤ) → HaveRead short stretch bytes at 0 old old
+none_read short stretch bytes at old = record { count = refl; before = λ k l. refl; each = λ k l. absurd (omega arith) }
 
-pub one_more : (short : ShortRule) (stretch : Stretch) (bytes : List ℕ) (done : ℕ) (old values : List ℤ) (value : ℤ) → HaveRead short stretch bytes done old values → done < length old
-    → value ≡ low_64 (stretched_at short stretch bytes done) → HaveRead short stretch bytes (done + 1) old (set values done value)
-one_more short stretch bytes done old values value have inside is = record {
-  count = length-set values done value ∙ have.count;
+pub one_more : (short : ShortRule) (stretch : Stretch) (bytes : List ℕ) (at done : ℕ) (old values : List ℤ) (value : ℤ) → HaveRead short stretch bytes at done old values → at + done < length old
+    → value ≡ low_64 (stretched_at short stretch bytes done) → HaveRead short stretch bytes at (done + 1) old (set values (at + done) value)
+one_more short stretch bytes at done old values value have inside is = record {
+  count = length-set values (at + done) value ∙ have.count;
+  before = λ k below. get_or-set_other values (at + done) k value (pos 0) (λ same. absurd (omega arith)) ∙ have.before k below;
   each = λ k below.
       ⊎_elim
       (λ (here : k ≡ done).
-      ap (λ (n : ℕ). get_or (set values done value) n (pos 0)) here ∙ get_or-set_same values done value (pos 0) (omega (arith, inside, have.count)) ∙ is
+      ap (λ (n : ℕ). get_or (set values (at + done) value) (at + n) (pos 0)) here ∙ get_or-set_same values (at + done) value (pos 0) (omega (arith, inside, have.count)) ∙ is
       ∙ sym (ap (λ (n : ℕ). low_64 (stretched_at short stretch bytes n)) here))
-      (λ (apart : k ≡ done → ⊥). get_or-set_other values done k value (pos 0) apart ∙ have.each k (omega (arith, below, apart)))
+      (λ (apart : k ≡ done → ⊥).
+      get_or-set_other values (at + done) (at + k) value (pos 0) (λ same. apart (omega (arith, same))) ∙ have.each k (omega (arith, below, apart)))
       (cases_eq k done);
 }
-
-pub all_read : (short : ShortRule) (stretch : Stretch) (bytes : List ℕ) (done : ℕ) (old values : List ℤ) → HaveRead short stretch bytes done old values → length old ≤ done
-    → AreRead short stretch bytes old values
-all_read short stretch bytes done old values have end = record { count = have.count; each = λ k below. have.each k (omega (arith, below, end)) }

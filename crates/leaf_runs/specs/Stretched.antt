@@ -21,17 +21,22 @@ number_at word field bytes place =
 abbrev pub stretched_at : ShortRule → Stretch → List ℕ → ℕ → ℤ
 stretched_at short stretch bytes k = number_at short.word short.field bytes (stretch_place stretch k)
 
--- so many rows of a stretch stand within so many bytes, each at one place
-pub record HasRoom (short : ShortRule) (stretch : Stretch) (rows bytes : ℕ) : Type 0 where
+-- the rows of a stretch stand within so many bytes, each at one place
+pub record HasRoom (short : ShortRule) (stretch : Stretch) (bytes : ℕ) : Type 0 where
   pub form : IsWord short.word short.field
-  pub digits : stretch.spread ≡ Digits → rows ≤ 16
-  pub places : (k : ℕ) → k < rows → stretch_place stretch k < 2 ^ 64
-  pub room : (k : ℕ) → k < rows → word_bit short.word (stretch_place stretch k) + word_width short.word short.field ≤ 8 * bytes
+  pub digits : stretch.spread ≡ Digits → stretch.rows ≤ 16
+  pub places : (k : ℕ) → k < stretch.rows → stretch_place stretch k < 2 ^ 64
+  pub room : (k : ℕ) → k < stretch.rows → word_bit short.word (stretch_place stretch k) + word_width short.word short.field ≤ 8 * bytes
 
--- the numbers of so many rows are read
-pub record AreRead (short : ShortRule) (stretch : Stretch) (bytes : List ℕ) (old values : List ℤ) : Type 0 where
+-- the numbers in the first so many rows stand in a list, from a place on
+pub record HaveRead (short : ShortRule) (stretch : Stretch) (bytes : List ℕ) (at done : ℕ) (old values : List ℤ) : Type 0 where
   pub count : length values ≡ length old
-  pub each : (k : ℕ) → k < length old → slice_index_or values k (pos 0) ≡ low_64 (stretched_at short stretch bytes k)
+  pub before : (k : ℕ) → k < at → slice_index_or values k (pos 0) ≡ slice_index_or old k (pos 0)
+  pub each : (k : ℕ) → k < done → slice_index_or values (at + k) (pos 0) ≡ low_64 (stretched_at short stretch bytes k)
+
+-- those in all rows do
+abbrev pub AreRead : ShortRule → Stretch → List ℕ → ℕ → List ℤ → List ℤ → Type 0
+AreRead short stretch bytes at old values = HaveRead short stretch bytes at stretch.rows old values
 
 -- the bits at a place are those of a number, as many as a word has, and all others are as they were
 pub record IsPut (word : Word) (field : Field) (place : ℕ) (value : ℤ) (old new : List ℕ) : Type 0 where
@@ -40,8 +45,9 @@ pub record IsPut (word : Word) (field : Field) (place : ℕ) (value : ℤ) (old 
   pub after : (k : ℕ) → word_bit word place + word_width word field ≤ k → bit_of new k ≡ bit_of old k
   pub len : length new ≡ length old
 
--- those in the first so many rows are put, one after another
-abbrev pub ArePut : ShortRule → Stretch → List ℤ → ℕ → List ℕ → List ℕ → Type 0
-ArePut short stretch values zero old new = new ≡ old
-ArePut short stretch values (suc k) old new =
-    (between : List ℕ) × ArePut short stretch values k old between × IsPut short.word short.field (stretch_place stretch k) (slice_index_or values k (pos 0)) between new
+-- those in the first so many rows are put, one after another, from a place of a list on
+abbrev pub ArePut : ShortRule → Stretch → List ℤ → ℕ → ℕ → List ℕ → List ℕ → Type 0
+ArePut short stretch values at zero old new = new ≡ old
+ArePut short stretch values at (suc k) old new =
+    (between : List ℕ) × ArePut short stretch values at k old between
+    × IsPut short.word short.field (stretch_place stretch k) (slice_index_or values (at + k) (pos 0)) between new

@@ -10,39 +10,42 @@ use crate::low::low_bits;
 use blobs::{Blob, with_bits};
 use short_rules::{Field, ShortRule, Spread, Stretch, Word};
 
-/// Makes the numbers that stand in the rows of a stretch these, each by as many of its low bits as it is stored in. All other bits stay.
-pub fn put_stretch(blob: &mut Blob, short: &ShortRule, stretch: &Stretch, values: &[i64])
-    requires { HasRoom short.now stretch.now (length values.now) (length blob.old) }
-    ensures { ArePut short.now stretch.now values.now (length values.now) blob.old blob.new }
+/// Makes the numbers that stand in the rows of a stretch those from one on, each by as many of its low bits as it is stored in. All other
+/// bits stay.
+pub fn put_stretch(blob: &mut Blob, short: &ShortRule, stretch: &Stretch, values: &[i64], at: usize)
+    requires rows { at + stretch.now.rows ≤ length values.now }
+    requires room { HasRoom short.now stretch.now (length blob.old) }
+    ensures { ArePut short.now stretch.now values.now at stretch.now.rows blob.old blob.new }
 {
     match stretch.spread {
-        Spread::Even => put_even(blob, short, stretch, values),
-        Spread::Digits => put_digits(blob, short, stretch, values),
+        Spread::Even => put_even(blob, short, stretch, values, at),
+        Spread::Digits => put_digits(blob, short, stretch, values, at),
     }
 }
 
 // Rows that lie evenly: a loop for each way in which a number may be stored.
-fn put_even(blob: &mut Blob, short: &ShortRule, stretch: &Stretch, values: &[i64])
+fn put_even(blob: &mut Blob, short: &ShortRule, stretch: &Stretch, values: &[i64], at: usize)
     requires even { stretch.now.spread ≡ even }
-    requires room { HasRoom short.now stretch.now (length values.now) (length blob.old) }
-    ensures { ArePut short.now stretch.now values.now (length values.now) blob.old blob.new }
+    requires rows { at + stretch.now.rows ≤ length values.now }
+    requires room { HasRoom short.now stretch.now (length blob.old) }
+    ensures { ArePut short.now stretch.now values.now at stretch.now.rows blob.old blob.new }
 {
     match short.word {
-        Word::U8 => put_by(blob, short, stretch, Word::U8, 1, values),
-        Word::U16 => put_by(blob, short, stretch, Word::U16, 2, values),
-        Word::U32 => put_by(blob, short, stretch, Word::U32, 4, values),
-        Word::U64 => put_by(blob, short, stretch, Word::U64, 8, values),
-        Word::I8 => put_by(blob, short, stretch, Word::I8, 1, values),
-        Word::I16 => put_by(blob, short, stretch, Word::I16, 2, values),
-        Word::I32 => put_by(blob, short, stretch, Word::I32, 4, values),
-        Word::I64 => put_by(blob, short, stretch, Word::I64, 8, values),
-        Word::TurnedU16 => put_by(blob, short, stretch, Word::TurnedU16, 2, values),
-        Word::TurnedU32 => put_by(blob, short, stretch, Word::TurnedU32, 4, values),
-        Word::TurnedU64 => put_by(blob, short, stretch, Word::TurnedU64, 8, values),
-        Word::TurnedI16 => put_by(blob, short, stretch, Word::TurnedI16, 2, values),
-        Word::TurnedI32 => put_by(blob, short, stretch, Word::TurnedI32, 4, values),
-        Word::TurnedI64 => put_by(blob, short, stretch, Word::TurnedI64, 8, values),
-        Word::Field => put_each(blob, short, stretch, Word::Field, stretch.apart, values),
+        Word::U8 => put_by(blob, short, stretch, Word::U8, 1, values, at),
+        Word::U16 => put_by(blob, short, stretch, Word::U16, 2, values, at),
+        Word::U32 => put_by(blob, short, stretch, Word::U32, 4, values, at),
+        Word::U64 => put_by(blob, short, stretch, Word::U64, 8, values, at),
+        Word::I8 => put_by(blob, short, stretch, Word::I8, 1, values, at),
+        Word::I16 => put_by(blob, short, stretch, Word::I16, 2, values, at),
+        Word::I32 => put_by(blob, short, stretch, Word::I32, 4, values, at),
+        Word::I64 => put_by(blob, short, stretch, Word::I64, 8, values, at),
+        Word::TurnedU16 => put_by(blob, short, stretch, Word::TurnedU16, 2, values, at),
+        Word::TurnedU32 => put_by(blob, short, stretch, Word::TurnedU32, 4, values, at),
+        Word::TurnedU64 => put_by(blob, short, stretch, Word::TurnedU64, 8, values, at),
+        Word::TurnedI16 => put_by(blob, short, stretch, Word::TurnedI16, 2, values, at),
+        Word::TurnedI32 => put_by(blob, short, stretch, Word::TurnedI32, 4, values, at),
+        Word::TurnedI64 => put_by(blob, short, stretch, Word::TurnedI64, 8, values, at),
+        Word::Field => put_each(blob, short, stretch, Word::Field, stretch.apart, values, at),
         Word::Scattered => unreachable!(),
     }
 }
@@ -56,16 +59,18 @@ fn put_by(
     word: Word,
     bytes: u64,
     values: &[i64],
+    at: usize,
 )
     requires word { word ≡ short.now.word }
     requires even { stretch.now.spread ≡ even }
-    requires room { HasRoom short.now stretch.now (length values.now) (length blob.old) }
-    ensures { ArePut short.now stretch.now values.now (length values.now) blob.old blob.new }
+    requires rows { at + stretch.now.rows ≤ length values.now }
+    requires room { HasRoom short.now stretch.now (length blob.old) }
+    ensures { ArePut short.now stretch.now values.now at stretch.now.rows blob.old blob.new }
 {
     if stretch.apart == bytes {
-        put_each(blob, short, stretch, word, bytes, values);
+        put_each(blob, short, stretch, word, bytes, values, at);
     } else {
-        put_each(blob, short, stretch, word, stretch.apart, values);
+        put_each(blob, short, stretch, word, stretch.apart, values, at);
     }
 }
 
@@ -78,27 +83,36 @@ fn put_each(
     word: Word,
     apart: u64,
     values: &[i64],
+    at: usize,
 )
     requires word { word ≡ short.now.word }
     requires apart { apart ≡ stretch.now.apart }
     requires even { stretch.now.spread ≡ even }
-    requires room { HasRoom short.now stretch.now (length values.now) (length blob.old) }
-    ensures { ArePut short.now stretch.now values.now (length values.now) blob.old blob.new }
+    requires rows { at + stretch.now.rows ≤ length values.now }
+    requires room { HasRoom short.now stretch.now (length blob.old) }
+    ensures { ArePut short.now stretch.now values.now at stretch.now.rows blob.old blob.new }
 {
-    for k in 0..values.len() {
-        let place = stretch.start + k as u64 * apart;
-        put_number(blob, place, word, &short.field, values[k]);
+    for k in 0..stretch.rows {
+        let place = stretch.start + k * apart;
+        put_number(blob, place, word, &short.field, values[at + k as usize]);
     }
 }
 
 // Rows that lie as the digits of their numbers.
-fn put_digits(blob: &mut Blob, short: &ShortRule, stretch: &Stretch, values: &[i64])
-    requires { HasRoom short.now stretch.now (length values.now) (length blob.old) }
-    ensures { ArePut short.now stretch.now values.now (length values.now) blob.old blob.new }
+fn put_digits(blob: &mut Blob, short: &ShortRule, stretch: &Stretch, values: &[i64], at: usize)
+    requires rows { at + stretch.now.rows ≤ length values.now }
+    requires room { HasRoom short.now stretch.now (length blob.old) }
+    ensures { ArePut short.now stretch.now values.now at stretch.now.rows blob.old blob.new }
 {
-    for k in 0..values.len() {
-        let place = stretch.place(k as u64);
-        put_number(blob, place, short.word, &short.field, values[k]);
+    for k in 0..stretch.rows {
+        let place = stretch.place(k);
+        put_number(
+            blob,
+            place,
+            short.word,
+            &short.field,
+            values[at + k as usize],
+        );
     }
 }
 

@@ -10,40 +10,48 @@ use blobs::Blob;
 use piece_bits::read_word;
 use short_rules::{Field, ShortRule, Spread, Stretch, Word};
 
-/// The numbers that stand in the rows of a stretch, each as 64 bits with a sign. How they are stored is asked once, and in an array the
-/// distance is a constant, so that several are loaded at once.
-pub fn read_stretch(blob: &Blob, short: &ShortRule, stretch: &Stretch, values: &mut [i64])
-    requires { HasRoom short.now stretch.now (length values.old) (length blob.now) }
-    ensures { AreRead short.now stretch.now blob.now values.old values.new }
+/// Puts the numbers that stand in the rows of a stretch into places from one on, each as 64 bits with a sign. How they are stored is asked
+/// once, and in an array the distance is a constant, so that several are loaded at once.
+pub fn read_stretch(
+    blob: &Blob,
+    short: &ShortRule,
+    stretch: &Stretch,
+    values: &mut [i64],
+    at: usize,
+)
+    requires rows { at + stretch.now.rows ≤ length values.old }
+    requires room { HasRoom short.now stretch.now (length blob.now) }
+    ensures { AreRead short.now stretch.now blob.now at values.old values.new }
 {
     match stretch.spread {
-        Spread::Even => read_even(blob, short, stretch, values),
-        Spread::Digits => read_digits(blob, short, stretch, values),
+        Spread::Even => read_even(blob, short, stretch, values, at),
+        Spread::Digits => read_digits(blob, short, stretch, values, at),
     }
 }
 
 // Rows that lie evenly: a loop for each way in which a number may be stored.
-fn read_even(blob: &Blob, short: &ShortRule, stretch: &Stretch, values: &mut [i64])
+fn read_even(blob: &Blob, short: &ShortRule, stretch: &Stretch, values: &mut [i64], at: usize)
     requires even { stretch.now.spread ≡ even }
-    requires room { HasRoom short.now stretch.now (length values.old) (length blob.now) }
-    ensures { AreRead short.now stretch.now blob.now values.old values.new }
+    requires rows { at + stretch.now.rows ≤ length values.old }
+    requires room { HasRoom short.now stretch.now (length blob.now) }
+    ensures { AreRead short.now stretch.now blob.now at values.old values.new }
 {
     match short.word {
-        Word::U8 => read_by(blob, short, stretch, Word::U8, 1, values),
-        Word::U16 => read_by(blob, short, stretch, Word::U16, 2, values),
-        Word::U32 => read_by(blob, short, stretch, Word::U32, 4, values),
-        Word::U64 => read_by(blob, short, stretch, Word::U64, 8, values),
-        Word::I8 => read_by(blob, short, stretch, Word::I8, 1, values),
-        Word::I16 => read_by(blob, short, stretch, Word::I16, 2, values),
-        Word::I32 => read_by(blob, short, stretch, Word::I32, 4, values),
-        Word::I64 => read_by(blob, short, stretch, Word::I64, 8, values),
-        Word::TurnedU16 => read_by(blob, short, stretch, Word::TurnedU16, 2, values),
-        Word::TurnedU32 => read_by(blob, short, stretch, Word::TurnedU32, 4, values),
-        Word::TurnedU64 => read_by(blob, short, stretch, Word::TurnedU64, 8, values),
-        Word::TurnedI16 => read_by(blob, short, stretch, Word::TurnedI16, 2, values),
-        Word::TurnedI32 => read_by(blob, short, stretch, Word::TurnedI32, 4, values),
-        Word::TurnedI64 => read_by(blob, short, stretch, Word::TurnedI64, 8, values),
-        Word::Field => read_each(blob, short, stretch, Word::Field, stretch.apart, values),
+        Word::U8 => read_by(blob, short, stretch, Word::U8, 1, values, at),
+        Word::U16 => read_by(blob, short, stretch, Word::U16, 2, values, at),
+        Word::U32 => read_by(blob, short, stretch, Word::U32, 4, values, at),
+        Word::U64 => read_by(blob, short, stretch, Word::U64, 8, values, at),
+        Word::I8 => read_by(blob, short, stretch, Word::I8, 1, values, at),
+        Word::I16 => read_by(blob, short, stretch, Word::I16, 2, values, at),
+        Word::I32 => read_by(blob, short, stretch, Word::I32, 4, values, at),
+        Word::I64 => read_by(blob, short, stretch, Word::I64, 8, values, at),
+        Word::TurnedU16 => read_by(blob, short, stretch, Word::TurnedU16, 2, values, at),
+        Word::TurnedU32 => read_by(blob, short, stretch, Word::TurnedU32, 4, values, at),
+        Word::TurnedU64 => read_by(blob, short, stretch, Word::TurnedU64, 8, values, at),
+        Word::TurnedI16 => read_by(blob, short, stretch, Word::TurnedI16, 2, values, at),
+        Word::TurnedI32 => read_by(blob, short, stretch, Word::TurnedI32, 4, values, at),
+        Word::TurnedI64 => read_by(blob, short, stretch, Word::TurnedI64, 8, values, at),
+        Word::Field => read_each(blob, short, stretch, Word::Field, stretch.apart, values, at),
         Word::Scattered => unreachable!(),
     }
 }
@@ -57,16 +65,18 @@ fn read_by(
     word: Word,
     bytes: u64,
     values: &mut [i64],
+    at: usize,
 )
     requires word { word ≡ short.now.word }
     requires even { stretch.now.spread ≡ even }
-    requires room { HasRoom short.now stretch.now (length values.old) (length blob.now) }
-    ensures { AreRead short.now stretch.now blob.now values.old values.new }
+    requires rows { at + stretch.now.rows ≤ length values.old }
+    requires room { HasRoom short.now stretch.now (length blob.now) }
+    ensures { AreRead short.now stretch.now blob.now at values.old values.new }
 {
     if stretch.apart == bytes {
-        read_each(blob, short, stretch, word, bytes, values);
+        read_each(blob, short, stretch, word, bytes, values, at);
     } else {
-        read_each(blob, short, stretch, word, stretch.apart, values);
+        read_each(blob, short, stretch, word, stretch.apart, values, at);
     }
 }
 
@@ -79,26 +89,29 @@ fn read_each(
     word: Word,
     apart: u64,
     values: &mut [i64],
+    at: usize,
 )
     requires word { word ≡ short.now.word }
     requires apart { apart ≡ stretch.now.apart }
     requires even { stretch.now.spread ≡ even }
-    requires room { HasRoom short.now stretch.now (length values.old) (length blob.now) }
-    ensures { AreRead short.now stretch.now blob.now values.old values.new }
+    requires rows { at + stretch.now.rows ≤ length values.old }
+    requires room { HasRoom short.now stretch.now (length blob.now) }
+    ensures { AreRead short.now stretch.now blob.now at values.old values.new }
 {
-    for k in 0..values.len() {
-        let place = stretch.start + k as u64 * apart;
-        values[k] = number_at(blob, place, word, &short.field);
+    for k in 0..stretch.rows {
+        let place = stretch.start + k * apart;
+        values[at + k as usize] = number_at(blob, place, word, &short.field);
     }
 }
 
 // Rows that lie as the digits of their numbers.
-fn read_digits(blob: &Blob, short: &ShortRule, stretch: &Stretch, values: &mut [i64])
-    requires { HasRoom short.now stretch.now (length values.old) (length blob.now) }
-    ensures { AreRead short.now stretch.now blob.now values.old values.new }
+fn read_digits(blob: &Blob, short: &ShortRule, stretch: &Stretch, values: &mut [i64], at: usize)
+    requires rows { at + stretch.now.rows ≤ length values.old }
+    requires room { HasRoom short.now stretch.now (length blob.now) }
+    ensures { AreRead short.now stretch.now blob.now at values.old values.new }
 {
-    for k in 0..values.len() {
-        values[k] = number_at(blob, stretch.place(k as u64), short.word, &short.field);
+    for k in 0..stretch.rows {
+        values[at + k as usize] = number_at(blob, stretch.place(k), short.word, &short.field);
     }
 }
 
