@@ -18,3 +18,5 @@ pub mod NearColumnLaws
 pub mod PieceLaws
 pub mod SlotMoveLaws
 pub mod EachLaws
+pub mod RunLaws
+pub mod RunStoreLaws

@@ -28,6 +28,7 @@ use steps::Steps;
 
 mod columns;
 mod moves;
+mod runs;
 mod slots;
 mod touch;
 
