@@ -1,5 +1,6 @@
 -- Numbers in the rows of a stretch, as a short form says that they are stored.
-use Rattle.std.specs.Prelude.{ℕ, zero, suc, ◌≡◌, ◌+◌, ◌*◌, ◌^◌, ◌<◌, ◌≤◌, ℤ, pos, List, length, slice_index_or}
+use Rattle.std.specs.Prelude.{ℕ, zero, suc, ◌≡◌, ◌+◌, ◌*◌, ◌^◌, ◌<◌, ◌≤◌, ℤ, pos, List, FitsSigned, length, slice_index_or}
+use mir.Syntax.{w64}
 use Rattle.std.specs.Int.{bit_at}
 use Rattle.places.specs.Image.{number, digit, decoded}
 use Rattle.blobs.specs.Bits.{bit_of}
@@ -38,8 +39,9 @@ pub record HaveRead (short : ShortRule) (stretch : Stretch) (bytes : List ℕ) (
 abbrev pub AreRead : ShortRule → Stretch → List ℕ → ℕ → List ℤ → List ℤ → Type 0
 AreRead short stretch bytes at old values = HaveRead short stretch bytes at stretch.rows old values
 
--- the bits at a place are those of a number, as many as a word has, and all others are as they were
+-- the bits at a place are those of a number of 64 bits with a sign, as many as a word has, and all others are as they were
 pub record IsPut (word : Word) (field : Field) (place : ℕ) (value : ℤ) (old new : List ℕ) : Type 0 where
+  pub fits : FitsSigned w64 value
   pub inside : (k : ℕ) → k < word_width word field → bit_of new (word_place word place k) ≡ bit_at (number (digit value) (word_width word field)) k
   pub before : (k : ℕ) → k < word_bit word place → bit_of new k ≡ bit_of old k
   pub after : (k : ℕ) → word_bit word place + word_width word field ≤ k → bit_of new k ≡ bit_of old k

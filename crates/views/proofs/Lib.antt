@@ -20,3 +20,4 @@ pub mod SlotMoveLaws
 pub mod EachLaws
 pub mod RunLaws
 pub mod RunStoreLaws
+pub mod RunSeenLaws

@@ -1,12 +1,12 @@
 -- Rows of a leaf that lie in a stretch.
-use Rattle.std.proofs.Common.{◌≡◌, ℕ, zero, suc, ◌+◌, ◌-◌, ◌*◌, ◌^◌, ◌<◌, ◌≤◌, ◌%◌, Bool, true, false, List, [], ◌∷◌, length, map, take, drop, get_or, set, slice_index, ℤ, pos, FitsSigned, of_z, to_z, w64, refl, sym, ap, ◌∙◌, subst, arith}
+use Rattle.std.proofs.Common.{◌≡◌, ℕ, zero, suc, ◌+◌, ◌-◌, ◌*◌, ◌^◌, ◌<◌, ◌≤◌, ◌%◌, Bool, true, false, ◌&&◌, List, [], ◌∷◌, length, map, take, drop, get_or, set, slice_index, ℤ, pos, ◌≤ℤ◌, FitsSigned, of_z, to_z, w64, refl, sym, ap, ◌∙◌, subst, arith}
 use Rattle.std.specs.Int.{bit_at}
 use Rattle.std.specs.List.{range_with_len}
 use Rattle.std.proofs.Math.Facts.{Fits-of_z}
 use Rattle.std.proofs.lemmas.Int.{ints}
 use Rattle.std.proofs.lemmas.List.{length-map, get_or-map, get_or-set_same, set-set, length-take, length-drop, get_or-drop, get_or-take, get_or_default, same_lists}
 use Rattle.std.proofs.lemmas.List.FromFn.{length-range_with_len}
-use Rattle.record_dim.specs.LeafTypes.{IsIn}
+use Rattle.record_dim.specs.LeafTypes.{IsIn, IsDeclared, least_of, greatest_of, least_in, greatest_in}
 use Rattle.record_dim.specs.declared.leaf_type.LeafType.{LeafType}
 use Rattle.record_dim.specs.declared.leaf_type.LeafType.TheVariants as kinds
 use Rattle.places.specs.Image.{number, digit, entry}
@@ -30,8 +30,8 @@ use Rattle.leaf_runs.proofs.Numbers.{word_narrow}
 use Rattle.views.specs.Columns.{in_leaf, column, with_column}
 use Rattle.views.specs.ColumnsLaws.{no_column, entry_more}
 use Rattle.views.specs.Runs.{raised}
+use Rattle.views.specs.Stores.{Fits}
 use Rattle.views.proofs.AccessLaws.{is_word, blob_there, word_there, word_read, word_put, word_lies}
-use Rattle.views.proofs.NearStoreLaws.{set_there}
 
 -- ---- low bits
 
@@ -42,6 +42,16 @@ code_raised kinds.U64 low width narrow fits =
     code_low low width narrow (omega (arith, ints, fits.sfits), omega (arith, ints, fits.sfits))
     ∙ sym (code_low (pos (of_z w64 low)) width narrow (omega (arith, ints), omega (arith, ints, whole)))
 code_raised _ low width narrow fits = refl
+
+-- two facts that hold together
+pub and_parts : (a b : Bool) → (a && b) ≡ true → (a ≡ true) × (b ≡ true)
+and_parts true b both = (refl, both)
+and_parts false b both = absurd (cc)
+
+set_there : (blobs : List (List ℕ)) (blob : ℕ) → set blobs blob (get_or blobs blob []) ≡ blobs
+set_there [] blob = refl
+set_there (first ∷ blobs) zero = refl
+set_there (first ∷ blobs) (suc blob) = ap (λ (more : List (List ℕ)). first ∷ more) (set_there blobs blob)
 
 -- ---- a stretch of the rows of a leaf
 
@@ -69,15 +79,15 @@ module _ {layout : List (List Owner)} {slots : ℕ} (holds : List Hold) (leaf ro
     }
 
     -- what stands there are the entries
-    pub stretch_read : (bytes : List ℕ) → bytes ≡ get_or blobs short.blob [] → (k : ℕ) → k < stretch.rows
-        → stretched_at short stretch bytes k ≡ entry (table_in layout slots holds blobs) (row + k) leaf
-    stretch_read bytes is k inside =
+    pub stretch_read : (bytes : List ℕ) → bytes ≡ get_or blobs short.blob [] → (k there : ℕ) → k < stretch.rows → row + k ≡ there
+        → stretched_at short stretch bytes k ≡ entry (table_in layout slots holds blobs) there leaf
+    stretch_read bytes is k there inside at =
         word_read holds (row + k) leaf laid paired (row_in k inside) leaf_in form (stretch_place stretch k) (place k inside) blobs are_laid lies.alone bytes
         (stretched_at short stretch bytes k) is refl
+        ∙ ap (λ (n : ℕ). entry (table_in layout slots holds blobs) n leaf) at
 
     -- numbers that are put there make a column
     module _ (kind : LeafType) (lows : List ℤ) (at : ℕ) (old : List ℕ) (from : old ≡ get_or blobs short.blob []) (long : at + stretch.rows ≤ length lows)
-        (fits : (k : ℕ) → k < length lows → FitsSigned w64 (get_or lows k (pos 0)))
         (held : (k : ℕ) → k < length lows → IsIn (hold_at holds leaf).signed (hold_at holds leaf).width (raised kind (get_or lows k (pos 0)))) where
       abbrev numbers : List ℤ
       numbers = drop at (map (raised kind) lows)
@@ -112,7 +122,7 @@ module _ {layout : List (List Owner)} {slots : ℕ} (holds : List Hold) (leaf ro
           let narrow : width ≤ 64 =
           word_narrow short.word short.field
           (is_word holds (row + 0) leaf laid paired (row_in 0 lies.some) leaf_in form (stretch_place stretch 0) (place 0 lies.some) blobs are_laid lies.alone) in
-          let code : number (digit low) width ≡ number (digit value) width = code_raised kind low width narrow (fits (at + k) there) in
+          let code : number (digit low) width ≡ number (digit value) width = code_raised kind low width narrow put.2.fits in
           let written : (j : ℕ) → j < width → bit_of new (word_place short.word (stretch_place stretch k) j) ≡ bit_at (number (digit value) width) j =
           λ j below. put.2.inside j below ∙ ap (λ (n : ℕ). bit_at n j) code in
           let size : length table ≡ slots = length-map (range_with_len 0 slots) _ ∙ length-range_with_len 0 slots in (
@@ -138,13 +148,16 @@ column_then leaf zero at zero more values rows is long =
     ∙ ap (with_column leaf 0 (take more values)) (no_column leaf 0 rows) ∙ ap (λ (n : ℕ). with_column leaf 0 (take n values) rows) all)
 column_then leaf zero zero (suc done) more values rows is long = absurd (omega (arith, is))
 column_then leaf zero (suc at) (suc done) more [] rows is long = absurd (omega (arith, long))
-column_then leaf zero (suc at) (suc done) more (value ∷ values) [] is long = refl
-column_then leaf zero (suc at) (suc done) more (value ∷ values) (numbers ∷ rows) is long =
-    ap (λ (rest : List (List ℤ)). set numbers leaf value ∷ rest) (column_then leaf zero at done more values rows (omega (arith, is)) (omega (arith, long)))
-column_then leaf (suc row) zero done more values rows is long = absurd (omega (arith, is))
-column_then leaf (suc row) (suc at) done more values [] is long = refl
-column_then leaf (suc row) (suc at) done more values (numbers ∷ rows) is long =
-    ap (λ (rest : List (List ℤ)). numbers ∷ rest) (column_then leaf row at done more values rows (omega (arith, is)) long)
+column_then leaf zero (suc at) (suc done) more (value ∷ values) [] is long =
+    (let next : suc done + more ≡ suc (done + more) = omega arith in sym (ap (λ (n : ℕ). with_column leaf 0 (take n (value ∷ values)) []) next))
+column_then leaf zero (suc at) (suc done) more (value ∷ values) (row ∷ rows) is long =
+    (let next : suc done + more ≡ suc (done + more) = omega arith in
+    ap (λ (rest : List (List ℤ)). set row leaf value ∷ rest) (column_then leaf zero at done more values rows (omega (arith, is)) (omega (arith, long)))
+    ∙ sym (ap (λ (n : ℕ). with_column leaf 0 (take n (value ∷ values)) (row ∷ rows)) next))
+column_then leaf (suc first) zero done more values rows is long = absurd (omega (arith, is))
+column_then leaf (suc first) (suc at) done more values [] is long = refl
+column_then leaf (suc first) (suc at) done more values (row ∷ rows) is long =
+    ap (λ (rest : List (List ℤ)). row ∷ rest) (column_then leaf first at done more values rows (omega (arith, is)) long)
 
 -- ---- a run that is read
 
@@ -160,3 +173,24 @@ run_read leaf first rows old values long inside each =
     get_or_default values k d (pos 0) here ∙ each k below
     ∙ sym (get_or-map low_64 run k (pos 0) d (omega (arith, below, many))
     ∙ ap low_64 (get_or-take (length old) (drop first (column leaf rows)) k (pos 0) below ∙ get_or-drop first (column leaf rows) k (pos 0) ∙ get_or-map (in_leaf leaf) rows (first + k) [] (pos 0) there)))
+
+-- a value of a run is that of its row
+pub run_entry : (leaf first count k : ℕ) (rows : List (List ℤ)) → k < count → first + count ≤ length rows → get_or (take count (drop first (column leaf rows))) k (pos 0) ≡ entry rows (first + k) leaf
+run_entry leaf first count k rows below inside =
+    get_or-take count (drop first (column leaf rows)) k (pos 0) below ∙ get_or-drop first (column leaf rows) k (pos 0)
+    ∙ get_or-map (in_leaf leaf) rows (first + k) [] (pos 0) (omega (arith, below, inside))
+
+pub run_length : (leaf first count : ℕ) (rows : List (List ℤ)) → first + count ≤ length rows → length (take count (drop first (column leaf rows))) ≡ count
+run_length leaf first count rows inside = omega (arith, length-take count (drop first (column leaf rows)), length-drop first (column leaf rows), length-map rows (in_leaf leaf), inside)
+
+-- ---- a leaf that holds its type
+
+pub fits_within : (kind : LeafType) (hold : Hold) → least_in hold.signed hold.width ≤ℤ least_of kind → greatest_of kind ≤ℤ greatest_in hold.signed hold.width → (value : ℤ) → IsDeclared kind value
+    → Fits kind hold value
+fits_within kind hold low high value is = record {
+  declared = is;
+  held = between (least_in hold.signed hold.width) (least_of kind) value (greatest_of kind) (greatest_in hold.signed hold.width) low is.0 is.1 high;
+}
+  where
+    between : (a least v greatest b : ℤ) → a ≤ℤ least → least ≤ℤ v → v ≤ℤ greatest → greatest ≤ℤ b → (a ≤ℤ v) × (v ≤ℤ b)
+    between a least v greatest b one two three four = (grind (arith, ints), grind (arith, ints))

@@ -1,5 +1,5 @@
 -- Values of a leaf and their low bits.
-use Rattle.std.proofs.Common.{◌≡◌, ℕ, ◌^◌, ◌<◌, ◌≤◌, ℤ, pos, negsuc, neg_ℤ, ◌≤ℤ◌, ◌<ℤ◌, ⊥, List, [], ◌∷◌, length, map, get_or, zero, suc, FitsSigned, w64, refl, sym, ap, ◌∙◌, arith}
+use Rattle.std.proofs.Common.{◌≡◌, ℕ, ◌^◌, ◌<◌, ◌≤◌, ℤ, pos, negsuc, neg_ℤ, ◌≤ℤ◌, ◌<ℤ◌, List, [], ◌∷◌, length, map, get_or, zero, suc, FitsSigned, w64, refl, sym, ap, ◌∙◌, arith}
 use Rattle.std.proofs.lemmas.Int.{ints, of_z-to_z}
 use Rattle.record_dim.specs.LeafTypes.{IsDeclared}
 use Rattle.record_dim.specs.declared.leaf_type.LeafType.{LeafType}
@@ -56,9 +56,11 @@ raised_low kinds.I16 value h = low_declared kinds.I16 value (λ e. cc e) h
 raised_low kinds.I32 value h = low_declared kinds.I32 value (λ e. cc e) h
 raised_low kinds.I64 value h = low_declared kinds.I64 value (λ e. cc e) h
 
--- and a value that has its low bits as its own, so many with a sign, is what it is raised to
-pub raised_same : (kind : LeafType) (value : ℤ) → FitsSigned w64 value → IsDeclared kind value → raised kind value ≡ value
-raised_same kind value fits h = ap (raised kind) (sym (low_same value fits)) ∙ raised_low kind value h
+-- and a value of the type is what it is raised to
+pub raised_same : (kind : LeafType) (value : ℤ) → IsDeclared kind value → raised kind value ≡ value
+raised_same kinds.U64 (pos n) h = refl
+raised_same kinds.U64 (negsuc n) h = absurd (omega (arith, ints, h.0))
+raised_same _ value h = refl
 
 -- values that are raised from their low bits, one by one
 pub raised_all : (kind : LeafType) (values : List ℤ) → ((k : ℕ) → k < length values → IsDeclared kind (get_or values k (pos 0))) → map (raised kind) (map low_64 values) ≡ values

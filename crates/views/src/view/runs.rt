@@ -10,6 +10,7 @@ ghost use Rattle.views.specs.Tallies.{Access};
 
 use super::View;
 use crate::fault::LaneFault;
+use crate::laws::laws_of_table;
 use crate::runs::{are_taken, put_rows, raised, read_rows};
 use leaf_runs::low_of;
 use places::Mapping;
@@ -101,6 +102,7 @@ impl View {
         ensures steps { steps.new ≡ steps.old + 2 * run_steps (leaf_type_of self.old leaf) (length buffer.old) }
         ensures count { length buffer.new ≡ length buffer.old }
     {
+        laws_of_table(source);
         source.read_run(leaf, first, buffer, steps);
         self.count_run(leaf, buffer.len(), steps);
         self.put_lows(leaf, first, buffer);

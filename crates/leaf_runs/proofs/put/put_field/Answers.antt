@@ -25,6 +25,7 @@ returns c =
     let put = written (goal.at.returns c).After-put_window in
     let fits : FitsSigned w64 c.args.value = search rules in
     record {
+      fits = fits;
       inside = λ k l. put.inside k l ∙ ap (λ (w : ℕ). bit_at w k) (c.low_bits-code.ensures.bits ∙ ap (λ (v : ℤ). number (digit v) c.args.field.now.width) (to_z-of_z w64 c.args.value fits));
       before = put.before;
       after = put.after;

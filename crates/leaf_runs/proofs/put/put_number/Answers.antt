@@ -14,8 +14,8 @@ returns-in-U64 c =
     let code = c.low_bits-in-U64.ensures.bits ∙ ap (λ (v : ℤ). number (digit v) 64) (to_z-of_z w64 c.args.value fits) in
     let Put : Word → Type 0 = λ w. IsPut w c.args.field.now c.args.place c.args.value c.args.blob.now c.put_whole-in-U64.new.self in
     ⊎_elim
-    (λ (is : c.args.word ≡ U64). subst Put (sym is) (record { inside = λ k l. put.inside k l ∙ ap (λ (n : ℕ). bit_at n k) code; before = put.before; after = put.after; len = put.len }))
-    (λ (is : c.args.word ≡ I64). subst Put (sym is) (record { inside = λ k l. put.inside k l ∙ ap (λ (n : ℕ). bit_at n k) code; before = put.before; after = put.after; len = put.len }))
+    (λ (is : c.args.word ≡ U64). subst Put (sym is) (record { fits = fits; inside = λ k l. put.inside k l ∙ ap (λ (n : ℕ). bit_at n k) code; before = put.before; after = put.after; len = put.len }))
+    (λ (is : c.args.word ≡ I64). subst Put (sym is) (record { fits = fits; inside = λ k l. put.inside k l ∙ ap (λ (n : ℕ). bit_at n k) code; before = put.before; after = put.after; len = put.len }))
     c.in-U64.is
 
 pub returns-in-TurnedU32 : goal.returns-in-TurnedU32
@@ -25,8 +25,8 @@ returns-in-TurnedU32 c =
     let code = c.low_bits-in-TurnedU32.ensures.bits ∙ ap (λ (v : ℤ). number (digit v) 32) (to_z-of_z w64 c.args.value fits) in
     let Put : Word → Type 0 = λ w. IsPut w c.args.field.now c.args.place c.args.value c.args.blob.now c.put_turned-in-TurnedU32.new.self in
     ⊎_elim
-    (λ (is : c.args.word ≡ TurnedU32). subst Put (sym is) (record { inside = λ k l. put.inside k l ∙ ap (λ (n : ℕ). bit_at n k) code; before = put.before; after = put.after; len = put.len }))
-    (λ (is : c.args.word ≡ TurnedI32). subst Put (sym is) (record { inside = λ k l. put.inside k l ∙ ap (λ (n : ℕ). bit_at n k) code; before = put.before; after = put.after; len = put.len }))
+    (λ (is : c.args.word ≡ TurnedU32). subst Put (sym is) (record { fits = fits; inside = λ k l. put.inside k l ∙ ap (λ (n : ℕ). bit_at n k) code; before = put.before; after = put.after; len = put.len }))
+    (λ (is : c.args.word ≡ TurnedI32). subst Put (sym is) (record { fits = fits; inside = λ k l. put.inside k l ∙ ap (λ (n : ℕ). bit_at n k) code; before = put.before; after = put.after; len = put.len }))
     c.in-TurnedU32.is
 
 pub returns-in-TurnedU64 : goal.returns-in-TurnedU64
@@ -36,6 +36,6 @@ returns-in-TurnedU64 c =
     let code = c.low_bits-in-TurnedU64.ensures.bits ∙ ap (λ (v : ℤ). number (digit v) 64) (to_z-of_z w64 c.args.value fits) in
     let Put : Word → Type 0 = λ w. IsPut w c.args.field.now c.args.place c.args.value c.args.blob.now c.put_turned-in-TurnedU64.new.self in
     ⊎_elim
-    (λ (is : c.args.word ≡ TurnedU64). subst Put (sym is) (record { inside = λ k l. put.inside k l ∙ ap (λ (n : ℕ). bit_at n k) code; before = put.before; after = put.after; len = put.len }))
-    (λ (is : c.args.word ≡ TurnedI64). subst Put (sym is) (record { inside = λ k l. put.inside k l ∙ ap (λ (n : ℕ). bit_at n k) code; before = put.before; after = put.after; len = put.len }))
+    (λ (is : c.args.word ≡ TurnedU64). subst Put (sym is) (record { fits = fits; inside = λ k l. put.inside k l ∙ ap (λ (n : ℕ). bit_at n k) code; before = put.before; after = put.after; len = put.len }))
+    (λ (is : c.args.word ≡ TurnedI64). subst Put (sym is) (record { fits = fits; inside = λ k l. put.inside k l ∙ ap (λ (n : ℕ). bit_at n k) code; before = put.before; after = put.after; len = put.len }))
     c.in-TurnedU64.is

@@ -14,7 +14,7 @@ invariant-loop-done l = record {
   inside : l.done ≤ length l.initial.values;
   count : length l.values ≡ length l.initial.values;
   each : (k : ℕ) → k < l.done → get_or l.values k (pos 0)
-      ≡ low_64 (entry (table_in (layout_by (term_of l.map.expr) l.map.extents (schema_fields l.map.schema)) (length (indices l.map.extents)) l.map.holds l.blobs) (l.first + k) l.leaf);
+      ≡ low_64 (entry (table_in (layout_by (term_of l.mapping.expr) l.mapping.extents (schema_fields l.mapping.schema)) (length (indices l.mapping.extents)) l.mapping.holds l.blobs) (l.first + k) l.leaf);
   leads : 0 < l.done → leads l.short.walk ≡ true;
 }
 

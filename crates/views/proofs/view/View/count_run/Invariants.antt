@@ -2,4 +2,4 @@ use Rattle.std.proofs.Common.{◌≡◌, ◌+◌}
 use Rattle.views.proofs.view.View.count_run.Given as goal
 
 abbrev pub invariant-loop-block : goal.invariant-loop-block
-invariant-loop-block g l = l.steps ≡ l.fn.steps + l.block
+invariant-loop-block g l = l.steps ≡ l.fn.steps + l._block
