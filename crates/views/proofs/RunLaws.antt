@@ -1,5 +1,5 @@
 -- Rows of a leaf that lie in a stretch.
-use Rattle.std.proofs.Common.{◌≡◌, ℕ, zero, suc, ◌+◌, ◌-◌, ◌*◌, ◌^◌, ◌<◌, ◌≤◌, ◌%◌, Bool, true, false, ◌&&◌, List, [], ◌∷◌, length, map, take, drop, get_or, set, slice_index, ℤ, pos, ◌≤ℤ◌, FitsSigned, of_z, to_z, w64, refl, sym, ap, ◌∙◌, subst, arith}
+use Rattle.std.proofs.Common.{◌≡◌, ℕ, zero, suc, ◌+◌, ◌^◌, ◌<◌, ◌≤◌, Bool, true, false, ◌&&◌, List, [], ◌∷◌, length, map, take, drop, get_or, set, slice_index, ℤ, pos, ◌≤ℤ◌, FitsSigned, of_z, w64, refl, sym, ap, ◌∙◌, subst, arith}
 use Rattle.std.specs.Int.{bit_at}
 use Rattle.std.specs.List.{range_with_len}
 use Rattle.std.proofs.Math.Facts.{Fits-of_z}
@@ -16,16 +16,15 @@ use Rattle.places.specs.declared.piece.Hold.{Hold}
 use Rattle.blobs.specs.Bits.{bit_of}
 use Rattle.piece_rules.specs.declared.rule.PieceRule.{PieceRule}
 use Rattle.piece_bits.specs.Tables.{AreLaid, hold_at, table_in, with_entry}
-use Rattle.piece_bits.specs.Words.{word_bit, word_place, word_width}
+use Rattle.piece_bits.specs.Words.{word_place, word_width}
 use Rattle.short_rules.specs.Shorts.{start_in, IsShortIn}
 use Rattle.short_rules.specs.Stretches.{stretch_place, IsStretch}
 use Rattle.short_rules.specs.StretchesLaws.{stretch_fits}
-use Rattle.short_rules.specs.Walks.{leads}
 use Rattle.short_rules.specs.declared.short.ShortRule.{ShortRule}
 use Rattle.short_rules.specs.declared.stretch.Stretch.{Stretch}
-use Rattle.leaf_runs.specs.Lows.{low_64, IsWithin64}
+use Rattle.leaf_runs.specs.Lows.{low_64}
 use Rattle.leaf_runs.specs.LowsLaws.{code_low}
-use Rattle.leaf_runs.specs.Stretched.{stretched_at, HasRoom, HaveRead, IsPut, ArePut}
+use Rattle.leaf_runs.specs.Stretched.{stretched_at, HasRoom, ArePut}
 use Rattle.leaf_runs.proofs.Numbers.{word_narrow}
 use Rattle.views.specs.Columns.{in_leaf, column, with_column}
 use Rattle.views.specs.ColumnsLaws.{no_column, entry_more}

@@ -1,8 +1,7 @@
 -- A view in which a run is put.
-use Rattle.std.proofs.Common.{◌≡◌, ℕ, zero, ◌+◌, ◌<◌, ◌≤◌, Bool, false, List, [], length, map, take, get_or, ℤ, pos, refl, sym, ap, ◌∙◌, subst, ⊎_elim, arith}
+use Rattle.std.proofs.Common.{◌≡◌, ℕ, ◌+◌, ◌<◌, ◌≤◌, false, List, length, map, take, get_or, ℤ, pos, sym, ap, ◌∙◌, subst, ⊎_elim, arith}
 use Rattle.std.proofs.lemmas.Bool.{cases_lt}
 use Rattle.std.proofs.lemmas.List.{length-map, length-take, get_or-map, get_or-take}
-use Rattle.extents.specs.Indices.{indices}
 use Rattle.record_dim.specs.Leaves.{kinds_of}
 use Rattle.record_dim.specs.LeafTypes.{IsDeclared}
 use Rattle.record_dim.specs.Schemas.{schema_fields}
@@ -26,7 +25,7 @@ use Rattle.views.specs.Kept.{IsKept, IsMappingOf, IsTallied, raw_under}
 use Rattle.views.specs.Runs.{raised, run_of, TakesAll}
 use Rattle.views.specs.RunsLaws.{raised_low, raised_all}
 use Rattle.views.specs.Stores.{Fits, kind_at}
-use Rattle.views.specs.Tables.{Table, IsTable, leaf_count_of, leaf_type_of, leaf_types_of, table_holds, owners_of, kept_of, after_log, after_stores}
+use Rattle.views.specs.Tables.{Table, IsTable, leaf_count_of, leaf_type_of, table_holds, kept_of, after_log, after_stores}
 use Rattle.views.specs.Tallies.{Tally, tallied}
 use Rattle.views.specs.TallyLaws.{after_log-none}
 use Rattle.views.proofs.KeptLaws.{kind_count}

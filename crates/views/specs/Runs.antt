@@ -6,7 +6,6 @@ use Rattle.record_dim.specs.LeafTypes.{width_of, IsDeclared}
 use Rattle.record_dim.specs.declared.leaf_type.LeafType.{LeafType}
 use Rattle.record_dim.specs.declared.leaf_type.LeafType.TheVariants.{U64}
 use Rattle.piece_bits.specs.Tables.{hold_at}
-use Rattle.leaf_runs.specs.Lows.{low_64}
 use Rattle.views.specs.Columns.{column, column_writes, with_column, first_lane_fault}
 use Rattle.views.specs.Stores.{Fits}
 use Rattle.views.specs.Tables.{Table, leaf_type_of, table_holds, after_stores, answer_of, kept_of}

@@ -1,5 +1,5 @@
 -- Values of a leaf and their low bits.
-use Rattle.std.proofs.Common.{◌≡◌, ℕ, ◌^◌, ◌<◌, ◌≤◌, ℤ, pos, negsuc, neg_ℤ, ◌≤ℤ◌, ◌<ℤ◌, List, [], ◌∷◌, length, map, get_or, zero, suc, FitsSigned, w64, refl, sym, ap, ◌∙◌, arith}
+use Rattle.std.proofs.Common.{◌≡◌, ℕ, ◌^◌, ◌<◌, ℤ, pos, negsuc, neg_ℤ, ◌≤ℤ◌, ◌<ℤ◌, List, [], ◌∷◌, length, map, get_or, zero, suc, FitsSigned, w64, refl, ap, ◌∙◌, arith}
 use Rattle.std.proofs.lemmas.Int.{ints, of_z-to_z}
 use Rattle.record_dim.specs.LeafTypes.{IsDeclared}
 use Rattle.record_dim.specs.declared.leaf_type.LeafType.{LeafType}

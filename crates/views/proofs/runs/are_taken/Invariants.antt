@@ -1,4 +1,4 @@
-use Rattle.std.proofs.Common.{◌≡◌, ℕ, ◌<◌, true, length, map, get_or, pos}
+use Rattle.std.proofs.Common.{◌≡◌, ℕ, ◌<◌, true, map, get_or, pos}
 use Rattle.record_dim.specs.Schemas.{schema_fields}
 use Rattle.record_dim.specs.Leaves.{kinds_of}
 use Rattle.map_checks.specs.Mappings.{leaf_cells}

@@ -1,4 +1,4 @@
-use Rattle.std.proofs.Common.{◌≡◌, Option, Some, None, Bor, sym, subst}
+use Rattle.std.proofs.Common.{Option, Some, None, Bor, sym, subst}
 use Rattle.std.specs.Prelude.{IfSome, option_map}
 use Rattle.std.specs.Option.{option_copied}
 use Rattle.instrument.specs.Counters.{HeatCounts, heat_counts}

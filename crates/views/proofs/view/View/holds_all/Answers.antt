@@ -1,12 +1,11 @@
-use Rattle.std.proofs.Common.{ℤ, ◌≡◌, ◌≤ℤ◌, sym, ap, subst, SFits, rules, arith}
+use Rattle.std.proofs.Common.{◌≤ℤ◌, sym, subst, SFits, rules, arith}
 use Rattle.std.specs.Int.{w128}
 use Rattle.std.proofs.lemmas.Int.{ints, to_z-of_z}
 use Rattle.record_dim.specs.LeafTypes.{IsDeclared, least_of, greatest_of, least_in, greatest_in}
 use Rattle.record_dim.specs.declared.leaf_type.LeafType.{LeafType}
 use Rattle.places.specs.declared.piece.Hold.{Hold}
-use Rattle.piece_bits.specs.Tables.{hold_at}
 use Rattle.views.specs.Stores.{Fits}
-use Rattle.views.specs.Tables.{leaf_type_of, table_holds}
+use Rattle.views.specs.Tables.{leaf_type_of}
 use Rattle.views.proofs.Opened.{cell_count, leaf_seen, kind_seen, hold_seen}
 use Rattle.views.proofs.RunLaws.{fits_within}
 use Rattle.views.proofs.view.View.holds_all.Goals as goal

@@ -1,5 +1,5 @@
-use Rattle.std.proofs.Common.{◌≡◌, ◌<◌, arith}
-use Rattle.views.proofs.Opened.{cell_count, leaf_seen, laid_here, rows_seen}
+use Rattle.std.proofs.Common.{arith}
+use Rattle.views.proofs.Opened.{cell_count, leaf_seen, rows_seen}
 use Rattle.views.proofs.RunSeenLaws.{fits_here, put_kept, put_seen, put_uncounted}
 use Rattle.views.proofs.view.View.put_near.Goals as goal
 

@@ -1,7 +1,7 @@
-use Rattle.std.proofs.Common.{◌≡◌, ◌<◌, ◌∙◌, ℤ, ℕ, List, Ok, None, true, pos, get_or, length, map, take, refl, sym, ap, subst, arith, take_all}
+use Rattle.std.proofs.Common.{◌≡◌, ◌<◌, ◌∙◌, ℤ, ℕ, List, None, true, pos, get_or, length, map, sym, ap, subst, arith, take_all}
 use Rattle.std.specs.Prelude.{Option}
 use Rattle.piece_bits.specs.Tables.{hold_at}
-use Rattle.views.specs.Columns.{column_writes, with_column, first_lane_fault}
+use Rattle.views.specs.Columns.{column_writes, with_column}
 use Rattle.views.specs.Runs.{raised, run_fault, told_lane, stored_count, with_run}
 use Rattle.views.specs.RunsLaws.{raised_same}
 use Rattle.views.specs.Stores.{Fits, kind_at, told}
