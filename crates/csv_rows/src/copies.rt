@@ -1,9 +1,10 @@
 // The records of a dataset, copied by csv.
-ghost use Rattle.std.specs.Prelude.{◌≡◌};
-ghost use Rattle.csv_rows.specs.Datasets.{records_of};
+ghost use Rattle.std.specs.Prelude.{◌≡◌, option_map};
+ghost use Rattle.kept_numbers.specs.Far.{shortened};
+ghost use Rattle.csv_rows.specs.Datasets.{unspaced, number_of, records_of};
 ghost use Rattle.csv_rows.specs.Readers.{rows_left, IsReading};
 
-use crate::number::{field_number, unspaced};
+use crate::number::{field_number, plain_number, unspaced};
 use crate::reads::{Records, without_mark};
 use csv::{ByteRecord, Reader, ReaderBuilder};
 use std::alloc::{AllocError as NoMemory, Global};
@@ -40,7 +41,17 @@ impl Records for Copies<'_> {
 
     fn number(&mut self, column: usize) -> Option<Option<i128>> {
         let field = self.fields.get(column)?;
-        Some(field_number(field))
+        Some(copied_number(field))
+    }
+}
+
+// The number of a field, found in one pass where it is one as most are.
+fn copied_number(field: &[u8]) -> Option<i128>
+    ensures { result ≡ option_map shortened (number_of (unspaced field.now)) }
+{
+    match plain_number(field) {
+        Some((value, count)) if count == field.len() => Some(value),
+        _ => field_number(field),
     }
 }
 

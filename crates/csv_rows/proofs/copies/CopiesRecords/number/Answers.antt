@@ -14,5 +14,5 @@ returns-in_err-field-clause-number c =
 pub returns-clause-number : goal.returns-clause-number
 returns-clause-number c =
     let number : List ℕ → Option ℤ = λ field. option_map shortened (number_of (unspaced field)) in
-    ap (λ (n : Option ℤ). Some n) c.field_number.ensures
+    ap (λ (n : Option ℤ). Some n) c.copied_number.ensures
     ∙ ap (option_map number) (c.in_ok-field.ensures.value ∙ sym (same_at (fields_of c.args.self.now.fields) c.args.column))
