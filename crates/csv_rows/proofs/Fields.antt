@@ -2,43 +2,18 @@
 use Rattle.std.proofs.Common.{◌≡◌, ℕ, zero, suc, ◌+◌, ◌-◌, ◌<◌, ◌≤◌, List, [], ◌∷◌, ◌++◌, length, take, drop, get_or, Some, None, refl, sym, ap, ◌∙◌, ⊎_elim, arith}
 use Rattle.std.specs.List.{slice_get, slice_split}
 use Rattle.std.proofs.lemmas.Bool.{cases_lt}
-use Rattle.std.proofs.lemmas.List.{take-append-drop, drop-drop, drop_more, take_all, length-take-le, length-drop, get_or-take, get_or_default}
+use Rattle.std.proofs.lemmas.List.{take-append-drop, drop-drop, drop_more, take_all, length-drop}
 use Rattle.std.proofs.lemmas.List.Splits.{slice_split_none, slice_split_at}
 use Rattle.std.proofs.lemmas.Option.{slice_get_past}
-use Rattle.memchr.specs.Find.{IsFirstByte, is_byte}
 use Rattle.csv_rows.specs.Plain.{is_comma, IsFirstField, IsField}
-use Rattle.csv_rows.proofs.Cutting.{not_true}
-
--- the first comma, or none
-pub comma_found : (xs : List ℕ) (n : ℕ) → IsFirstByte (is_byte 44) xs (Some n) → IsFirstField xs n
-comma_found xs n found =
-    let small : n < length xs = found.0.high in
-    record {
-      within = omega arith;
-      inside = λ k d less.
-          let under : k < n = omega (arith, length-take-le n xs (omega arith)) in
-          let here : get_or (take n xs) k d ≡ get_or xs k 0 = get_or-take n xs k d under ∙ get_or_default xs k d 0 (omega arith) in
-          ap is_comma here ∙ not_true (is_comma (get_or xs k 0)) (found.0.before k (omega arith) under);
-      ended = λ small. found.1;
-    }
-
-pub comma_none : (xs : List ℕ) → IsFirstByte (is_byte 44) xs None → IsFirstField xs (length xs)
-comma_none xs none = record {
-  within = omega arith;
-  inside = λ k d less.
-      let under : k < length xs = omega (arith, length-take-le (length xs) xs (omega arith)) in
-      let here : get_or (take (length xs) xs) k d ≡ get_or xs k 0 = get_or-take (length xs) xs k d under ∙ get_or_default xs k d 0 under in
-      ap is_comma here ∙ not_true (is_comma (get_or xs k 0)) (none k (omega arith) under);
-  ended = λ small. absurd (omega arith);
-}
 
 -- the first field, and those behind its comma
-pub field_split : (xs : List ℕ) (n : ℕ) → IsFirstField xs n → n < length xs → slice_split is_comma xs ≡ take n xs ∷ slice_split is_comma (drop (n + 1) xs)
+field_split : (xs : List ℕ) (n : ℕ) → IsFirstField xs n → n < length xs → slice_split is_comma xs ≡ take n xs ∷ slice_split is_comma (drop (n + 1) xs)
 field_split xs n first small =
     ap (slice_split is_comma) (sym (take-append-drop n xs) ∙ ap (λ (ys : List ℕ). take n xs ++ ys) (drop_more xs n 0 small))
     ∙ slice_split_at is_comma (take n xs) (get_or xs n 0) (drop (n + 1) xs) first.inside (first.ended small)
 
-pub field_last : (xs : List ℕ) (n : ℕ) → IsFirstField xs n → length xs ≤ n → slice_split is_comma xs ≡ take n xs ∷ []
+field_last : (xs : List ℕ) (n : ℕ) → IsFirstField xs n → length xs ≤ n → slice_split is_comma xs ≡ take n xs ∷ []
 field_last xs n first over = ap (slice_split is_comma) (sym (take_all n xs over)) ∙ slice_split_none is_comma (take n xs) first.inside
 
 field_first : (xs : List ℕ) (n : ℕ) → IsFirstField xs n → (others : List (List ℕ)) × (slice_split is_comma xs ≡ take n xs ∷ others)

@@ -2,12 +2,11 @@
 use Rattle.std.proofs.Common.{◌≡◌, ℕ, zero, suc, ◌+◌, ◌-◌, ◌<◌, ◌≤◌, Bool, true, false, List, [], ◌∷◌, length, take, drop, get_or, Some, None, refl, sym, ap, subst, ◌∙◌, ⊎_elim, arith}
 use Rattle.std.specs.Prelude.{◌||◌, if◌then◌else◌, nat_eq}
 use Rattle.std.specs.List.{slice_get, slice_split}
-use Rattle.std.proofs.lemmas.Bool.{cases_lt}
+use Rattle.std.proofs.lemmas.Bool.{cases_lt, false_from_ne_true}
 use Rattle.std.proofs.lemmas.Bool.Decides.{nat_tests}
 use Rattle.std.proofs.lemmas.List.{drop-take, drop-drop, take-take, length-take-le, length-drop, get_or-take, get_or_default}
 use Rattle.memchr.specs.Find.{IsFirstByte, is_byte2, is_byte3}
 use Rattle.csv_rows.specs.Plain.{is_comma, is_line_end, line_length, first_line, behind_line, IsFirstField, IsField, IsFieldHere}
-use Rattle.csv_rows.proofs.Cutting.{not_true, none_of}
 use Rattle.csv_rows.proofs.Fields.{field_found, field_behind, fields_end}
 
 -- a line lies in its text, none of its bytes ends it, and it ends at the text's end or where a byte ends it
@@ -91,13 +90,19 @@ or_second : (a b : Bool) → (a || b) ≡ true → a ≡ false → b ≡ true
 or_second true b is other = cc other
 or_second false b is other = is
 
+none_of : (a b c : Bool) → (a || b || c) ≡ false → ((b || c) ≡ false) × (a ≡ false)
+none_of true b c h = cc h
+none_of false true c h = cc h
+none_of false false true h = cc h
+none_of false false false h = (refl, refl)
+
 -- the bytes before the first comma or line end
 byte_before : (xs : List ℕ) (n k d : ℕ) → n ≤ length xs → ((k : ℕ) → k < n → is_byte3 44 13 10 (get_or xs k 0) ≡ true → ⊥) → k < length (take n xs) → (is_comma (get_or (take n xs) k d) ≡ false) × (is_line_end (get_or (take n xs) k d) ≡ false)
 byte_before xs n k d within none less =
     let under : k < n = omega (arith, less, length-take-le n xs within) in
     let same : get_or (take n xs) k d ≡ get_or xs k 0 = get_or-take n xs k d under ∙ get_or_default xs k d 0 (omega (arith, under, within)) in
     let byte = get_or xs k 0 in
-    let parts = none_of (nat_eq byte 44) (nat_eq byte 13) (nat_eq byte 10) (not_true (is_byte3 44 13 10 byte) (none k under)) in
+    let parts = none_of (nat_eq byte 44) (nat_eq byte 13) (nat_eq byte 10) (false_from_ne_true (is_byte3 44 13 10 byte) (none k under)) in
     subst (λ (b : ℕ). (is_comma b ≡ false) × (is_line_end b ≡ false)) (sym same) (parts.1, parts.0)
 
 -- it is the first one of the line that is left
@@ -190,7 +195,7 @@ behind_found text start n small is =
 pub end_some : (xs : List ℕ) (n : ℕ) → IsFirstByte (is_byte2 13 10) xs (Some n) → n ≡ line_length xs
 end_some xs n found =
     let small : n < length xs = found.0.high in
-    line_is xs n (omega arith) (λ k under. not_true (is_line_end (get_or xs k 0)) (found.0.before k (omega arith) under)) (λ small. found.1)
+    line_is xs n (omega arith) (λ k under. false_from_ne_true (is_line_end (get_or xs k 0)) (found.0.before k (omega arith) under)) (λ small. found.1)
 
 pub end_none : (xs : List ℕ) → IsFirstByte (is_byte2 13 10) xs None → length xs ≡ line_length xs
-end_none xs none = line_is xs (length xs) (omega arith) (λ k under. not_true (is_line_end (get_or xs k 0)) (none k (omega arith) under)) (λ small. absurd (omega arith))
+end_none xs none = line_is xs (length xs) (omega arith) (λ k under. false_from_ne_true (is_line_end (get_or xs k 0)) (none k (omega arith) under)) (λ small. absurd (omega arith))

@@ -1,12 +1,9 @@
 pub mod Accesses
 pub mod Asked
-pub mod BareTexts
 pub mod Clips
 pub mod ColumnNames
 pub mod Commas
-pub mod CopiedRecords
 pub mod CsvReads
-pub mod Cutting
 pub mod Fields
 pub mod FirstFaults
 pub mod FirstLines

@@ -1,22 +1,22 @@
 -- Records that are lines in which no byte is a quote.
-use Rattle.std.proofs.Common.{◌≡◌, ℕ, suc, ◌<◌, ◌≤◌, Bool, true, false, cond, nat_eq, List, [], ◌∷◌, ◌++◌, Option, Some, None, length, take, drop, get_or, refl, sym, ap, subst, ◌∙◌, ⊎_elim, arith, append_assoc, append-nil}
+use Rattle.std.proofs.Common.{◌≡◌, ℕ, suc, ◌<◌, Bool, true, false, cond, nat_eq, List, [], ◌∷◌, ◌++◌, Option, Some, None, length, take, drop, get_or, refl, sym, ap, subst, ◌∙◌, arith, append_assoc, append-nil}
 use Rattle.std.specs.Prelude.{All, ⊤, if◌then◌else◌}
 use Rattle.std.specs.List.{slice_split, onto_first}
-use Rattle.std.proofs.lemmas.Bool.{cases_lt}
 use Rattle.std.proofs.lemmas.Bool.Decides.{nat_tests}
-use Rattle.std.proofs.lemmas.List.{take-append-drop, drop_more, drop_all}
+use Rattle.std.proofs.lemmas.List.{take-append-drop}
+use Rattle.std.proofs.lemmas.List.Elements.{All-nil, All-cons, All-drop}
 use Rattle.csv.specs.Machine.{next_record, Read, step, start_field, is_end, fields_after, field_after}
 use Rattle.csv.specs.Reading.{default_config}
 use Rattle.csv.specs.declared.parser.State.{State}
 use Rattle.csv.specs.declared.parser.State.TheVariants as st
 use Rattle.csv.specs.declared.parser.Action.{Action}
 use Rattle.csv.specs.declared.parser.Action.TheVariants as act
-use Rattle.csv_rows.specs.Readers.{rows_from}
-use Rattle.csv_rows.specs.Plain.{is_comma, is_line_end, line_start, IsPlain, IsPlainLine}
+use Rattle.csv_rows.specs.Readers.{rows_from, text_behind}
+use Rattle.csv_rows.specs.Plain.{is_comma, is_line_end, line_start, line_length, first_line, behind_line, HasNoQuote, IsPlain}
 use Rattle.csv_rows.proofs.CsvReads.{one_record, no_record}
 
 -- one byte is read
-pub stepped : (s : State) (before : List (List ℕ)) (p : List ℕ) (c : ℕ) (xs : List ℕ) (r : State × Action) → step default_config s c ≡ r
+stepped : (s : State) (before : List (List ℕ)) (p : List ℕ) (c : ℕ) (xs : List ℕ) (r : State × Action) → step default_config s c ≡ r
     → next_record default_config s before p (c ∷ xs) ≡ (if is_end r.1 then Some (fields_after r.1 before p, r.0, xs) else next_record default_config r.0 (fields_after r.1 before p) (field_after r.1 c p) xs)
 unfolding next_record
 stepped s before p c xs r is = ap (λ (q : State × Action). if is_end q.1 then Some (fields_after q.1 before p, q.0, xs) else next_record default_config q.0 (fields_after q.1 before p) (field_after q.1 c p) xs) is
@@ -53,7 +53,7 @@ step_cr c (a_feed is) = rw is refl
 step_cr c (a_comma is) = rw is refl
 step_cr c (another a b e) = rw b refl
 
-pub after_cr : (xs : List ℕ) → rows_from st.AfterCr xs ≡ rows_from st.StartRecord xs
+after_cr : (xs : List ℕ) → rows_from st.AfterCr xs ≡ rows_from st.StartRecord xs
 unfolding next_record
 after_cr [] = same_rows st.AfterCr st.StartRecord [] [] refl
 after_cr (c ∷ xs) = same_rows st.AfterCr st.StartRecord (c ∷ xs) (c ∷ xs) (stepped st.AfterCr [] [] c xs (step default_config st.StartRecord c) (step_cr c (kind_of c)))
@@ -213,11 +213,35 @@ line_rows line tail plain here =
     ∙ ap (λ (f : List (List ℕ)). f ∷ rows_from g.read.1 g.read.2) (g.fields ∙ onto_none line)
     ∙ ap (λ (rs : List (List (List ℕ))). slice_split is_comma line ∷ rs) g.rest
 
-end_here : (text : List ℕ) (count : ℕ) → IsPlainLine text count → EndsHere (drop count text)
-end_here text count line = ⊎_elim
-    (λ (small : count < length text). subst EndsHere (sym (drop_more text count 0 small)) (line.ended small))
-    (λ (over : length text ≤ count). subst EndsHere (sym (drop_all count text over)) tt)
-    (cases_lt count (length text))
+-- what is left of a text without quotes has none either
+rest_plain : (n : ℕ) (text : List ℕ) → HasNoQuote text → HasNoQuote (drop n text)
+rest_plain n text none = All-drop (λ (c : ℕ). nat_eq c 34 ≡ false) n text none
 
-pub cut_rows : (text : List ℕ) (count : ℕ) → IsPlainLine text count → rows_from st.StartField text ≡ slice_split is_comma (take count text) ∷ rows_from st.StartRecord (drop count text)
-cut_rows text count line = ap (rows_from st.StartField) (sym (take-append-drop count text)) ∙ line_rows (take count text) (drop count text) line.inside (end_here text count line)
+pub left_plain : (begun : Bool) (text : List ℕ) → HasNoQuote text → HasNoQuote (text_behind begun text)
+left_plain true text none = rest_plain (line_length text) text none
+left_plain false text none = none
+
+pub start_plain : (text : List ℕ) → HasNoQuote text → HasNoQuote (line_start text)
+start_plain [] none = none
+start_plain (c ∷ xs) none = by (is_line_end c) (start_plain xs (rest_plain 1 (c ∷ xs) none)) where
+  by : (b : Bool) → HasNoQuote (line_start xs) → HasNoQuote (if b then line_start xs else c ∷ xs)
+  by true more = more
+  by false more = none
+
+-- its first line is a plain one, and so the first record
+first_plain : (text : List ℕ) → HasNoQuote text → All IsPlain (first_line text)
+first_plain [] none = All-nil IsPlain
+first_plain (c ∷ xs) none = by (is_line_end c) refl (first_plain xs (rest_plain 1 (c ∷ xs) none)) where
+  by : (b : Bool) → is_line_end c ≡ b → All IsPlain (first_line xs) → All IsPlain (take (if b then 0 else suc (line_length xs)) (c ∷ xs))
+  by true is more = All-nil IsPlain
+  by false is more = All-cons IsPlain c (first_line xs) (is, none 0 0 (omega arith)) more
+
+ends_behind : (text : List ℕ) → EndsHere (behind_line text)
+ends_behind [] = tt
+ends_behind (c ∷ xs) = by (is_line_end c) refl (ends_behind xs) where
+  by : (b : Bool) → is_line_end c ≡ b → EndsHere (behind_line xs) → EndsHere (drop (if b then 0 else suc (line_length xs)) (c ∷ xs))
+  by true is more = is
+  by false is more = more
+
+pub line_record : (text : List ℕ) → HasNoQuote text → rows_from st.StartField text ≡ slice_split is_comma (first_line text) ∷ rows_from st.StartRecord (behind_line text)
+line_record text none = ap (rows_from st.StartField) (sym (take-append-drop (line_length text) text)) ∙ line_rows (first_line text) (behind_line text) (first_plain text none) (ends_behind text)

@@ -1,4 +1,3 @@
-pub mod Copies
 pub mod Datasets
 pub mod Loads
 pub mod Plain

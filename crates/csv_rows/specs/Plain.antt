@@ -1,5 +1,5 @@
 -- Lines without quotes, their fields, and the texts in which they stand.
-use Rattle.std.specs.Prelude.{ℕ, suc, ◌≡◌, ◌≤◌, ◌<◌, ◌+◌, ◌-◌, ◌==◌, ◌||◌, Bool, true, false, List, [], ◌∷◌, Option, IfSome, take, drop, length, get_or, All, if◌then◌else◌}
+use Rattle.std.specs.Prelude.{ℕ, suc, ◌≡◌, ◌≤◌, ◌<◌, ◌==◌, ◌||◌, Bool, true, false, List, [], ◌∷◌, Option, IfSome, take, drop, length, get_or, All, if◌then◌else◌}
 use Rattle.std.specs.List.{slice_split}
 
 abbrev pub is_comma : ℕ → Bool
@@ -25,15 +25,13 @@ first_line text = take (line_length text) text
 abbrev pub behind_line : List ℕ → List ℕ
 behind_line text = drop (line_length text) text
 
+-- no byte is a quote
+abbrev pub HasNoQuote : List ℕ → Type 0
+HasNoQuote text = All (λ byte. (byte == 34) ≡ false) text
+
 -- a byte of a line without quotes
 abbrev pub IsPlain : ℕ → Type 0
 IsPlain byte = (is_line_end byte ≡ false) × ((byte == 34) ≡ false)
-
--- the first line of a text has so many bytes, and no quote
-pub record IsPlainLine (bytes : List ℕ) (count : ℕ) : Type 0 where
-  pub within : count ≤ length bytes
-  pub inside : All IsPlain (take count bytes)
-  pub ended : count < length bytes → is_line_end (get_or bytes count 0) ≡ true
 
 -- the first field of what is left of a line has so many bytes
 pub record IsFirstField (bytes : List ℕ) (count : ℕ) : Type 0 where
@@ -57,8 +55,3 @@ pub record IsFieldHere (bytes : List ℕ) (count : ℕ) : Type 0 where
 pub record IsAt (text : List ℕ) (column start : ℕ) (known : Option ℕ) : Type 0 where
   pub field : IsField (first_line text) column start
   pub is : IfSome known (λ count. count ≡ line_length text)
-
--- a text has no quote before its last so many bytes, and a line ends where these begin, if they are neither none nor all
-pub record IsBare (text : List ℕ) (quoted : ℕ) : Type 0 where
-  pub bare : (k : ℕ) → k + quoted < length text → (get_or text k 0 == 34) ≡ false
-  pub ended : 0 < quoted → quoted < length text → is_line_end (get_or text (length text - quoted) 0) ≡ true

@@ -2,7 +2,7 @@
 #![tactic(auto)]
 
 mod columns;
-mod copied;
+mod copies;
 mod count;
 mod fault;
 mod laws;

@@ -5,13 +5,16 @@ ghost use Rattle.views.specs.Tallies.{Write, all_accesses};
 ghost use Rattle.views.specs.Tables.{leaf_count_of, after_stores};
 ghost use Rattle.csv_rows.specs.Datasets.{records_of, rows_of, table_from};
 ghost use Rattle.csv_rows.specs.Loads.{leaves_in, dataset_of, IsNoRefusal, Keeps, KeepsRows};
+ghost use Rattle.csv_rows.specs.Plain.{HasNoQuote};
 ghost use Rattle.csv_rows.specs.declared.fault.RowFault.TheVariants.{NoMemory};
 
 use crate::columns::leaf_columns;
+use crate::copies::copies_of;
 use crate::fault::RowFault;
 use crate::lines::lines_of;
-use crate::reads::{Records, without_marks};
+use crate::reads::{Records, has_quote, without_marks};
 use crate::rows::load_row;
+use record_dim::Schema;
 use std::alloc::Global;
 use std::sync::ledger::Ledger;
 use steps::Steps;
@@ -33,12 +36,29 @@ pub fn load_rows<L: Ledger>(
     ensures kept { IfErr result (λ f. Keeps view.old (records_of bytes.now) view.new f) }
     ensures same { OnOk result (view.new ≡ after_stores view.old view.new.rows (all_accesses Write (leaf_count_of view.old) (length view.old.rows))) }
 {
-    let mut records = lines_of(alloc, without_marks(bytes));
-    load_from(alloc, &mut records, view, steps)
+    let text = without_marks(bytes);
+    if has_quote(text) || goes_back(alloc, text, view.schema()) {
+        return load_from(alloc, &mut copies_of(alloc, bytes), view, steps);
+    }
+    load_from(alloc, &mut lines_of(text), view, steps)
 }
 
 // Whether the columns of the leaves stand in such an order that the fields of a line would be passed many times, as a line is gone through
-// from its start for a column that was passed: more fields are passed again than twice those up to the last column.
+// from its start for a column that was passed.
+fn goes_back(alloc: Global, text: &[u8], schema: &Schema) -> bool
+    requires { HasNoQuote text.now }
+{
+    let mut lines = lines_of(text);
+    let Ok(true) = lines.next() else {
+        return false;
+    };
+    match leaf_columns(alloc, &mut lines, schema) {
+        Ok(columns) => passes_many(columns.as_slice()),
+        Err(_) => false,
+    }
+}
+
+// Whether more fields are passed again than twice those up to the last column.
 fn passes_many(columns: &[usize]) -> bool {
     let mut before = 0;
     let mut most = 0;
@@ -73,7 +93,6 @@ fn load_from<R: Records, L: Ledger>(
         return Err(RowFault::MissingColumn { leaf: 0 });
     }
     let columns = leaf_columns(alloc, records, view.schema())?;
-    records.keep_fields(passes_many(columns.as_slice()));
     let mut room = [0; 64];
     let values = &mut room[..leaf_count];
     load_records(view, columns.as_slice(), values, records, steps)

@@ -1,12 +1,14 @@
 // The records of a dataset, read one after another.
-ghost use Rattle.std.specs.Prelude.{◌≡◌, ◌+◌, ◌<◌, ◌^◌, ◌∷◌, ℕ, ℤ, List, [], Option, IfOk, IfSome, MatchBool, option_map, nat_eq};
+ghost use Rattle.std.specs.Prelude.{◌≡◌, ◌+◌, ◌<◌, ◌^◌, ◌∷◌, ℕ, ℤ, List, [], Option, IfOk, IfSome, MatchBool, false, option_map, nat_eq};
 ghost use Rattle.std.specs.List.{slice_get};
 ghost use Rattle.std.specs.Cmp.Lexicographic.{pointwise};
 ghost use Rattle.csv.specs.Reading.{strip_bom};
 ghost use Rattle.csv_rows.specs.Datasets.{unspaced, number_of};
 ghost use Rattle.kept_numbers.specs.Far.{shortened};
+ghost use Rattle.csv_rows.specs.Plain.{HasNoQuote};
 ghost use Rattle.csv_rows.specs.Readers.{IsAsked};
 
+use memchr::memchr;
 use std::alloc::AllocError as NoMemory;
 
 /// Records that are read one after another. The one that was read last is asked for its fields: column after column is the fastest.
@@ -39,11 +41,13 @@ pub trait Records {
         requires { stands self.old }
         ensures number { result ≡ option_map (λ field. option_map shortened (number_of (unspaced field))) (slice_get (fields self.old) column) }
         ensures asked { IsAsked stands fields left self.old self.new };
+}
 
-    /// Says whether the fields of each record to come are kept. Then one is found as fast in any order of the columns.
-    fn keep_fields(&mut self, keeps: bool)
-        requires { stands self.old }
-        ensures { IsAsked stands fields left self.old self.new };
+/// Whether a byte is a quote.
+pub fn has_quote(bytes: &[u8]) -> bool
+    ensures { result ≡ false → HasNoQuote bytes.now }
+{
+    memchr(b'"', bytes).is_some()
 }
 
 /// The bytes that the records of a dataset are read from: behind a byte order mark, and behind one more, which `csv` drops.
@@ -53,9 +57,9 @@ pub fn without_marks(bytes: &[u8]) -> &[u8]
     without_mark(without_mark(bytes))
 }
 
-// The bytes behind a byte order mark.
+/// The bytes behind a byte order mark.
 #[tactic(auto, unfolding(csv::specs::Reading::strip_bom))]
-fn without_mark(bytes: &[u8]) -> &[u8]
+pub fn without_mark(bytes: &[u8]) -> &[u8]
     ensures { result.now ≡ strip_bom bytes.now }
 {
     if bytes.len() >= 3 && bytes[0] == 0xEF && bytes[1] == 0xBB && bytes[2] == 0xBF {

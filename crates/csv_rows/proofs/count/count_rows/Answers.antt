@@ -1,12 +1,13 @@
-use Rattle.std.proofs.Common.{◌≡◌, ◌∙◌, ap, sym, length, arith, rules, true}
+use Rattle.std.proofs.Common.{◌∙◌, ap, length, arith}
 use Rattle.csv.specs.declared.parser.State.TheVariants as st
 use Rattle.csv_rows.specs.Readers.{rows_from}
 use Rattle.csv_rows.proofs.CsvReads.{few_rows}
 use Rattle.csv_rows.proofs.count.count_rows.Goals as goal
 
-pub count_left-requires-clause-few : goal.count_left-requires-clause-few
-count_left-requires-clause-few c =
-    let found : c.in_ok-next.field-0 ≡ true = search rules in
-    let text = c.lines_of-records.ensures.rest ∙ c.without_marks.ensures in
-    let rows = ap length (sym (ap (rows_from st.StartRecord) text) ∙ (rw found at c.in_ok-next.ensures).1) in
-    omega (arith, few_rows c.args.bytes.now, rows)
+pub count_from-requires-clause-few : goal.count_from-requires-clause-few
+count_from-requires-clause-few c = omega (arith, few_rows c.args.bytes.now, ap length c.copies_of.ensures.records)
+
+pub count_from-requires-2-clause-few : goal.count_from-requires-2-clause-few
+count_from-requires-2-clause-few c =
+    let rows = ap (rows_from st.StartRecord) (c.lines_of.ensures.text ∙ c.without_marks-text.ensures) in
+    omega (arith, few_rows c.args.bytes.now, ap length rows)

@@ -37,9 +37,9 @@ returns-clause-loaded g c =
     let read = rw found at c.in_ok-next.ensures in
     let columns = rw c.schema-2.ensures.value at c.in_ok-columns.ensures.found in
     let fields = g.R.Records.fields c.next.new.self in
-    let rows = g.R.Records.left c.keep_fields.new.self in
-    let known : IsKnown c.args.view.now (g.R.Records.left c.args.records.now) rows c.in_ok-columns.columns.items = record { header = fields; parts = read.1 ∙ ap (λ (others : List (List (List ℕ))). fields ∷ others) (sym (c.keep_fields.ensures.behind ∙ c.in_ok-columns.ensures.asked.behind)); found = columns } in
-    dataset_loaded c.args.view.now (g.R.Records.left c.args.records.now) rows c.in_ok-columns.columns.items c.load_records.new.view.rows c.load_records.result known (rw c.as_slice-2.ensures.value at c.load_records.ensures.loaded)
+    let rows = g.R.Records.left c.leaf_columns.new.header in
+    let known : IsKnown c.args.view.now (g.R.Records.left c.args.records.now) rows c.in_ok-columns.columns.items = record { header = fields; parts = read.1 ∙ ap (λ (others : List (List (List ℕ))). fields ∷ others) (sym c.in_ok-columns.ensures.asked.behind); found = columns } in
+    dataset_loaded c.args.view.now (g.R.Records.left c.args.records.now) rows c.in_ok-columns.columns.items c.load_records.new.view.rows c.load_records.result known (rw c.as_slice.ensures.value at c.load_records.ensures.loaded)
 
 pub returns-clause-refused : goal.returns-clause-refused
 returns-clause-refused g c =
@@ -47,9 +47,9 @@ returns-clause-refused g c =
     let read = rw found at c.in_ok-next.ensures in
     let columns = rw c.schema-2.ensures.value at c.in_ok-columns.ensures.found in
     let fields = g.R.Records.fields c.next.new.self in
-    let rows = g.R.Records.left c.keep_fields.new.self in
-    let known : IsKnown c.args.view.now (g.R.Records.left c.args.records.now) rows c.in_ok-columns.columns.items = record { header = fields; parts = read.1 ∙ ap (λ (others : List (List (List ℕ))). fields ∷ others) (sym (c.keep_fields.ensures.behind ∙ c.in_ok-columns.ensures.asked.behind)); found = columns } in
-    dataset_refused c.args.view.now (g.R.Records.left c.args.records.now) rows c.in_ok-columns.columns.items c.load_records.result known (rw c.as_slice-2.ensures.value at c.load_records.ensures.refused)
+    let rows = g.R.Records.left c.leaf_columns.new.header in
+    let known : IsKnown c.args.view.now (g.R.Records.left c.args.records.now) rows c.in_ok-columns.columns.items = record { header = fields; parts = read.1 ∙ ap (λ (others : List (List (List ℕ))). fields ∷ others) (sym c.in_ok-columns.ensures.asked.behind); found = columns } in
+    dataset_refused c.args.view.now (g.R.Records.left c.args.records.now) rows c.in_ok-columns.columns.items c.load_records.result known (rw c.as_slice.ensures.value at c.load_records.ensures.refused)
 
 pub returns-clause-kept : goal.returns-clause-kept
 returns-clause-kept g c =
@@ -57,6 +57,6 @@ returns-clause-kept g c =
     let read = rw found at c.in_ok-next.ensures in
     let columns = rw c.schema-2.ensures.value at c.in_ok-columns.ensures.found in
     let fields = g.R.Records.fields c.next.new.self in
-    let rows = g.R.Records.left c.keep_fields.new.self in
-    let known : IsKnown c.args.view.now (g.R.Records.left c.args.records.now) rows c.in_ok-columns.columns.items = record { header = fields; parts = read.1 ∙ ap (λ (others : List (List (List ℕ))). fields ∷ others) (sym (c.keep_fields.ensures.behind ∙ c.in_ok-columns.ensures.asked.behind)); found = columns } in
-    dataset_keeps c.args.view.now (g.R.Records.left c.args.records.now) rows c.in_ok-columns.columns.items c.load_records.new.view c.load_records.result known (rw c.as_slice-2.ensures.value at c.load_records.ensures.kept)
+    let rows = g.R.Records.left c.leaf_columns.new.header in
+    let known : IsKnown c.args.view.now (g.R.Records.left c.args.records.now) rows c.in_ok-columns.columns.items = record { header = fields; parts = read.1 ∙ ap (λ (others : List (List (List ℕ))). fields ∷ others) (sym c.in_ok-columns.ensures.asked.behind); found = columns } in
+    dataset_keeps c.args.view.now (g.R.Records.left c.args.records.now) rows c.in_ok-columns.columns.items c.load_records.new.view c.load_records.result known (rw c.as_slice.ensures.value at c.load_records.ensures.kept)

@@ -1,0 +1,18 @@
+use Rattle.std.proofs.Common.{rules, ◌≡◌, ◌∙◌, ap, sym, List, ℕ, ℤ, Option, Some, None, option_map}
+use Rattle.csv.specs.Records.{fields_of}
+use Rattle.csv_rows.specs.Datasets.{unspaced, number_of}
+use Rattle.kept_numbers.specs.Far.{shortened}
+use Rattle.csv_rows.proofs.CsvReads.{same_at}
+use Rattle.csv_rows.proofs.copies.CopiesRecords.number.Goals as goal
+
+pub returns-in_err-field-clause-number : goal.returns-in_err-field-clause-number
+returns-in_err-field-clause-number c =
+    let number : List ℕ → Option ℤ = λ field. option_map shortened (number_of (unspaced field)) in
+    let none : c.from_residual.result ≡ None = search rules in
+    none ∙ ap (option_map number) (c.in_err-field.ensures.value ∙ sym (same_at (fields_of c.args.self.now.fields) c.args.column))
+
+pub returns-clause-number : goal.returns-clause-number
+returns-clause-number c =
+    let number : List ℕ → Option ℤ = λ field. option_map shortened (number_of (unspaced field)) in
+    ap (λ (n : Option ℤ). Some n) c.copied_number.ensures
+    ∙ ap (option_map number) (c.in_ok-field.ensures.value ∙ sym (same_at (fields_of c.args.self.now.fields) c.args.column))
