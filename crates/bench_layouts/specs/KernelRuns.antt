@@ -2,9 +2,8 @@
 use Rattle.std.specs.Prelude.{◌≡◌, ℕ, zero, suc, ◌*◌, ◌^◌, ◌<◌, ℤ, pos, neg_ℤ, ◌≤ℤ◌, List, length, map, Option, Some, None, unwrap_or, if◌then◌else◌, codes, bytes_eq}
 use Rattle.std.specs.List.{range_with_len}
 use Rattle.views.specs.Stores.{Answer}
-use Rattle.lane_kernels.specs.Kernels.{kernel_fault, number_of, run_rows}
+use Rattle.lane_kernels.specs.Kernels.{kernel_fault, number_of, run_rows, Ge}
 use Rattle.lane_kernels.specs.declared.fault.KernelFault.{KernelFault}
-use Rattle.lane_kernels.specs.declared.kernel.Compare.TheVariants.{Ge}
 use Rattle.lane_kernels.specs.declared.kernel.Kernel.{Kernel}
 use Rattle.lane_kernels.specs.declared.kernel.Kernel.TheVariants as kernel
 use Rattle.bench_layouts.specs.declared.kernels.KernelName.{KernelName}

@@ -1,9 +1,7 @@
 pub mod Stepping
 pub mod Logs
-pub mod Rows
-pub mod Numbers
 pub mod Changed
-pub mod Values
-pub mod BlockStores
-pub mod NearRows
-pub mod NearChanges
+pub mod Faults
+pub mod Numbers
+pub mod Stores
+pub mod Whole

@@ -1,8 +1,8 @@
--- Rows in blocks of so many lanes, and the rest one by one.
-use Rattle.std.proofs.Common.{◌≡◌, ℕ, zero, suc, ◌+◌, ◌-◌, ◌*◌, ◌/◌, ◌%◌, ◌<◌, ◌≤◌, ◌⊎◌, inl, inr, sym, ap, ◌∙◌, arith}
-use Rattle.std.proofs.Math.Nat.{add-div_right, add-mod_right, add-mul-div_right, div-eq_of_lt, mul_comm, mul-add, mul-le-mul_left}
+-- Rows that go together, in blocks of so many lanes and the rest one by one, or as many as may.
+use Rattle.std.proofs.Common.{◌≡◌, ℕ, zero, suc, ◌+◌, ◌-◌, ◌*◌, ◌/◌, ◌%◌, ◌<◌, ◌≤◌, ◌⊎◌, Bool, true, false, min, inl, inr, refl, sym, ap, ◌∙◌, arith}
+use Rattle.std.proofs.Math.Nat.{add-div_right, add-mod_right, add-mul-div_right, div-eq_of_lt, mod-eq_of_lt, mul_comm, mul-add, mul-le-mul_left, mul-le-mul_right}
 use Rattle.std.proofs.lemmas.Bool.Decides.{nat_tests}
-use Rattle.lane_kernels.specs.Blocks.{step_of, IsAt, cost}
+use Rattle.lane_kernels.specs.Blocks.{step_of, IsAt, sixteens, cost}
 use Rattle.lane_kernels.specs.Logs.{rows_read}
 
 pub at_start : (lanes count : ℕ) → 0 < lanes → IsAt lanes count 0
@@ -33,9 +33,6 @@ whole_even lanes count row some at room = elim at.even [ inl even ↦ even | inr
 pub whole_next : (lanes count row : ℕ) → 0 < lanes → IsAt lanes count row → row + lanes ≤ count → IsAt lanes count (row + lanes)
 whole_next lanes count row some at room = record { inside = room; even = inl (add-mod_right row lanes ∙ whole_even lanes count row some at room) }
 
-pub whole_cost : (lanes row : ℕ) → 0 < lanes → cost lanes (row + lanes) ≡ cost lanes row + 1
-whole_cost lanes row some = omega (arith, add-div_right row some, add-mod_right row lanes)
-
 -- the rest
 rest_quotient : (lanes count row : ℕ) → 0 < lanes → IsAt lanes count row → row < count → count < row + lanes → row / lanes ≡ count / lanes
 rest_quotient lanes count row some at small room = elim at.even [
@@ -48,40 +45,20 @@ rest_next lanes count row some at small room =
     let same = rest_quotient lanes count row some at small room in
     record { inside = omega arith; even = inr (quotient lanes (row + 1) (count / lanes) some (omega (arith, ap (λ (n : ℕ). lanes * n) same)) (omega arith)) }
 
-pub rest_cost : (lanes count row : ℕ) → 0 < lanes → IsAt lanes count row → row < count → count < row + lanes → cost lanes (row + 1) ≡ cost lanes row + 1
-rest_cost lanes count row some at small room =
-    let same = rest_quotient lanes count row some at small room in
-    let times = ap (λ (n : ℕ). lanes * n) same in
-    let next = quotient lanes (row + 1) (row / lanes) some (omega arith) (omega (arith, times)) in
-    let left = remainder lanes (row + 1) (row / lanes) some (omega arith) (omega (arith, times)) in
-    omega (arith, next, left)
-
 -- a step of either kind
 pub lt_or_le : (a b : ℕ) → (a < b) ⊎ (b ≤ a)
 lt_or_le a zero = inr (omega arith)
 lt_or_le zero (suc b) = inl (omega arith)
 lt_or_le (suc a) (suc b) = elim (lt_or_le a b) [ inl less ↦ inl (omega arith) | inr more ↦ inr (omega arith) ]
 
-step_whole : (lanes count row : ℕ) → row + lanes ≤ count → step_of lanes count row ≡ lanes
-step_whole lanes count row room = grind (arith, nat_tests)
-
-step_rest : (lanes count row : ℕ) → count < row + lanes → step_of lanes count row ≡ 1
-step_rest lanes count row room = grind (arith, nat_tests)
-
-pub record IsStep (lanes count row step : ℕ) : Type 0 where
-  pub next : IsAt lanes count (row + step)
-  pub cost : cost lanes (row + step) ≡ cost lanes row + 1
+-- so many rows that go together, of which no block is told from another where nothing counts accesses
+pub record IsStep (uncounted : Bool) (lanes count row step : ℕ) : Type 0 where
   pub some : 1 ≤ step
-  pub few : step ≤ lanes
+  pub few : step ≤ 256
   pub room : row + step ≤ count
-
-pub step_next : (lanes count row step : ℕ) → 0 < lanes → IsAt lanes count row → row < count → step ≡ step_of lanes count row → IsStep lanes count row step
-step_next lanes count row step some at small is = elim (lt_or_le count (row + lanes)) [
-  | inl room ↦ let one : step ≡ 1 = is ∙ step_rest lanes count row room in
-      rw one (record { next = rest_next lanes count row some at small room; cost = rest_cost lanes count row some at small room; some = omega arith; few = omega arith; room = omega arith })
-  | inr room ↦ let all : step ≡ lanes = is ∙ step_whole lanes count row room in
-      rw all (record { next = whole_next lanes count row some at room; cost = whole_cost lanes row some; some = omega arith; few = omega arith; room = room })
-]
+  pub cost : cost uncounted lanes (count - row) ≡ sixteens step + cost uncounted lanes (count - (row + step))
+  pub next : uncounted ≡ false → IsAt lanes count (row + step)
+  pub read : uncounted ≡ false → (refused : ℕ) → row ≤ refused → refused < row + step → rows_read lanes count refused ≡ row + step
 
 -- how many rows are read where one of this step is refused
 read_whole : (lanes count row : ℕ) → (row / lanes + 1) * lanes ≤ count → rows_read lanes count row ≡ (row / lanes + 1) * lanes
@@ -90,39 +67,90 @@ read_whole lanes count row room = grind (arith, nat_tests)
 read_rest : (lanes count row : ℕ) → count < (row / lanes + 1) * lanes → rows_read lanes count row ≡ row + 1
 read_rest lanes count row room = grind (arith, nat_tests)
 
-pub step_read : (lanes count row step refused : ℕ) → 0 < lanes → IsAt lanes count row → row < count → step ≡ step_of lanes count row → row ≤ refused → refused < row + step
-    → rows_read lanes count refused ≡ row + step
-step_read lanes count row step refused some at small is from inside = elim (lt_or_le count (row + lanes)) [
-  | inl room ↦ let one : step ≡ 1 = is ∙ step_rest lanes count row room in
-      let same = rest_quotient lanes count row some at small room in
-      let here : refused ≡ row = omega arith in
-      let times = ap (λ (n : ℕ). lanes * n) same in
-      let over : count < (row / lanes + 1) * lanes = omega (arith, times, mul_comm (row / lanes + 1) lanes, mul-add lanes (row / lanes) 1) in
-      rw (here, one) (read_rest lanes count row over)
-  | inr room ↦ let all : step ≡ lanes = is ∙ step_whole lanes count row room in
-      let even = whole_even lanes count row some at room in
-      let within : refused < row + lanes = omega arith in
-      let same = quotient lanes refused (row / lanes) some (omega arith) (omega arith) in
-      let end : (refused / lanes + 1) * lanes ≡ row + lanes = ap (λ (n : ℕ). (n + 1) * lanes) same ∙ omega (arith, mul_comm (row / lanes + 1) lanes, mul-add lanes (row / lanes) 1) in
-      rw all (read_whole lanes count refused (omega (arith, end)) ∙ end)
+-- a block
+whole_cost : (lanes left : ℕ) → 0 < lanes → lanes ≤ 16 → lanes ≤ left → left / lanes + left % lanes ≡ sixteens lanes + ((left - lanes) / lanes + (left - lanes) % lanes)
+whole_cost lanes left some few room =
+    let back : left ≡ left - lanes + lanes = omega arith in
+    let one : sixteens lanes ≡ 1 = omega arith in
+    ap (λ (n : ℕ). n / lanes + n % lanes) back ∙ omega (arith, one, add-div_right (left - lanes) some, add-mod_right (left - lanes) lanes)
+
+whole_read : (lanes count row refused : ℕ) → 0 < lanes → IsAt lanes count row → row + lanes ≤ count → row ≤ refused → refused < row + lanes → rows_read lanes count refused ≡ row + lanes
+whole_read lanes count row refused some at room from inside =
+    let even = whole_even lanes count row some at room in
+    let same = quotient lanes refused (row / lanes) some (omega arith) (omega arith) in
+    let end : (refused / lanes + 1) * lanes ≡ row + lanes = ap (λ (n : ℕ). (n + 1) * lanes) same ∙ omega (arith, mul_comm (row / lanes + 1) lanes, mul-add lanes (row / lanes) 1) in
+    read_whole lanes count refused (omega (arith, end)) ∙ end
+
+whole_step : (lanes count row : ℕ) → 0 < lanes → lanes ≤ 16 → IsAt lanes count row → row + lanes ≤ count → IsStep false lanes count row lanes
+whole_step lanes count row some few at room =
+    let less : count - (row + lanes) ≡ count - row - lanes = omega arith in
+    record {
+      some = some;
+      few = omega arith;
+      room = room;
+      cost = whole_cost lanes (count - row) some few (omega arith) ∙ ap (λ (n : ℕ). sixteens lanes + (n / lanes + n % lanes)) (sym less);
+      next = λ counted. whole_next lanes count row some at room;
+      read = λ counted refused from inside. whole_read lanes count row refused some at room from inside;
+    }
+
+-- a row of the rest
+rest_cost : (lanes left : ℕ) → left < lanes → left / lanes + left % lanes ≡ left
+rest_cost lanes left less = omega (arith, div-eq_of_lt less, mod-eq_of_lt less)
+
+rest_read : (lanes count row refused : ℕ) → 0 < lanes → IsAt lanes count row → row < count → count < row + lanes → refused ≡ row → rows_read lanes count refused ≡ row + 1
+rest_read lanes count row refused some at small room is =
+    let times = ap (λ (n : ℕ). lanes * n) (rest_quotient lanes count row some at small room) in
+    let over : count < (row / lanes + 1) * lanes = omega (arith, times, mul_comm (row / lanes + 1) lanes, mul-add lanes (row / lanes) 1) in
+    ap (rows_read lanes count) is ∙ read_rest lanes count row over
+
+rest_step : (lanes count row : ℕ) → 0 < lanes → IsAt lanes count row → row < count → count < row + lanes → IsStep false lanes count row 1
+rest_step lanes count row some at small room = record {
+  some = omega arith;
+  few = omega arith;
+  room = omega arith;
+  cost = omega (arith, rest_cost lanes (count - row) (omega arith), rest_cost lanes (count - (row + 1)) (omega arith));
+  next = λ counted. rest_next lanes count row some at small room;
+  read = λ counted refused from inside. rest_read lanes count row refused some at small room (omega arith);
+}
+
+-- as many as may
+free_step : (lanes count row : ℕ) → row < count → IsStep true lanes count row (min (count - row) 256)
+free_step lanes count row small = record {
+  some = omega arith;
+  few = omega arith;
+  room = omega arith;
+  cost = omega arith;
+  next = λ counted. absurd (let clash : true ≡ false = counted in cc);
+  read = λ counted. absurd (let clash : true ≡ false = counted in cc);
+}
+
+-- any of them
+counted_step : (lanes count row : ℕ) → 0 < lanes → lanes ≤ 16 → IsAt lanes count row → row < count → IsStep false lanes count row (step_of false lanes count row)
+counted_step lanes count row some few at small = elim (lt_or_le count (row + lanes)) [
+  | inl room ↦ let one : step_of false lanes count row ≡ 1 = grind (arith, nat_tests) in rw one (rest_step lanes count row some at small room)
+  | inr room ↦ let all : step_of false lanes count row ≡ lanes = grind (arith, nat_tests) in rw all (whole_step lanes count row some few at room)
 ]
 
--- no more steps than to the end
-quotients : (lanes count row : ℕ) → 0 < lanes → row ≤ count → row / lanes ≤ count / lanes
-quotients lanes count row some inside = elim (lt_or_le (count / lanes) (row / lanes)) [
-  | inl less ↦ let more : lanes * (count / lanes + 1) ≤ lanes * (row / lanes) = mul-le-mul_left lanes (omega arith) in
-      absurd (omega (arith, more, mul-add lanes (count / lanes) 1))
-  | inr enough ↦ enough
-]
+pub step_next : (uncounted : Bool) (lanes count row : ℕ) → 0 < lanes → lanes ≤ 16 → (uncounted ≡ false → IsAt lanes count row) → row < count → IsStep uncounted lanes count row (step_of uncounted lanes count row)
+step_next true lanes count row some few at small = free_step lanes count row small
+step_next false lanes count row some few at small = counted_step lanes count row some few (at refl) small
 
-pub at_cost : (lanes count row : ℕ) → 0 < lanes → IsAt lanes count row → cost lanes row ≤ cost lanes count
-at_cost lanes count row some at =
-    let most = quotients lanes count row some at.inside in
-    let inside = at.inside in
-    elim at.even [ inl even ↦ omega arith | inr same ↦ let times = ap (λ (n : ℕ). lanes * n) same in omega arith ]
+-- no more steps than in blocks
+pub most_cost : (uncounted : Bool) (lanes count : ℕ) → 0 < lanes → lanes ≤ 16 → cost uncounted lanes count ≤ count / lanes + count % lanes
+most_cost false lanes count some few = omega arith
+most_cost true lanes count some few =
+    let parts : lanes * (count / lanes) + count % lanes ≡ count = omega arith in
+    let most : lanes * (count / lanes) ≤ 16 * (count / lanes) = mul-le-mul_right (count / lanes) few in
+    omega (arith, parts, most)
 
-pub none_cost : (k lanes : ℕ) → 0 < lanes → k * cost lanes 0 ≡ 0
-none_cost k lanes some = let none : cost lanes 0 ≡ 0 = omega arith in ap (λ (n : ℕ). k * n) none ∙ omega arith
+-- the steps that were taken, and those that are left
+pub spent_more : (uncounted : Bool) (lanes count row step k begun now next : ℕ) → IsStep uncounted lanes count row step → now + k * cost uncounted lanes (count - row) ≡ begun + k * cost uncounted lanes count
+    → next ≡ now + k * sixteens step → next + k * cost uncounted lanes (count - (row + step)) ≡ begun + k * cost uncounted lanes count
+spent_more uncounted lanes count row step k begun now next does spent took =
+    let parts = ap (λ (n : ℕ). k * n) does.cost ∙ mul-add k (sixteens step) (cost uncounted lanes (count - (row + step))) in
+    omega (arith, parts)
 
-pub more_cost : (k cost next : ℕ) → next ≡ cost + 1 → k * next ≡ k * cost + k
-more_cost k cost next is = ap (λ (n : ℕ). k * n) is ∙ omega (arith, mul-add k cost 1)
+pub spent_most : (uncounted : Bool) (lanes count k begun now left : ℕ) → 0 < lanes → lanes ≤ 16 → now + k * left ≡ begun + k * cost uncounted lanes count → now ≤ begun + (k * (count / lanes + count % lanes) + lanes)
+spent_most uncounted lanes count k begun now left some few spent =
+    let most : k * cost uncounted lanes count ≤ k * (count / lanes + count % lanes) = mul-le-mul_left k (most_cost uncounted lanes count some few) in
+    omega (arith, most)

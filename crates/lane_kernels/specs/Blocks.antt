@@ -1,15 +1,21 @@
--- Rows in blocks of so many lanes, and the rest one by one.
-use Rattle.std.specs.Prelude.{ℕ, ◌≡◌, ◌+◌, ◌/◌, ◌%◌, ◌≤◌, ◌⊎◌, nat_le, if◌then◌else◌}
+-- How many rows go together, and the steps that they take.
+use Rattle.std.specs.Prelude.{ℕ, ◌≡◌, ◌+◌, ◌-◌, ◌/◌, ◌%◌, ◌≤◌, ◌⊎◌, Bool, true, false, min, nat_le, if◌then◌else◌}
 
--- how many of so many rows go together from one on
-abbrev pub step_of : ℕ → ℕ → ℕ → ℕ
-step_of lanes count row = if nat_le (row + lanes) count then lanes else 1
+-- how many of so many rows go together from one on: where nothing counts accesses 256, and else a block, or one of the rest
+abbrev pub step_of : Bool → ℕ → ℕ → ℕ → ℕ
+step_of true lanes count row = min (count - row) 256
+step_of false lanes count row = if nat_le lanes (count - row) then lanes else 1
 
 -- before this row stand whole blocks alone, or all of them
 pub record IsAt (lanes count row : ℕ) : Type 0 where
   pub inside : row ≤ count
   pub even : (row % lanes ≡ 0) ⊎ (row / lanes ≡ count / lanes)
 
--- the steps that it takes to come to a row
-abbrev pub cost : ℕ → ℕ → ℕ
-cost lanes row = row / lanes + row % lanes
+-- the steps of a read, or of a store, of rows that go together
+abbrev pub sixteens : ℕ → ℕ
+sixteens rows = (rows + 15) / 16
+
+-- the steps of so many rows, as they go together
+abbrev pub cost : Bool → ℕ → ℕ → ℕ
+cost true lanes rows = sixteens rows
+cost false lanes rows = rows / lanes + rows % lanes

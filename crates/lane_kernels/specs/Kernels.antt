@@ -1,31 +1,22 @@
 -- What a kernel makes of the rows of a table, row by row, and which number it gives.
-use Rattle.std.specs.Prelude.{ℕ, ◌+◌, ◌*◌, ◌/◌, ◌%◌, ◌≡◌, Bool, not, ℤ, pos, ◌+ℤ◌, ◌*ℤ◌, ◌≤ℤ◌, int_lt, int_le, List, [], ◌∷◌, ◌++◌, length, map, take, drop, fold, slice_set, Option, Some, None, Result, Ok, Err}
+use Rattle.std.specs.Prelude.{ℕ, ◌+◌, ◌*◌, ◌/◌, ◌%◌, ◌≡◌, ℤ, pos, ◌+ℤ◌, ◌*ℤ◌, ◌≤ℤ◌, List, [], ◌∷◌, ◌++◌, length, map, take, drop, fold, slice_set, Option, Some, None, Result, Ok, Err}
 use Rattle.std.specs.Int.{int_min, int_max}
 use Rattle.std.specs.List.{count_by}
 use Rattle.std.specs.Option.{option_or}
-use Rattle.std.specs.Ordering.{int_eq}
 use Rattle.views.specs.Tables.{Table, answer_of, kept_of, after_stores}
 use Rattle.views.specs.Stores.{Answer, Keeping}
 use Rattle.views.specs.declared.fault.StoreFault.TheVariants as store
 use Rattle.views.specs.declared.fault.StoreFault.{StoreFault}
 pub use Rattle.views.specs.Columns.{in_leaf, column, IsNarrowLeaf}
 pub use Rattle.lanes.specs.Blocks.{IsFactor, IsNarrow}
+pub use Rattle.lanes.specs.Plain.{compares}
+pub use Rattle.lanes.specs.declared.compare.Compare.{Compare}
+pub use Rattle.lanes.specs.declared.compare.Compare.TheVariants.{Eq, Ne, Lt, Le, Gt, Ge}
 use Rattle.lane_kernels.specs.Logs.{rows_log, fault_log}
 use Rattle.lane_kernels.specs.declared.fault.KernelFault.{KernelFault}
 use Rattle.lane_kernels.specs.declared.fault.KernelFault.TheVariants.{Empty, Range, Narrow}
-use Rattle.lane_kernels.specs.declared.kernel.Compare.{Compare}
-use Rattle.lane_kernels.specs.declared.kernel.Compare.TheVariants.{Eq, Ne, Lt, Le, Gt, Ge}
 use Rattle.lane_kernels.specs.declared.kernel.Kernel.{Kernel}
 use Rattle.lane_kernels.specs.declared.kernel.Kernel.TheVariants.{Axpy, Clamp, Sum, Least, Greatest, CountWhere}
-
--- whether a value compares so with a constant
-abbrev pub compares : Compare → ℤ → ℤ → Bool
-compares Eq value c = int_eq value c
-compares Ne value c = not (int_eq value c)
-compares Lt value c = int_lt value c
-compares Le value c = int_le value c
-compares Gt value c = int_lt c value
-compares Ge value c = int_le c value
 
 -- what a kernel stores in a row: a leaf and its value
 pub record Store : Type 0 where

@@ -1,5 +1,5 @@
-pub mod Changes
 pub mod Kernels
-pub mod Reductions
 pub mod Logs
 pub mod Blocks
+pub mod Runs
+pub mod Stubs

@@ -1,15 +1,21 @@
-// The rows of a view in blocks of so many, and the rest one by one.
+// How many rows of a view go together.
 ghost use Rattle.std.specs.Prelude.{◌≡◌, ◌+◌, ◌<◌, ◌≤◌, ◌^◌};
 ghost use Rattle.lane_kernels.specs.Blocks.{step_of};
 
-/// How many rows go together from this row on: a block, or one of the rest.
-pub fn step_at(row: u64, lanes: usize, count: u64) -> usize
+/// The most rows that go together.
+pub const RUN: usize = 256;
+
+/// How many rows go together from this one on: where nothing counts accesses as many as may, and else a block, or one of the rest.
+pub fn step_at(uncounted: bool, lanes: usize, count: u64, row: u64) -> usize
     requires few { lanes ≤ 16 }
     requires inside { row < count }
     requires small { count ≤ 2 ^ 24 }
-    ensures { result ≡ step_of lanes count row }
+    ensures { result ≡ step_of uncounted lanes count row }
 {
-    if row + lanes as u64 <= count {
+    let left = (count - row) as usize;
+    if uncounted {
+        left.min(RUN)
+    } else if lanes <= left {
         lanes
     } else {
         1

@@ -1,3 +1,8 @@
+ghost use Rattle.lane_kernels.specs.Runs.{IsOfNoRow};
+
+use crate::fault::KernelFault;
+use lanes::Compare;
+
 /// What is done with each row of a view. `x` and `y` are numbers of leaves, whose types have at most 32 bits.
 #[derive(Clone, Copy)]
 pub enum Kernel {
@@ -12,13 +17,15 @@ pub enum Kernel {
     CountWhere { x: usize, op: Compare, c: i64 },
 }
 
-/// How a value stands to a constant.
-#[derive(Clone, Copy)]
-pub enum Compare {
-    Eq,
-    Ne,
-    Lt,
-    Le,
-    Gt,
-    Ge,
+impl Kernel {
+    // What a kernel answers where there is no row.
+    pub(crate) fn of_no_row(&self) -> Result<Option<i64>, KernelFault>
+        ensures { IsOfNoRow self.now result }
+    {
+        match self {
+            Kernel::Axpy { .. } | Kernel::Clamp { .. } => Ok(None),
+            Kernel::Sum { .. } | Kernel::CountWhere { .. } => Ok(Some(0)),
+            Kernel::Least { .. } | Kernel::Greatest { .. } => Err(KernelFault::Empty),
+        }
+    }
 }

@@ -2,14 +2,13 @@
 #![tactic(auto)]
 
 mod blocks;
-mod changes;
 mod fault;
 mod kernel;
-mod near;
-mod near_changes;
 mod plain;
-mod reductions;
+mod rows;
+mod stubs;
 
 pub use fault::KernelFault;
-pub use kernel::{Compare, Kernel};
+pub use kernel::Kernel;
+pub use lanes::Compare;
 pub use plain::{run_lanes, run_plain};

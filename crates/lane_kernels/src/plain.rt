@@ -1,10 +1,11 @@
-ghost use Rattle.std.specs.Prelude.{◌+◌, ◌≤◌, length};
+ghost use Rattle.std.specs.Prelude.{◌≡◌, ◌+◌, ◌≤◌, length};
 ghost use Rattle.lane_kernels.specs.Kernels.{IsKernelOf, IsRun, kernel_cost};
 
-use crate::changes::{Change, change_rows};
+use crate::blocks::{RUN, step_at};
 use crate::fault::KernelFault;
 use crate::kernel::Kernel;
-use crate::reductions::{Reduction, reduce_rows};
+use crate::rows::on_rows;
+use crate::stubs::Runs;
 use std::sync::ledger::Ledger;
 use steps::Steps;
 use views::View;
@@ -12,7 +13,7 @@ use views::View;
 /// Runs a kernel in blocks of 1 to 16 rows, and the rest row by row. Each value is stored as the view keeps it. `Range` and `Narrow` come
 /// exactly where the view is strict and a value to store does not fit, and name the first row; exactly the rows before it are changed.
 /// `Empty` comes exactly where a least or greatest value is asked of no row. It takes no memory.
-pub fn run_lanes<L: Ledger>(
+pub fn run_lanes<L: Ledger, S: Runs>(
     view: &mut View,
     kernel: &Kernel,
     lanes: usize,
@@ -24,25 +25,13 @@ pub fn run_lanes<L: Ledger>(
     ensures run { IsRun view.old view.new kernel.now lanes result }
     ensures steps { steps.new ≤ steps.old + kernel_cost kernel.now lanes (length view.old.rows) }
 {
-    match *kernel {
-        Kernel::Axpy { a, x, y } => change_rows(view, &Change::Axpy { a, x, y }, lanes, steps),
-        Kernel::Clamp { x, lo, hi } => change_rows(
-            view,
-            &Change::Clamp { x, lo, hi },
-            lanes,
-            steps,
-        ),
-        Kernel::Sum { x } => reduce_rows(view, x, &Reduction::Sum, lanes, steps),
-        Kernel::Least { x } => reduce_rows(view, x, &Reduction::Least, lanes, steps),
-        Kernel::Greatest { x } => reduce_rows(view, x, &Reduction::Greatest, lanes, steps),
-        Kernel::CountWhere { x, op, c } => {
-            reduce_rows(view, x, &Reduction::Count { op, c }, lanes, steps)
-        }
-    }
+    let mut values = [0; RUN];
+    let mut added = [0; RUN];
+    run_rows::<L, S>(view, kernel, lanes, &mut values, &mut added, steps)
 }
 
 /// The same row by row.
-pub fn run_plain<L: Ledger>(
+pub fn run_plain<L: Ledger, S: Runs>(
     view: &mut View,
     kernel: &Kernel,
     steps: &mut Steps<L>,
@@ -51,5 +40,45 @@ pub fn run_plain<L: Ledger>(
     ensures run { IsRun view.old view.new kernel.now 1 result }
     ensures steps { steps.new ≤ steps.old + kernel_cost kernel.now 1 (length view.old.rows) }
 {
-    run_lanes(view, kernel, 1, steps)
+    run_lanes::<L, S>(view, kernel, 1, steps)
+}
+
+// The loop over all rows. Where nothing counts accesses, a block is as many rows as a buffer holds: then no block is told from another.
+fn run_rows<L: Ledger, S: Runs>(
+    view: &mut View,
+    kernel: &Kernel,
+    lanes: usize,
+    values: &mut [i64],
+    added: &mut [i64],
+    steps: &mut Steps<L>,
+) -> Result<Option<i64>, KernelFault>
+    requires kernel { IsKernelOf view.old kernel.now }
+    requires some { 1 ≤ lanes }
+    requires few { lanes ≤ 16 }
+    requires values { length values.old ≡ 256 }
+    requires added { length added.old ≡ 256 }
+    ensures run { IsRun view.old view.new kernel.now lanes result }
+    ensures steps { steps.new ≤ steps.old + kernel_cost kernel.now lanes (length view.old.rows) }
+{
+    let count = view.extents().count();
+    if count == 0 {
+        return kernel.of_no_row();
+    }
+    let uncounted = S::counts_nothing(view);
+    let mut number = None;
+    let mut row = 0;
+    while row < count {
+        let step = step_at(uncounted, lanes, count, row);
+        number = on_rows::<L, S>(
+            view,
+            kernel,
+            row,
+            number,
+            &mut values[..step],
+            &mut added[..step],
+            steps,
+        )?;
+        row += step as u64;
+    }
+    Ok(number)
 }

@@ -1,4 +1,3 @@
 pub mod Lanes
-pub mod Narrow
 pub mod Firsts
 pub mod InPlace

@@ -1,3 +1,4 @@
 pub mod Blocks
 pub mod BlockLaws
 pub mod Plain
+pub mod NarrowLaws

@@ -59,7 +59,11 @@ pub fn count<T: PrimInt>(op: Compare, c: T, values: &[T]) -> usize
 fn count_by<T: PrimInt>(op: Compare, c: T, values: &[T]) -> usize
     ensures { result ≡ count_by (λ x. compares op (T.value x) (T.value c)) values.now }
 {
-    values.iter().filter(|value| op.holds(**value, c)).count()
+    let mut count = 0;
+    for value in values {
+        count += usize::from(op.holds(*value, c));
+    }
+    count
 }
 
 /// Brings each value into `lo` to `hi`.

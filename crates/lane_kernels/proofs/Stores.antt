@@ -1,0 +1,143 @@
+-- The table after the rows that a kernel goes through together.
+use Rattle.std.proofs.Common.{◌≡◌, ℕ, ◌+◌, ◌≤◌, List, [], ◌∷◌, ◌++◌, length, map, take, drop, ℤ, ◌+ℤ◌, ◌*ℤ◌, Option, None, refl, sym, ap, subst, ◌∙◌, arith, length-take, length-drop}
+use Rattle.std.specs.Prelude.{option_map}
+use Rattle.std.specs.Int.{int_min, int_max}
+use Rattle.std.specs.List.{flat_map, range_with_len}
+use Rattle.std.specs.Simd.Lanes.{zip2}
+use Rattle.std.proofs.lemmas.Simd.{map-map, zip2-map}
+use Rattle.std.proofs.lemmas.List.{append-nil, length-map, take-map, take-take}
+use Rattle.std.proofs.lemmas.List.Concat.{flat_map-cons}
+use Rattle.places.specs.Layout.{Owner}
+use Rattle.views.specs.Columns.{in_leaf, column, column_reads, column_writes, with_column, first_lane_fault}
+use Rattle.views.specs.Tables.{Table, owners_of, answer_of, kept_of, after_log, after_stores}
+use Rattle.views.specs.TallyLaws.{after_log-append, after_stores-append, tallied-append}
+use Rattle.views.specs.OrderLaws.{tallied-kinds}
+use Rattle.views.specs.Tallies.{Access, Read, Write, Tally, tallied}
+use Rattle.lane_kernels.specs.Kernels.{stored, first_fault, run_rows}
+use Rattle.lane_kernels.specs.Logs.{reads_on, writes_on}
+use Rattle.lane_kernels.specs.Runs.{named_row, rows_done, AreTaken}
+use Rattle.lane_kernels.specs.Stubs.{stored_count}
+use Rattle.lane_kernels.specs.declared.fault.KernelFault.{KernelFault}
+use Rattle.lane_kernels.specs.declared.kernel.Kernel.{Kernel}
+use Rattle.lane_kernels.specs.declared.kernel.Kernel.TheVariants.{Axpy, Clamp}
+use Rattle.lane_kernels.proofs.Changed.{DoesStore, rows_stored, rows_passed}
+use Rattle.lane_kernels.proofs.Faults.{faults_alike, no_fault, done_inside, done_stored}
+
+-- a log of one access in each row
+each_access : (access : ℕ → Access) (logs : ℕ → List Access) (rows : List ℕ) → ((row : ℕ) → logs row ≡ access row ∷ []) → map access rows ≡ flat_map logs rows
+each_access access logs [] is = refl
+each_access access logs (row ∷ rows) is =
+    ap (λ (log : List Access). access row ∷ log) (each_access access logs rows is)
+    ∙ ap (λ (log : List Access). log ++ flat_map logs rows) (sym (is row)) ∙ sym (flat_map-cons logs row rows)
+
+no_access : (logs : ℕ → List Access) (rows : List ℕ) → ((row : ℕ) → logs row ≡ []) → flat_map logs rows ≡ []
+no_access logs [] none = refl
+no_access logs (row ∷ rows) none = flat_map-cons logs row rows ∙ ap (λ (log : List Access). log ++ flat_map logs rows) (none row) ∙ no_access logs rows none
+
+-- the reads of one leaf, and of two
+abbrev pub IsReadOf : Kernel → ℕ → ℕ → List Access → Type 0
+IsReadOf kernel row count log = (layout : List (List Owner)) (tally : Tally) → tallied layout tally log ≡ tallied layout tally (flat_map (reads_on kernel) (range_with_len row count))
+
+pub one_read : (kernel : Kernel) (x row count : ℕ) → ((at : ℕ) → reads_on kernel at ≡ Read at x ∷ []) → IsReadOf kernel row count (column_reads x row count)
+one_read kernel x row count is layout tally = ap (tallied layout tally) (each_access (λ at. Read at x) (reads_on kernel) (range_with_len row count) is)
+
+pub two_reads : (kernel : Kernel) (x y row count : ℕ) → ((at : ℕ) → reads_on kernel at ≡ Read at x ∷ Read at y ∷ []) → IsReadOf kernel row count (column_reads x row count ++ column_reads y row count)
+two_reads kernel x y row count is layout tally =
+    let rows = range_with_len row count in
+    let one : ℕ → List Access = λ at. Read at x ∷ [] in
+    let other : ℕ → List Access = λ at. Read at y ∷ [] in
+    ap (λ (log : List Access). tallied layout tally (log ++ column_reads y row count)) (each_access (λ at. Read at x) one rows (λ at. refl))
+    ∙ ap (λ (log : List Access). tallied layout tally (flat_map one rows ++ log)) (each_access (λ at. Read at y) other rows (λ at. refl))
+    ∙ sym (tallied-kinds layout tally one other rows)
+    ∙ ap (tallied layout tally) (alike rows)
+  where
+    alike : (rows : List ℕ) → flat_map (λ at. (Read at x ∷ []) ++ (Read at y ∷ [])) rows ≡ flat_map (reads_on kernel) rows
+    alike [] = refl
+    alike (at ∷ rows) =
+        flat_map-cons (λ at. (Read at x ∷ []) ++ (Read at y ∷ [])) at rows ∙ ap (λ (log : List Access). Read at x ∷ Read at y ∷ log) (alike rows)
+        ∙ ap (λ (log : List Access). log ++ flat_map (reads_on kernel) rows) (sym (is at)) ∙ sym (flat_map-cons (reads_on kernel) at rows)
+
+-- rows in which values are stored
+pub rows_changed : (old read new : Table) (kernel : Kernel) (leaf row count : ℕ) (value : List ℤ → ℤ) (values : List ℤ) (reads : List Access) (fault : Option KernelFault)
+    → DoesStore kernel leaf value → ((at : ℕ) → writes_on kernel at ≡ Write at leaf ∷ []) → IsReadOf kernel row count reads → read ≡ after_log old reads
+    → values ≡ map value (take count (drop row old.rows)) → row + count ≤ length old.rows
+    → fault ≡ option_map (named_row row leaf) (first_lane_fault (answer_of read) leaf 0 values)
+    → new ≡ after_stores read (with_column leaf row (map (kept_of read leaf) (take (stored_count (length values) (first_lane_fault (answer_of read) leaf 0 values)) values)) read.rows)
+    (column_writes leaf row (stored_count (length values) (first_lane_fault (answer_of read) leaf 0 values)))
+    → AreTaken old new kernel row count fault
+rows_changed old read new kernel leaf row count value values reads fault does writes reads_are read_is values_are room told wrote =
+    let rows = take count (drop row old.rows) in
+    let long : length rows ≡ count = omega (arith, length-take count (drop row old.rows), length-drop row old.rows) in
+    let here : row + 0 ≡ row = omega arith in
+    let own : first_lane_fault (answer_of read) leaf 0 values ≡ first_lane_fault (answer_of old) leaf 0 (map value rows) =
+    ap (λ (t : Table). first_lane_fault (answer_of t) leaf 0 values) read_is ∙ ap (first_lane_fault (answer_of old) leaf 0) values_are in
+    let is : fault ≡ first_fault (answer_of old) kernel row rows =
+    told ∙ ap (option_map (named_row row leaf)) own ∙ sym (faults_alike (answer_of old) kernel leaf row 0 value rows does) ∙ ap (λ (n : ℕ). first_fault (answer_of old) kernel n rows) here in
+    let f = first_lane_fault (answer_of read) leaf 0 values in
+    let done = rows_done row count fault in
+    let many : length values ≡ count = ap length values_are ∙ length-map rows value ∙ long in
+    let stored_is : stored_count (length values) f ≡ done = ap (λ (n : ℕ). stored_count n f) many ∙ sym (done_stored row leaf count f) ∙ ap (rows_done row count) (sym told) in
+    let few : done ≤ count = subst (λ (n : ℕ). rows_done row n fault ≤ n) long (done_inside (answer_of old) kernel row rows fault (sym is)) in
+    let first : take done values ≡ map value (take done (drop row old.rows)) =
+    ap (take done) values_are ∙ take-map value done rows ∙ ap (map value) (take-take done count (drop row old.rows) few) in
+    let changed = take row old.rows ++ run_rows (kept_of old) kernel done (drop row old.rows) in
+    record {
+      named = is;
+      after = wrote
+          ∙ ap (λ (n : ℕ). after_stores read (with_column leaf row (map (kept_of read leaf) (take n values)) read.rows) (column_writes leaf row n)) stored_is
+          ∙ ap (λ (t : Table). after_stores t (with_column leaf row (map (kept_of t leaf) (take done values)) t.rows) (column_writes leaf row done)) read_is
+          ∙ ap (λ (vs : List ℤ). after_stores (after_log old reads) (with_column leaf row (map (kept_of old leaf) vs) old.rows) (column_writes leaf row done)) first
+          ∙ ap (λ (rs : List (List ℤ)). after_stores (after_log old reads) rs (column_writes leaf row done)) (rows_stored (kept_of old) kernel leaf row done value old.rows (omega arith) does)
+          ∙ after_stores-append old old.rows changed reads (column_writes leaf row done)
+          ∙ ap (λ (t : Tally). record old { rows = changed; tally = t }) (counted_alike (owners_of old) old.tally done);
+    }
+  where
+    counted_alike : (layout : List (List Owner)) (tally : Tally) (done : ℕ)
+        → tallied layout tally (reads ++ column_writes leaf row done) ≡ tallied layout tally (flat_map (reads_on kernel) (range_with_len row count) ++ flat_map (writes_on kernel) (range_with_len row done))
+    counted_alike layout tally done =
+        sym (tallied-append layout tally reads (column_writes leaf row done))
+        ∙ ap (λ (t : Tally). tallied layout t (column_writes leaf row done)) (reads_are layout tally)
+        ∙ tallied-append layout tally (flat_map (reads_on kernel) (range_with_len row count)) (column_writes leaf row done)
+        ∙ ap (λ (log : List Access). tallied layout tally (flat_map (reads_on kernel) (range_with_len row count) ++ log)) (each_access (λ at. Write at leaf) (writes_on kernel) (range_with_len row done) writes)
+
+-- rows of which a leaf is read alone
+pub rows_read_alone : (old new : Table) (kernel : Kernel) (x row count : ℕ) → ((values : List ℤ) → stored kernel values ≡ None) → ((at : ℕ) → reads_on kernel at ≡ Read at x ∷ [])
+    → ((at : ℕ) → writes_on kernel at ≡ []) → new ≡ after_log old (column_reads x row count) → AreTaken old new kernel row count None
+rows_read_alone old new kernel x row count none reads writes read = record {
+  named = sym (no_fault (answer_of old) kernel row (take count (drop row old.rows)) none);
+  after = read
+      ∙ ap (after_log old) (each_access (λ at. Read at x) (reads_on kernel) (range_with_len row count) reads ∙ sym (append-nil (flat_map (reads_on kernel) (range_with_len row count))))
+      ∙ ap (λ (log : List Access). after_log old (flat_map (reads_on kernel) (range_with_len row count) ++ log)) (sym (no_access (writes_on kernel) (range_with_len row count) writes))
+      ∙ ap (λ (rows : List (List ℤ)). after_stores old rows (flat_map (reads_on kernel) (range_with_len row count) ++ flat_map (writes_on kernel) (range_with_len row count)))
+      (sym (rows_passed (kept_of old) kernel row count old.rows none));
+}
+
+-- the two kernels that store
+pub axpy_taken : (old first read new : Table) (a : ℤ) (x y row count : ℕ) (xs ys values : List ℤ) (fault : Option KernelFault)
+    → first ≡ after_log old (column_reads x row count) → read ≡ after_log first (column_reads y row count)
+    → xs ≡ column x (take count (drop row old.rows)) → ys ≡ column y (take count (drop row first.rows)) → values ≡ zip2 (λ v w. a *ℤ v +ℤ w) xs ys → row + count ≤ length old.rows
+    → fault ≡ option_map (named_row row y) (first_lane_fault (answer_of read) y 0 values)
+    → new ≡ after_stores read (with_column y row (map (kept_of read y) (take (stored_count (length values) (first_lane_fault (answer_of read) y 0 values)) values)) read.rows)
+    (column_writes y row (stored_count (length values) (first_lane_fault (answer_of read) y 0 values)))
+    → AreTaken old new (Axpy a x y) row count fault
+axpy_taken old first read new a x y row count xs ys values fault one other xs_are ys_are made room told wrote =
+    let rows = take count (drop row old.rows) in
+    rows_changed old read new (Axpy a x y) y row count (λ seen. a *ℤ in_leaf x seen +ℤ in_leaf y seen) values (column_reads x row count ++ column_reads y row count) fault
+    (record { stores = λ seen. refl }) (λ at. refl) (two_reads (Axpy a x y) x y row count (λ at. refl))
+    (other ∙ ap (λ (t : Table). after_log t (column_reads y row count)) one ∙ after_log-append old (column_reads x row count) (column_reads y row count))
+    (made ∙ ap (λ (vs : List ℤ). zip2 (λ v w. a *ℤ v +ℤ w) vs ys) xs_are
+    ∙ ap (zip2 (λ v w. a *ℤ v +ℤ w) (column x rows)) (ys_are ∙ ap (λ (t : Table). column y (take count (drop row t.rows))) one)
+    ∙ zip2-map (λ v w. a *ℤ v +ℤ w) (in_leaf x) (in_leaf y) rows)
+    room told wrote
+
+pub clamp_taken : (old read new : Table) (x : ℕ) (lo hi : ℤ) (row count : ℕ) (xs values : List ℤ) (fault : Option KernelFault)
+    → read ≡ after_log old (column_reads x row count) → xs ≡ column x (take count (drop row old.rows)) → values ≡ map (λ v. int_max lo (int_min v hi)) xs → row + count ≤ length old.rows
+    → fault ≡ option_map (named_row row x) (first_lane_fault (answer_of read) x 0 values)
+    → new ≡ after_stores read (with_column x row (map (kept_of read x) (take (stored_count (length values) (first_lane_fault (answer_of read) x 0 values)) values)) read.rows)
+    (column_writes x row (stored_count (length values) (first_lane_fault (answer_of read) x 0 values)))
+    → AreTaken old new (Clamp x lo hi) row count fault
+clamp_taken old read new x lo hi row count xs values fault one xs_are made room told wrote =
+    rows_changed old read new (Clamp x lo hi) x row count (λ seen. int_max lo (int_min (in_leaf x seen) hi)) values (column_reads x row count) fault
+    (record { stores = λ seen. refl }) (λ at. refl) (one_read (Clamp x lo hi) x row count (λ at. refl)) one
+    (made ∙ ap (map (λ v. int_max lo (int_min v hi))) xs_are ∙ map-map (λ v. int_max lo (int_min v hi)) (in_leaf x) (take count (drop row old.rows)))
+    room told wrote

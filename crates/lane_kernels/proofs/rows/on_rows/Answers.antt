@@ -1,0 +1,172 @@
+use Rattle.std.proofs.Common.{rules, ◌≡◌, ◌*ℤ◌, ◌+ℤ◌, List, ℤ, pos, Some, length, get_or, take, drop, map, fold, to_z, of_z, w64, SFits, refl, sym, ap, subst, ◌∙◌}
+use Rattle.std.specs.Int.{int_min, int_max}
+use Rattle.std.specs.List.{count_by}
+use Rattle.std.specs.Option.{unwrap_or}
+use Rattle.std.specs.Simd.Lanes.{Each1, zip2}
+use Rattle.std.proofs.lemmas.Int.{to_z-of_z}
+use Rattle.std.proofs.lemmas.List.{map-id}
+use Rattle.lanes.specs.NarrowLaws.{products_fit}
+use Rattle.views.specs.Columns.{column}
+use Rattle.lane_kernels.specs.Kernels.{IsNarrow, compares}
+use Rattle.lane_kernels.specs.Runs.{fault_in, number_so_far}
+use Rattle.lane_kernels.specs.declared.kernel.Kernel.TheVariants.{Sum, Least, Greatest, CountWhere}
+use Rattle.lane_kernels.proofs.Numbers.{HasNumber, narrow_rows, sum_more, least_more, greatest_more, count_more, sums_fit, count_fits, count_whole}
+use Rattle.lane_kernels.proofs.Stores.{axpy_taken, clamp_taken, rows_read_alone}
+use Rattle.lane_kernels.proofs.rows.on_rows.Given as given
+use Rattle.lane_kernels.proofs.rows.on_rows.Goals as goal
+
+pub times_plus-requires-clause-fit : goal.times_plus-requires-clause-fit
+times_plus-requires-clause-fit g c =
+    let n = length c.args.values.now in
+    let row = c.args.row in
+    let rows = c.args.view.now.rows in
+    let fits : SFits w64 c.in-Axpy.a = search rules in
+    let kernel = rw c.in-Axpy.is at c.requires.kernel in
+    let first = subst (Each1 IsNarrow) (sym c.read_rows.ensures.values) (narrow_rows c.in-Axpy.x row n rows c.read_rows.ensures.narrow) in
+    let second = subst (Each1 IsNarrow) (sym c.read_rows-in-Axpy.ensures.values) (narrow_rows c.in-Axpy.y row (length c.args.added.now) c.read_rows.new.view.rows c.read_rows-in-Axpy.ensures.narrow) in
+    rw (to_z-of_z w64 c.in-Axpy.a fits) (products_fit c.in-Axpy.a c.read_rows.new.values c.read_rows-in-Axpy.new.values kernel.0 first second)
+
+pub returns-in-Axpy-clause-taken : goal.returns-in-Axpy-clause-taken
+returns-in-Axpy-clause-taken g c =
+    let n = length c.args.values.now in
+    let row = c.args.row in
+    let a = c.in-Axpy.a in
+    let x = c.in-Axpy.x in
+    let y = c.in-Axpy.y in
+    let xs = c.read_rows.new.values in
+    let ys = c.read_rows-in-Axpy.new.values in
+    let fits : SFits w64 a = search rules in
+    let other = rw c.requires.beside at c.read_rows-in-Axpy.ensures.same in
+    let second = rw c.requires.beside at c.read_rows-in-Axpy.ensures.values in
+    let made : c.times_plus.new.values ≡ zip2 (λ v w. a *ℤ v +ℤ w) xs ys =
+    sym (map-id c.times_plus.new.values) ∙ c.times_plus.ensures ∙ ap (λ (z : ℤ). zip2 (λ v w. z *ℤ v +ℤ w) xs ys) (to_z-of_z w64 a fits) in
+    rw c.in-Axpy.is (axpy_taken c.args.view.now c.read_rows.new.view c.read_rows-in-Axpy.new.view c.store_rows.new.view a x y row n xs ys c.times_plus.new.values (fault_in c.store_rows.result)
+    c.read_rows.ensures.same other c.read_rows.ensures.values second made c.requires.rows_in c.store_rows.ensures.fault c.store_rows.ensures.stored)
+
+pub returns-in-Clamp-clause-taken : goal.returns-in-Clamp-clause-taken
+returns-in-Clamp-clause-taken g c =
+    let read = c.read_rows-in-Clamp in
+    let lo = c.in-Clamp.lo in
+    let hi = c.in-Clamp.hi in
+    let xs = c.read_rows-in-Clamp.new.values in
+    let low : SFits w64 lo = search rules in
+    let high : SFits w64 hi = search rules in
+    let made : c.clamp.new.values ≡ map (λ v. int_max lo (int_min v hi)) xs =
+    sym (map-id c.clamp.new.values) ∙ c.clamp.ensures ∙ ap (λ (z : ℤ). map (λ v. int_max z (int_min v (to_z w64 (of_z w64 hi)))) xs) (to_z-of_z w64 lo low)
+    ∙ ap (λ (z : ℤ). map (λ v. int_max lo (int_min v z)) xs) (to_z-of_z w64 hi high) in
+    rw c.in-Clamp.is (clamp_taken c.args.view.now c.read_rows-in-Clamp.new.view c.store_rows-in-Clamp.new.view c.in-Clamp.x lo hi c.args.row (length c.args.values.now) xs c.clamp.new.values (fault_in c.store_rows-in-Clamp.result)
+    c.read_rows-in-Clamp.ensures.same c.read_rows-in-Clamp.ensures.values made c.requires.rows_in c.store_rows-in-Clamp.ensures.fault c.store_rows-in-Clamp.ensures.stored)
+
+pub sum-requires : goal.sum-requires
+sum-requires g c =
+    let x = c.in-Sum.x in
+    let rows = c.args.view.now.rows in
+    let fits : SFits w64 c.unwrap_or.result = search rules in
+    let start : to_z w64 (of_z w64 c.unwrap_or.result) ≡ unwrap_or c.args.number (pos 0) = to_z-of_z w64 c.unwrap_or.result fits ∙ c.unwrap_or.ensures in
+    let so_far : c.args.number ≡ number_so_far (Sum x) (take c.args.row rows) = rw c.in-Sum.is at c.requires.number in
+    let has : HasNumber (Sum x) rows c.args.row (length c.args.values.now) c.args.number = record { so_far = so_far; some = c.requires.some; room = c.requires.rows_in } in
+    rw (start, c.read_rows-in-Sum.ensures.values) (sums_fit x rows c.args.row (length c.args.values.now) c.args.number c.requires.few c.read_rows-in-Sum.ensures.narrow has)
+
+pub returns-in-Sum-clause-taken : goal.returns-in-Sum-clause-taken
+returns-in-Sum-clause-taken g c =
+    let x = c.in-Sum.x in
+    rw c.in-Sum.is (rows_read_alone c.args.view.now c.read_rows-in-Sum.new.view (Sum x) x c.args.row (length c.args.values.now) (λ seen. refl) (λ at. refl) (λ at. refl) c.read_rows-in-Sum.ensures.same)
+
+pub returns-in-Sum-clause-number : goal.returns-in-Sum-clause-number
+returns-in-Sum-clause-number g c =
+    let x = c.in-Sum.x in
+    let rows = c.args.view.now.rows in
+    let values = c.read_rows-in-Sum.new.values in
+    let fits : SFits w64 c.unwrap_or.result = search rules in
+    let sum : SFits w64 c.sum.result = search rules in
+    let start : to_z w64 (of_z w64 c.unwrap_or.result) ≡ unwrap_or c.args.number (pos 0) = to_z-of_z w64 c.unwrap_or.result fits ∙ c.unwrap_or.ensures in
+    let so_far : c.args.number ≡ number_so_far (Sum x) (take c.args.row rows) = rw c.in-Sum.is at c.requires.number in
+    let has : HasNumber (Sum x) rows c.args.row (length c.args.values.now) c.args.number = record { so_far = so_far; some = c.requires.some; room = c.requires.rows_in } in
+    rw (c.in-Sum.is, to_z-of_z w64 c.sum.result sum)
+    (ap (λ (z : ℤ). Some z) (c.sum.ensures ∙ ap (λ (s : ℤ). fold (λ (a b : ℤ). a +ℤ b) s values) start ∙ ap (fold (λ (a b : ℤ). a +ℤ b) (unwrap_or c.args.number (pos 0))) c.read_rows-in-Sum.ensures.values)
+    ∙ sum_more x rows c.args.row (length c.args.values.now) c.args.number has)
+
+pub returns-in-Least-clause-taken : goal.returns-in-Least-clause-taken
+returns-in-Least-clause-taken g c =
+    rw c.in-Least.is (rows_read_alone c.args.view.now c.read_rows-in-Least.new.view (Least c.in-Least.x) c.in-Least.x c.args.row (length c.args.values.now) (λ seen. refl) (λ at. refl) (λ at. refl) c.read_rows-in-Least.ensures.same)
+
+pub returns-in-Greatest-clause-taken : goal.returns-in-Greatest-clause-taken
+returns-in-Greatest-clause-taken g c =
+    rw c.in-Greatest.is (rows_read_alone c.args.view.now c.read_rows-in-Greatest.new.view (Greatest c.in-Greatest.x) c.in-Greatest.x c.args.row (length c.args.values.now) (λ seen. refl) (λ at. refl) (λ at. refl) c.read_rows-in-Greatest.ensures.same)
+
+pub returns-in-CountWhere-clause-taken : goal.returns-in-CountWhere-clause-taken
+returns-in-CountWhere-clause-taken g c =
+    rw c.in-CountWhere.is (rows_read_alone c.args.view.now c.read_rows-in-CountWhere.new.view (CountWhere c.in-CountWhere.x c.in-CountWhere.op c.in-CountWhere.c) c.in-CountWhere.x c.args.row (length c.args.values.now) (λ seen. refl) (λ at. refl) (λ at. refl) c.read_rows-in-CountWhere.ensures.same)
+
+pub returns-in-Least-clause-number : goal.returns-in-Least-clause-number
+returns-in-Least-clause-number g c =
+    let x = c.in-Least.x in
+    let rows = c.args.view.now.rows in
+    let n = length c.args.values.now in
+    let number = c.args.number in
+    let values = c.read_rows-in-Least.new.values in
+    let head : SFits w64 (get_or values 0 (pos 0)) = search rules in
+    let fits : SFits w64 c.unwrap_or-in-Least.result = search rules in
+    let found : SFits w64 c.least.result = search rules in
+    let start : to_z w64 (of_z w64 c.unwrap_or-in-Least.result) ≡ unwrap_or number (get_or (column x (take n (drop c.args.row rows))) 0 (pos 0)) =
+    to_z-of_z w64 c.unwrap_or-in-Least.result fits ∙ c.unwrap_or-in-Least.ensures ∙ ap (unwrap_or number) (to_z-of_z w64 (get_or values 0 (pos 0)) head)
+    ∙ ap (λ (vs : List ℤ). unwrap_or number (get_or vs 0 (pos 0))) c.read_rows-in-Least.ensures.values in
+    let so_far : number ≡ number_so_far (Least x) (take c.args.row rows) = rw c.in-Least.is at c.requires.number in
+    let has : HasNumber (Least x) rows c.args.row n number = record { so_far = so_far; some = c.requires.some; room = c.requires.rows_in } in
+    rw (c.in-Least.is, to_z-of_z w64 c.least.result found)
+    (ap (λ (z : ℤ). Some z) (c.least.ensures ∙ ap (λ (s : ℤ). fold int_min s values) start
+    ∙ ap (fold int_min (unwrap_or number (get_or (column x (take n (drop c.args.row rows))) 0 (pos 0)))) c.read_rows-in-Least.ensures.values)
+    ∙ least_more x rows c.args.row n number (pos 0) has)
+
+pub returns-in-Greatest-clause-number : goal.returns-in-Greatest-clause-number
+returns-in-Greatest-clause-number g c =
+    let x = c.in-Greatest.x in
+    let rows = c.args.view.now.rows in
+    let n = length c.args.values.now in
+    let number = c.args.number in
+    let values = c.read_rows-in-Greatest.new.values in
+    let head : SFits w64 (get_or values 0 (pos 0)) = search rules in
+    let fits : SFits w64 c.unwrap_or-in-Greatest.result = search rules in
+    let found : SFits w64 c.greatest.result = search rules in
+    let start : to_z w64 (of_z w64 c.unwrap_or-in-Greatest.result) ≡ unwrap_or number (get_or (column x (take n (drop c.args.row rows))) 0 (pos 0)) =
+    to_z-of_z w64 c.unwrap_or-in-Greatest.result fits ∙ c.unwrap_or-in-Greatest.ensures ∙ ap (unwrap_or number) (to_z-of_z w64 (get_or values 0 (pos 0)) head)
+    ∙ ap (λ (vs : List ℤ). unwrap_or number (get_or vs 0 (pos 0))) c.read_rows-in-Greatest.ensures.values in
+    let so_far : number ≡ number_so_far (Greatest x) (take c.args.row rows) = rw c.in-Greatest.is at c.requires.number in
+    let has : HasNumber (Greatest x) rows c.args.row n number = record { so_far = so_far; some = c.requires.some; room = c.requires.rows_in } in
+    rw (c.in-Greatest.is, to_z-of_z w64 c.greatest.result found)
+    (ap (λ (z : ℤ). Some z) (c.greatest.ensures ∙ ap (λ (s : ℤ). fold int_max s values) start
+    ∙ ap (fold int_max (unwrap_or number (get_or (column x (take n (drop c.args.row rows))) 0 (pos 0)))) c.read_rows-in-Greatest.ensures.values)
+    ∙ greatest_more x rows c.args.row n number (pos 0) has)
+
+-- a count
+has_count : (g : given.Over) (c : goal.After-count g) → HasNumber (CountWhere c.in-CountWhere.x c.in-CountWhere.op c.in-CountWhere.c) c.args.view.now.rows c.args.row (length c.args.values.now) c.args.number
+has_count g c =
+    let so_far : c.args.number ≡ number_so_far (CountWhere c.in-CountWhere.x c.in-CountWhere.op c.in-CountWhere.c) (take c.args.row c.args.view.now.rows) = rw c.in-CountWhere.is at c.requires.number in
+    record { so_far = so_far; some = c.requires.some; room = c.requires.rows_in }
+
+whole : (g : given.Over) (c : goal.After-count g)
+    → to_z w64 (of_z w64 c.unwrap_or-in-CountWhere.result) +ℤ to_z w64 c.count.result
+    ≡ unwrap_or c.args.number (pos 0) +ℤ pos (count_by (λ value. compares c.in-CountWhere.op value c.in-CountWhere.c) (column c.in-CountWhere.x (take (length c.args.values.now) (drop c.args.row c.args.view.now.rows))))
+whole g c =
+    let op = c.in-CountWhere.op in
+    let constant = c.in-CountWhere.c in
+    let fits : SFits w64 c.unwrap_or-in-CountWhere.result = search rules in
+    let small : SFits w64 constant = search rules in
+    let counted = c.count.ensures ∙ ap (λ (k : ℤ). count_by (λ value. compares op value k) c.read_rows-in-CountWhere.new.values) (to_z-of_z w64 constant small)
+    ∙ ap (count_by (λ value. compares op value constant)) c.read_rows-in-CountWhere.ensures.values in
+    count_whole c.in-CountWhere.x op constant c.args.view.now.rows c.args.row (length c.args.values.now) c.args.number (to_z w64 (of_z w64 c.unwrap_or-in-CountWhere.result)) c.count.result c.requires.few (has_count g c)
+    (to_z-of_z w64 c.unwrap_or-in-CountWhere.result fits ∙ c.unwrap_or-in-CountWhere.ensures) counted
+
+sum_fits : (g : given.Over) (c : goal.After-count g) → SFits w64 (to_z w64 (of_z w64 c.unwrap_or-in-CountWhere.result) +ℤ to_z w64 c.count.result)
+sum_fits g c =
+    subst (SFits w64) (sym (whole g c))
+    (count_fits c.in-CountWhere.x c.in-CountWhere.op c.in-CountWhere.c c.args.view.now.rows c.args.row (length c.args.values.now) c.args.number c.requires.few (has_count g c))
+
+pub overflow_add-result : goal.overflow_add-result
+overflow_add-result g c = sum_fits g c
+
+pub returns-in-CountWhere-clause-number : goal.returns-in-CountWhere-clause-number
+returns-in-CountWhere-clause-number g c =
+    rw (c.in-CountWhere.is, to_z-of_z w64 (to_z w64 (of_z w64 c.unwrap_or-in-CountWhere.result) +ℤ to_z w64 c.count.result) (sum_fits g c))
+    (ap (λ (z : ℤ). Some z) (whole g c)
+    ∙ count_more c.in-CountWhere.x c.in-CountWhere.op c.in-CountWhere.c c.args.view.now.rows c.args.row (length c.args.values.now) c.args.number (has_count g c))
