@@ -21,8 +21,12 @@ row_after-row-requires c =
 pub set_tested-requires-clause-row_in : goal.set_tested-requires-clause-row_in
 set_tested-requires-clause-row_in c =
     let kept = map (kept_of c.args.self.now c.args.leaf) c.args.values.now in
-    omega (arith, c.row_after-row.ensures, ap (λ (t : Table). length t.rows) c.loop-lane.invariant.stored.stored,
-    length-with_column c.args.leaf c.args.first (take c.loop-lane.lane kept) c.args.self.now.rows)
+    omega (
+      arith,
+      c.row_after-row.ensures,
+      ap (λ (t : Table). length t.rows) c.loop-lane.invariant.stored.stored,
+      length-with_column c.args.leaf c.args.first (take c.loop-lane.lane kept) c.args.self.now.rows,
+    )
 
 pub loop-lane-preserved : goal.loop-lane-preserved
 loop-lane-preserved c =
