@@ -10,7 +10,7 @@ use Rattle.line_grammar.specs.declared.version.Version.{Version}
 use Rattle.instrument.specs.Counters.{LeafCounts, HeatCounts}
 use Rattle.instrument.specs.CounterTexts.{counts_text, heat_text}
 use Rattle.views.specs.Entries.{AreEntries, AreCounts, AreHeat}
-use Rattle.views.specs.Tallies.{Access, tallied, no_tally}
+use Rattle.views.specs.Tallies.{Access, Tally, tallied, no_tally}
 use Rattle.views.specs.Tables.{Table, owners_of, leaf_count_of}
 use Rattle.worlds.specs.Worlds.{World, found}
 use Rattle.worlds.specs.OnView.{Done, done_to, on_view}
@@ -23,7 +23,7 @@ use Rattle.script_runs.specs.Outcome.{Output}
 use Rattle.equal_runs.specs.Lines.{AreLines}
 use Rattle.equal_runs.specs.EqualRuns.{DoesLines}
 use Rattle.equal_runs.specs.Logs.{SoFar, at_first, one_more, logs_after, Comes, there, further, log_of}
-use Rattle.equal_runs.specs.Entries.{ShowsCounts, ShowsHeat, ShowsEntries}
+use Rattle.equal_runs.specs.Entries.{ShowsCounts, ShowsHeat, ShowsEntries, tally_since}
 use Rattle.equal_runs.proofs.Entries.{none}
 use Rattle.equal_runs.specs.GoesLaws.{IfGoes, to, bind, behind, gone, known_found}
 use Rattle.equal_runs.proofs.Logs.{AreCounted, counted_at, step_keeps}
@@ -61,10 +61,11 @@ abbrev pub AreTold : Type 0
 AreTold = (term : Term) (layout : List (List Owner)) (leaves : ℕ) (log : List Access) → AreEntries layout leaves log (tallied layout (no_tally term layout leaves) log)
 
 module _ (told : AreTold) (files : List File) (unread : Option ℕ) (lines : List Sentence) (now : SoFar) (comes : Comes files unread 1 at_first lines now) (name : List ℕ) where
+  tally_is : (table : Table) → found name now.world.views ≡ Some table → tally_since table (log_of now name) ≡ table.tally
+  tally_is table is = sym (counted_at name now.world.views now.logs table (last_counted files unread lines now comes) is)
+
   entries_at : (table : Table) → found name now.world.views ≡ Some table → AreEntries (owners_of table) (leaf_count_of table) (log_of now name) table.tally
-  entries_at table is =
-      subst (AreEntries (owners_of table) (leaf_count_of table) (log_of now name)) (sym (counted_at name now.world.views now.logs table (last_counted files unread lines now comes) is))
-      (told table.mapping (owners_of table) (leaf_count_of table) (log_of now name))
+  entries_at table is = subst (AreEntries (owners_of table) (leaf_count_of table) (log_of now name)) (tally_is table is) (told table.mapping (owners_of table) (leaf_count_of table) (log_of now name))
 
   some_counts : {A : Type 0} (P : A → Type 0) (x : Option A) (a : A) → IfSome x P → x ≡ Some a → P a
   some_counts P (Some b) a all is = let same : b ≡ a = cc in subst P same all
@@ -93,7 +94,8 @@ module _ (told : AreTold) (files : List File) (unread : Option ℕ) (lines : Lis
         is = t_is;
         numbers = told_of.0;
         shown = told_of.2;
-        counted = some_counts (AreCounts (leaf_count_of table) (log_of now name)) table.tally.counts told_of.0 (entries_at table t_is).counts told_of.1;
+        counted = ap (λ (t : Tally). t.counts) (tally_is table t_is) ∙ told_of.1;
+        each = some_counts (AreCounts (leaf_count_of table) (log_of now name)) table.tally.counts told_of.0 (entries_at table t_is).counts told_of.1;
       })))
 
   -- what is told of a table is of numbers that it has
@@ -119,7 +121,8 @@ module _ (told : AreTold) (files : List File) (unread : Option ℕ) (lines : Lis
         is = t_is;
         numbers = told_of.0;
         shown = told_of.2;
-        counted = some_counts (AreHeat (owners_of table) (log_of now name)) table.tally.heat told_of.0 (entries_at table t_is).heat told_of.1;
+        counted = ap (λ (t : Tally). t.heat) (tally_is table t_is) ∙ told_of.1;
+        each = some_counts (AreHeat (owners_of table) (log_of now name)) table.tally.heat told_of.0 (entries_at table t_is).heat told_of.1;
       })))
 
 pub shows_entries : AreTold → (version : Version) (files : List File) (outcome : World → List ℕ → Bool → Outcome Left) → DoesLines version files outcome → ShowsEntries version files outcome

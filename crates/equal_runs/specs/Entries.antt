@@ -9,6 +9,7 @@ use Rattle.instrument.specs.Counters.{LeafCounts, HeatCounts}
 use Rattle.instrument.specs.CounterTexts.{counts_text, heat_text}
 use Rattle.views.specs.Entries.{AreCounts, AreHeat}
 use Rattle.views.specs.Tables.{Table, owners_of, leaf_count_of}
+use Rattle.views.specs.Tallies.{Access, Tally, tallied, no_tally}
 use Rattle.worlds.specs.Worlds.{World, empty, found}
 use Rattle.worlds.specs.Outcomes.{Outcome, Goes, Left}
 use Rattle.worlds.specs.Step.{step}
@@ -16,21 +17,27 @@ use Rattle.script_runs.specs.Fold.{run_from, prepend}
 use Rattle.equal_runs.specs.Lines.{AreLines}
 use Rattle.equal_runs.specs.Logs.{SoFar, at_first, Comes, log_of}
 
--- the text is that of counts by leaf, each the number of the accesses to the leaf of this view since the view was made
+-- the tally of a view to which these accesses were made since it was made
+abbrev pub tally_since : Table → List Access → Tally
+tally_since table log = tallied (owners_of table) (no_tally table.mapping (owners_of table) (leaf_count_of table)) log
+
+-- the text is that of the counts by leaf of this tally, each the number of the accesses to the leaf of this view since the view was made
 pub record ShowsCounts (now : SoFar) (name text : List ℕ) : Type 0 where
   pub table : Table
   pub is : found name now.world.views ≡ Some table
   pub numbers : LeafCounts
   pub shown : text ≡ counts_text (texts_of table.fields) numbers
-  pub counted : AreCounts (leaf_count_of table) (log_of now name) numbers
+  pub counted : (tally_since table (log_of now name)).counts ≡ Some numbers
+  pub each : AreCounts (leaf_count_of table) (log_of now name) numbers
 
--- and of counts by granule, each the number of the accesses that touch the granule
+-- and of those by granule, each the number of the accesses that touch the granule
 pub record ShowsHeat (now : SoFar) (name text : List ℕ) : Type 0 where
   pub table : Table
   pub is : found name now.world.views ≡ Some table
   pub numbers : HeatCounts
   pub shown : text ≡ heat_text numbers
-  pub counted : AreHeat (owners_of table) (log_of now name) numbers
+  pub counted : (tally_since table (log_of now name)).heat ≡ Some numbers
+  pub each : AreHeat (owners_of table) (log_of now name) numbers
 
 -- a run over lines, whose texts do to a world what they do, goes on from where they take it, behind what they wrote; what a `counts` and a
 -- `heat` write there are the accesses that the run made until then
