@@ -9,7 +9,7 @@ use Rattle.views.specs.declared.fault.StoreFault.{StoreFault}
 use Rattle.views.specs.declared.fault.StoreFault.TheVariants as store
 use Rattle.lane_kernels.specs.Kernels.{Store, stored, fault_named, answer_fault, store_fault, first_fault, rows_before}
 use Rattle.lane_kernels.specs.Runs.{named_row, rows_done}
-use Rattle.lane_kernels.specs.Stubs.{stored_count, told_lane}
+use Rattle.views.specs.Runs.{stored_count, told_lane}
 use Rattle.lane_kernels.specs.declared.fault.KernelFault.{KernelFault}
 use Rattle.lane_kernels.specs.declared.kernel.Kernel.{Kernel}
 use Rattle.lane_kernels.proofs.Changed.{DoesStore}

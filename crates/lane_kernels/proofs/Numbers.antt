@@ -4,7 +4,7 @@ use Rattle.std.specs.Int.{int_min, int_max}
 use Rattle.std.specs.List.{count_by, sum_by}
 use Rattle.std.specs.Option.{unwrap_or}
 use Rattle.std.proofs.Math.Seq.{take-add}
-use Rattle.std.proofs.lemmas.Int.{ints, to_z-of_z, to_z_pos, int_min_is, int_max_is}
+use Rattle.std.proofs.lemmas.Int.{ints, to_z_pos, int_min_is, int_max_is}
 use Rattle.std.proofs.lemmas.List.{length-map, map-append, take-map, take-take}
 use Rattle.std.proofs.lemmas.List.Sums.{fold-append, sum_by-append, count_by-le-length}
 use Rattle.std.specs.Simd.Lanes.{Each1}
@@ -22,8 +22,9 @@ use Rattle.kept_tables.specs.EntryLaws.{stays_declared}
 use Rattle.views.specs.Tables.{Table, IsTable, leaf_types_of, leaf_type_of, table_holds}
 use Rattle.views.specs.Stores.{Keeping}
 use Rattle.lane_kernels.specs.Kernels.{Compare, compares, column, in_leaf, number_of, extreme, run_rows, IsNarrow, IsNarrowLeaf}
-use Rattle.lane_kernels.specs.Runs.{number_so_far}
-use Rattle.lane_kernels.specs.Stubs.{low_64}
+use Rattle.lane_kernels.specs.Runs.{number_so_far, AreNext}
+use Rattle.leaf_runs.specs.Lows.{low_64}
+use Rattle.leaf_runs.specs.LowsLaws.{low_same}
 use Rattle.lane_kernels.specs.declared.kernel.Kernel.{Kernel}
 use Rattle.lane_kernels.specs.declared.kernel.Kernel.TheVariants.{Axpy, Clamp, Sum, Least, Greatest, CountWhere}
 use Rattle.lane_kernels.proofs.Changed.{rows_stand}
@@ -63,7 +64,7 @@ narrow_rows leaf row n rows narrow = subst (Each1 IsNarrow) (column_rows leaf ro
 
 kept_whole : (values : List ℤ) → Each1 IsNarrow values → map low_64 values ≡ values
 kept_whole [] narrow = refl
-kept_whole (value ∷ values) narrow = rw (to_z-of_z w64 value (narrow_fits value narrow.0), kept_whole values narrow.1) refl
+kept_whole (value ∷ values) narrow = rw (low_same value (narrow_fits value narrow.0), kept_whole values narrow.1) refl
 
 pub read_whole : (seen : Table) (leaf row n : ℕ) (values : List ℤ) → IsTable seen → IsNarrowLeaf seen leaf → values ≡ map low_64 (take n (drop row (column leaf seen.rows))) → values ≡ column leaf (take n (drop row seen.rows))
 read_whole seen leaf row n values table narrow read =
@@ -89,31 +90,31 @@ sum_beside x before block number is =
     ∙ ap (fold (λ (a b : ℤ). a +ℤ b) (pos 0)) (sym (map-append (in_leaf x) before block))
 
 -- the least and the greatest
-extreme_more : (pick : ℤ → ℤ → ℤ) (x : ℕ) (before block : List (List ℤ)) (number : Option ℤ) (d : ℤ) → ((z : ℤ) → pick z z ≡ z) → 1 ≤ length block → number ≡ extreme pick (column x before)
+extreme_beside : (pick : ℤ → ℤ → ℤ) (x : ℕ) (before block : List (List ℤ)) (number : Option ℤ) (d : ℤ) → ((z : ℤ) → pick z z ≡ z) → 1 ≤ length block → number ≡ extreme pick (column x before)
     → Some (fold pick (unwrap_or number (get_or (column x block) 0 d)) (column x block)) ≡ extreme pick (column x (before ++ block))
-extreme_more pick x before [] number d same some is = absurd (omega arith)
-extreme_more pick x [] (row ∷ rows) number d same some is =
+extreme_beside pick x before [] number d same some is = absurd (omega arith)
+extreme_beside pick x [] (row ∷ rows) number d same some is =
     let start : unwrap_or number (in_leaf x row) ≡ in_leaf x row = ap (λ (n : Option ℤ). unwrap_or n (in_leaf x row)) is in
     ap (λ (z : ℤ). Some (fold pick (pick z (in_leaf x row)) (column x rows))) start
     ∙ ap (λ (z : ℤ). Some (fold pick z (column x rows))) (same (in_leaf x row))
-extreme_more pick x (first ∷ before) (row ∷ rows) number d same some is =
+extreme_beside pick x (first ∷ before) (row ∷ rows) number d same some is =
     ap (λ (n : Option ℤ). Some (fold pick (unwrap_or n (in_leaf x row)) (column x (row ∷ rows)))) is
     ∙ ap (λ (z : ℤ). Some z) (sym (fold-append pick (in_leaf x first) (column x before) (column x (row ∷ rows))))
     ∙ ap (λ (zs : List ℤ). Some (fold pick (in_leaf x first) zs)) (sym (map-append (in_leaf x) before (row ∷ rows)))
 
-same_min : (z : ℤ) → int_min z z ≡ z
+pub same_min : (z : ℤ) → int_min z z ≡ z
 same_min z = omega (arith, ints, int_min_is z z)
 
-same_max : (z : ℤ) → int_max z z ≡ z
+pub same_max : (z : ℤ) → int_max z z ≡ z
 same_max z = omega (arith, ints, int_max_is z z)
 
-least_so_far : (x : ℕ) (before : List (List ℤ)) → number_so_far (Least x) before ≡ extreme int_min (column x before)
-least_so_far x [] = refl
-least_so_far x (row ∷ rows) = refl
+pub least_of : (x : ℕ) (rows : List (List ℤ)) → number_so_far (Least x) rows ≡ extreme int_min (column x rows)
+least_of x [] = refl
+least_of x (row ∷ rows) = refl
 
-greatest_so_far : (x : ℕ) (before : List (List ℤ)) → number_so_far (Greatest x) before ≡ extreme int_max (column x before)
-greatest_so_far x [] = refl
-greatest_so_far x (row ∷ rows) = refl
+pub greatest_of : (x : ℕ) (rows : List (List ℤ)) → number_so_far (Greatest x) rows ≡ extreme int_max (column x rows)
+greatest_of x [] = refl
+greatest_of x (row ∷ rows) = refl
 
 -- a count
 count_start : (x : ℕ) (op : Compare) (c : ℤ) (before : List (List ℤ)) (number : Option ℤ) → number ≡ number_so_far (CountWhere x op c) before
@@ -122,80 +123,70 @@ count_start x op c [] number is = ap (λ (n : Option ℤ). unwrap_or n (pos 0)) 
 count_start x op c (row ∷ rows) number is = ap (λ (n : Option ℤ). unwrap_or n (pos 0)) is
 
 -- with more rows, in a table
-pub record HasNumber (kernel : Kernel) (rows : List (List ℤ)) (row step : ℕ) (number : Option ℤ) : Type 0 where
-  pub so_far : number ≡ number_so_far kernel (take row rows)
-  pub some : 1 ≤ step
-  pub room : row + step ≤ length rows
+block_some : (kernel : Kernel) (rows : List (List ℤ)) (row step : ℕ) (number : Option ℤ) → AreNext rows kernel row step number → 1 ≤ length (take step (drop row rows))
+block_some kernel rows row step number next = omega (arith, next.some, next.inside, length-take step (drop row rows), length-drop row rows)
 
-block_some : (kernel : Kernel) (rows : List (List ℤ)) (row step : ℕ) (number : Option ℤ) → HasNumber kernel rows row step number → 1 ≤ length (take step (drop row rows))
-block_some kernel rows row step number has = omega (arith, has.some, has.room, length-take step (drop row rows), length-drop row rows)
-
-pub sum_more : (x : ℕ) (rows : List (List ℤ)) (row step : ℕ) (number : Option ℤ) → HasNumber (Sum x) rows row step number
-    → Some (fold (λ a b. a +ℤ b) (unwrap_or number (pos 0)) (column x (take step (drop row rows)))) ≡ number_so_far (Sum x) (take (row + step) rows)
-sum_more x rows row step number has =
+pub sum_more : (x : ℕ) (rows : List (List ℤ)) (row step : ℕ) (number : Option ℤ) (values : List ℤ) (start sum : ℤ) → AreNext rows (Sum x) row step number
+    → values ≡ column x (take step (drop row rows)) → start ≡ unwrap_or number (pos 0) → sum ≡ fold (λ a b. a +ℤ b) start values → Some sum ≡ number_so_far (Sum x) (take (row + step) rows)
+sum_more x rows row step number values start sum next values_are begun is =
     let before = take row rows in
     let block = take step (drop row rows) in
-    ap (λ (z : ℤ). Some z) (sum_beside x before block number has.so_far) ∙ sym (filled (Sum x) before block (block_some (Sum x) rows row step number has))
-    ∙ ap (number_so_far (Sum x)) (sym (take-add row step rows))
+    ap (λ (z : ℤ). Some z)
+    (is ∙ ap (λ (z : ℤ). fold (λ (a b : ℤ). a +ℤ b) z values) begun ∙ ap (fold (λ (a b : ℤ). a +ℤ b) (unwrap_or number (pos 0))) values_are ∙ sum_beside x before block number next.so_far)
+    ∙ sym (filled (Sum x) before block (block_some (Sum x) rows row step number next)) ∙ ap (number_so_far (Sum x)) (sym (take-add row step rows))
 
-pub least_more : (x : ℕ) (rows : List (List ℤ)) (row step : ℕ) (number : Option ℤ) (d : ℤ) → HasNumber (Least x) rows row step number
-    → Some (fold int_min (unwrap_or number (get_or (column x (take step (drop row rows))) 0 d)) (column x (take step (drop row rows)))) ≡ number_so_far (Least x) (take (row + step) rows)
-least_more x rows row step number d has =
+pub extreme_more : (pick : ℤ → ℤ → ℤ) (kernel : Kernel) (x : ℕ) (rows : List (List ℤ)) (row step : ℕ) (number : Option ℤ) (values : List ℤ) (start found : ℤ)
+    → ((z : ℤ) → pick z z ≡ z) → ((seen : List (List ℤ)) → number_so_far kernel seen ≡ extreme pick (column x seen)) → AreNext rows kernel row step number
+    → values ≡ column x (take step (drop row rows)) → start ≡ unwrap_or number (get_or values 0 (pos 0)) → found ≡ fold pick start values → Some found ≡ number_so_far kernel (take (row + step) rows)
+extreme_more pick kernel x rows row step number values start found same of next values_are begun is =
     let before = take row rows in
     let block = take step (drop row rows) in
-    let some = block_some (Least x) rows row step number has in
-    extreme_more int_min x before block number d same_min some (has.so_far ∙ least_so_far x before) ∙ sym (filled (Least x) before block some) ∙ ap (number_so_far (Least x)) (sym (take-add row step rows))
+    ap (λ (z : ℤ). Some z) (is ∙ ap (λ (z : ℤ). fold pick z values) begun ∙ ap (λ (vs : List ℤ). fold pick (unwrap_or number (get_or vs 0 (pos 0))) vs) values_are)
+    ∙ extreme_beside pick x before block number (pos 0) same (block_some kernel rows row step number next) (next.so_far ∙ of before)
+    ∙ sym (of (before ++ block)) ∙ ap (number_so_far kernel) (sym (take-add row step rows))
 
-pub greatest_more : (x : ℕ) (rows : List (List ℤ)) (row step : ℕ) (number : Option ℤ) (d : ℤ) → HasNumber (Greatest x) rows row step number
-    → Some (fold int_max (unwrap_or number (get_or (column x (take step (drop row rows))) 0 d)) (column x (take step (drop row rows)))) ≡ number_so_far (Greatest x) (take (row + step) rows)
-greatest_more x rows row step number d has =
-    let before = take row rows in
-    let block = take step (drop row rows) in
-    let some = block_some (Greatest x) rows row step number has in
-    extreme_more int_max x before block number d same_max some (has.so_far ∙ greatest_so_far x before) ∙ sym (filled (Greatest x) before block some) ∙ ap (number_so_far (Greatest x)) (sym (take-add row step rows))
-
-pub count_more : (x : ℕ) (op : Compare) (c : ℤ) (rows : List (List ℤ)) (row step : ℕ) (number : Option ℤ) → HasNumber (CountWhere x op c) rows row step number
+pub count_more : (x : ℕ) (op : Compare) (c : ℤ) (rows : List (List ℤ)) (row step : ℕ) (number : Option ℤ) → AreNext rows (CountWhere x op c) row step number
     → Some (unwrap_or number (pos 0) +ℤ pos (count_by (λ value. compares op value c) (column x (take step (drop row rows))))) ≡ number_so_far (CountWhere x op c) (take (row + step) rows)
-count_more x op c rows row step number has =
+count_more x op c rows row step number next =
     let before = take row rows in
     let block = take step (drop row rows) in
     let test : ℤ → ℕ = λ value. cond (compares op value c) 1 0 in
-    ap (λ (z : ℤ). Some (z +ℤ pos (count_by (λ value. compares op value c) (column x block)))) (count_start x op c before number has.so_far)
+    ap (λ (z : ℤ). Some (z +ℤ pos (count_by (λ value. compares op value c) (column x block)))) (count_start x op c before number next.so_far)
     ∙ ap (λ (n : ℕ). Some (pos n)) (sym (sum_by-append test (column x before) (column x block)))
     ∙ ap (λ (zs : List ℤ). Some (pos (sum_by test zs))) (sym (map-append (in_leaf x) before block))
-    ∙ sym (filled (CountWhere x op c) before block (block_some (CountWhere x op c) rows row step number has))
+    ∙ sym (filled (CountWhere x op c) before block (block_some (CountWhere x op c) rows row step number next))
     ∙ ap (number_so_far (CountWhere x op c)) (sym (take-add row step rows))
 
 -- they fit
-pub sums_fit : (x : ℕ) (rows : List (List ℤ)) (row step : ℕ) (number : Option ℤ) → length rows ≤ 2 ^ 24 → Each1 IsNarrow (column x rows) → HasNumber (Sum x) rows row step number
+pub sums_fit : (x : ℕ) (rows : List (List ℤ)) (row step : ℕ) (number : Option ℤ) → length rows ≤ 2 ^ 24 → Each1 IsNarrow (column x rows) → AreNext rows (Sum x) row step number
     → SumsFit (λ z. z) (λ z. FitsSigned w64 z) (unwrap_or number (pos 0)) (column x (take step (drop row rows)))
-sums_fit x rows row step number few narrow has k inside =
+sums_fit x rows row step number few narrow next k inside =
     let block = take step (drop row rows) in
     let within : k ≤ step = omega (arith, length-map block (in_leaf x), length-take step (drop row rows)) in
     let joined : take row rows ++ take k block ≡ take (row + k) rows = ap (λ (more : List (List ℤ)). take row rows ++ more) (take-take k step (drop row rows) within) ∙ sym (take-add row k rows) in
-    let whole = ap (fold (λ (a b : ℤ). a +ℤ b) (unwrap_or number (pos 0))) (take-map (in_leaf x) k block) ∙ sum_beside x (take row rows) (take k block) number has.so_far
+    let whole = ap (fold (λ (a b : ℤ). a +ℤ b) (unwrap_or number (pos 0))) (take-map (in_leaf x) k block) ∙ sum_beside x (take row rows) (take k block) number next.so_far
     ∙ ap (λ (seen : List (List ℤ)). fold (λ (a b : ℤ). a +ℤ b) (pos 0) (column x seen)) joined in
     subst (FitsSigned w64) (sym whole)
     (narrow_sum_fits (column x (take (row + k) rows)) (omega (arith, length-map (take (row + k) rows) (in_leaf x), length-take (row + k) rows)) (narrow_rows x 0 (row + k) rows narrow))
 
-pub count_fits : (x : ℕ) (op : Compare) (c : ℤ) (rows : List (List ℤ)) (row step : ℕ) (number : Option ℤ) → length rows ≤ 2 ^ 24 → HasNumber (CountWhere x op c) rows row step number
+pub count_fits : (x : ℕ) (op : Compare) (c : ℤ) (rows : List (List ℤ)) (row step : ℕ) (number : Option ℤ) → length rows ≤ 2 ^ 24 → AreNext rows (CountWhere x op c) row step number
     → FitsSigned w64 (unwrap_or number (pos 0) +ℤ pos (count_by (λ value. compares op value c) (column x (take step (drop row rows)))))
-count_fits x op c rows row step number few has =
+count_fits x op c rows row step number few next =
     let block = take step (drop row rows) in
     let test : ℤ → Bool = λ value. compares op value c in
     let first = count_by-le-length test (column x (take row rows)) in
     let second = count_by-le-length test (column x block) in
     let small : count_by test (column x (take row rows)) + count_by test (column x block) < 2 ^ 63 =
-    omega (arith, first, second, length-map (take row rows) (in_leaf x), length-map block (in_leaf x), length-take row rows, length-take step (drop row rows), length-drop row rows, has.room) in
-    rw (count_start x op c (take row rows) number has.so_far) (record { sfits = small })
+    omega (arith, first, second, length-map (take row rows) (in_leaf x), length-map block (in_leaf x), length-take row rows, length-take step (drop row rows), length-drop row rows, next.inside) in
+    rw (count_start x op c (take row rows) number next.so_far) (record { sfits = small })
 
-pub count_whole : (x : ℕ) (op : Compare) (c : ℤ) (rows : List (List ℤ)) (row step : ℕ) (number : Option ℤ) (start : ℤ) (counted : ℕ) → length rows ≤ 2 ^ 24 → HasNumber (CountWhere x op c) rows row step number
+pub count_whole : (x : ℕ) (op : Compare) (c : ℤ) (rows : List (List ℤ)) (row step : ℕ) (number : Option ℤ) (start : ℤ) (counted : ℕ) → length rows ≤ 2 ^ 24 → AreNext rows (CountWhere x op c) row step number
     → start ≡ unwrap_or number (pos 0) → counted ≡ count_by (λ value. compares op value c) (column x (take step (drop row rows)))
     → start +ℤ to_z w64 counted ≡ unwrap_or number (pos 0) +ℤ pos (count_by (λ value. compares op value c) (column x (take step (drop row rows))))
-count_whole x op c rows row step number start counted few has begun is =
+count_whole x op c rows row step number start counted few next begun is =
     let block = take step (drop row rows) in
     let some = count_by-le-length (λ value. compares op value c) (column x block) in
-    let small : counted < 2 ^ 63 = omega (arith, is, some, length-map block (in_leaf x), length-take step (drop row rows), has.room) in
+    let small : counted < 2 ^ 63 = omega (arith, is, some, length-map block (in_leaf x), length-take step (drop row rows), next.inside) in
     ap (λ (z : ℤ). z +ℤ to_z w64 counted) begun ∙ ap (λ (z : ℤ). unwrap_or number (pos 0) +ℤ z) (to_z_pos w64 counted small ∙ ap pos is)
 
 -- nor does a kernel that stores change the number

@@ -8,7 +8,7 @@ use Rattle.std.proofs.lemmas.Simd.{map-map, zip2-map}
 use Rattle.std.proofs.lemmas.List.{append-nil, length-map, take-map, take-take}
 use Rattle.std.proofs.lemmas.List.Concat.{flat_map-cons}
 use Rattle.places.specs.Layout.{Owner}
-use Rattle.views.specs.Columns.{in_leaf, column, column_reads, column_writes, with_column, first_lane_fault}
+use Rattle.views.specs.Columns.{in_leaf, column, column_reads, column_writes, with_column}
 use Rattle.views.specs.Tables.{Table, owners_of, answer_of, kept_of, after_log, after_stores}
 use Rattle.views.specs.TallyLaws.{after_log-append, after_stores-append, tallied-append}
 use Rattle.views.specs.OrderLaws.{tallied-kinds}
@@ -16,7 +16,7 @@ use Rattle.views.specs.Tallies.{Access, Read, Write, Tally, tallied}
 use Rattle.lane_kernels.specs.Kernels.{stored, first_fault, run_rows}
 use Rattle.lane_kernels.specs.Logs.{reads_on, writes_on}
 use Rattle.lane_kernels.specs.Runs.{named_row, rows_done, AreTaken}
-use Rattle.lane_kernels.specs.Stubs.{stored_count}
+use Rattle.views.specs.Runs.{run_fault, stored_count, with_run}
 use Rattle.lane_kernels.specs.declared.fault.KernelFault.{KernelFault}
 use Rattle.lane_kernels.specs.declared.kernel.Kernel.{Kernel}
 use Rattle.lane_kernels.specs.declared.kernel.Kernel.TheVariants.{Axpy, Clamp}
@@ -61,19 +61,17 @@ two_reads kernel x y row count is layout tally =
 pub rows_changed : (old read new : Table) (kernel : Kernel) (leaf row count : ℕ) (value : List ℤ → ℤ) (values : List ℤ) (reads : List Access) (fault : Option KernelFault)
     → DoesStore kernel leaf value → ((at : ℕ) → writes_on kernel at ≡ Write at leaf ∷ []) → IsReadOf kernel row count reads → read ≡ after_log old reads
     → values ≡ map value (take count (drop row old.rows)) → row + count ≤ length old.rows
-    → fault ≡ option_map (named_row row leaf) (first_lane_fault (answer_of read) leaf 0 values)
-    → new ≡ after_stores read (with_column leaf row (map (kept_of read leaf) (take (stored_count (length values) (first_lane_fault (answer_of read) leaf 0 values)) values)) read.rows)
-    (column_writes leaf row (stored_count (length values) (first_lane_fault (answer_of read) leaf 0 values)))
+    → fault ≡ option_map (named_row row leaf) (run_fault leaf values read)
+    → new ≡ with_run leaf row values (stored_count (length values) (run_fault leaf values read)) read
     → AreTaken old new kernel row count fault
 rows_changed old read new kernel leaf row count value values reads fault does writes reads_are read_is values_are room told wrote =
     let rows = take count (drop row old.rows) in
     let long : length rows ≡ count = omega (arith, length-take count (drop row old.rows), length-drop row old.rows) in
     let here : row + 0 ≡ row = omega arith in
-    let own : first_lane_fault (answer_of read) leaf 0 values ≡ first_lane_fault (answer_of old) leaf 0 (map value rows) =
-    ap (λ (t : Table). first_lane_fault (answer_of t) leaf 0 values) read_is ∙ ap (first_lane_fault (answer_of old) leaf 0) values_are in
+    let own : run_fault leaf values read ≡ run_fault leaf (map value rows) old = ap (run_fault leaf values) read_is ∙ ap (λ (vs : List ℤ). run_fault leaf vs old) values_are in
     let is : fault ≡ first_fault (answer_of old) kernel row rows =
     told ∙ ap (option_map (named_row row leaf)) own ∙ sym (faults_alike (answer_of old) kernel leaf row 0 value rows does) ∙ ap (λ (n : ℕ). first_fault (answer_of old) kernel n rows) here in
-    let f = first_lane_fault (answer_of read) leaf 0 values in
+    let f = run_fault leaf values read in
     let done = rows_done row count fault in
     let many : length values ≡ count = ap length values_are ∙ length-map rows value ∙ long in
     let stored_is : stored_count (length values) f ≡ done = ap (λ (n : ℕ). stored_count n f) many ∙ sym (done_stored row leaf count f) ∙ ap (rows_done row count) (sym told) in
@@ -84,8 +82,7 @@ rows_changed old read new kernel leaf row count value values reads fault does wr
     record {
       named = is;
       after = wrote
-          ∙ ap (λ (n : ℕ). after_stores read (with_column leaf row (map (kept_of read leaf) (take n values)) read.rows) (column_writes leaf row n)) stored_is
-          ∙ ap (λ (t : Table). after_stores t (with_column leaf row (map (kept_of t leaf) (take done values)) t.rows) (column_writes leaf row done)) read_is
+          ∙ ap (λ (n : ℕ). with_run leaf row values n read) stored_is ∙ ap (with_run leaf row values done) read_is
           ∙ ap (λ (vs : List ℤ). after_stores (after_log old reads) (with_column leaf row (map (kept_of old leaf) vs) old.rows) (column_writes leaf row done)) first
           ∙ ap (λ (rs : List (List ℤ)). after_stores (after_log old reads) rs (column_writes leaf row done)) (rows_stored (kept_of old) kernel leaf row done value old.rows (omega arith) does)
           ∙ after_stores-append old old.rows changed reads (column_writes leaf row done)
@@ -116,9 +113,8 @@ rows_read_alone old new kernel x row count none reads writes read = record {
 pub axpy_taken : (old first read new : Table) (a : ℤ) (x y row count : ℕ) (xs ys values : List ℤ) (fault : Option KernelFault)
     → first ≡ after_log old (column_reads x row count) → read ≡ after_log first (column_reads y row count)
     → xs ≡ column x (take count (drop row old.rows)) → ys ≡ column y (take count (drop row first.rows)) → values ≡ zip2 (λ v w. a *ℤ v +ℤ w) xs ys → row + count ≤ length old.rows
-    → fault ≡ option_map (named_row row y) (first_lane_fault (answer_of read) y 0 values)
-    → new ≡ after_stores read (with_column y row (map (kept_of read y) (take (stored_count (length values) (first_lane_fault (answer_of read) y 0 values)) values)) read.rows)
-    (column_writes y row (stored_count (length values) (first_lane_fault (answer_of read) y 0 values)))
+    → fault ≡ option_map (named_row row y) (run_fault y values read)
+    → new ≡ with_run y row values (stored_count (length values) (run_fault y values read)) read
     → AreTaken old new (Axpy a x y) row count fault
 axpy_taken old first read new a x y row count xs ys values fault one other xs_are ys_are made room told wrote =
     let rows = take count (drop row old.rows) in
@@ -132,9 +128,8 @@ axpy_taken old first read new a x y row count xs ys values fault one other xs_ar
 
 pub clamp_taken : (old read new : Table) (x : ℕ) (lo hi : ℤ) (row count : ℕ) (xs values : List ℤ) (fault : Option KernelFault)
     → read ≡ after_log old (column_reads x row count) → xs ≡ column x (take count (drop row old.rows)) → values ≡ map (λ v. int_max lo (int_min v hi)) xs → row + count ≤ length old.rows
-    → fault ≡ option_map (named_row row x) (first_lane_fault (answer_of read) x 0 values)
-    → new ≡ after_stores read (with_column x row (map (kept_of read x) (take (stored_count (length values) (first_lane_fault (answer_of read) x 0 values)) values)) read.rows)
-    (column_writes x row (stored_count (length values) (first_lane_fault (answer_of read) x 0 values)))
+    → fault ≡ option_map (named_row row x) (run_fault x values read)
+    → new ≡ with_run x row values (stored_count (length values) (run_fault x values read)) read
     → AreTaken old new (Clamp x lo hi) row count fault
 clamp_taken old read new x lo hi row count xs values fault one xs_are made room told wrote =
     rows_changed old read new (Clamp x lo hi) x row count (λ seen. int_max lo (int_min (in_leaf x seen) hi)) values (column_reads x row count) fault

@@ -1,5 +1,6 @@
 -- How many rows go together, and the steps that they take.
 use Rattle.std.specs.Prelude.{ℕ, ◌≡◌, ◌+◌, ◌-◌, ◌/◌, ◌%◌, ◌≤◌, ◌⊎◌, Bool, true, false, min, nat_le, if◌then◌else◌}
+use Rattle.std.specs.Int.{div_ceil}
 
 -- how many of so many rows go together from one on: where nothing counts accesses 256, and else a block, or one of the rest
 abbrev pub step_of : Bool → ℕ → ℕ → ℕ → ℕ
@@ -13,7 +14,7 @@ pub record IsAt (lanes count row : ℕ) : Type 0 where
 
 -- the steps of a read, or of a store, of rows that go together
 abbrev pub sixteens : ℕ → ℕ
-sixteens rows = (rows + 15) / 16
+sixteens rows = div_ceil rows 16
 
 -- the steps of so many rows, as they go together
 abbrev pub cost : Bool → ℕ → ℕ → ℕ

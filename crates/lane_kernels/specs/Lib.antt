@@ -2,4 +2,3 @@ pub mod Kernels
 pub mod Logs
 pub mod Blocks
 pub mod Runs
-pub mod Stubs

@@ -1,5 +1,5 @@
 -- What a kernel does with rows one after another.
-use Rattle.std.specs.Prelude.{ℕ, ◌≡◌, ◌+◌, ◌-◌, ℤ, List, [], ◌∷◌, ◌++◌, take, drop, Option, Some, None, Result, Ok, Err}
+use Rattle.std.specs.Prelude.{ℕ, ◌≡◌, ◌+◌, ◌-◌, ◌≤◌, ℤ, List, [], ◌∷◌, ◌++◌, length, take, drop, Option, Some, None, Result, Ok, Err}
 use Rattle.std.specs.List.{flat_map, range_with_len}
 use Rattle.views.specs.Tables.{Table, answer_of, kept_of, after_stores}
 use Rattle.views.specs.declared.fault.LaneFault.{LaneFault}
@@ -37,6 +37,12 @@ abbrev pub after_rows : Table → Kernel → ℕ → ℕ → ℕ → Table
 after_rows old kernel row read changed =
     after_stores old (take row old.rows ++ run_rows (kept_of old) kernel changed (drop row old.rows))
     (flat_map (reads_on kernel) (range_with_len row read) ++ flat_map (writes_on kernel) (range_with_len row changed))
+
+-- some rows from one on, and the number of those before
+pub record AreNext (rows : List (List ℤ)) (kernel : Kernel) (row count : ℕ) (number : Option ℤ) : Type 0 where
+  pub some : 1 ≤ count
+  pub inside : row + count ≤ length rows
+  pub so_far : number ≡ number_so_far kernel (take row rows)
 
 -- the fault of so many rows from one on, and the table after those before it
 pub record AreTaken (old new : Table) (kernel : Kernel) (row count : ℕ) (fault : Option KernelFault) : Type 0 where

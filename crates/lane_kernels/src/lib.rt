@@ -6,7 +6,6 @@ mod fault;
 mod kernel;
 mod plain;
 mod rows;
-mod stubs;
 
 pub use fault::KernelFault;
 pub use kernel::Kernel;

@@ -5,7 +5,6 @@ use crate::blocks::{RUN, step_at};
 use crate::fault::KernelFault;
 use crate::kernel::Kernel;
 use crate::rows::on_rows;
-use crate::stubs::Runs;
 use std::sync::ledger::Ledger;
 use steps::Steps;
 use views::View;
@@ -13,7 +12,7 @@ use views::View;
 /// Runs a kernel in blocks of 1 to 16 rows, and the rest row by row. Each value is stored as the view keeps it. `Range` and `Narrow` come
 /// exactly where the view is strict and a value to store does not fit, and name the first row; exactly the rows before it are changed.
 /// `Empty` comes exactly where a least or greatest value is asked of no row. It takes no memory.
-pub fn run_lanes<L: Ledger, S: Runs>(
+pub fn run_lanes<L: Ledger>(
     view: &mut View,
     kernel: &Kernel,
     lanes: usize,
@@ -27,11 +26,11 @@ pub fn run_lanes<L: Ledger, S: Runs>(
 {
     let mut values = [0; RUN];
     let mut added = [0; RUN];
-    run_rows::<L, S>(view, kernel, lanes, &mut values, &mut added, steps)
+    run_rows(view, kernel, lanes, &mut values, &mut added, steps)
 }
 
 /// The same row by row.
-pub fn run_plain<L: Ledger, S: Runs>(
+pub fn run_plain<L: Ledger>(
     view: &mut View,
     kernel: &Kernel,
     steps: &mut Steps<L>,
@@ -40,11 +39,11 @@ pub fn run_plain<L: Ledger, S: Runs>(
     ensures run { IsRun view.old view.new kernel.now 1 result }
     ensures steps { steps.new ≤ steps.old + kernel_cost kernel.now 1 (length view.old.rows) }
 {
-    run_lanes::<L, S>(view, kernel, 1, steps)
+    run_lanes(view, kernel, 1, steps)
 }
 
 // The loop over all rows. Where nothing counts accesses, a block is as many rows as a buffer holds: then no block is told from another.
-fn run_rows<L: Ledger, S: Runs>(
+fn run_rows<L: Ledger>(
     view: &mut View,
     kernel: &Kernel,
     lanes: usize,
@@ -64,12 +63,12 @@ fn run_rows<L: Ledger, S: Runs>(
     if count == 0 {
         return kernel.of_no_row();
     }
-    let uncounted = S::counts_nothing(view);
+    let uncounted = view.counts_nothing();
     let mut number = None;
     let mut row = 0;
     while row < count {
         let step = step_at(uncounted, lanes, count, row);
-        number = on_rows::<L, S>(
+        number = on_rows(
             view,
             kernel,
             row,

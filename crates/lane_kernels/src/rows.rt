@@ -1,16 +1,15 @@
 // What a kernel does with rows one after another.
 ghost use Rattle.std.specs.Prelude.{◌≡◌, ◌+◌, ◌*◌, ◌≤◌, ◌^◌, IfOk, None, option_map, length, map, take, drop};
 ghost use Rattle.std.specs.Simd.Lanes.{Each1};
-ghost use Rattle.views.specs.Columns.{column, column_reads, column_writes, with_column, first_lane_fault};
-ghost use Rattle.views.specs.Tables.{answer_of, kept_of, after_log, after_stores};
+ghost use Rattle.views.specs.Columns.{column, column_reads};
+ghost use Rattle.views.specs.Runs.{run_fault, stored_count, with_run};
+ghost use Rattle.views.specs.Tables.{after_log};
 ghost use Rattle.lane_kernels.specs.Blocks.{sixteens};
 ghost use Rattle.lane_kernels.specs.Kernels.{IsNarrow, IsNarrowLeaf, IsKernelOf, row_cost};
-ghost use Rattle.lane_kernels.specs.Runs.{fault_in, named_row, number_so_far, AreTaken};
-ghost use Rattle.lane_kernels.specs.Stubs.{stored_count};
+ghost use Rattle.lane_kernels.specs.Runs.{fault_in, named_row, number_so_far, AreNext, AreTaken};
 
 use crate::fault::KernelFault;
 use crate::kernel::Kernel;
-use crate::stubs::Runs;
 use lanes::{clamp, count, greatest, least, sum, times_plus};
 use std::sync::ledger::Ledger;
 use steps::Steps;
@@ -18,7 +17,7 @@ use views::{LaneFault, View};
 
 /// Does a kernel in as many rows as the buffers hold, from this one on, up to the first that does not take its value. It gives the number of
 /// the values up to there.
-pub fn on_rows<L: Ledger, S: Runs>(
+pub fn on_rows<L: Ledger>(
     view: &mut View,
     kernel: &Kernel,
     row: u64,
@@ -28,48 +27,46 @@ pub fn on_rows<L: Ledger, S: Runs>(
     steps: &mut Steps<L>,
 ) -> Result<Option<i64>, KernelFault>
     requires kernel { IsKernelOf view.old kernel.now }
-    requires some { 1 ≤ length values.old }
     requires beside { length added.old ≡ length values.old }
-    requires rows_in { row + length values.old ≤ length view.old.rows }
     requires few { length view.old.rows ≤ 2 ^ 24 }
-    requires number { number ≡ number_so_far kernel.now (take row view.old.rows) }
+    requires rows { AreNext view.old.rows kernel.now row (length values.old) number }
     ensures taken { AreTaken view.old view.new kernel.now row (length values.old) (fault_in result) }
     ensures number { IfOk result (λ number. number ≡ number_so_far kernel.now (take (row + length values.old) view.old.rows)) }
     ensures steps { steps.new ≡ steps.old + row_cost kernel.now * sixteens (length values.old) }
 {
     match *kernel {
         Kernel::Axpy { a, x, y } => {
-            read_rows::<L, S>(view, x, row, values, steps);
-            read_rows::<L, S>(view, y, row, added, steps);
+            read_rows(view, x, row, values, steps);
+            read_rows(view, y, row, added, steps);
             times_plus(a, values, added);
-            store_rows::<L, S>(view, y, row, values, steps)
+            store_rows(view, y, row, values, steps)
         }
         Kernel::Clamp { x, lo, hi } => {
-            read_rows::<L, S>(view, x, row, values, steps);
+            read_rows(view, x, row, values, steps);
             clamp(lo, hi, values);
-            store_rows::<L, S>(view, x, row, values, steps)
+            store_rows(view, x, row, values, steps)
         }
         Kernel::Sum { x } => {
-            read_rows::<L, S>(view, x, row, values, steps);
+            read_rows(view, x, row, values, steps);
             Ok(Some(sum(number.unwrap_or(0), values)))
         }
         Kernel::Least { x } => {
-            read_rows::<L, S>(view, x, row, values, steps);
+            read_rows(view, x, row, values, steps);
             Ok(Some(least(number.unwrap_or(values[0]), values)))
         }
         Kernel::Greatest { x } => {
-            read_rows::<L, S>(view, x, row, values, steps);
+            read_rows(view, x, row, values, steps);
             Ok(Some(greatest(number.unwrap_or(values[0]), values)))
         }
         Kernel::CountWhere { x, op, c } => {
-            read_rows::<L, S>(view, x, row, values, steps);
+            read_rows(view, x, row, values, steps);
             Ok(Some(number.unwrap_or(0) + count(op, c, values) as i64))
         }
     }
 }
 
 // The values of a leaf in rows one after another.
-fn read_rows<L: Ledger, S: Runs>(
+fn read_rows<L: Ledger>(
     view: &mut View,
     leaf: usize,
     row: u64,
@@ -84,11 +81,11 @@ fn read_rows<L: Ledger, S: Runs>(
     ensures steps { steps.new ≡ steps.old + sixteens (length values.old) }
 {
     let _table = view.extents();
-    S::read_run(view, leaf, row, values, steps);
+    view.read_run(leaf, row, values, steps);
 }
 
 // Stores values in a leaf of rows one after another, up to the first that is not taken.
-fn store_rows<L: Ledger, S: Runs>(
+fn store_rows<L: Ledger>(
     view: &mut View,
     leaf: usize,
     row: u64,
@@ -98,14 +95,12 @@ fn store_rows<L: Ledger, S: Runs>(
     requires leaf { IsNarrowLeaf view.old leaf }
     requires rows_in { row + length values.now ≤ length view.old.rows }
     requires few { length view.old.rows ≤ 2 ^ 24 }
-    ensures fault { fault_in result ≡ option_map (named_row row leaf) (first_lane_fault (answer_of view.old) leaf 0 values.now) }
+    ensures fault { fault_in result ≡ option_map (named_row row leaf) (run_fault leaf values.now view.old) }
     ensures none { IfOk result (λ number. number ≡ None) }
-    ensures stored { view.new ≡ after_stores view.old (with_column leaf row
-        (map (kept_of view.old leaf) (take (stored_count (length values.now) (first_lane_fault (answer_of view.old) leaf 0 values.now)) values.now)) view.old.rows)
-        (column_writes leaf row (stored_count (length values.now) (first_lane_fault (answer_of view.old) leaf 0 values.now))) }
+    ensures stored { view.new ≡ with_run leaf row values.now (stored_count (length values.now) (run_fault leaf values.now view.old)) view.old }
     ensures steps { steps.new ≡ steps.old + sixteens (length values.now) }
 {
-    match S::store_run(view, leaf, row, values, steps) {
+    match view.store_run(leaf, row, values, steps) {
         Ok(()) => Ok(None),
         Err(LaneFault { lane, fault }) => Err(KernelFault::of(row + lane as u64, leaf, fault)),
     }

@@ -39,8 +39,17 @@ next_is g c =
 held : (g : given.Over) (c : goal.After-step_at-step g) → length (take c.step_at-step.result c.loop-row.values) ≡ c.step_at-step.result
 held g c = omega (arith, length-take c.step_at-step.result c.loop-row.values, c.loop-row.auto.values, c.requires.values, (next_is g c).few)
 
-pub on_rows-requires-clause-number : goal.on_rows-requires-clause-number
-on_rows-requires-clause-number g c = seen_number c.args.view.now c.loop-row.view c.args.kernel.now c.loop-row.row c.loop-row.number c.loop-row.invariant.done
+pub on_rows-requires-clause-rows : goal.on_rows-requires-clause-rows
+on_rows-requires-clause-rows g c =
+    let at = (goal.at.on_rows-requires-clause-rows g c).After-step_at-step in
+    let next = next_is g at in
+    let long = held g at in
+    let done = c.loop-row.invariant.done in
+    rw long (record {
+      some = next.some;
+      inside = omega (arith, next.room, seen_rows c.args.view.now c.loop-row.view c.args.kernel.now c.loop-row.row c.loop-row.number done);
+      so_far = seen_number c.args.view.now c.loop-row.view c.args.kernel.now c.loop-row.row c.loop-row.number done;
+    })
 
 pub returns-in_err-number-clause-run : goal.returns-in_err-number-clause-run
 returns-in_err-number-clause-run g c =

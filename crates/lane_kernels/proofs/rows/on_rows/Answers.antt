@@ -1,4 +1,4 @@
-use Rattle.std.proofs.Common.{rules, ◌≡◌, ◌*ℤ◌, ◌+ℤ◌, List, ℤ, pos, Some, length, get_or, take, drop, map, fold, to_z, of_z, w64, SFits, refl, sym, ap, subst, ◌∙◌}
+use Rattle.std.proofs.Common.{rules, ◌≡◌, ◌*ℤ◌, ◌+ℤ◌, ℤ, pos, Some, length, get_or, take, drop, map, to_z, of_z, w64, SFits, refl, sym, ap, subst, ◌∙◌}
 use Rattle.std.specs.Int.{int_min, int_max}
 use Rattle.std.specs.List.{count_by}
 use Rattle.std.specs.Option.{unwrap_or}
@@ -8,9 +8,9 @@ use Rattle.std.proofs.lemmas.List.{map-id}
 use Rattle.lanes.specs.NarrowLaws.{products_fit}
 use Rattle.views.specs.Columns.{column}
 use Rattle.lane_kernels.specs.Kernels.{IsNarrow, compares}
-use Rattle.lane_kernels.specs.Runs.{fault_in, number_so_far}
+use Rattle.lane_kernels.specs.Runs.{fault_in, AreNext}
 use Rattle.lane_kernels.specs.declared.kernel.Kernel.TheVariants.{Sum, Least, Greatest, CountWhere}
-use Rattle.lane_kernels.proofs.Numbers.{HasNumber, narrow_rows, sum_more, least_more, greatest_more, count_more, sums_fit, count_fits, count_whole}
+use Rattle.lane_kernels.proofs.Numbers.{narrow_rows, sum_more, extreme_more, same_min, same_max, least_of, greatest_of, count_more, sums_fit, count_fits, count_whole}
 use Rattle.lane_kernels.proofs.Stores.{axpy_taken, clamp_taken, rows_read_alone}
 use Rattle.lane_kernels.proofs.rows.on_rows.Given as given
 use Rattle.lane_kernels.proofs.rows.on_rows.Goals as goal
@@ -41,7 +41,7 @@ returns-in-Axpy-clause-taken g c =
     let made : c.times_plus.new.values ≡ zip2 (λ v w. a *ℤ v +ℤ w) xs ys =
     sym (map-id c.times_plus.new.values) ∙ c.times_plus.ensures ∙ ap (λ (z : ℤ). zip2 (λ v w. z *ℤ v +ℤ w) xs ys) (to_z-of_z w64 a fits) in
     rw c.in-Axpy.is (axpy_taken c.args.view.now c.read_rows.new.view c.read_rows-in-Axpy.new.view c.store_rows.new.view a x y row n xs ys c.times_plus.new.values (fault_in c.store_rows.result)
-    c.read_rows.ensures.same other c.read_rows.ensures.values second made c.requires.rows_in c.store_rows.ensures.fault c.store_rows.ensures.stored)
+    c.read_rows.ensures.same other c.read_rows.ensures.values second made c.requires.rows.inside c.store_rows.ensures.fault c.store_rows.ensures.stored)
 
 pub returns-in-Clamp-clause-taken : goal.returns-in-Clamp-clause-taken
 returns-in-Clamp-clause-taken g c =
@@ -55,7 +55,7 @@ returns-in-Clamp-clause-taken g c =
     sym (map-id c.clamp.new.values) ∙ c.clamp.ensures ∙ ap (λ (z : ℤ). map (λ v. int_max z (int_min v (to_z w64 (of_z w64 hi)))) xs) (to_z-of_z w64 lo low)
     ∙ ap (λ (z : ℤ). map (λ v. int_max lo (int_min v z)) xs) (to_z-of_z w64 hi high) in
     rw c.in-Clamp.is (clamp_taken c.args.view.now c.read_rows-in-Clamp.new.view c.store_rows-in-Clamp.new.view c.in-Clamp.x lo hi c.args.row (length c.args.values.now) xs c.clamp.new.values (fault_in c.store_rows-in-Clamp.result)
-    c.read_rows-in-Clamp.ensures.same c.read_rows-in-Clamp.ensures.values made c.requires.rows_in c.store_rows-in-Clamp.ensures.fault c.store_rows-in-Clamp.ensures.stored)
+    c.read_rows-in-Clamp.ensures.same c.read_rows-in-Clamp.ensures.values made c.requires.rows.inside c.store_rows-in-Clamp.ensures.fault c.store_rows-in-Clamp.ensures.stored)
 
 pub sum-requires : goal.sum-requires
 sum-requires g c =
@@ -63,28 +63,22 @@ sum-requires g c =
     let rows = c.args.view.now.rows in
     let fits : SFits w64 c.unwrap_or.result = search rules in
     let start : to_z w64 (of_z w64 c.unwrap_or.result) ≡ unwrap_or c.args.number (pos 0) = to_z-of_z w64 c.unwrap_or.result fits ∙ c.unwrap_or.ensures in
-    let so_far : c.args.number ≡ number_so_far (Sum x) (take c.args.row rows) = rw c.in-Sum.is at c.requires.number in
-    let has : HasNumber (Sum x) rows c.args.row (length c.args.values.now) c.args.number = record { so_far = so_far; some = c.requires.some; room = c.requires.rows_in } in
-    rw (start, c.read_rows-in-Sum.ensures.values) (sums_fit x rows c.args.row (length c.args.values.now) c.args.number c.requires.few c.read_rows-in-Sum.ensures.narrow has)
+    let next : AreNext c.args.view.now.rows (Sum x) c.args.row (length c.args.values.now) c.args.number = rw c.in-Sum.is at c.requires.rows in
+    rw (start, c.read_rows-in-Sum.ensures.values) (sums_fit x rows c.args.row (length c.args.values.now) c.args.number c.requires.few c.read_rows-in-Sum.ensures.narrow next)
 
 pub returns-in-Sum-clause-taken : goal.returns-in-Sum-clause-taken
 returns-in-Sum-clause-taken g c =
-    let x = c.in-Sum.x in
-    rw c.in-Sum.is (rows_read_alone c.args.view.now c.read_rows-in-Sum.new.view (Sum x) x c.args.row (length c.args.values.now) (λ seen. refl) (λ at. refl) (λ at. refl) c.read_rows-in-Sum.ensures.same)
+    rw c.in-Sum.is (rows_read_alone c.args.view.now c.read_rows-in-Sum.new.view (Sum c.in-Sum.x) c.in-Sum.x c.args.row (length c.args.values.now) (λ seen. refl) (λ at. refl) (λ at. refl) c.read_rows-in-Sum.ensures.same)
 
 pub returns-in-Sum-clause-number : goal.returns-in-Sum-clause-number
 returns-in-Sum-clause-number g c =
     let x = c.in-Sum.x in
-    let rows = c.args.view.now.rows in
-    let values = c.read_rows-in-Sum.new.values in
     let fits : SFits w64 c.unwrap_or.result = search rules in
     let sum : SFits w64 c.sum.result = search rules in
-    let start : to_z w64 (of_z w64 c.unwrap_or.result) ≡ unwrap_or c.args.number (pos 0) = to_z-of_z w64 c.unwrap_or.result fits ∙ c.unwrap_or.ensures in
-    let so_far : c.args.number ≡ number_so_far (Sum x) (take c.args.row rows) = rw c.in-Sum.is at c.requires.number in
-    let has : HasNumber (Sum x) rows c.args.row (length c.args.values.now) c.args.number = record { so_far = so_far; some = c.requires.some; room = c.requires.rows_in } in
+    let next : AreNext c.args.view.now.rows (Sum x) c.args.row (length c.args.values.now) c.args.number = rw c.in-Sum.is at c.requires.rows in
     rw (c.in-Sum.is, to_z-of_z w64 c.sum.result sum)
-    (ap (λ (z : ℤ). Some z) (c.sum.ensures ∙ ap (λ (s : ℤ). fold (λ (a b : ℤ). a +ℤ b) s values) start ∙ ap (fold (λ (a b : ℤ). a +ℤ b) (unwrap_or c.args.number (pos 0))) c.read_rows-in-Sum.ensures.values)
-    ∙ sum_more x rows c.args.row (length c.args.values.now) c.args.number has)
+    (sum_more x c.args.view.now.rows c.args.row (length c.args.values.now) c.args.number c.read_rows-in-Sum.new.values (to_z w64 (of_z w64 c.unwrap_or.result)) c.sum.result next c.read_rows-in-Sum.ensures.values
+    (to_z-of_z w64 c.unwrap_or.result fits ∙ c.unwrap_or.ensures) c.sum.ensures)
 
 pub returns-in-Least-clause-taken : goal.returns-in-Least-clause-taken
 returns-in-Least-clause-taken g c =
@@ -101,48 +95,30 @@ returns-in-CountWhere-clause-taken g c =
 pub returns-in-Least-clause-number : goal.returns-in-Least-clause-number
 returns-in-Least-clause-number g c =
     let x = c.in-Least.x in
-    let rows = c.args.view.now.rows in
-    let n = length c.args.values.now in
-    let number = c.args.number in
     let values = c.read_rows-in-Least.new.values in
     let head : SFits w64 (get_or values 0 (pos 0)) = search rules in
     let fits : SFits w64 c.unwrap_or-in-Least.result = search rules in
     let found : SFits w64 c.least.result = search rules in
-    let start : to_z w64 (of_z w64 c.unwrap_or-in-Least.result) ≡ unwrap_or number (get_or (column x (take n (drop c.args.row rows))) 0 (pos 0)) =
-    to_z-of_z w64 c.unwrap_or-in-Least.result fits ∙ c.unwrap_or-in-Least.ensures ∙ ap (unwrap_or number) (to_z-of_z w64 (get_or values 0 (pos 0)) head)
-    ∙ ap (λ (vs : List ℤ). unwrap_or number (get_or vs 0 (pos 0))) c.read_rows-in-Least.ensures.values in
-    let so_far : number ≡ number_so_far (Least x) (take c.args.row rows) = rw c.in-Least.is at c.requires.number in
-    let has : HasNumber (Least x) rows c.args.row n number = record { so_far = so_far; some = c.requires.some; room = c.requires.rows_in } in
+    let next : AreNext c.args.view.now.rows (Least x) c.args.row (length c.args.values.now) c.args.number = rw c.in-Least.is at c.requires.rows in
     rw (c.in-Least.is, to_z-of_z w64 c.least.result found)
-    (ap (λ (z : ℤ). Some z) (c.least.ensures ∙ ap (λ (s : ℤ). fold int_min s values) start
-    ∙ ap (fold int_min (unwrap_or number (get_or (column x (take n (drop c.args.row rows))) 0 (pos 0)))) c.read_rows-in-Least.ensures.values)
-    ∙ least_more x rows c.args.row n number (pos 0) has)
+    (extreme_more int_min (Least x) x c.args.view.now.rows c.args.row (length c.args.values.now) c.args.number values (to_z w64 (of_z w64 c.unwrap_or-in-Least.result)) c.least.result same_min (least_of x) next
+    c.read_rows-in-Least.ensures.values (to_z-of_z w64 c.unwrap_or-in-Least.result fits ∙ c.unwrap_or-in-Least.ensures ∙ ap (unwrap_or c.args.number) (to_z-of_z w64 (get_or values 0 (pos 0)) head)) c.least.ensures)
 
 pub returns-in-Greatest-clause-number : goal.returns-in-Greatest-clause-number
 returns-in-Greatest-clause-number g c =
     let x = c.in-Greatest.x in
-    let rows = c.args.view.now.rows in
-    let n = length c.args.values.now in
-    let number = c.args.number in
     let values = c.read_rows-in-Greatest.new.values in
     let head : SFits w64 (get_or values 0 (pos 0)) = search rules in
     let fits : SFits w64 c.unwrap_or-in-Greatest.result = search rules in
     let found : SFits w64 c.greatest.result = search rules in
-    let start : to_z w64 (of_z w64 c.unwrap_or-in-Greatest.result) ≡ unwrap_or number (get_or (column x (take n (drop c.args.row rows))) 0 (pos 0)) =
-    to_z-of_z w64 c.unwrap_or-in-Greatest.result fits ∙ c.unwrap_or-in-Greatest.ensures ∙ ap (unwrap_or number) (to_z-of_z w64 (get_or values 0 (pos 0)) head)
-    ∙ ap (λ (vs : List ℤ). unwrap_or number (get_or vs 0 (pos 0))) c.read_rows-in-Greatest.ensures.values in
-    let so_far : number ≡ number_so_far (Greatest x) (take c.args.row rows) = rw c.in-Greatest.is at c.requires.number in
-    let has : HasNumber (Greatest x) rows c.args.row n number = record { so_far = so_far; some = c.requires.some; room = c.requires.rows_in } in
+    let next : AreNext c.args.view.now.rows (Greatest x) c.args.row (length c.args.values.now) c.args.number = rw c.in-Greatest.is at c.requires.rows in
     rw (c.in-Greatest.is, to_z-of_z w64 c.greatest.result found)
-    (ap (λ (z : ℤ). Some z) (c.greatest.ensures ∙ ap (λ (s : ℤ). fold int_max s values) start
-    ∙ ap (fold int_max (unwrap_or number (get_or (column x (take n (drop c.args.row rows))) 0 (pos 0)))) c.read_rows-in-Greatest.ensures.values)
-    ∙ greatest_more x rows c.args.row n number (pos 0) has)
+    (extreme_more int_max (Greatest x) x c.args.view.now.rows c.args.row (length c.args.values.now) c.args.number values (to_z w64 (of_z w64 c.unwrap_or-in-Greatest.result)) c.greatest.result same_max (greatest_of x) next
+    c.read_rows-in-Greatest.ensures.values (to_z-of_z w64 c.unwrap_or-in-Greatest.result fits ∙ c.unwrap_or-in-Greatest.ensures ∙ ap (unwrap_or c.args.number) (to_z-of_z w64 (get_or values 0 (pos 0)) head)) c.greatest.ensures)
 
 -- a count
-has_count : (g : given.Over) (c : goal.After-count g) → HasNumber (CountWhere c.in-CountWhere.x c.in-CountWhere.op c.in-CountWhere.c) c.args.view.now.rows c.args.row (length c.args.values.now) c.args.number
-has_count g c =
-    let so_far : c.args.number ≡ number_so_far (CountWhere c.in-CountWhere.x c.in-CountWhere.op c.in-CountWhere.c) (take c.args.row c.args.view.now.rows) = rw c.in-CountWhere.is at c.requires.number in
-    record { so_far = so_far; some = c.requires.some; room = c.requires.rows_in }
+next_is : (g : given.Over) (c : goal.After-count g) → AreNext c.args.view.now.rows (CountWhere c.in-CountWhere.x c.in-CountWhere.op c.in-CountWhere.c) c.args.row (length c.args.values.now) c.args.number
+next_is g c = rw c.in-CountWhere.is at c.requires.rows
 
 whole : (g : given.Over) (c : goal.After-count g)
     → to_z w64 (of_z w64 c.unwrap_or-in-CountWhere.result) +ℤ to_z w64 c.count.result
@@ -154,13 +130,13 @@ whole g c =
     let small : SFits w64 constant = search rules in
     let counted = c.count.ensures ∙ ap (λ (k : ℤ). count_by (λ value. compares op value k) c.read_rows-in-CountWhere.new.values) (to_z-of_z w64 constant small)
     ∙ ap (count_by (λ value. compares op value constant)) c.read_rows-in-CountWhere.ensures.values in
-    count_whole c.in-CountWhere.x op constant c.args.view.now.rows c.args.row (length c.args.values.now) c.args.number (to_z w64 (of_z w64 c.unwrap_or-in-CountWhere.result)) c.count.result c.requires.few (has_count g c)
+    count_whole c.in-CountWhere.x op constant c.args.view.now.rows c.args.row (length c.args.values.now) c.args.number (to_z w64 (of_z w64 c.unwrap_or-in-CountWhere.result)) c.count.result c.requires.few (next_is g c)
     (to_z-of_z w64 c.unwrap_or-in-CountWhere.result fits ∙ c.unwrap_or-in-CountWhere.ensures) counted
 
 sum_fits : (g : given.Over) (c : goal.After-count g) → SFits w64 (to_z w64 (of_z w64 c.unwrap_or-in-CountWhere.result) +ℤ to_z w64 c.count.result)
 sum_fits g c =
     subst (SFits w64) (sym (whole g c))
-    (count_fits c.in-CountWhere.x c.in-CountWhere.op c.in-CountWhere.c c.args.view.now.rows c.args.row (length c.args.values.now) c.args.number c.requires.few (has_count g c))
+    (count_fits c.in-CountWhere.x c.in-CountWhere.op c.in-CountWhere.c c.args.view.now.rows c.args.row (length c.args.values.now) c.args.number c.requires.few (next_is g c))
 
 pub overflow_add-result : goal.overflow_add-result
 overflow_add-result g c = sum_fits g c
@@ -169,4 +145,4 @@ pub returns-in-CountWhere-clause-number : goal.returns-in-CountWhere-clause-numb
 returns-in-CountWhere-clause-number g c =
     rw (c.in-CountWhere.is, to_z-of_z w64 (to_z w64 (of_z w64 c.unwrap_or-in-CountWhere.result) +ℤ to_z w64 c.count.result) (sum_fits g c))
     (ap (λ (z : ℤ). Some z) (whole g c)
-    ∙ count_more c.in-CountWhere.x c.in-CountWhere.op c.in-CountWhere.c c.args.view.now.rows c.args.row (length c.args.values.now) c.args.number (has_count g c))
+    ∙ count_more c.in-CountWhere.x c.in-CountWhere.op c.in-CountWhere.c c.args.view.now.rows c.args.row (length c.args.values.now) c.args.number (next_is g c))
