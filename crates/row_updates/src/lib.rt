@@ -4,8 +4,12 @@
 mod count;
 mod fault;
 mod index;
+mod limits;
 mod one_leaf;
+mod run_updates;
+mod runs;
 mod side;
+mod stubs;
 mod update;
 mod value;
 
