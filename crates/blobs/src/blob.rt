@@ -6,19 +6,22 @@ ghost use Rattle.blobs.specs.Bits.{AreBytes};
 ghost use Rattle.blobs.specs.Moves.{moved};
 ghost use Rattle.blobs.specs.Turned.{turned_from};
 
-use crate::none::no_places;
+use crate::lease::Lease;
+use crate::memory::{release, reserve};
 use byteorder::{ByteOrder, LittleEndian};
-use core::slots::{Lease, Slots, release, reserve};
+use core::slots::Slots;
 use std::alloc::{AllocError as NoMemory, Global};
 use std::marker::Model;
 use std::sync::ledger::Ledger;
 use steps::Steps;
 
+/// The most bytes that one allocation has.
+const MAX_BYTES: usize = isize::MAX as usize;
+
 /// A fixed number of bytes of raw memory. Contracts see it as the list of its bytes. Bit `k` is bit `k % 8` of byte `k / 8`.
 pub struct Blob {
     places: Slots<u8>,
-    /// The right to free the memory, where there is any: a blob of length 0 holds none.
-    lease: Option<Lease<u8, Global>>,
+    lease: Lease<u8, Global>,
     alloc: Global,
 }
 
@@ -42,12 +45,7 @@ impl Drop for Blob {
             lease,
             alloc,
         } = self;
-        match lease {
-            Some(lease) => release(&alloc, places, lease),
-            None => {
-                let _parts = unsafe { places.into_raw_parts() };
-            }
-        }
+        release(&alloc, places, lease);
     }
 }
 
@@ -56,20 +54,16 @@ impl Blob {
     pub fn zeroed(alloc: Global, len: usize) -> Result<Blob, NoMemory>
         ensures { IfOk result (λ b. b ≡ replicate len 0) }
     {
-        if len == 0 {
-            return Ok(Blob {
-                places: no_places(),
-                lease: None,
-                alloc,
-            });
+        if MAX_BYTES < len {
+            return Err(NoMemory);
         }
-        // The length of the memory is taken from a slice.
-        let zeros = vec![in alloc; 0u8; len]?;
-        let (mut places, lease) = unsafe { reserve(&alloc, zeros.as_slice())? };
-        places.copy_in(0, zeros.as_slice());
+        let (mut places, lease) = reserve(&alloc, len)?;
+        for at in 0..len {
+            places.put(at, 0);
+        }
         Ok(Blob {
             places,
-            lease: Some(lease),
+            lease,
             alloc,
         })
     }

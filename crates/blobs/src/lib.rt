@@ -3,8 +3,9 @@
 
 mod bits;
 mod blob;
+mod lease;
+mod memory;
 mod moves;
-mod none;
 mod word;
 
 pub use blob::Blob;

@@ -1,15 +1,16 @@
 -- Accesses to pieces, step by step.
-use Rattle.std.proofs.Common.{◌≡◌, ℕ, ◌+◌, ◌-◌, ◌*◌, ◌/◌, ◌<◌, ◌≤◌, Bool, true, false, nat_eq, nat_lt, nat_le, List, [], length, get_or, set, map, take, sym, ap, refl, ◌∙◌, arith, ⊎_elim}
-use Rattle.std.specs.Prelude.{◌&&◌, ◌||◌, not}
+use Rattle.std.proofs.Common.{◌≡◌, ℕ, ◌+◌, ◌-◌, ◌*◌, ◌/◌, ◌%◌, ◌<◌, ◌≤◌, Bool, true, false, nat_eq, nat_lt, nat_le, List, [], length, get_or, set, map, take, sym, ap, refl, ◌∙◌, arith, ⊎_elim}
+use Rattle.std.specs.Prelude.{◌&&◌, ◌||◌, not, min, max}
 use Rattle.std.proofs.lemmas.Bool.{eq-eqb, ne_eqb, le-leb, lt-leb, lt-ltb, le-ltb, and_left, and_right, cases_eq, cases_lt}
 use Rattle.std.proofs.lemmas.List.{length-map, get_or-map, get_or_read, map-set}
 use Rattle.std.proofs.lemmas.List.Folds.{list_any_more}
-use Rattle.std.proofs.Math.Nat.{mul-le-mul_left}
+use Rattle.std.proofs.lemmas.Nat.{div-add-mod'}
+use Rattle.std.proofs.Math.Nat.{mul-add-div, mul-lt-mul_of_pos_left, div-lt_iff_lt-mul, mul_comm}
 use Rattle.places.specs.declared.piece.Piece.{Piece}
 use Rattle.places.specs.Touched.{is_in_granule, is_touched}
 use Rattle.instrument.specs.Counters.{HeatCounts, raised, counted_times, warmed_times, heated_times}
-use Rattle.instrument.specs.Touching.{warmed_at, heated_besides}
 use Rattle.instrument.specs.RoundingLaws.{reaches, row_begin}
+use Rattle.instrument.specs.Touching.{AreGranulesOf, warmed_at, heated_besides}
 use Rattle.instrument.proofs.Warming.{warmed-same, warmed-none, warmed-besides, warmed-more}
 
 -- a count that is written back into its list
@@ -32,7 +33,7 @@ abbrev pub heated_until : ℕ → ℕ → ℕ → List Piece → Piece → HeatC
 heated_until times first past others piece heat = record heat { blobs = warmed_times times (is_anew heat.granule others piece first past) heat.blobs }
 
 -- none at the start
-none_between : (first at : ℕ) → (nat_le first at && nat_lt at first) ≡ false
+pub none_between : (first at : ℕ) → (nat_le first at && nat_lt at first) ≡ false
 none_between first at =
     ⊎_elim (λ (low : at < first). and_left (nat_le first at) (nat_lt at first) (lt-leb first at low)) (λ (high : first ≤ at). and_right (nat_le first at) (nat_lt at first) (le-ltb at first high)) (cases_lt at first)
 
@@ -42,6 +43,37 @@ until-start times first others piece heat =
     λ blob at. sym (and_left (nat_eq piece.blob blob && (nat_le first at && nat_lt at first)) (not (is_touched heat.granule others blob at))
     (and_right (nat_eq piece.blob blob) (nat_le first at && nat_lt at first) (none_between first at))) in
     ap (λ (blobs : List (List ℕ)). record heat { blobs = blobs }) (sym (warmed-none times heat.blobs) ∙ warmed-same times (λ blob at. false) (is_anew heat.granule others piece first first) heat.blobs none)
+
+-- the granules of a piece, whose end is counted from the first one on
+last_from : (bit bits wide : ℕ) → 0 < bits → 0 < wide → bit / wide + (bit % wide + bits - 1) / wide ≡ (bit + bits - 1) / wide
+last_from bit bits wide some wide_some =
+    let sum : wide * (bit / wide) + (bit % wide + bits - 1) ≡ bit + bits - 1 = omega (arith, div-add-mod' bit wide, mul_comm (bit / wide) wide) in
+    sym (mul-add-div wide_some (bit / wide) (bit % wide + bits - 1)) ∙ ap (λ n. n / wide) sum
+
+pub granules_are : (granule : ℕ) (piece : Piece) → 1 ≤ granule → 0 < piece.bits
+    → AreGranulesOf granule piece (piece.bit / (8 * granule)) (piece.bit / (8 * granule) + (piece.bit % (8 * granule) + piece.bits - 1) / (8 * granule) + 1)
+granules_are granule piece some bits =
+    let wide = 8 * granule in
+    let first = piece.bit / wide in
+    let last = last_from piece.bit piece.bits wide bits (omega arith) in
+    record {
+      holds = λ at. ap (λ n. nat_le first at && nat_lt at (n + 1)) last ∙ sym (reaches piece.bit piece.bits wide at bits (omega arith));
+      rises = omega arith;
+      within = λ many low.
+          let below : (piece.bit + piece.bits - 1) / wide < many = (div-lt_iff_lt-mul (omega arith)).1 (omega (arith, mul_comm wide many)) in
+          omega (arith, last, below);
+    }
+
+pub no_granules : (granule : ℕ) (piece : Piece) → 1 ≤ granule → piece.bits ≡ 0 → AreGranulesOf granule piece (piece.bit / (8 * granule)) (piece.bit / (8 * granule))
+no_granules granule piece some none =
+    let wide = 8 * granule in
+    record {
+      holds = λ at. none_between (piece.bit / wide) at ∙ sym (le-ltb (max piece.bit (wide * at)) (min (piece.bit + piece.bits) (wide * (at + 1))) (omega arith));
+      rises = omega arith;
+      within = λ many low.
+          let begin = row_begin piece.bit wide (omega arith) in
+          ⊎_elim (λ (over : many < piece.bit / wide). absurd (omega (arith, begin, low, mul-lt-mul_of_pos_left {k = wide} over (omega arith)))) (λ (fits : piece.bit / wide ≤ many). fits) (cases_lt many (piece.bit / wide));
+    }
 
 -- one granule more
 other_place : (first number at : ℕ) → (at ≡ number → ⊥) → (nat_le first at && nat_lt at (number + 1)) ≡ (nat_le first at && nat_lt at number)
@@ -95,25 +127,13 @@ until-more times first number others piece heat blob_in at_in from untouched =
     (λ blob other k. other_blob heat.granule first (number + 1) number others piece blob k (λ same. other (sym same))))
 
 -- all granules of a piece
-pub until-end : (times : ℕ) (others : List Piece) (piece : Piece) (heat : HeatCounts) → 0 < piece.bits → 1 ≤ heat.granule
-    → heated_until times (piece.bit / (8 * heat.granule)) ((piece.bit + piece.bits - 1) / (8 * heat.granule) + 1) others piece heat ≡ heated_besides times others piece heat
-until-end times others piece heat some granule =
-    let same : (blob at : ℕ) → is_anew heat.granule others piece (piece.bit / (8 * heat.granule)) ((piece.bit + piece.bits - 1) / (8 * heat.granule) + 1) blob at
-    ≡ (is_in_granule heat.granule blob at piece && not (is_touched heat.granule others blob at)) =
-    λ blob at. ap (λ b. (nat_eq piece.blob blob && b) && not (is_touched heat.granule others blob at)) (sym (reaches piece.bit piece.bits (8 * heat.granule) at some (omega arith))) in
+pub until-end : (times first past : ℕ) (others : List Piece) (piece : Piece) (heat : HeatCounts) → AreGranulesOf heat.granule piece first past
+    → heated_until times first past others piece heat ≡ heated_besides times others piece heat
+until-end times first past others piece heat granules =
+    let same : (blob at : ℕ) → is_anew heat.granule others piece first past blob at ≡ (is_in_granule heat.granule blob at piece && not (is_touched heat.granule others blob at)) =
+    λ blob at. ap (λ b. (nat_eq piece.blob blob && b) && not (is_touched heat.granule others blob at)) (granules.holds at) in
     ap (λ (blobs : List (List ℕ)). record heat { blobs = blobs })
-    (warmed-same times (is_anew heat.granule others piece (piece.bit / (8 * heat.granule)) ((piece.bit + piece.bits - 1) / (8 * heat.granule) + 1))
-    (λ blob at. is_in_granule heat.granule blob at piece && not (is_touched heat.granule others blob at)) heat.blobs same)
-
--- a granule of a piece is one that is counted
-pub granule_inside : (end wide at len : ℕ) → 0 < end → 0 < wide → end ≤ wide * len → at < (end - 1) / wide + 1 → at < len
-granule_inside end wide at len some wide_some within small =
-    ⊎_elim
-    (λ (low : at < len). low)
-    (λ (over : len ≤ at).
-    let far : len ≤ (end - 1) / wide = omega arith in
-    absurd (omega (arith, mul-le-mul_left wide far, row_begin (end - 1) wide wide_some)))
-    (cases_lt at len)
+    (warmed-same times (is_anew heat.granule others piece first past) (λ blob at. is_in_granule heat.granule blob at piece && not (is_touched heat.granule others blob at)) heat.blobs same)
 
 -- no piece, and one piece more
 pub heated-none : (times : ℕ) (heat : HeatCounts) → heat ≡ heated_times times [] heat

@@ -1,7 +1,7 @@
 -- Counts of accesses, by leaf and by granule of a blob's bytes.
-use Rattle.std.specs.Prelude.{◌≡◌, ℕ, ◌+◌, ◌-◌, ◌*◌, ◌/◌, ◌^◌, ◌<◌, ◌≤◌, ◌==◌, ◌&&◌, nat_lt, min, max, Bool, if◌then◌else◌}
+use Rattle.std.specs.Prelude.{◌≡◌, ℕ, ◌+◌, ◌-◌, ◌*◌, ◌/◌, ◌^◌, ◌<◌, ◌≤◌, min, Bool, if◌then◌else◌}
 use Rattle.std.specs.Prelude.{List, [], length, map, replicate, slice_index, slice_index_or, slice_set, sum_by}
-use Rattle.std.specs.List.{enumerate_from, list_any}
+use Rattle.std.specs.List.{enumerate_from}
 use Rattle.places.specs.declared.piece.Piece.{Piece}
 use Rattle.places.specs.Touched.{is_touched}
 use Rattle.instrument.specs.declared.counts.Counts.{Counts}
@@ -82,7 +82,12 @@ heated_times times pieces heat = record heat { blobs = warmed_times times (is_to
 abbrev pub heated_by : List Piece → HeatCounts → HeatCounts
 heated_by pieces heat = heated_times 1 pieces heat
 
--- a piece that is not empty, whose bytes lie in granules that are counted
+-- a piece whose bytes lie in granules that are counted
+pub record IsCounted (heat : HeatCounts) (piece : Piece) : Type 0 where
+  pub blob_in : piece.blob < length heat.blobs
+  pub within : piece.bit + piece.bits ≤ 8 * heat.granule * length (slice_index_or heat.blobs piece.blob [])
+
+-- the same of one that is not empty, and whose end is a number of 64 bits
 pub record IsInside (heat : HeatCounts) (piece : Piece) : Type 0 where
   pub blob_in : piece.blob < length heat.blobs
   pub some : 0 < piece.bits

@@ -3,7 +3,7 @@ use Rattle.std.proofs.Common.{◌≡◌, ℕ, zero, suc, ◌+◌, ◌-◌, ◌*�
 use Rattle.std.specs.Prelude.{min, max, ◌&&◌}
 use Rattle.std.specs.Int.{div_ceil}
 use Rattle.std.proofs.lemmas.Bool.{lt-ltb, le-ltb, le-leb, lt-leb, and_left, and_right, and_from, cases_lt}
-use Rattle.std.proofs.lemmas.Nat.{div-add-mod', div-mul-add, mod_below, le-div}
+use Rattle.std.proofs.lemmas.Nat.{div-add-mod', div-mul-add, mod_below}
 use Rattle.std.proofs.Math.Nat.{mul-le-mul_left, mul-suc, suc-mul, mul_comm}
 use Rattle.instrument.specs.Counters.{granules_of}
 
@@ -28,9 +28,6 @@ row_begin bit wide some = omega (arith, div-add-mod' bit wide, mul_comm (bit / w
 
 row_end : (bit wide : ℕ) → 0 < wide → bit < wide * suc (bit / wide)
 row_end bit wide some = omega (arith, div-add-mod' bit wide, mul_comm (bit / wide) wide, mod_below bit wide some, mul-suc wide (bit / wide))
-
-pub place_rises : (bit later wide : ℕ) → 0 < wide → bit ≤ later → bit / wide ≤ later / wide
-place_rises bit later wide some up = le-div (bit / wide) later wide some (omega (arith, row_begin bit wide some, mul_comm (bit / wide) wide))
 
 -- bits from one place up to another meet a place between both, and no other
 meets : (bit end wide first last at : ℕ) → wide * first ≤ bit → bit < wide * suc first → wide * last < end → end ≤ wide * suc last → bit < end →

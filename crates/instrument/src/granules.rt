@@ -1,7 +1,8 @@
 // Which granules of a blob's bytes pieces have bits in.
-ghost use Rattle.std.specs.Prelude.{◌≡◌, ◌+◌, ◌-◌, ◌*◌, ◌/◌, ◌<◌, ◌≤◌, ◌^◌, nat_le, All};
+ghost use Rattle.std.specs.Prelude.{◌≡◌, ◌≤◌, ◌^◌, nat_le};
 ghost use Rattle.places.specs.Touched.{is_in_granule, is_touched};
 ghost use Rattle.instrument.specs.Counters.{granules_in};
+ghost use Rattle.instrument.specs.Touching.{AreGranulesOf};
 
 use places::Piece;
 
@@ -24,23 +25,23 @@ pub(crate) fn are_few(granule: u32, blob_bytes: &[u64]) -> bool
     true
 }
 
-/// The first granule that holds a bit of a piece that is not empty, and the one behind the last.
+/// The first granule that holds a bit of a piece, and the one behind the last. An empty piece has none.
 pub(crate) fn granules_of(piece: &Piece, granule: u32) -> (u64, u64)
-    requires some { 0 < piece.now.bits }
-    requires bound { piece.now.bit + piece.now.bits < 2 ^ 64 }
     requires granule { 1 ≤ granule }
-    ensures first { result.0 ≡ piece.now.bit / (8 * granule) }
-    ensures past { result.1 ≡ (piece.now.bit + piece.now.bits - 1) / (8 * granule) + 1 }
+    ensures { AreGranulesOf granule piece.now result.0 result.1 }
 {
-    let bits = 8 * u64::from(granule);
-    let end = piece.bit + u64::from(piece.bits);
-    (piece.bit / bits, (end - 1) / bits + 1)
+    let wide = 8 * u64::from(granule);
+    let first = piece.bit / wide;
+    if piece.bits == 0 {
+        return (first, first);
+    }
+    // The end of the piece may be past the greatest number, and that of its part in the first granule and behind is not.
+    let last = piece.bit % wide + u64::from(piece.bits) - 1;
+    (first, first + last / wide + 1)
 }
 
 /// Whether one of these pieces has a bit in a granule of a blob.
 pub(crate) fn is_touched(pieces: &[Piece], granule: u32, blob: usize, number: u64) -> bool
-    requires some { All (λ piece. 0 < piece.bits) pieces.now }
-    requires bound { All (λ piece. piece.bit + piece.bits < 2 ^ 64) pieces.now }
     requires granule { 1 ≤ granule }
     ensures { result ≡ is_touched granule pieces.now blob number }
 {
@@ -53,8 +54,6 @@ pub(crate) fn is_touched(pieces: &[Piece], granule: u32, blob: usize, number: u6
 }
 
 fn is_in_granule(piece: &Piece, granule: u32, blob: usize, number: u64) -> bool
-    requires some { 0 < piece.now.bits }
-    requires bound { piece.now.bit + piece.now.bits < 2 ^ 64 }
     requires granule { 1 ≤ granule }
     ensures { result ≡ is_in_granule granule blob number piece.now }
 {

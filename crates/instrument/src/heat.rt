@@ -41,7 +41,7 @@ pub struct Heat {
 }
 
 impl Heat {
-    ghost use Rattle.instrument.specs.Counters.{heat_counts, no_heat, granules_in, heated_by, heated_times, IsInside};
+    ghost use Rattle.instrument.specs.Counters.{heat_counts, no_heat, granules_in, heated_by, heated_times, IsCounted};
     ghost use Rattle.instrument.specs.Touching.{heated_besides, warmed_at};
 
     /// Counts of the granules of blobs of so many bytes, each 0; a granule has `granule` bytes, the last of a blob perhaps fewer. `TooBig`
@@ -65,7 +65,7 @@ impl Heat {
 
     /// Counts one access to all of these pieces: one more in each granule that holds a byte that holds a bit of one, once for all.
     pub fn touch(&mut self, pieces: &Pieces)
-        requires { All (IsInside (heat_counts self.old)) pieces.now.items }
+        requires { All (IsCounted (heat_counts self.old)) pieces.now.items }
         ensures { heat_counts self.new ≡ heated_by pieces.now.items (heat_counts self.old) }
     {
         self.touch_times(pieces, 1);
@@ -73,7 +73,7 @@ impl Heat {
 
     /// Counts so many accesses to all of these pieces.
     pub fn touch_times(&mut self, pieces: &Pieces, times: u64)
-        requires { All (IsInside (heat_counts self.old)) pieces.now.items }
+        requires { All (IsCounted (heat_counts self.old)) pieces.now.items }
         ensures { heat_counts self.new ≡ heated_times times pieces.now.items (heat_counts self.old) }
     {
         for at in 0..pieces.len() {
@@ -84,9 +84,7 @@ impl Heat {
 
     // Counts accesses to a piece, but for the granules that earlier pieces touch.
     fn touch_piece(&mut self, piece: &Piece, earlier: &[Piece], times: u64)
-        requires inside { IsInside (heat_counts self.old) piece.now }
-        requires some { All (λ piece. 0 < piece.bits) earlier.now }
-        requires bound { All (λ piece. piece.bit + piece.bits < 2 ^ 64) earlier.now }
+        requires { IsCounted (heat_counts self.old) piece.now }
         ensures { heat_counts self.new ≡ heated_besides times earlier.now piece.now (heat_counts self.old) }
     {
         let (first, past) = granules_of(piece, self.granule);

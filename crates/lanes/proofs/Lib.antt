@@ -1,3 +1,4 @@
 pub mod Lanes
 pub mod Narrow
 pub mod Firsts
+pub mod InPlace

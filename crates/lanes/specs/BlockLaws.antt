@@ -1,5 +1,5 @@
 -- Sixteen narrow numbers are a block, and the processor keeps the numbers of a block as their bits.
-use Rattle.std.proofs.Common.{◌≡◌, ◌^◌, List, [], ◌∷◌, length, map, ℤ, pos, negsuc, FitsSigned, to_z, of_z, w64, refl, arith}
+use Rattle.std.proofs.Common.{◌≡◌, List, [], ◌∷◌, length, map, ℤ, pos, negsuc, FitsSigned, to_z, of_z, w64, refl, arith}
 use Rattle.std.proofs.lemmas.Int.{ints, to_z-of_z}
 use Rattle.std.proofs.lemmas.Simd.{Each1-weaker}
 use Rattle.std.specs.Simd.Lanes.{Each1}

@@ -3,5 +3,6 @@ pub mod MortonLaws
 pub mod Spreads
 pub mod SlotsLaws
 pub mod LinesLaws
+pub mod ApartLaws
 pub use Rattle.extents.specs.Indices
 pub use Rattle.extents.specs.IndicesLaws

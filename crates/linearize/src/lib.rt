@@ -9,6 +9,7 @@ mod columns;
 mod digits;
 
 pub use crate::columns::Columns;
+pub use crate::digits::in_turn;
 use crate::digits::spread;
 pub use extents::Order;
 use places::MAX_SLOTS;

@@ -4,3 +4,4 @@ pub mod Ways
 pub mod WordLaws
 pub mod StandLaws
 pub mod AlongLaws
+pub mod StretchLaws

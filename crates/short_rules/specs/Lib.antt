@@ -6,3 +6,5 @@ pub mod ShortsLaws
 pub mod Stands
 pub mod Alongs
 pub mod Wides
+pub mod Stretches
+pub mod StretchesLaws

@@ -8,6 +8,7 @@ mod short;
 mod shorten;
 mod stand;
 mod start;
+mod stretch;
 mod unit;
 mod walk;
 mod wide;
@@ -15,5 +16,6 @@ mod words;
 
 pub use piece_bits::{Field, Word};
 pub use short::ShortRule;
+pub use stretch::{Spread, Stretch};
 pub use walk::Walk;
 pub use wide::Wide;

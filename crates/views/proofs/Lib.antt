@@ -18,3 +18,6 @@ pub mod NearColumnLaws
 pub mod PieceLaws
 pub mod SlotMoveLaws
 pub mod EachLaws
+pub mod RunLaws
+pub mod RunStoreLaws
+pub mod RunSeenLaws

@@ -23,3 +23,5 @@ pub mod SpanLaws
 pub mod CutLaws
 pub mod CountLaws
 pub mod RepeatLaws
+pub mod Runs
+pub mod RunsLaws

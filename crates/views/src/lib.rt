@@ -12,6 +12,7 @@ mod near_store;
 mod pieces;
 mod row;
 mod rows;
+mod runs;
 mod store;
 mod view;
 mod wide;

@@ -28,6 +28,7 @@ use steps::Steps;
 
 mod columns;
 mod moves;
+mod runs;
 mod slots;
 mod touch;
 
@@ -95,6 +96,7 @@ impl View {
     ghost use Rattle.record_dim.specs.LeafTypes.{IsDeclared};
     ghost use Rattle.kept_numbers.specs.Kept.{declared};
     ghost use Rattle.kept_tables.specs.declared.mode.StoreMode.TheVariants.{Strict, Wrap};
+    ghost use Rattle.views.specs.Kept.{HasGranules};
     ghost use Rattle.views.specs.Stores.{told};
     ghost use Rattle.views.specs.Refusals.{IsOver, IsNoView, IsNoViewWithin};
     ghost use Rattle.views.specs.Tables.{leaf_count_of, leaf_type_of, leaf_types_of, owners_of, table_holds, answer_of, kept_of, blob_bits_of, after_log, after_read, after_write, after_raw, IsTable, IsSettledIn};
@@ -520,7 +522,8 @@ impl View {
     /// The accesses by granule, exactly where the expression counts them.
     pub fn heat(&self) -> Option<&Heat>
         ensures value { option_map (λ h. heat_counts h.now) result ≡ self.now.tally.heat }
-        ensures counted { is_some result ≡ is_some (granule_of self.now.mapping) }
+        ensures granule { option_map (λ h. (heat_counts h.now).granule) result ≡ granule_of self.now.mapping }
+        ensures granules { IfSome result (λ h. HasGranules (owners_of self.now) (heat_counts h.now)) }
     {
         self.heat.as_ref()
     }

@@ -197,7 +197,7 @@ impl View {
 
     // The row so many rows after this one.
     #[inline(always)]
-    fn row_after(&self, row: u64, lanes: usize) -> u64
+    pub(super) fn row_after(&self, row: u64, lanes: usize) -> u64
         requires { row + lanes < length self.now.rows }
         ensures { result ≡ row + lanes }
     {

@@ -1,7 +1,8 @@
 use Rattle.std.proofs.Common.{◌≡◌, ◌+◌, ◌-◌, ◌∷◌, ◌++◌, [], ℕ, List, slice_index_or, All, sym, ap, ◌∙◌, subst, arith}
 use Rattle.places.specs.declared.piece.Piece.{Piece}
 use Rattle.places.specs.Touched.{is_in_granule}
-use Rattle.instrument.specs.Counters.{HeatCounts, heat_counts, heated_by, IsInside}
+use Rattle.instrument.specs.Counters.{HeatCounts, heat_counts, heated_by, IsCounted}
+use Rattle.instrument.specs.WarmingLaws.{inside-counted}
 use Rattle.advisor.specs.Steady.{is_run_touched, long_piece}
 use Rattle.advisor.specs.Warm.{IsWarmed}
 use Rattle.advisor.proofs.SteadyLaws.{long_ends, long_fits, long_is, long_inside, long_touches, or_false}
@@ -31,9 +32,9 @@ touch-requires c =
     let pieces : c.push.new.self.items ≡ long_piece rule c.args.start c.args.count ∷ [] =
     c.push.ensures.items ∙ ap (λ (xs : List Piece). xs ++ (record c.piece-first.result { bits = c.piece-last.result.bit + c.from.result - c.piece-first.result.bit }) ∷ []) c.new-pieces.ensures
     ∙ ap (λ (p : Piece). p ∷ []) one in
-    let inside = long_inside heat rule c.args.start c.args.count ends (c.requires.inside (c.args.start + (c.args.count - 1)) (omega (arith, c.requires.some))) in
-    subst (λ (xs : List Piece). All (IsInside heat) xs) (sym pieces) (λ k d low. (let first : k ≡ 0 = omega (arith, low) in
-    subst (λ (n : ℕ). IsInside heat (slice_index_or (long_piece rule c.args.start c.args.count ∷ []) n d)) (sym first) inside))
+    let counted = inside-counted (long_inside heat rule c.args.start c.args.count ends (c.requires.inside (c.args.start + (c.args.count - 1)) (omega (arith, c.requires.some)))) in
+    subst (λ (xs : List Piece). All (IsCounted heat) xs) (sym pieces) (λ k d low. (let first : k ≡ 0 = omega (arith, low) in
+    subst (λ (n : ℕ). IsCounted heat (slice_index_or (long_piece rule c.args.start c.args.count ∷ []) n d)) (sym first) counted))
 
 pub returns : goal.returns
 returns c =

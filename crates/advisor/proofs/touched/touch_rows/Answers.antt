@@ -4,6 +4,7 @@ use Rattle.places.specs.Touched.{is_hot, is_touched}
 use Rattle.places.specs.TouchedLaws.{touched_same}
 use Rattle.places.specs.declared.piece.Hold.{Hold}
 use Rattle.instrument.specs.Counters.{HeatCounts, heat_counts}
+use Rattle.instrument.specs.WarmingLaws.{inside-counted}
 use Rattle.views.specs.CountLaws.{piece_inside}
 use Rattle.advisor.specs.Warm.{IsWarmed}
 use Rattle.advisor.proofs.SteadyLaws.{any_more}
@@ -14,8 +15,8 @@ use Rattle.advisor.proofs.touched.touch_rows.Goals as goal
 pub touch-requires : goal.touch-requires
 touch-requires g c k d small =
     let layout = g.M.Mapping.layout c.args.mapping.now in
-    piece_inside layout (heat_counts c.loop-row.heat) (get_or c.locate.result.items k d) c.loop-row.heat.some c.laws_of.ensures.lawful.whole_bytes
-    (warmed_granules layout c.loop-row.invariant c.requires.granules) (c.locate.ensures.each k d small)
+    inside-counted (piece_inside layout (heat_counts c.loop-row.heat) (get_or c.locate.result.items k d) c.loop-row.heat.some c.laws_of.ensures.lawful.whole_bytes
+    (warmed_granules layout c.loop-row.invariant c.requires.granules) (c.locate.ensures.each k d small))
 
 pub loop-row-preserved : goal.loop-row-preserved
 loop-row-preserved g c =

@@ -1,10 +1,9 @@
-use Rattle.std.proofs.Common.{arith, ◌≡◌, ◌+◌, ◌-◌, ◌*◌, ◌/◌, ℕ, true, false, [], length, get_or, sym, ap, ◌∙◌}
+use Rattle.std.proofs.Common.{arith, ◌≡◌, ◌<◌, ℕ, true, false, [], length, get_or, sym, ap, ◌∙◌}
 use Rattle.places.specs.Touched.{is_touched}
 use Rattle.instrument.specs.Counters.{HeatCounts, heat_counts}
 use Rattle.instrument.specs.Touching.{warmed_at}
-use Rattle.instrument.specs.RoundingLaws.{place_rises}
 use Rattle.instrument.specs.WarmingLaws.{length-warmed, length-heated}
-use Rattle.instrument.proofs.Touches.{is_anew, heated_until, until-start, until-touched, until-more, until-end, granule_inside}
+use Rattle.instrument.proofs.Touches.{is_anew, heated_until, until-start, until-touched, until-more, until-end}
 use Rattle.instrument.proofs.heat.Heat.touch_piece.Goals as goal
 use Rattle.instrument.proofs.heat.Heat.touch_piece.Goals.{then-not-is_touched, else-not-is_touched}
 
@@ -16,17 +15,16 @@ warm-requires-clause-blob_in c =
     let heat = heat_counts c.args.self.now in
     let hot = is_anew heat.granule c.args.earlier.now c.args.piece.now c.granules_of-first.result.0 c.loop-number.number in
     let blobs = ap (λ (heat : HeatCounts). length heat.blobs) c.loop-number.invariant ∙ length-warmed c.args.times hot heat.blobs in
-    omega (arith, blobs, c.requires.inside.blob_in)
+    omega (arith, blobs, c.requires.blob_in)
 
 pub warm-requires-clause-granule_in : goal.warm-requires-clause-granule_in
 warm-requires-clause-granule_in c =
     let piece = c.args.piece.now in
     let heat = heat_counts c.args.self.now in
     let hot = is_anew heat.granule c.args.earlier.now piece c.granules_of-first.result.0 c.loop-number.number in
-    let long = ap (λ (heat : HeatCounts). length (get_or heat.blobs piece.blob [])) c.loop-number.invariant ∙ length-heated c.args.times hot heat.blobs piece.blob c.requires.inside.blob_in in
-    let small = granule_inside (piece.bit + piece.bits) (8 * heat.granule) c.loop-number.number (length (get_or heat.blobs piece.blob [])) (omega arith) (omega arith) c.requires.inside.within
-    (omega (arith, c.granules_of-first.ensures.past, c.loop-number-test.true)) in
-    omega (arith, long, small)
+    let long = ap (λ (heat : HeatCounts). length (get_or heat.blobs piece.blob [])) c.loop-number.invariant ∙ length-heated c.args.times hot heat.blobs piece.blob c.requires.blob_in in
+    let past = c.granules_of-first.ensures.within (length (get_or heat.blobs piece.blob [])) c.requires.within in
+    omega (arith, long, past, c.loop-number-test.true)
 
 pub loop-number-preserved : goal.loop-number-preserved
 loop-number-preserved c =
@@ -35,14 +33,14 @@ loop-number-preserved c =
     let heat = heat_counts c.args.self.now in
     let first = c.granules_of-first.result.0 in
     let number = c.loop-number.number in
-    let small = granule_inside (piece.bit + piece.bits) (8 * heat.granule) number (length (get_or heat.blobs piece.blob [])) (omega arith) (omega arith) c.requires.inside.within
-    (omega (arith, c.granules_of-first.ensures.past, c.loop-number-test.true)) in
+    let past = c.granules_of-first.ensures.within (length (get_or heat.blobs piece.blob [])) c.requires.within in
+    let small : number < length (get_or heat.blobs piece.blob []) = omega (arith, past, c.loop-number-test.true) in
     let granule = ap (λ (heat : HeatCounts). is_touched heat.granule earlier piece.blob number) c.loop-number.invariant in
     elim c.if-not-is_touched.branch [
       | then-not-is_touched w ↦
           let untouched : is_touched heat.granule earlier piece.blob number ≡ false = sym granule ∙ sym c.is_touched.ensures ∙ w.if-not-is_touched.true in
           ap heat_counts w.self-is ∙ w.warm.ensures ∙ ap (warmed_at c.args.times piece.blob number) c.loop-number.invariant
-          ∙ until-more c.args.times first number earlier piece heat c.requires.inside.blob_in small c.loop-number.auto.number untouched
+          ∙ until-more c.args.times first number earlier piece heat c.requires.blob_in small c.loop-number.auto.number untouched
       | else-not-is_touched w ↦
           let touched : is_touched heat.granule earlier piece.blob number ≡ true = sym granule ∙ sym c.is_touched.ensures ∙ w.if-not-is_touched.false in
           ap heat_counts w.self-is ∙ c.loop-number.invariant ∙ until-touched c.args.times first number earlier piece heat touched
@@ -50,11 +48,8 @@ loop-number-preserved c =
 
 pub returns : goal.returns
 returns c =
-    let piece = c.args.piece.now in
     let heat = heat_counts c.args.self.now in
-    let earlier = c.args.earlier.now in
-    let rises = place_rises piece.bit (piece.bit + piece.bits - 1) (8 * heat.granule) (omega arith) (omega arith) in
-    let whole : c.loop-number.number ≡ c.granules_of-first.result.1 = omega (arith, rises, c.granules_of-first.ensures.first, c.granules_of-first.ensures.past) in
-    c.loop-number.invariant ∙ ap (λ (n : ℕ). heated_until c.args.times c.granules_of-first.result.0 n earlier piece heat) (whole ∙ c.granules_of-first.ensures.past)
-    ∙ ap (λ (n : ℕ). heated_until c.args.times n ((piece.bit + piece.bits - 1) / (8 * heat.granule) + 1) earlier piece heat) c.granules_of-first.ensures.first
-    ∙ until-end c.args.times earlier piece heat c.requires.inside.some c.args.self.now.some
+    let first = c.granules_of-first.result.0 in
+    let whole : c.loop-number.number ≡ c.granules_of-first.result.1 = omega (arith, c.granules_of-first.ensures.rises) in
+    c.loop-number.invariant ∙ ap (λ (n : ℕ). heated_until c.args.times first n c.args.earlier.now c.args.piece.now heat) whole
+    ∙ until-end c.args.times first c.granules_of-first.result.1 c.args.earlier.now c.args.piece.now heat c.granules_of-first.ensures

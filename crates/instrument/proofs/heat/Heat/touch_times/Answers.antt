@@ -1,25 +1,25 @@
 use Rattle.std.proofs.Common.{arith, ◌<◌, List, length, get_or, take, sym, ap, subst, ◌∙◌}
 use Rattle.std.proofs.lemmas.List.{take_all, get_or_default}
 use Rattle.std.proofs.lemmas.List.Elements.{All-get_or}
-use Rattle.instrument.specs.Counters.{HeatCounts, heat_counts, heated_times, IsInside}
+use Rattle.instrument.specs.Counters.{HeatCounts, heat_counts, heated_times, IsCounted}
 use Rattle.instrument.specs.Touching.{heated_besides}
 use Rattle.places.specs.declared.piece.Piece.{Piece}
 use Rattle.instrument.proofs.Touches.{heated-none, heated-more}
-use Rattle.instrument.specs.WarmingLaws.{inside_kept}
+use Rattle.instrument.specs.WarmingLaws.{counted_kept}
 use Rattle.instrument.proofs.heat.Heat.touch_times.Goals as goal
 
 pub loop-at-init : goal.loop-at-init
 loop-at-init c = heated-none c.args.times (heat_counts c.args.self.now)
 
-pub touch_piece-requires-clause-inside : goal.touch_piece-requires-clause-inside
-touch_piece-requires-clause-inside c =
+pub touch_piece-requires : goal.touch_piece-requires
+touch_piece-requires c =
     let items = c.args.pieces.now.items in
     let at = c.loop-at.at in
     let heat = heat_counts c.args.self.now in
     let nowhere : Piece = record { blob = 0; bit = 0; bits = 0 } in
-    let inside = inside_kept c.args.times heat (take at items) (get_or items at nowhere) (All-get_or (IsInside heat) items at nowhere (omega arith) c.requires) in
-    subst (λ (pieces : List Piece). IsInside (heat_counts c.loop-at.self) (get_or pieces at nowhere)) (sym c.as_slice-items.ensures.value)
-    (subst (λ (heat : HeatCounts). IsInside heat (get_or items at nowhere)) (sym c.loop-at.invariant) inside)
+    let counted = counted_kept c.args.times heat (take at items) (get_or items at nowhere) (All-get_or (IsCounted heat) items at nowhere (omega arith) c.requires) in
+    subst (λ (pieces : List Piece). IsCounted (heat_counts c.loop-at.self) (get_or pieces at nowhere)) (sym c.as_slice-items.ensures.value)
+    (subst (λ (heat : HeatCounts). IsCounted heat (get_or items at nowhere)) (sym c.loop-at.invariant) counted)
 
 pub loop-at-preserved : goal.loop-at-preserved
 loop-at-preserved c =

@@ -3,6 +3,7 @@ use Rattle.map_expr.specs.Terms.{term_of}
 use Rattle.map_checks.specs.Mappings.{layout_by}
 use Rattle.record_dim.specs.Schemas.{schema_fields}
 use Rattle.instrument.specs.Counters.{HeatCounts, heat_counts, warmed_times}
+use Rattle.instrument.specs.WarmingLaws.{inside-counted}
 use Rattle.places.specs.TouchedLaws.{touched_same}
 use Rattle.views.specs.Kept.{HasGranules}
 use Rattle.views.specs.Repeated.{granules_raised}
@@ -14,7 +15,7 @@ pub touch_times-requires : goal.touch_times-requires
 touch_times-requires c k d small =
     let m = c.args.map.now in
     let layout = layout_by (term_of m.expr) m.extents (schema_fields m.schema) in
-    piece_inside layout (heat_counts c.loop-leaf.heat) (get_or c.locate.result.items k d) c.loop-leaf.heat.some c.laws_of.ensures.lawful.whole_bytes c.loop-leaf.invariant.1 (c.locate.ensures.each k d small)
+    inside-counted (piece_inside layout (heat_counts c.loop-leaf.heat) (get_or c.locate.result.items k d) c.loop-leaf.heat.some c.laws_of.ensures.lawful.whole_bytes c.loop-leaf.invariant.1 (c.locate.ensures.each k d small))
 
 pub loop-leaf-preserved : goal.loop-leaf-preserved
 loop-leaf-preserved c =

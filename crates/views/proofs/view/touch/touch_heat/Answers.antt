@@ -8,6 +8,7 @@ use Rattle.instrument.specs.declared.heat.Heat.{Heat}
 use Rattle.views.specs.Kept.{HasGranules}
 use Rattle.views.specs.Tallies.{granules_touched}
 use Rattle.places.specs.TouchedLaws.{touched_same}
+use Rattle.instrument.specs.WarmingLaws.{inside-counted}
 use Rattle.views.specs.CountLaws.{piece_inside}
 use Rattle.views.proofs.view.touch.touch_heat.Goals as goal
 
@@ -17,7 +18,7 @@ touch-requires c k d small =
     let layout = layout_by (term_of m.expr) m.extents (schema_fields m.schema) in
     let has : HasGranules layout (heat_counts c.in-Some.heat) =
     subst (λ (o : Option Heat). IfSome (option_map heat_counts o) (HasGranules layout)) c.in-Some.is c.requires.granules in
-    piece_inside layout (heat_counts c.in-Some.heat) (get_or c.locate.result.items k d) c.in-Some.heat.some c.laws_of.ensures.lawful.whole_bytes has (c.locate.ensures.each k d small)
+    inside-counted (piece_inside layout (heat_counts c.in-Some.heat) (get_or c.locate.result.items k d) c.in-Some.heat.some c.laws_of.ensures.lawful.whole_bytes has (c.locate.ensures.each k d small))
 
 pub returns-in-Some : goal.returns-in-Some
 returns-in-Some c =

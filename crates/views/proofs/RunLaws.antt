@@ -1,0 +1,195 @@
+-- Rows of a leaf that lie in a stretch.
+use Rattle.std.proofs.Common.{◌≡◌, ℕ, zero, suc, ◌+◌, ◌^◌, ◌<◌, ◌≤◌, Bool, true, false, ◌&&◌, List, [], ◌∷◌, length, map, take, drop, get_or, set, slice_index, ℤ, pos, ◌≤ℤ◌, FitsSigned, of_z, w64, refl, sym, ap, ◌∙◌, subst, arith}
+use Rattle.std.specs.Int.{bit_at}
+use Rattle.std.specs.List.{range_with_len}
+use Rattle.std.proofs.Math.Facts.{Fits-of_z}
+use Rattle.std.proofs.lemmas.Int.{ints}
+use Rattle.std.proofs.lemmas.List.{length-map, get_or-map, get_or-set_same, set-set, length-take, length-drop, get_or-drop, get_or-take, get_or_default, same_lists}
+use Rattle.std.proofs.lemmas.List.FromFn.{length-range_with_len}
+use Rattle.record_dim.specs.LeafTypes.{IsIn, IsDeclared, least_of, greatest_of, least_in, greatest_in}
+use Rattle.record_dim.specs.declared.leaf_type.LeafType.{LeafType}
+use Rattle.record_dim.specs.declared.leaf_type.LeafType.TheVariants as kinds
+use Rattle.places.specs.Image.{number, digit, entry}
+use Rattle.places.specs.Layout.{Owner}
+use Rattle.places.specs.Laws.{IsLaidOut}
+use Rattle.places.specs.declared.piece.Hold.{Hold}
+use Rattle.blobs.specs.Bits.{bit_of}
+use Rattle.piece_rules.specs.declared.rule.PieceRule.{PieceRule}
+use Rattle.piece_bits.specs.Tables.{AreLaid, hold_at, table_in, with_entry}
+use Rattle.piece_bits.specs.Words.{word_place, word_width}
+use Rattle.short_rules.specs.Shorts.{start_in, IsShortIn}
+use Rattle.short_rules.specs.Stretches.{stretch_place, IsStretch}
+use Rattle.short_rules.specs.StretchesLaws.{stretch_fits}
+use Rattle.short_rules.specs.declared.short.ShortRule.{ShortRule}
+use Rattle.short_rules.specs.declared.stretch.Stretch.{Stretch}
+use Rattle.leaf_runs.specs.Lows.{low_64}
+use Rattle.leaf_runs.specs.LowsLaws.{code_low}
+use Rattle.leaf_runs.specs.Stretched.{stretched_at, HasRoom, ArePut}
+use Rattle.leaf_runs.proofs.Numbers.{word_narrow}
+use Rattle.views.specs.Columns.{in_leaf, column, with_column}
+use Rattle.views.specs.ColumnsLaws.{no_column, entry_more}
+use Rattle.views.specs.Runs.{raised}
+use Rattle.views.specs.Stores.{Fits}
+use Rattle.views.proofs.AccessLaws.{is_word, blob_there, word_there, word_read, word_put, word_lies}
+
+-- ---- low bits
+
+-- a number and the one that it is raised to have the same low bits
+pub code_raised : (kind : LeafType) (low : ℤ) (width : ℕ) → width ≤ 64 → FitsSigned w64 low → number (digit low) width ≡ number (digit (raised kind low)) width
+code_raised kinds.U64 low width narrow fits =
+    let whole : of_z w64 low < 2 ^ 64 = (Fits-of_z fits).fits in
+    code_low low width narrow (omega (arith, ints, fits.sfits), omega (arith, ints, fits.sfits))
+    ∙ sym (code_low (pos (of_z w64 low)) width narrow (omega (arith, ints), omega (arith, ints, whole)))
+code_raised _ low width narrow fits = refl
+
+-- two facts that hold together
+pub and_parts : (a b : Bool) → (a && b) ≡ true → (a ≡ true) × (b ≡ true)
+and_parts true b both = (refl, both)
+and_parts false b both = absurd (cc)
+
+set_there : (blobs : List (List ℕ)) (blob : ℕ) → set blobs blob (get_or blobs blob []) ≡ blobs
+set_there [] blob = refl
+set_there (first ∷ blobs) zero = refl
+set_there (first ∷ blobs) (suc blob) = ap (λ (more : List (List ℕ)). first ∷ more) (set_there blobs blob)
+
+-- ---- a stretch of the rows of a leaf
+
+module _ {layout : List (List Owner)} {slots : ℕ} (holds : List Hold) (leaf row most : ℕ) {rules : List PieceRule} {short : ShortRule} {count : ℕ} (stretch : Stretch)
+    (laid : IsLaidOut layout slots (map (λ (h : Hold). h.width) holds)) (paired : length holds ≡ count) (leaf_in : leaf < count)
+    (form : IsShortIn layout slots leaf (slice_index (map (λ (h : Hold). h.width) holds) leaf) (hold_at holds leaf) rules short)
+    (lies : IsStretch short row most stretch) (rows_in : row + most ≤ slots) where
+  row_in : (k : ℕ) → k < stretch.rows → row + k < slots
+  row_in k inside = omega (arith, inside, lies.few, rows_in)
+
+  place : (k : ℕ) → k < stretch.rows → stretch_place stretch k ≡ start_in short (row + k)
+  place k inside = sym (lies.place k inside)
+
+  module _ (blobs : List (List ℕ)) (are_laid : AreLaid layout blobs) where
+    pub stretch_blob : short.blob < length blobs
+    stretch_blob = blob_there holds (row + 0) leaf laid paired (row_in 0 lies.some) leaf_in form (stretch_place stretch 0) (place 0 lies.some) blobs are_laid lies.alone
+
+    pub has_room : (bytes : List ℕ) → bytes ≡ get_or blobs short.blob [] → HasRoom short stretch (length bytes)
+    has_room bytes is = record {
+      form = is_word holds (row + 0) leaf laid paired (row_in 0 lies.some) leaf_in form (stretch_place stretch 0) (place 0 lies.some) blobs are_laid lies.alone;
+      digits = lies.digits;
+      places = λ k inside. stretch_fits short row most stretch lies k inside (λ j below. form.starts (row + j) (omega (arith, below, rows_in)));
+      room = λ k inside.
+          word_there holds (row + k) leaf laid paired (row_in k inside) leaf_in form (stretch_place stretch k) (place k inside) blobs are_laid lies.alone bytes is;
+    }
+
+    -- what stands there are the entries
+    pub stretch_read : (bytes : List ℕ) → bytes ≡ get_or blobs short.blob [] → (k there : ℕ) → k < stretch.rows → row + k ≡ there
+        → stretched_at short stretch bytes k ≡ entry (table_in layout slots holds blobs) there leaf
+    stretch_read bytes is k there inside at =
+        word_read holds (row + k) leaf laid paired (row_in k inside) leaf_in form (stretch_place stretch k) (place k inside) blobs are_laid lies.alone bytes
+        (stretched_at short stretch bytes k) is refl
+        ∙ ap (λ (n : ℕ). entry (table_in layout slots holds blobs) n leaf) at
+
+    -- numbers that are put there make a column
+    module _ (kind : LeafType) (lows : List ℤ) (at : ℕ) (old : List ℕ) (from : old ≡ get_or blobs short.blob []) (long : at + stretch.rows ≤ length lows)
+        (held : (k : ℕ) → k < length lows → IsIn (hold_at holds leaf).signed (hold_at holds leaf).width (raised kind (get_or lows k (pos 0)))) where
+      abbrev numbers : List ℤ
+      numbers = drop at (map (raised kind) lows)
+
+      abbrev table : List (List ℤ)
+      table = table_in layout slots holds blobs
+
+      number_is : (k : ℕ) → k < stretch.rows → raised kind (get_or lows (at + k) (pos 0)) ≡ get_or numbers k (pos 0)
+      number_is k inside = sym (get_or-drop at (map (raised kind) lows) k (pos 0) ∙ get_or-map (raised kind) lows (at + k) (pos 0) (pos 0) (omega (arith, inside, long)))
+
+      many : stretch.rows ≤ length numbers
+      many = omega (arith, long, length-drop at (map (raised kind) lows), length-map lows (raised kind))
+
+      pub are_put : (k : ℕ) (new : List ℕ) → k ≤ stretch.rows → ArePut short stretch lows at k old new
+          → AreLaid layout (set blobs short.blob new) × (table_in layout slots holds (set blobs short.blob new) ≡ with_column leaf row (take k numbers) table)
+      are_put zero new few same =
+          (let still : set blobs short.blob new ≡ blobs = ap (set blobs short.blob) (same ∙ from) ∙ set_there blobs short.blob in (
+            subst (λ (b : List (List ℕ)). AreLaid layout b) (sym still) are_laid,
+            ap (table_in layout slots holds) still ∙ sym (no_column leaf row table),
+          ))
+      are_put (suc k) new few put =
+          (let between : List ℕ = put.0 in
+          let before = are_put k between (omega (arith, few)) put.1 in
+          let inside : k < stretch.rows = omega (arith, few) in
+          let low : ℤ = get_or lows (at + k) (pos 0) in
+          let value : ℤ = raised kind low in
+          let there : at + k < length lows = omega (arith, inside, long) in
+          let so_far : List (List ℕ) = set blobs short.blob between in
+          let twice : set so_far short.blob new ≡ set blobs short.blob new = set-set blobs short.blob between new in
+          let here : between ≡ get_or so_far short.blob [] = sym (get_or-set_same blobs short.blob between [] stretch_blob) in
+          let width : ℕ = word_width short.word short.field in
+          let narrow : width ≤ 64 =
+          word_narrow short.word short.field
+          (is_word holds (row + 0) leaf laid paired (row_in 0 lies.some) leaf_in form (stretch_place stretch 0) (place 0 lies.some) blobs are_laid lies.alone) in
+          let code : number (digit low) width ≡ number (digit value) width = code_raised kind low width narrow put.2.fits in
+          let written : (j : ℕ) → j < width → bit_of new (word_place short.word (stretch_place stretch k) j) ≡ bit_at (number (digit value) width) j =
+          λ j below. put.2.inside j below ∙ ap (λ (n : ℕ). bit_at n j) code in
+          let size : length table ≡ slots = length-map (range_with_len 0 slots) _ ∙ length-range_with_len 0 slots in (
+            subst (λ (b : List (List ℕ)). AreLaid layout b) twice
+                (word_lies holds (row + k) leaf laid paired (row_in k inside) leaf_in form (stretch_place stretch k) (place k inside) so_far before.0 lies.alone value value between new
+                (held (at + k) there) refl here written put.2.before put.2.after put.2.len),
+            ap (table_in layout slots holds) (sym twice)
+                ∙ word_put holds (row + k) leaf laid paired (row_in k inside) leaf_in form (stretch_place stretch k) (place k inside) so_far before.0 lies.alone value value between new
+                (held (at + k) there) refl here written put.2.before put.2.after put.2.len
+                ∙ ap (λ (t : List (List ℤ)). with_entry t (row + k) leaf value) before.1
+                ∙ ap (with_entry (with_column leaf row (take k numbers) table) (row + k) leaf) (number_is k inside)
+                ∙ entry_more leaf row k (row + k) numbers table (omega (arith, inside, many)) refl (omega (arith, row_in k inside, size)),
+          ))
+
+-- ---- columns, one behind another
+
+pub column_then : (leaf row at done more : ℕ) (values : List ℤ) (rows : List (List ℤ)) → at ≡ row + done → done + more ≤ length values
+    → with_column leaf at (take more (drop done values)) (with_column leaf row (take done values) rows) ≡ with_column leaf row (take (done + more) values) rows
+column_then leaf zero at zero more values rows is long =
+    (let same : at ≡ 0 = omega (arith, is) in
+    let all : more ≡ 0 + more = omega arith in
+    ap (λ (n : ℕ). with_column leaf n (take more values) (with_column leaf 0 [] rows)) same
+    ∙ ap (with_column leaf 0 (take more values)) (no_column leaf 0 rows) ∙ ap (λ (n : ℕ). with_column leaf 0 (take n values) rows) all)
+column_then leaf zero zero (suc done) more values rows is long = absurd (omega (arith, is))
+column_then leaf zero (suc at) (suc done) more [] rows is long = absurd (omega (arith, long))
+column_then leaf zero (suc at) (suc done) more (value ∷ values) [] is long =
+    (let next : suc done + more ≡ suc (done + more) = omega arith in sym (ap (λ (n : ℕ). with_column leaf 0 (take n (value ∷ values)) []) next))
+column_then leaf zero (suc at) (suc done) more (value ∷ values) (row ∷ rows) is long =
+    (let next : suc done + more ≡ suc (done + more) = omega arith in
+    ap (λ (rest : List (List ℤ)). set row leaf value ∷ rest) (column_then leaf zero at done more values rows (omega (arith, is)) (omega (arith, long)))
+    ∙ sym (ap (λ (n : ℕ). with_column leaf 0 (take n (value ∷ values)) (row ∷ rows)) next))
+column_then leaf (suc first) zero done more values rows is long = absurd (omega (arith, is))
+column_then leaf (suc first) (suc at) done more values [] is long = refl
+column_then leaf (suc first) (suc at) done more values (row ∷ rows) is long =
+    ap (λ (rest : List (List ℤ)). row ∷ rest) (column_then leaf first at done more values rows (omega (arith, is)) long)
+
+-- ---- a run that is read
+
+-- values by their rows are those of the column
+pub run_read : (leaf first : ℕ) (rows : List (List ℤ)) (old values : List ℤ) → length values ≡ length old → first + length old ≤ length rows
+    → ((k : ℕ) → k < length old → get_or values k (pos 0) ≡ low_64 (entry rows (first + k) leaf)) → values ≡ map low_64 (take (length old) (drop first (column leaf rows)))
+run_read leaf first rows old values long inside each =
+    let run : List ℤ = take (length old) (drop first (column leaf rows)) in
+    let many : length run ≡ length old = omega (arith, length-take (length old) (drop first (column leaf rows)), length-drop first (column leaf rows), length-map rows (in_leaf leaf), inside) in
+    same_lists values (map low_64 run) (long ∙ sym (length-map run low_64 ∙ many)) (λ k d here.
+    let below : k < length old = omega (arith, here, long) in
+    let there : first + k < length rows = omega (arith, below, inside) in
+    get_or_default values k d (pos 0) here ∙ each k below
+    ∙ sym (get_or-map low_64 run k (pos 0) d (omega (arith, below, many))
+    ∙ ap low_64 (get_or-take (length old) (drop first (column leaf rows)) k (pos 0) below ∙ get_or-drop first (column leaf rows) k (pos 0) ∙ get_or-map (in_leaf leaf) rows (first + k) [] (pos 0) there)))
+
+-- a value of a run is that of its row
+pub run_entry : (leaf first count k : ℕ) (rows : List (List ℤ)) → k < count → first + count ≤ length rows → get_or (take count (drop first (column leaf rows))) k (pos 0) ≡ entry rows (first + k) leaf
+run_entry leaf first count k rows below inside =
+    get_or-take count (drop first (column leaf rows)) k (pos 0) below ∙ get_or-drop first (column leaf rows) k (pos 0)
+    ∙ get_or-map (in_leaf leaf) rows (first + k) [] (pos 0) (omega (arith, below, inside))
+
+pub run_length : (leaf first count : ℕ) (rows : List (List ℤ)) → first + count ≤ length rows → length (take count (drop first (column leaf rows))) ≡ count
+run_length leaf first count rows inside = omega (arith, length-take count (drop first (column leaf rows)), length-drop first (column leaf rows), length-map rows (in_leaf leaf), inside)
+
+-- ---- a leaf that holds its type
+
+pub fits_within : (kind : LeafType) (hold : Hold) → least_in hold.signed hold.width ≤ℤ least_of kind → greatest_of kind ≤ℤ greatest_in hold.signed hold.width → (value : ℤ) → IsDeclared kind value
+    → Fits kind hold value
+fits_within kind hold low high value is = record {
+  declared = is;
+  held = between (least_in hold.signed hold.width) (least_of kind) value (greatest_of kind) (greatest_in hold.signed hold.width) low is.0 is.1 high;
+}
+  where
+    between : (a least v greatest b : ℤ) → a ≤ℤ least → least ≤ℤ v → v ≤ℤ greatest → greatest ≤ℤ b → (a ≤ℤ v) × (v ≤ℤ b)
+    between a least v greatest b one two three four = (grind (arith, ints), grind (arith, ints))

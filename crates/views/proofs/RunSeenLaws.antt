@@ -1,0 +1,148 @@
+-- A view in which a run is put.
+use Rattle.std.proofs.Common.{◌≡◌, ℕ, ◌+◌, ◌<◌, ◌≤◌, false, List, length, map, take, get_or, ℤ, pos, sym, ap, ◌∙◌, subst, ⊎_elim, arith}
+use Rattle.std.proofs.lemmas.Bool.{cases_lt}
+use Rattle.std.proofs.lemmas.List.{length-map, length-take, get_or-map, get_or-take}
+use Rattle.record_dim.specs.Leaves.{kinds_of}
+use Rattle.record_dim.specs.LeafTypes.{IsDeclared}
+use Rattle.record_dim.specs.Schemas.{schema_fields}
+use Rattle.record_dim.specs.declared.leaf_type.LeafType.{LeafType}
+use Rattle.record_dim.specs.declared.schema.Schema.{Schema}
+use Rattle.places.specs.Image.{entry}
+use Rattle.places.specs.Layout.{Owner}
+use Rattle.places.specs.declared.piece.Cell.{Cell}
+use Rattle.places.specs.declared.piece.Hold.{Hold}
+use Rattle.map_expr.specs.Terms.{Term, term_of}
+use Rattle.map_expr.specs.declared.expr.MapExpr.{MapExpr}
+use Rattle.map_checks.specs.LeafCells.{kinds_are}
+use Rattle.map_checks.specs.Mappings.{layout_by, holds_by}
+use Rattle.map_any.specs.Counters.{is_counted}
+use Rattle.piece_bits.specs.Tables.{AreLaid, hold_at, table_in}
+use Rattle.kept_tables.specs.EntryLaws.{stays_declared}
+use Rattle.kept_tables.specs.declared.mode.StoreMode.{StoreMode}
+use Rattle.leaf_runs.specs.Lows.{low_64}
+use Rattle.views.specs.Columns.{column_writes, with_column}
+use Rattle.views.specs.Kept.{IsKept, IsMappingOf, IsTallied, raw_under}
+use Rattle.views.specs.Runs.{raised, run_of, TakesAll}
+use Rattle.views.specs.RunsLaws.{raised_low, raised_all}
+use Rattle.views.specs.Stores.{Fits, kind_at}
+use Rattle.views.specs.Tables.{Table, IsTable, leaf_count_of, leaf_type_of, table_holds, kept_of, after_log, after_stores}
+use Rattle.views.specs.Tallies.{Tally, tallied}
+use Rattle.views.specs.TallyLaws.{after_log-none}
+use Rattle.views.proofs.KeptLaws.{kind_count}
+use Rattle.views.proofs.NearColumnLaws.{shown_here}
+use Rattle.views.proofs.NearStoreLaws.{kept_column, table_column, seen_column}
+use Rattle.views.proofs.Opened.{seen_from, leaf_seen, some_seen, raw_same, laid_there, idle_seen}
+use Rattle.views.proofs.RunLaws.{run_entry, run_length}
+use Rattle.views.proofs.StoreLaws.{fit_kept, map_same}
+
+-- what holds of each value of a run holds of the first so many
+front_each : (P : ℤ → Type 0) (f : ℤ → ℤ) (lows : List ℤ) (count : ℕ) → ((k : ℕ) → k < length lows → P (f (get_or lows k (pos 0)))) → (k : ℕ) → k < length (take count (map f lows))
+    → P (get_or (take count (map f lows)) k (pos 0))
+front_each P f lows count each k inside =
+    let size = length-take count (map f lows) in
+    let all = length-map lows f in
+    let below : k < length lows = omega (arith, inside, size, all) in
+    let low : k < count = omega (arith, inside, size) in
+    subst P (sym (get_or-take count (map f lows) k (pos 0) low ∙ get_or-map f lows k (pos 0) (pos 0) below)) (each k below)
+
+module _ {mode : StoreMode} (schema : Schema) (extents : List ℕ) (expr : MapExpr) (blobs : List (List ℕ)) (kept : IsKept mode (term_of expr) extents (schema_fields schema) blobs) {tally : Tally} (seen : Table)
+    (is : seen_from mode schema extents expr blobs tally ≡ seen) {mapped : Term} {inside : List ℕ} {layout : List (List Owner)} {slots : ℕ} {cells : List Cell} {holds : List Hold}
+    (mapping : IsMappingOf (term_of expr) extents (schema_fields schema) mapped inside layout slots cells holds) (leaf first count : ℕ) (lows : List ℤ) (leaf_in : leaf < leaf_count_of seen)
+    (fits : (k : ℕ) → k < length lows → Fits (leaf_type_of seen leaf) (hold_at (table_holds seen) leaf) (raised (leaf_type_of seen leaf) (get_or lows k (pos 0)))) where
+  -- each value lies in the range in which it is stored
+  pub fits_here : (k : ℕ) → k < length lows → Fits (kind_at (map (λ cell. cell.kind) cells) leaf) (hold_at holds leaf) (raised (kind_at (map (λ cell. cell.kind) cells) leaf) (get_or lows k (pos 0)))
+  fits_here =
+      shown_here schema extents expr blobs kept seen is mapping
+      (λ l n ks hs. (k : ℕ) → k < length lows → Fits (kind_at ks leaf) (hold_at hs leaf) (raised (kind_at ks leaf) (get_or lows k (pos 0)))) fits
+
+  abbrev kinds : List LeafType
+  kinds = kinds_of (schema_fields schema)
+
+  abbrev stored : List Hold
+  stored = holds_by (term_of expr) (schema_fields schema)
+
+  abbrev values : List ℤ
+  values = take count (map (raised (kind_at kinds leaf)) lows)
+
+  fits_there : (k : ℕ) → k < length lows → Fits (kind_at kinds leaf) (hold_at stored leaf) (raised (kind_at kinds leaf) (get_or lows k (pos 0)))
+  fits_there = subst (λ (t : Table). (k : ℕ) → k < length lows → Fits (leaf_type_of t leaf) (hold_at (table_holds t) leaf) (raised (leaf_type_of t leaf) (get_or lows k (pos 0)))) (sym is) fits
+
+  each_there : (k : ℕ) → k < length values → Fits (kind_at kinds leaf) (hold_at stored leaf) (get_or values k (pos 0))
+  each_there = front_each (λ v. Fits (kind_at kinds leaf) (hold_at stored leaf) v) (raised (kind_at kinds leaf)) lows count fits_there
+
+  module _ (new : List (List ℕ)) (laid : AreLaid layout new)
+      (put : table_in layout slots holds new ≡ with_column leaf first (take count (map (raised (kind_at (map (λ cell. cell.kind) cells) leaf)) lows)) (table_in layout slots holds blobs)) where
+    put_raw : raw_under (term_of expr) extents (schema_fields schema) new ≡ with_column leaf first values (raw_under (term_of expr) extents (schema_fields schema) blobs)
+    put_raw =
+        sym (raw_same mapping new) ∙ put
+        ∙ ap (λ (ks : List LeafType). with_column leaf first (take count (map (raised (kind_at ks leaf)) lows)) (table_in layout slots holds blobs)) (kinds_are cells kinds mapping.cells_are)
+        ∙ ap (with_column leaf first values) (raw_same mapping blobs)
+
+    pub put_kept : IsKept mode (term_of expr) extents (schema_fields schema) new
+    put_kept =
+        kept_column mode (term_of expr) extents (schema_fields schema) blobs kept new first leaf values (leaf_seen schema extents expr blobs kept seen is leaf leaf_in) (laid_there mapping new laid) put_raw
+        each_there
+
+    -- what callers see then
+    pub put_seen : tally ≡ tallied (layout_by (term_of expr) extents (schema_fields schema)) tally (column_writes leaf first count)
+        → seen_from mode schema extents expr new tally
+        ≡ after_stores seen (with_column leaf first (take count (map (raised (leaf_type_of seen leaf)) lows)) seen.rows) (column_writes leaf first count)
+    put_seen counts =
+        let some = some_seen schema extents expr blobs kept seen is leaf leaf_in in
+        let own : (k : ℕ) → k < length values → Fits (leaf_type_of seen leaf) (hold_at (table_holds seen) leaf) (get_or values k (pos 0)) =
+        λ k l. subst (λ (t : Table). Fits (leaf_type_of t leaf) (hold_at (table_holds t) leaf) (get_or values k (pos 0))) is (each_there k l) in
+        let same : map (kept_of seen leaf) values ≡ values = map_same (kept_of seen leaf) values (λ k l. fit_kept seen leaf (get_or values k (pos 0)) some (own k l)) in
+        seen_column schema extents expr blobs is first leaf count values new tally same
+        (table_column mode (term_of expr) extents (schema_fields schema) blobs kept new first leaf values (leaf_seen schema extents expr blobs kept seen is leaf leaf_in) (laid_there mapping new laid) put_raw each_there)
+        counts
+        ∙ ap (λ (vs : List ℤ). after_stores seen (with_column leaf first vs seen.rows) (column_writes leaf first count)) same
+        ∙ ap (λ (t : Table). after_stores seen (with_column leaf first (take count (map (raised (leaf_type_of t leaf)) lows)) seen.rows) (column_writes leaf first count)) is
+
+    -- where nothing is counted, or nothing is put, no count changes
+    pub put_uncounted : {leaves : ℕ} → IsTallied (term_of expr) (layout_by (term_of expr) extents (schema_fields schema)) leaves tally → (0 < count → is_counted mapped ≡ false)
+        → tally ≡ tallied (layout_by (term_of expr) extents (schema_fields schema)) tally (column_writes leaf first count)
+    put_uncounted has idle =
+        ⊎_elim
+        (λ (some : 0 < count).
+        let none : is_counted seen.mapping ≡ false = ap (λ (t : Table). is_counted t.mapping) (sym is) ∙ ap is_counted (sym mapping.term_is) ∙ idle some in
+        ap (λ (t : Table). t.tally) (is ∙ sym (idle_seen schema extents expr blobs is none has (column_writes leaf first count)) ∙ sym (ap (λ (t : Table). after_log t (column_writes leaf first count)) is)))
+        (λ (empty : count ≤ 0).
+        let none : 0 ≡ count = omega (arith, empty) in
+        ap (λ (t : Table). t.tally) (sym (after_log-none (seen_from mode schema extents expr blobs tally)))
+        ∙ ap (λ (n : ℕ). tallied (layout_by (term_of expr) extents (schema_fields schema)) tally (column_writes leaf first n)) none)
+        (cases_lt 0 count)
+
+-- ---- values of a view that another takes
+
+pub run_declared : (table : Table) (leaf first count : ℕ) → IsTable table → leaf < leaf_count_of table → first + count ≤ length table.rows → (k : ℕ) → k < count
+    → IsDeclared (leaf_type_of table leaf) (get_or (run_of leaf first count table) k (pos 0))
+run_declared table leaf first count is leaf_in inside k below =
+    subst (IsDeclared (leaf_type_of table leaf)) (sym (run_entry leaf first count k table.rows below inside))
+    (stays_declared table.mode (leaf_type_of table leaf) (hold_at (table_holds table) leaf) (entry table.rows (first + k) leaf)
+    (is.stays (first + k) leaf (omega (arith, below, inside)) (omega (arith, leaf_in, kind_count table.fields))))
+
+module _ (table source : Table) (leaf first count : ℕ) (is : IsTable source) (leaf_in : leaf < leaf_count_of source) (inside : first + count ≤ length source.rows)
+    (alike : leaf_type_of source leaf ≡ leaf_type_of table leaf) where
+  abbrev copied : List ℤ
+  copied = run_of leaf first count source
+
+  copied_declared : (k : ℕ) → k < length copied → IsDeclared (leaf_type_of table leaf) (get_or copied k (pos 0))
+  copied_declared k below =
+      subst (λ (kind : LeafType). IsDeclared kind (get_or copied k (pos 0))) alike
+      (run_declared source leaf first count is leaf_in inside k (omega (arith, below, run_length leaf first count source.rows inside)))
+
+  -- each fits, by its low bits
+  pub copied_fits : TakesAll table leaf → (lows : List ℤ) → lows ≡ map low_64 copied → (k : ℕ) → k < length lows
+      → Fits (leaf_type_of table leaf) (hold_at (table_holds table) leaf) (raised (leaf_type_of table leaf) (get_or lows k (pos 0)))
+  copied_fits takes lows are k below =
+      let many : length lows ≡ length copied = ap (length {A = ℤ}) are ∙ length-map copied low_64 in
+      let here : k < length copied = omega (arith, below, many) in
+      let value = get_or copied k (pos 0) in
+      let same : raised (leaf_type_of table leaf) (get_or lows k (pos 0)) ≡ value =
+      ap (λ (vs : List ℤ). raised (leaf_type_of table leaf) (get_or vs k (pos 0))) are ∙ ap (raised (leaf_type_of table leaf)) (get_or-map low_64 copied k (pos 0) (pos 0) here)
+      ∙ raised_low (leaf_type_of table leaf) value (copied_declared k here) in
+      subst (λ (v : ℤ). Fits (leaf_type_of table leaf) (hold_at (table_holds table) leaf) v) (sym same) (takes value (copied_declared k here))
+
+  -- and is raised to itself
+  pub copied_raised : (lows : List ℤ) → lows ≡ map low_64 copied → map (raised (leaf_type_of table leaf)) lows ≡ copied
+  copied_raised lows are = ap (map (raised (leaf_type_of table leaf))) are ∙ raised_all (leaf_type_of table leaf) copied copied_declared

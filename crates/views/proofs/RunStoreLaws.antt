@@ -1,0 +1,85 @@
+-- A run that is read or stored row by row.
+use Rattle.std.proofs.Common.{◌≡◌, ℕ, suc, ◌+◌, ◌<◌, List, [], ◌∷◌, ◌++◌, length, map, take, drop, get_or, set, ℤ, pos, Some, None, sym, ap, ◌∙◌, ⊎_elim, arith}
+use Rattle.std.specs.Prelude.{Option}
+use Rattle.std.proofs.lemmas.Bool.{cases_eq}
+use Rattle.std.proofs.lemmas.List.{length-set, get_or-set_same, get_or-set_other, take-map}
+use Rattle.std.proofs.Math.Seq.{drop-length}
+use Rattle.std.proofs.lemmas.List.FromFn.{map-range_with_len_more}
+use Rattle.places.specs.Image.{entry}
+use Rattle.piece_bits.specs.Tables.{with_entry}
+use Rattle.leaf_runs.specs.Lows.{low_64}
+use Rattle.views.specs.Columns.{column_reads, column_writes, with_column, first_lane_fault}
+use Rattle.views.specs.ColumnsLaws.{entry_more}
+use Rattle.views.specs.Runs.{run_fault, stored_count, with_run}
+use Rattle.views.specs.Tables.{Table, answer_of, kept_of, after_log, after_read, after_stores}
+use Rattle.views.specs.Tallies.{Write}
+use Rattle.views.specs.TallyLaws.{after_log-none, after_stores-append}
+use Rattle.views.specs.declared.fault.LaneFault.{LaneFault}
+use Rattle.views.proofs.ColumnLaws.{column_read_more}
+use Rattle.views.proofs.StoredLaws.{HasStored}
+
+-- the values of the first so many rows of a run are read
+pub record HasRun (leaf first done : ℕ) (old table : Table) (before values : List ℤ) : Type 0 where
+  pub count : length values ≡ length before
+  pub each : (k : ℕ) → k < done → get_or values k (pos 0) ≡ low_64 (entry old.rows (first + k) leaf)
+  pub log : table ≡ after_log old (column_reads leaf first done)
+
+pub no_row : (leaf first : ℕ) (old : Table) (before values : List ℤ) → length values ≡ length before → HasRun leaf first 0 old old before values
+no_row leaf first old before values count = record { count = count; each = λ k l. absurd (omega arith); log = sym (after_log-none old) }
+
+pub row_more : (leaf first done row : ℕ) (old table new : Table) (before values : List ℤ) (value : ℤ) → HasRun leaf first done old table before values → row ≡ first + done → done < length before
+    → value ≡ low_64 (entry table.rows row leaf) → new ≡ after_read table row leaf → HasRun leaf first (done + 1) old new before (set values done value)
+row_more leaf first done row old table new before values value have at inside is read = record {
+  count = length-set values done value ∙ have.count;
+  each = λ k below.
+      ⊎_elim
+      (λ (here : k ≡ done).
+      ap (λ (n : ℕ). get_or (set values done value) n (pos 0)) here ∙ get_or-set_same values done value (pos 0) (omega (arith, inside, have.count)) ∙ is
+      ∙ ap (λ (t : Table). low_64 (entry t.rows row leaf)) have.log
+      ∙ ap (λ (n : ℕ). low_64 (entry old.rows n leaf)) (let there : row ≡ first + k = omega (arith, at, here) in there))
+      (λ (apart : k ≡ done → ⊥). get_or-set_other values done k value (pos 0) apart ∙ have.each k (omega (arith, below, apart)))
+      (cases_eq k done);
+  log = column_read_more leaf first done old table new have.log (read ∙ ap (λ (n : ℕ). after_read table n leaf) at);
+}
+
+-- ---- values that are stored
+
+-- one value more
+pub value_more : (leaf first lane at : ℕ) (old table new : Table) (values : List ℤ) (value : ℤ) → HasStored leaf first lane old table values → lane < length values → first + lane < length old.rows
+    → at ≡ first + lane → value ≡ get_or values lane (pos 0) → new ≡ after_stores table (with_entry table.rows at leaf value) (Write at leaf ∷ [])
+    → HasStored leaf first (lane + 1) old new values
+value_more leaf first lane at old table new values value stored inside below place is wrote =
+    let next : suc lane ≡ lane + 1 = omega arith in
+    let so_far = with_column leaf first (take lane values) old.rows in
+    record {
+      stored = wrote
+          ∙ ap (λ (t : Table). after_stores t (with_entry t.rows at leaf value) (Write at leaf ∷ [])) stored.stored
+          ∙ after_stores-append old so_far (with_entry so_far at leaf value) (column_writes leaf first lane) (Write at leaf ∷ [])
+          ∙ ap (λ (v : ℤ). after_stores old (with_entry so_far at leaf v) (column_writes leaf first lane ++ Write at leaf ∷ [])) is
+          ∙ ap (λ (rows : List (List ℤ)). after_stores old rows (column_writes leaf first lane ++ Write at leaf ∷ [])) (entry_more leaf first lane at values old.rows inside place (omega arith))
+          ∙ ap (λ (n : ℕ). after_stores old (with_column leaf first (take n values) old.rows) (column_writes leaf first lane ++ Write at leaf ∷ [])) next
+          ∙ ap (after_stores old (with_column leaf first (take (lane + 1) values) old.rows)) (sym (map-range_with_len_more (λ at. Write at leaf) first lane at (sym place)));
+    }
+
+-- the first so many of a run
+pub run_stored : (leaf first lane : ℕ) (old table : Table) (values : List ℤ) → HasStored leaf first lane old table (map (kept_of old leaf) values) → table ≡ with_run leaf first values lane old
+run_stored leaf first lane old table values stored =
+    stored.stored ∙ ap (λ (vs : List ℤ). after_stores old (with_column leaf first vs old.rows) (column_writes leaf first lane)) (take-map (kept_of old leaf) lane values)
+
+-- a run without a fault, of which all values are stored
+pub whole_run : (leaf first lane : ℕ) (old table : Table) (values : List ℤ) → run_fault leaf values old ≡ None → lane ≡ length values → table ≡ with_run leaf first values lane old
+    → table ≡ with_run leaf first values (stored_count (length values) (run_fault leaf values old)) old
+whole_run leaf first lane old table values none end stored =
+    stored ∙ ap (λ (n : ℕ). with_run leaf first values n old) (end ∙ ap (stored_count (length values)) (sym none))
+
+-- no fault behind the last
+pub no_fault : (leaf lane : ℕ) (old : Table) (values : List ℤ) → run_fault leaf values old ≡ first_lane_fault (answer_of old) leaf lane (drop lane values) → lane ≡ length values
+    → run_fault leaf values old ≡ None
+no_fault leaf lane old values is end =
+    is ∙ ap (λ (n : ℕ). first_lane_fault (answer_of old) leaf lane (drop n values)) end ∙ ap (first_lane_fault (answer_of old) leaf lane) (drop-length values)
+
+-- a run that ends at a fault
+pub stopped_run : (leaf first : ℕ) (old table : Table) (values : List ℤ) (fault : LaneFault) → run_fault leaf values old ≡ Some fault → table ≡ with_run leaf first values fault.lane old
+    → table ≡ with_run leaf first values (stored_count (length values) (run_fault leaf values old)) old
+stopped_run leaf first old table values fault is stored =
+    stored ∙ ap (λ (f : Option LaneFault). with_run leaf first values (stored_count (length values) f) old) (sym is)

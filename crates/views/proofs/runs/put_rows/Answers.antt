@@ -1,0 +1,81 @@
+use Rattle.std.proofs.Common.{◌≡◌, ◌+◌, ◌-◌, ◌<◌, ◌≤◌, [], length, map, take, drop, get_or, Fits, w64, refl, sym, ap, ◌∙◌, ⊎_elim, arith}
+use Rattle.std.proofs.lemmas.Bool.{cases_lt}
+use Rattle.std.proofs.lemmas.Grind.{common_steps}
+use Rattle.std.proofs.lemmas.List.{get_or_default, length-map}
+use Rattle.record_dim.specs.Leaves.{kinds_of}
+use Rattle.record_dim.specs.Schemas.{schema_fields}
+use Rattle.map_checks.specs.Mappings.{leaf_cells}
+use Rattle.views.specs.Columns.{with_column}
+use Rattle.views.specs.ColumnsLaws.{no_column}
+use Rattle.views.specs.Runs.{raised}
+use Rattle.views.specs.Stores.{kind_at}
+use Rattle.views.proofs.RunLaws.{stretch_blob, has_room, are_put, column_then}
+use Rattle.views.proofs.runs.put_rows.Goals as goal
+use Rattle.views.proofs.runs.put_rows.Goals.{After-index_mut}
+
+pub loop-done-init : goal.loop-done-init
+loop-done-init c = record {
+  inside = omega arith;
+  laid = c.requires.laid;
+  table = sym (no_column c.args.leaf c.args.first _);
+  leads = λ some. absurd (omega arith);
+}
+
+pub overflow_add-first : goal.overflow_add-first
+overflow_add-first c =
+    ⊎_elim
+    (λ (some : 0 < c.loop-done.done).
+    let there = ((c.short.ensures.form (c.loop-done.invariant.leads some)).starts (c.args.first + c.loop-done.done) (omega (arith, c.requires.rows_in))).row_in in
+    let fits : Fits w64 (c.args.first + c.loop-done.done) = record { fits = omega (arith, there) } in
+    fits)
+    (λ (none : c.loop-done.done ≤ 0).
+    let fits : Fits w64 (c.args.first + c.loop-done.done) = record { fits = omega (arith, none, c.ranges.first.fits) } in
+    fits)
+    (cases_lt 0 c.loop-done.done)
+
+pub stretch-requires-clause-starts : goal.stretch-requires-clause-starts
+stretch-requires-clause-starts c = λ lead k below.
+    (c.short.ensures.form lead).starts (c.args.first + c.loop-done.done + k) (omega (arith, below, c.requires.rows_in))
+
+pub index_mut-requires : goal.index_mut-requires
+index_mut-requires c =
+    let low : c.short.result.now.short.blob < length c.loop-done.blobs.items =
+    stretch_blob c.args.mapping.now.holds c.args.leaf (c.args.first + c.loop-done.done) (length c.args.lows.now - c.loop-done.done) c.in-Some.stretch c.laws_of.ensures.lawful c.laws_of.ensures.paired c.requires.leaf_in
+    (c.short.ensures.form c.in-Some.ensures.leads) c.in-Some.ensures (omega (arith, c.requires.rows_in)) c.loop-done.blobs.items c.loop-done.invariant.laid in
+    grind (arith, common_steps, low)
+
+-- what stood in the blob
+blob : (c : After-index_mut) → c.index_mut.result.now ≡ get_or c.loop-done.blobs.items c.short.result.now.short.blob []
+blob c =
+    let low : c.short.result.now.short.blob < length c.loop-done.blobs.items =
+    stretch_blob c.args.mapping.now.holds c.args.leaf (c.args.first + c.loop-done.done) (length c.args.lows.now - c.loop-done.done) c.in-Some.stretch c.laws_of.ensures.lawful c.laws_of.ensures.paired c.requires.leaf_in
+    (c.short.ensures.form c.in-Some.ensures.leads) c.in-Some.ensures (omega (arith, c.requires.rows_in)) c.loop-done.blobs.items c.loop-done.invariant.laid in
+    c.index_mut.ensures.value ∙ get_or_default c.loop-done.blobs.items c.short.result.now.short.blob _ [] low
+
+pub put_stretch-requires-clause-room : goal.put_stretch-requires-clause-room
+put_stretch-requires-clause-room c =
+    has_room c.args.mapping.now.holds c.args.leaf (c.args.first + c.loop-done.done) (length c.args.lows.now - c.loop-done.done) c.in-Some.stretch c.laws_of.ensures.lawful c.laws_of.ensures.paired c.requires.leaf_in
+    (c.short.ensures.form c.in-Some.ensures.leads) c.in-Some.ensures (omega (arith, c.requires.rows_in)) c.loop-done.blobs.items c.loop-done.invariant.laid c.index_mut.result.now
+    (blob (goal.at.put_stretch-requires-clause-room c).After-index_mut)
+
+pub loop-done-preserved : goal.loop-done-preserved
+loop-done-preserved c =
+    let done = c.loop-done.done in
+    let first = c.args.first in
+    let lows = c.args.lows.now in
+    let leaf = c.args.leaf in
+    let stretch = c.in-Some.stretch in
+    let kind = kind_at (map (λ cell. cell.kind) (leaf_cells (kinds_of (schema_fields c.args.mapping.now.schema)))) leaf in
+    let long : done + stretch.rows ≤ length lows = omega (arith, c.in-Some.ensures.few) in
+    let put =
+    are_put c.args.mapping.now.holds leaf (first + done) (length lows - done) stretch c.laws_of.ensures.lawful c.laws_of.ensures.paired c.requires.leaf_in
+    (c.short.ensures.form c.in-Some.ensures.leads) c.in-Some.ensures (omega (arith, c.requires.rows_in)) c.loop-done.blobs.items c.loop-done.invariant.laid
+    kind lows done c.index_mut.result.now (blob (goal.at.loop-done-preserved c).After-index_mut) long c.requires.held stretch.rows c.put_stretch.new.blob (omega arith) c.put_stretch.ensures in
+    record {
+      inside = long;
+      laid = put.0;
+      table = put.1
+          ∙ ap (with_column leaf (first + done) (take stretch.rows (drop done (map (raised kind) lows)))) c.loop-done.invariant.table
+          ∙ column_then leaf first (first + done) done stretch.rows (map (raised kind) lows) _ refl (omega (arith, long, length-map lows (raised kind)));
+      leads = λ some. c.in-Some.ensures.leads;
+    }

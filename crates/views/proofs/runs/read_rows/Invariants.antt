@@ -1,0 +1,22 @@
+use Rattle.std.proofs.Common.{◌≡◌, ℕ, ◌+◌, ◌-◌, ◌<◌, ◌≤◌, true, length, get_or, pos}
+use Rattle.extents.specs.Indices.{indices}
+use Rattle.record_dim.specs.Schemas.{schema_fields}
+use Rattle.map_expr.specs.Terms.{term_of}
+use Rattle.map_checks.specs.Mappings.{layout_by}
+use Rattle.places.specs.Image.{entry}
+use Rattle.piece_bits.specs.Tables.{table_in}
+use Rattle.short_rules.specs.Walks.{leads}
+use Rattle.leaf_runs.specs.Lows.{low_64}
+use Rattle.views.proofs.runs.read_rows.Given as goal
+
+abbrev pub invariant-loop-done : goal.invariant-loop-done
+invariant-loop-done l = record {
+  inside : l.done ≤ length l.initial.values;
+  count : length l.values ≡ length l.initial.values;
+  each : (k : ℕ) → k < l.done → get_or l.values k (pos 0)
+      ≡ low_64 (entry (table_in (layout_by (term_of l.mapping.expr) l.mapping.extents (schema_fields l.mapping.schema)) (length (indices l.mapping.extents)) l.mapping.holds l.blobs) (l.first + k) l.leaf);
+  leads : 0 < l.done → leads l.short.walk ≡ true;
+}
+
+abbrev pub decreases-loop-done : goal.decreases-loop-done
+decreases-loop-done l = length l.values - l.done

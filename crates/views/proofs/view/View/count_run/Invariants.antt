@@ -1,0 +1,5 @@
+use Rattle.std.proofs.Common.{◌≡◌, ◌+◌}
+use Rattle.views.proofs.view.View.count_run.Given as goal
+
+abbrev pub invariant-loop-block : goal.invariant-loop-block
+invariant-loop-block g l = l.steps ≡ l.fn.steps + l._block

@@ -1,0 +1,19 @@
+use Rattle.std.proofs.Common.{Option, Some, None, Bor, sym, subst}
+use Rattle.std.specs.Prelude.{IfSome, option_map}
+use Rattle.std.specs.Option.{option_copied}
+use Rattle.instrument.specs.Counters.{HeatCounts, heat_counts}
+use Rattle.instrument.specs.declared.heat.Heat.{Heat}
+use Rattle.views.specs.Kept.{HasGranules}
+use Rattle.views.specs.Tables.{Table, owners_of}
+use Rattle.views.proofs.view.View.heat.Goals as goal
+
+-- what holds of the counts that are kept holds of those that are lent
+lent : (P : HeatCounts → Type 0) (asked : Option (Bor Heat)) → IfSome (option_map heat_counts (option_copied asked)) P → IfSome asked (λ h. P (heat_counts h.now))
+lent P None h = tt
+lent P (Some heat) h = h
+
+pub returns-clause-granules : goal.returns-clause-granules
+returns-clause-granules c =
+    lent (HasGranules (owners_of c.args.self.now)) c.as_ref.result
+    (subst (λ (kept : Option Heat). IfSome (option_map heat_counts kept) (HasGranules (owners_of c.args.self.now))) (sym c.as_ref.ensures.value)
+    (subst (λ (t : Table). IfSome (option_map heat_counts c.self.inside.heat) (HasGranules (owners_of t))) c.self.view_is c.self.invariant.2.each_blob))

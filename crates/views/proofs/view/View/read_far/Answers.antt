@@ -1,0 +1,42 @@
+use Rattle.std.proofs.Common.{◌≡◌, ◌<◌, ◌≤◌, ◌∙◌, ℕ, length, refl, sym, ap, subst, arith, rules, SFits, FitsSigned, w64}
+use Rattle.std.specs.Int.{w128}
+use Rattle.std.proofs.lemmas.Int.{to_z-of_z}
+use Rattle.leaf_runs.specs.Lows.{low_64, IsWithin64}
+use Rattle.views.specs.Columns.{column_reads}
+use Rattle.views.specs.RunsLaws.{declared_within}
+use Rattle.views.specs.Tables.{Table, leaf_type_of, after_log}
+use Rattle.views.proofs.RunLaws.{run_read}
+use Rattle.views.proofs.RunStoreLaws.{no_row, row_more}
+use Rattle.views.proofs.view.View.read_far.Goals as goal
+
+pub loop-k-init : goal.loop-k-init
+loop-k-init c = no_row c.args.leaf c.args.first c.args.self.now c.args.values.now c.args.values.now refl
+
+pub row_after-row-requires : goal.row_after-row-requires
+row_after-row-requires c = omega (arith, ap (λ (t : Table). length t.rows) c.loop-k.invariant.log, c.loop-k.invariant.count, c.requires.rows_in)
+
+pub value-requires-clause-row_in : goal.value-requires-clause-row_in
+value-requires-clause-row_in c = omega (arith, c.row_after-row.ensures, ap (λ (t : Table). length t.rows) c.loop-k.invariant.log, c.loop-k.invariant.count, c.requires.rows_in)
+
+pub low_of-requires : goal.low_of-requires
+low_of-requires c =
+    let fits : SFits w128 c.value.result = search rules in
+    subst IsWithin64 (sym (to_z-of_z w128 c.value.result fits)) (declared_within (leaf_type_of c.loop-k.self c.args.leaf) c.value.result c.value.ensures.declared)
+
+pub loop-k-preserved : goal.loop-k-preserved
+loop-k-preserved c =
+    let wide : SFits w128 c.value.result = search rules in
+    let fits : FitsSigned w64 c.low_of.result = search rules in
+    let inside : c.loop-k.k < length c.args.values.now = omega (arith, c.loop-k.invariant.count) in
+    row_more c.args.leaf c.args.first c.loop-k.k c.row_after-row.result c.args.self.now c.loop-k.self c.value.new.self c.args.values.now c.loop-k.values _ c.loop-k.invariant c.row_after-row.ensures inside
+    (to_z-of_z w64 c.low_of.result fits ∙ c.low_of.ensures ∙ ap low_64 (to_z-of_z w128 c.value.result wide ∙ c.value.ensures.value)) c.value.ensures.same
+
+pub returns-clause-values : goal.returns-clause-values
+returns-clause-values c =
+    let end : length c.args.values.now ≤ c.loop-k.k = omega (arith, c.loop-k.invariant.count) in
+    run_read c.args.leaf c.args.first c.args.self.now.rows c.args.values.now c.loop-k.values c.loop-k.invariant.count c.requires.rows_in (λ k l. c.loop-k.invariant.each k (omega (arith, l, end)))
+
+pub returns-clause-same : goal.returns-clause-same
+returns-clause-same c =
+    let end : c.loop-k.k ≡ length c.args.values.now = omega (arith, c.loop-k.invariant.count) in
+    c.loop-k.invariant.log ∙ ap (λ (n : ℕ). after_log c.args.self.now (column_reads c.args.leaf c.args.first n)) end

@@ -1,0 +1,81 @@
+use Rattle.std.proofs.Common.{◌≡◌, ◌<◌, ℤ, Ok, pos, get_or, length, map, take, SFits, to_z, of_z, w64, refl, sym, ap, ◌∙◌, rules, arith}
+use Rattle.std.specs.Int.{w128}
+use Rattle.std.proofs.lemmas.List.{get_or-map, length-map}
+use Rattle.views.specs.ColumnsLaws.{length-with_column}
+use Rattle.views.specs.Runs.{told_lane}
+use Rattle.views.specs.Stores.{told}
+use Rattle.views.specs.Tables.{Table, answer_of, kept_of}
+use Rattle.views.proofs.RunStoreLaws.{value_more, run_stored, whole_run, no_fault, stopped_run}
+use Rattle.views.proofs.StoredLaws.{nothing_stored, fault_later, fault_here, passed}
+use Rattle.views.proofs.view.View.store_each.Goals as goal
+use Rattle.views.proofs.view.View.store_each.Goals.{After-row_after-row, After-set_tested}
+
+pub loop-lane-init : goal.loop-lane-init
+loop-lane-init c = record { fault = refl; stored = nothing_stored c.args.leaf c.args.first c.args.self.now (map (kept_of c.args.self.now c.args.leaf) c.args.values.now) }
+
+pub row_after-row-requires : goal.row_after-row-requires
+row_after-row-requires c =
+    let kept = map (kept_of c.args.self.now c.args.leaf) c.args.values.now in
+    omega (arith, ap (λ (t : Table). length t.rows) c.loop-lane.invariant.stored.stored, length-with_column c.args.leaf c.args.first (take c.loop-lane.lane kept) c.args.self.now.rows)
+
+pub set_tested-requires-clause-row_in : goal.set_tested-requires-clause-row_in
+set_tested-requires-clause-row_in c =
+    let kept = map (kept_of c.args.self.now c.args.leaf) c.args.values.now in
+    omega (arith, c.row_after-row.ensures, ap (λ (t : Table). length t.rows) c.loop-lane.invariant.stored.stored,
+    length-with_column c.args.leaf c.args.first (take c.loop-lane.lane kept) c.args.self.now.rows)
+
+pub loop-lane-preserved : goal.loop-lane-preserved
+loop-lane-preserved c =
+    let old = c.args.self.now in
+    let leaf = c.args.leaf in
+    let lane = c.loop-lane.lane in
+    let values = c.args.values.now in
+    let value = get_or values lane (pos 0) in
+    let fit : SFits w64 value = search rules in
+    let inside : lane < length values = omega arith in
+    let same = passed value c.from.result fit c.from.ensures in
+    let table = c.loop-lane.invariant.stored.stored in
+    let taken : told (answer_of old leaf value) ≡ Ok tt =
+    sym (ap (λ (v : ℤ). told (answer_of old leaf v)) same) ∙ sym (ap (λ (t : Table). told (answer_of t leaf (to_z w128 (of_z w128 c.from.result)))) table) ∙ sym c.set_tested.ensures.answer ∙ c.in_default.is in
+    let kept : kept_of c.loop-lane.self leaf (to_z w128 (of_z w128 c.from.result)) ≡ get_or (map (kept_of old leaf) values) lane (pos 0) =
+    ap (kept_of c.loop-lane.self leaf) same ∙ ap (λ (t : Table). kept_of t leaf value) table ∙ sym (get_or-map (kept_of old leaf) values lane (pos 0) (pos 0) inside) in
+    record {
+      fault = c.loop-lane.invariant.fault ∙ fault_later (answer_of old) leaf lane values inside taken;
+      stored = value_more leaf c.args.first lane c.row_after-row.result old c.loop-lane.self c.set_tested.new.self (map (kept_of old leaf) values) _ c.loop-lane.invariant.stored
+          (omega (arith, inside, length-map values (kept_of old leaf))) (omega (arith, inside, c.requires.rows_in)) c.row_after-row.ensures kept c.in_default.ensures.stored;
+    }
+
+-- the fault of a value that is refused
+fault : (c : goal.After-set_tested) → told (answer_of c.args.self.now c.args.leaf (get_or c.args.values.now c.loop-lane.lane (pos 0))) ≡ c.set_tested.result
+fault c =
+    let value = get_or c.args.values.now c.loop-lane.lane (pos 0) in
+    let fit : SFits w64 value = search rules in
+    let same = passed value c.from.result fit c.from.ensures in
+    sym (ap (λ (v : ℤ). told (answer_of c.args.self.now c.args.leaf v)) same) ∙ sym (ap (λ (t : Table). told (answer_of t c.args.leaf (to_z w128 (of_z w128 c.from.result)))) c.loop-lane.invariant.stored.stored) ∙ sym c.set_tested.ensures.answer
+
+pub returns-in-Err-clause-named : goal.returns-in-Err-clause-named
+returns-in-Err-clause-named c =
+    let inside : c.loop-lane.lane < length c.args.values.now = omega arith in
+    let here = c.loop-lane.invariant.fault
+    ∙ fault_here (answer_of c.args.self.now) c.args.leaf c.loop-lane.lane c.args.values.now c.in-Err.fault inside (fault (goal.at.returns-in-Err-clause-named c).After-set_tested ∙ c.in-Err.is) in
+    sym (ap told_lane here)
+
+pub returns-in-Err-clause-stored : goal.returns-in-Err-clause-stored
+returns-in-Err-clause-stored c =
+    let inside : c.loop-lane.lane < length c.args.values.now = omega arith in
+    let here = c.loop-lane.invariant.fault
+    ∙ fault_here (answer_of c.args.self.now) c.args.leaf c.loop-lane.lane c.args.values.now c.in-Err.fault inside (fault (goal.at.returns-in-Err-clause-stored c).After-set_tested ∙ c.in-Err.is) in
+    stopped_run c.args.leaf c.args.first c.args.self.now c.set_tested.new.self c.args.values.now (record { lane = c.loop-lane.lane; fault = c.in-Err.fault }) here
+    (c.in-Err.ensures.refused ∙ run_stored c.args.leaf c.args.first c.loop-lane.lane c.args.self.now c.loop-lane.self c.args.values.now c.loop-lane.invariant.stored)
+
+pub returns-clause-named : goal.returns-clause-named
+returns-clause-named c =
+    let end : c.loop-lane.lane ≡ length c.args.values.now = omega arith in
+    sym (ap told_lane (no_fault c.args.leaf c.loop-lane.lane c.args.self.now c.args.values.now c.loop-lane.invariant.fault end))
+
+pub returns-clause-stored : goal.returns-clause-stored
+returns-clause-stored c =
+    let end : c.loop-lane.lane ≡ length c.args.values.now = omega arith in
+    whole_run c.args.leaf c.args.first c.loop-lane.lane c.args.self.now c.loop-lane.self c.args.values.now
+    (no_fault c.args.leaf c.loop-lane.lane c.args.self.now c.args.values.now c.loop-lane.invariant.fault end) end
+    (run_stored c.args.leaf c.args.first c.loop-lane.lane c.args.self.now c.loop-lane.self c.args.values.now c.loop-lane.invariant.stored)

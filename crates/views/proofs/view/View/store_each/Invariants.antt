@@ -1,0 +1,12 @@
+use Rattle.std.proofs.Common.{◌≡◌, drop, map}
+use Rattle.views.specs.Columns.{first_lane_fault}
+use Rattle.views.specs.Runs.{run_fault}
+use Rattle.views.specs.Tables.{answer_of, kept_of}
+use Rattle.views.proofs.StoredLaws.{HasStored}
+use Rattle.views.proofs.view.View.store_each.Given as goal
+
+abbrev pub invariant-loop-lane : goal.invariant-loop-lane
+invariant-loop-lane l = record {
+  fault : run_fault l.leaf l.values l.fn.self ≡ first_lane_fault (answer_of l.fn.self) l.leaf l.lane (drop l.lane l.values);
+  stored : HasStored l.leaf l.first l.lane l.fn.self l.self (map (kept_of l.fn.self l.leaf) l.values);
+}
