@@ -296,16 +296,19 @@ pub record IsWholeCount (old : Table) (filter : Term ℕ) (view : Table) (result
   pub so_far : IfErr result (λ fault. view ≡ after_log old (count_log filter old.extents old.rows (fault.row + 1)))
 
 pub whole_count : (old view : Table) (filter : Term ℕ) (row : ℕ) (result : Result ℕ UpdateFault) → row ≡ length old.rows
-    → IfOk result (λ more. IsCounted old filter view row (0 + more)) → IfErr result (IsCountStopped old filter view) → IsWholeCount old filter view result
+    → IfOk result (λ more. IsCounted old filter view row more) → IfErr result (IsCountStopped old filter view) → IsWholeCount old filter view result
 whole_count old view filter row (Ok more) all done stopped =
-    let none : 0 + more ≡ more = omega arith in
-    let here = subst (λ (n : ℕ). IsCounted old filter view row n) none done in
     record {
-      value = sym (counted_all filter old.extents old.rows row more all here.counted);
-      same = subst (λ (n : ℕ). view ≡ after_log old (count_log filter old.extents old.rows n)) all here.same;
+      value = sym (counted_all filter old.extents old.rows row more all done.counted);
+      same = subst (λ (n : ℕ). view ≡ after_log old (count_log filter old.extents old.rows n)) all done.same;
       so_far = tt;
     }
 whole_count old view filter row (Err fault) all done stopped = record { value = sym stopped.value; same = tt; so_far = stopped.so_far }
+
+-- and of rows behind none
+pub from_none : (old view : Table) (filter : Term ℕ) (row : ℕ) (result : Result ℕ UpdateFault) → IfOk result (λ more. IsCounted old filter view row (0 + more)) → IfOk result (λ more. IsCounted old filter view row more)
+from_none old view filter row (Ok more) done = (let none : 0 + more ≡ more = omega arith in subst (λ (n : ℕ). IsCounted old filter view row n) none done)
+from_none old view filter row (Err fault) done = tt
 
 pub none_rows : (view : Table) (filter : Term ℕ) → IsCounted view filter view 0 0
 none_rows view filter = record { same = sym (after_log-none view); counted = none_counted (row_test view filter) }

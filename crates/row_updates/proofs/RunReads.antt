@@ -1,17 +1,19 @@
 -- The values of a leaf that are read in rows one after another.
-use Rattle.std.proofs.Common.{◌≡◌, ◌∙◌, ℕ, ◌+◌, ◌<◌, ◌≤◌, ◌^◌, ◌≤ℤ◌, List, [], length, map, take, drop, get_or, ℤ, pos, neg_ℤ, sym, ap, subst, arith, length-drop, get_or-drop}
+use Rattle.std.proofs.Common.{◌≡◌, ◌∙◌, ℕ, ◌+◌, ◌<◌, ◌≤◌, ◌^◌, ◌≤ℤ◌, List, [], length, map, take, drop, get_or, ℤ, pos, neg_ℤ, w64, sym, ap, subst, arith, length-drop, get_or-drop}
 use Rattle.std.specs.Prelude.{unsigned_abs, if◌then◌else◌}
+use Rattle.std.proofs.lemmas.Int.{fits_signed_from_abs}
 use Rattle.std.proofs.lemmas.List.{get_or-map, length-map, get_or-take, length-take-le}
+use Rattle.leaf_runs.specs.Lows.{low_64}
+use Rattle.leaf_runs.specs.LowsLaws.{low_same}
 use Rattle.kept_tables.specs.EntryLaws.{stays_declared}
 use Rattle.piece_bits.specs.Tables.{hold_at}
-use Rattle.record_dim.specs.declared.leaf_type.LeafType.{LeafType}
 use Rattle.record_dim.specs.Leaves.{Leaf, leaves}
 use Rattle.record_dim.specs.LeafTypes.{IsDeclared, is_signed}
 use Rattle.views.specs.Columns.{in_leaf, column}
+use Rattle.views.specs.RunsLaws.{raised_low}
 use Rattle.views.specs.Tables.{Table, IsTable, leaf_count_of, leaf_type_of, leaf_types_of, table_holds}
 use Rattle.row_updates.specs.Runs.{row_of, AreNear}
-use Rattle.row_updates.specs.Stubs.{low_64}
-use Rattle.row_updates.proofs.Low.{near_same, low_declared, low_near}
+use Rattle.row_updates.proofs.Low.{low_is, low_near}
 
 module _ (table : Table) (leaf first limit : ℕ) (values : List ℤ) (count : ℕ) (is : IsTable table) (inside : leaf < leaf_count_of table) (rows_in : first + count ≤ length table.rows)
     (read : values ≡ map low_64 (take count (drop first (column leaf table.rows)))) (small : limit < 2 ^ 63) where
@@ -41,7 +43,7 @@ module _ (table : Table) (leaf first limit : ℕ) (values : List ℤ) (count : �
       let same : (k : ℕ) → k < length values → get_or values k (pos 0) ≡ in_leaf leaf (row_of table (first + k)) =
       λ k below.
       (let near = all (in_leaf leaf (row_of table (first + k))) (declared k below) in
-      there k below ∙ near_same (in_leaf leaf (row_of table (first + k))) (omega (arith, near, small))) in
+      there k below ∙ low_same (in_leaf leaf (row_of table (first + k))) (fits_signed_from_abs w64 (in_leaf leaf (row_of table (first + k))) (omega (arith, near, small)))) in
       record {
         same = same;
         near = λ k below. subst (λ (v : ℤ). unsigned_abs v ≤ limit) (sym (same k below)) (all (in_leaf leaf (row_of table (first + k))) (declared k below));
@@ -56,7 +58,6 @@ module _ (table : Table) (leaf first limit : ℕ) (values : List ℤ) (count : �
         same = λ k below.
             let value = in_leaf leaf (row_of table (first + k)) in
             let low = subst (λ (v : ℤ). (if is_signed kind then neg_ℤ (pos limit) else pos 0) ≤ℤ v) (there k below) (each k below).0 in
-            let high = subst (λ (v : ℤ). v ≤ℤ pos limit) (there k below) (each k below).1 in
-            there k below ∙ low_declared kind value limit (declared k below) small low high;
+            there k below ∙ sym (low_is kind (low_64 value) limit low) ∙ raised_low kind value (declared k below);
         near = λ k below. low_near (is_signed kind) (get_or values k (pos 0)) limit (each k below).0 (each k below).1;
       }

@@ -4,9 +4,8 @@ use Rattle.std.specs.Prelude.{slice_set}
 use Rattle.std.proofs.lemmas.List.{get_or-map, length-map, get_or-take, length-take-le, set-get_or, take_more, drop-drop}
 use Rattle.expr_lang.specs.Terms.{Term}
 use Rattle.expr_lang.specs.Values.{outcome_of}
-use Rattle.expr_runs.specs.Exacts.{exact_of, most_of, IsSafe}
+use Rattle.expr_runs.specs.Exacts.{IsSafe}
 use Rattle.expr_runs.specs.ExactsLaws.{worth}
-use Rattle.expr_runs.specs.Steps.{IsWorthIn}
 use Rattle.linearize.specs.Slots.{index_at}
 use Rattle.piece_bits.specs.Tables.{hold_at}
 use Rattle.record_dim.specs.Leaves.{Leaf, leaves}
@@ -14,14 +13,14 @@ use Rattle.views.specs.AnswerLaws.{stays_answer}
 use Rattle.views.specs.Columns.{in_leaf, with_column}
 use Rattle.views.specs.ColumnsLaws.{no_column, length-with_column}
 use Rattle.views.specs.Stores.{Answer, Keeping, kept_or}
-use Rattle.views.specs.Tables.{Table, IsTable, leaf_count_of, leaf_type_of, leaf_types_of, table_holds, owners_of, answer_of, kept_of, after_log, after_stores}
-use Rattle.views.specs.Tallies.{Access, Tally, tallied}
+use Rattle.views.specs.Tables.{Table, IsTable, leaf_count_of, leaf_type_of, leaf_types_of, table_holds, answer_of, kept_of, after_stores}
+use Rattle.views.specs.Tallies.{Access, Tally}
 use Rattle.views.specs.declared.fault.StoreFault.{StoreFault}
 use Rattle.row_updates.specs.declared.fault.UpdateFault.{UpdateFault}
 use Rattle.row_updates.specs.declared.runs.Run.{Run}
-use Rattle.row_updates.specs.Rows.{Setting, each, in_row, eval_kind, store_kind, passes, new_value, with_values, updated_row, updated_of, ◌>>=◌}
+use Rattle.row_updates.specs.Rows.{Setting, each, in_row, store_kind, passes, new_value, with_values, updated_row, updated_of, ◌>>=◌}
 use Rattle.row_updates.specs.Logs.{update_log}
-use Rattle.row_updates.specs.Runs.{IsIdle, row_of, IsGiven, AreGiven}
+use Rattle.row_updates.specs.Runs.{IsIdle, row_of, IsGiven}
 use Rattle.row_updates.specs.Updated.{AreUpdated, IsStill, IsRunUpdated, AreTested}
 use Rattle.row_updates.proofs.Each.{parted, each_push, rows_push}
 

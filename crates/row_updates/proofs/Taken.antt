@@ -1,6 +1,6 @@
 -- Values that a leaf takes.
 use Rattle.std.proofs.Common.{◌≡◌, ◌∙◌, ℕ, zero, suc, ◌+◌, ◌<◌, ◌≤◌, ◌≤ℤ◌, List, [], ◌∷◌, length, get_or, ℤ, pos, Bool, true, false, Option, Some, None, Result, Ok, Err, is_ok, refl, sym, ap, arith}
-use Rattle.std.specs.Prelude.{int_le, if◌then◌else◌, ◌&&◌}
+use Rattle.std.specs.Prelude.{if◌then◌else◌}
 use Rattle.std.specs.Option.{option_or}
 use Rattle.std.proofs.lemmas.Int.{ints}
 use Rattle.places.specs.declared.piece.Hold.{Hold}
@@ -10,7 +10,7 @@ use Rattle.kept_tables.specs.declared.mode.StoreMode.{StoreMode}
 use Rattle.kept_tables.specs.declared.mode.StoreMode.TheVariants.{Strict, Wrap}
 use Rattle.views.specs.Columns.{lane_fault, first_lane_fault}
 use Rattle.views.specs.Stores.{Answer, is_between, store_answer, told}
-use Rattle.row_updates.specs.Stubs.{told_lane, stored_count}
+use Rattle.views.specs.Runs.{told_lane, stored_count}
 use Rattle.views.specs.declared.fault.LaneFault.{LaneFault}
 use Rattle.views.specs.AnswerLaws.{told_same}
 use Rattle.views.specs.StrictLaws.{between_true, fitting_stored}

@@ -9,7 +9,6 @@ mod one_leaf;
 mod run_updates;
 mod runs;
 mod side;
-mod stubs;
 mod update;
 mod value;
 

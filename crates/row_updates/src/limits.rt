@@ -6,7 +6,6 @@ ghost use Rattle.views.specs.Tables.{leaf_count_of};
 ghost use Rattle.row_updates.specs.Rows.{IsOver, IsSetOf};
 ghost use Rattle.row_updates.specs.Runs.{IsIdle, IsSized};
 
-use crate::stubs::counts_nothing;
 use crate::update::Assign;
 use expr_lang::Bound;
 use expr_runs::most;
@@ -32,7 +31,7 @@ pub fn find_limits(
     ensures filter { result ≡ true → IfSome filter.entry (λ bound. IsSafe leaves.new places.new (bound_term bound.now)) }
     ensures sets { result ≡ true → All (λ set. IsSafe leaves.new places.new (bound_term set.value)) sets.now }
 {
-    if !counts_nothing(view) {
+    if !view.counts_nothing() {
         return false;
     }
     put_places(view, places);
@@ -68,8 +67,10 @@ fn put_leaves(view: &View, wide: u64, leaves: &mut [u64])
 fn limit_of(kind: LeafType, wide: u64) -> u64
     ensures { result ≤ wide }
 {
-    let far = kind.greatest().max(-kind.least());
-    far.min(i128::from(wide)) as u64
+    match u64::try_from(kind.greatest().max(-kind.least())) {
+        Ok(far) => far.min(wide),
+        Err(_) => wide,
+    }
 }
 
 fn filter_is_safe(filter: Option<&Bound>, leaves: &[u64], places: &[u64]) -> bool

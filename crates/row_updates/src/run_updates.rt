@@ -12,7 +12,6 @@ ghost use Rattle.row_updates.specs.Updated.{AreUpdated, IsStopped, IsStill, IsRu
 
 use crate::fault::UpdateFault;
 use crate::runs::{Run, chain_run, leaf_run};
-use crate::stubs::store_run;
 use crate::update::{Assign, update_between};
 use expr_lang::Bound;
 use std::sync::ledger::Ledger;
@@ -204,7 +203,7 @@ fn lone_run<L: Ledger>(
     if !value_run(view, set, run, mask, values, steps) {
         return 0;
     }
-    match store_run(view, set.leaf, run.first, values, steps) {
+    match view.store_run(set.leaf, run.first, values, steps) {
         Ok(()) => count,
         Err(fault) => fault.lane,
     }
@@ -243,7 +242,7 @@ fn sets_run<L: Ledger>(
     if !sets_run(view, &sets[..before], run, count, mask, steps) {
         return false;
     }
-    let _taken = store_run(view, last.leaf, run.first, values, steps);
+    let _taken = view.store_run(last.leaf, run.first, values, steps);
     true
 }
 

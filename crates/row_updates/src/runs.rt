@@ -9,7 +9,6 @@ ghost use Rattle.views.specs.Tables.{leaf_count_of};
 ghost use Rattle.row_updates.specs.Runs.{IsIdle, IsRunOf, AreWorth, AreRights, AreNear, ArePlaces};
 
 use crate::index::put_index;
-use crate::stubs::read_run;
 use expr_lang::{Chain, Links, Operand, Step};
 use expr_runs::{apply_step, lone_number};
 use record_dim::LeafType;
@@ -136,7 +135,7 @@ pub fn leaf_run<L: Ledger>(
     ensures near { result ≡ true → AreNear view.old leaf first limit values.new }
 {
     let kind = view.schema().leaf_type(leaf);
-    read_run(view, leaf, first, values, steps);
+    view.read_run(leaf, first, values, steps);
     is_within(kind, limit) || are_near(values, kind.signed(), limit)
 }
 
@@ -158,7 +157,9 @@ fn are_near(values: &[i64], signed: bool, limit: u64) -> bool
     let least = if signed { -greatest } else { 0 };
     let mut near = true;
     for value in values {
-        near = near && least <= *value && *value <= greatest;
+        let number = *value;
+        let inside = least <= number && number <= greatest;
+        near = near && inside;
     }
     near
 }

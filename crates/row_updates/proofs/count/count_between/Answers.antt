@@ -1,6 +1,5 @@
-use Rattle.std.proofs.Common.{rules, arith, ◌≡◌, ◌<◌, ◌≤◌, ◌+◌, ◌∙◌, Err, length, ℕ, List, ap, sym, refl, subst}
+use Rattle.std.proofs.Common.{rules, arith, ◌≡◌, ◌<◌, ◌+◌, ◌∙◌, Err, length, ℕ, ap, sym, refl, subst}
 use Rattle.expr_lang.specs.Bounds.{bound_term}
-use Rattle.extents.specs.Indices.{indices}
 use Rattle.views.specs.Tables.{Table}
 use Rattle.row_updates.specs.Updated.{IsCounted}
 use Rattle.row_updates.proofs.Indexed.{index_read}
@@ -36,3 +35,8 @@ loop-row-preserved g c =
           (kept.counted old before so_far) (sym (rw (index, c.side_of-side.ensures.term) at c.in_ok-passes.ensures.value)) c.from.ensures
           (rw (index, c.side_of-side.ensures.term) at c.passes.ensures.same));
     }
+
+pub returns-clause-done : goal.returns-clause-done
+returns-clause-done g c = λ old before so_far.
+    let end : c.loop-row.row ≡ c.args.end = omega arith in
+    subst (λ (n : ℕ). IsCounted old (bound_term c.args.filter.now) c.loop-row.view n (before + c.loop-row.count)) end (c.loop-row.invariant.counted old before so_far)

@@ -1,15 +1,21 @@
-use Rattle.std.proofs.Common.{◌≡◌, ◌∙◌, ℕ, List, length, sym, ap}
+use Rattle.std.proofs.Common.{◌≡◌, ◌∙◌, ℕ, List, length, refl, sym, ap}
 use Rattle.expr_lang.specs.Bounds.{bound_term}
 use Rattle.extents.specs.Indices.{indices}
-use Rattle.row_updates.proofs.Rows.{none_rows, whole_count}
+use Rattle.row_updates.proofs.Rows.{none_rows, from_none, whole_count}
 use Rattle.row_updates.proofs.count.count_where.Goals as goal
+
+pub returns-then-find_limits : goal.returns-then-find_limits
+returns-then-find_limits g c =
+    let view = c.args.view.now in
+    let all = whole_count view c.count_by_runs.new.view (bound_term c.args.filter.now) (length view.rows) c.count_by_runs.result refl c.count_by_runs.ensures.done c.count_by_runs.ensures.stopped in
+    record { value = all.value; same = all.same; so_far = all.so_far }
 
 pub returns : goal.returns
 returns g c =
     let view = c.args.view.now in
     let filter = bound_term c.args.filter.now in
     let rows : c.count-count.result ≡ length view.rows =
-    c.count-count.ensures.rows ∙ ap (λ (e : List ℕ). length (indices e)) c.extents.ensures.value ∙ sym c.extents.ensures.table.rows in
+    c.count-count.ensures.rows ∙ ap (λ (e : List ℕ). length (indices e)) c.extents-2.ensures.value ∙ sym c.extents-2.ensures.table.rows in
     let none = none_rows view filter in
-    let all = whole_count view c.count_between.new.view filter c.count-count.result c.count_between.result rows (c.count_between.ensures.done view 0 none) (c.count_between.ensures.stopped view 0 none) in
+    let all = whole_count view c.count_between.new.view filter c.count-count.result c.count_between.result rows (from_none view c.count_between.new.view filter c.count-count.result c.count_between.result (c.count_between.ensures.done view 0 none)) (c.count_between.ensures.stopped view 0 none) in
     record { value = all.value; same = all.same; so_far = all.so_far }

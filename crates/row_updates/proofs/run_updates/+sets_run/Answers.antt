@@ -1,4 +1,4 @@
-use Rattle.std.proofs.Common.{rules, ◌≡◌, ◌∙◌, ◌+◌, ◌-◌, ◌<◌, ◌≤◌, ℕ, List, ◌∷◌, ◌++◌, [], length, map, take, refl, sym, ap, subst, arith}
+use Rattle.std.proofs.Common.{rules, ◌≡◌, ◌-◌, ◌<◌, ℕ, List, length, map, take, sym, ap, subst, arith}
 use Rattle.std.proofs.lemmas.List.Elements.{All-get_or}
 use Rattle.expr_lang.specs.Bounds.{bound_term}
 use Rattle.expr_runs.specs.Exacts.{IsSafe}
@@ -36,7 +36,7 @@ returns-clause-still g t c =
     let mid = c.sets_run.new.view in
     let before = subst (λ (v : Table). IsStill v mid) c.value_run.ensures.same c.sets_run.ensures.still in
     let many = stored_of mid leaf values in
-    stored_still table mid c.store_run-taken.new.view leaf first (map (kept_of mid leaf) (take many values)) (column_writes leaf first many) c.requires.idle before c.store_run-taken.ensures.stored
+    stored_still table mid c.store_run-taken.new.self leaf first (map (kept_of mid leaf) (take many values)) (column_writes leaf first many) c.requires.idle before c.store_run-taken.ensures.stored
 
 pub returns-clause-updated : goal.returns-clause-updated
 returns-clause-updated g t c = λ all filter tested.
@@ -47,7 +47,7 @@ returns-clause-updated g t c = λ all filter tested.
     let sets = c.args.sets.now in
     let values = c.value_run.new.values in
     let mid = c.sets_run.new.view in
-    let after = c.store_run-taken.new.view in
+    let after = c.store_run-taken.new.self in
     let last = c.index-sets-before.result in
     let before : ℕ = length sets - 1 in
     let small : before < length sets = search rules in

@@ -1,6 +1,5 @@
-use Rattle.std.proofs.Common.{rules, ◌≡◌, ◌∙◌, ℕ, length, refl, sym, ap, subst, arith}
+use Rattle.std.proofs.Common.{rules, ◌≡◌, ◌∙◌, length, refl, sym, ap, subst, arith}
 use Rattle.expr_lang.specs.declared.bound.Link.{Link}
-use Rattle.expr_lang.specs.declared.bound.Links.{Links}
 use Rattle.expr_lang.specs.declared.bound.Step.{Step}
 use Rattle.expr_lang.specs.Chains.{operand_term, chain_term, AreWithin}
 use Rattle.expr_runs.specs.ChainLaws.{within_front, within_links, within_rest, safe_front, safe_steps, safe_rest, no_deeper}

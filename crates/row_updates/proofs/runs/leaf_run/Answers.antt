@@ -1,4 +1,4 @@
-use Rattle.std.proofs.Common.{◌≡◌, ◌∙◌, ◌≤◌, ◌≤ℤ◌, ℕ, ℤ, pos, neg_ℤ, Bool, get_or, length, Some, sym, ap, subst}
+use Rattle.std.proofs.Common.{◌≡◌, ◌∙◌, ◌≤◌, ◌≤ℤ◌, ℤ, pos, neg_ℤ, Bool, get_or, length, Some, sym, ap, subst}
 use Rattle.std.specs.Prelude.{unsigned_abs, if◌then◌else◌}
 use Rattle.std.specs.List.{slice_get}
 use Rattle.std.proofs.lemmas.Option.{get_or_from_slice_get}
