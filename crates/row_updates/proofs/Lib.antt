@@ -4,3 +4,10 @@ pub mod Logs
 pub mod Lone
 pub mod Operators
 pub mod Rows
+pub mod WorthSoFar
+pub mod RunRows
+pub mod RunTests
+pub mod Taken
+pub mod Low
+pub mod RunReads
+pub mod RunSets

@@ -1,7 +1,7 @@
 -- Updates of rows, step by step.
-use Rattle.std.proofs.Common.{◌≡◌, ℕ, suc, ◌+◌, ◌<◌, ◌≤◌, List, [], ◌∷◌, ◌++◌, length, map, get_or, take, drop, set, ℤ, pos, Bool, true, false, Option, Some, None, Result, Ok, Err, is_ok, refl, sym, ap, ◌∙◌, arith, count_by, cond}
+use Rattle.std.proofs.Common.{◌≡◌, ℕ, suc, ◌+◌, ◌<◌, ◌≤◌, List, [], ◌∷◌, ◌++◌, length, map, get_or, take, take_all, drop, set, ℤ, pos, Bool, true, false, Option, Some, None, Result, Ok, Err, is_ok, refl, sym, ap, subst, ◌∙◌, arith, count_by, cond}
 use Rattle.std.specs.List.{range_with_len}
-use Rattle.std.specs.Prelude.{slice_set}
+use Rattle.std.specs.Prelude.{slice_set, OnOk, IfOk, IfErr}
 use Rattle.std.proofs.lemmas.List.{take_more, take_more_set, drop-set-lt, drop_more, get_or-drop, get_or-set_same, set-set, get_or-map, length-set, length-map, get_or-take}
 use Rattle.std.proofs.lemmas.List.Sums.{sum_by-append}
 use Rattle.expr_lang.specs.Terms.{Term}
@@ -14,11 +14,12 @@ use Rattle.views.specs.declared.fault.StoreFault.{StoreFault}
 use Rattle.row_updates.specs.declared.fault.UpdateFault.{UpdateFault}
 use Rattle.row_updates.specs.declared.update.Assign.{Assign}
 use Rattle.views.specs.Stores.{Answer, Keeping, told}
-use Rattle.row_updates.specs.Rows.{Setting, setting_of, each, in_row, store_kind, value_of, passes, new_value, with_values, tried_row, updated_row, updated_rows, counted, ◌>>=◌}
+use Rattle.row_updates.specs.Rows.{Setting, setting_of, each, in_row, store_kind, value_of, passes, new_value, with_values, tried_row, updated_row, updated_rows, updated_of, counted, ◌>>=◌}
 use Rattle.row_updates.specs.TriedLaws.{updated_as_tried}
-use Rattle.row_updates.specs.Logs.{value_log, sides_log, stores_log, row_log, update_log}
+use Rattle.row_updates.specs.Updated.{AreUpdated, IsStopped, AreCounted, row_test, IsCounted, IsCountStopped}
+use Rattle.row_updates.specs.Logs.{value_log, sides_log, stores_log, row_log, update_log, count_log}
 use Rattle.views.specs.TallyLaws.{after_stores-append}
-use Rattle.row_updates.proofs.Logs.{sides_push, sides_stop, stores_push}
+use Rattle.row_updates.proofs.Logs.{sides_push, sides_stop, stores_push, count_push}
 use Rattle.row_updates.proofs.Each.{each_push, each_stop, each_at, rows_push, rows_stop, with_values_push}
 use mir.Val.{bool_byte}
 
@@ -35,7 +36,7 @@ values_stop step sets place set values fault small is so_far stop =
     let at = setting_at sets place set (setting_of set) small is in
     each_stop step (map setting_of sets) place (setting_of set) values fault (settings_long sets place small) so_far (ap step at ∙ sym stop)
 
-settings_more : (sets : List Assign) (place : ℕ) (set : Assign) → place < length sets → set ≡ get_or sets place set → take (place + 1) (map setting_of sets) ≡ take place (map setting_of sets) ++ setting_of set ∷ []
+pub settings_more : (sets : List Assign) (place : ℕ) (set : Assign) → place < length sets → set ≡ get_or sets place set → take (place + 1) (map setting_of sets) ≡ take place (map setting_of sets) ++ setting_of set ∷ []
 settings_more sets place set small is =
     take_more (map setting_of sets) place (setting_of set) (settings_long sets place small)
     ∙ ap (λ (s : Setting). take place (map setting_of sets) ++ s ∷ []) (setting_at sets place set (setting_of set) small is)
@@ -145,12 +146,6 @@ same_behind xs ys n d small less same =
     let e = sym (drop_more xs n d small) ∙ same ∙ drop_more ys n d less in cc
 
 -- rows so far
-pub record AreUpdated (old : Table) (filter : Option (Term ℕ)) (sets : List Setting) (view : Table) (row : ℕ) : Type 0 where
-  pub same : view ≡ after_stores old view.rows (update_log old filter sets row)
-  pub count : length view.rows ≡ length old.rows
-  pub front : updated_rows (answer_of old) (kept_of old) filter sets old.extents old.rows row ≡ Ok (take row view.rows)
-  pub back : drop row view.rows ≡ drop row old.rows
-
 pub none_updated : (view : Table) (filter : Option (Term ℕ)) (sets : List Setting) → AreUpdated view filter sets view 0
 none_updated view filter sets = record { same = sym (after_log-none view); count = refl; front = refl; back = refl }
 
@@ -178,6 +173,20 @@ rows_touched old view after filter sets row table so_far more =
     ∙ ap (after_stores old table) (sym logs)
     ∙ ap (λ (t : List (List ℤ)). after_stores old t (update_log old filter sets (row + 1))) (sym (ap (λ (s : Table). s.rows) more))
 
+-- a row with a fault, before which those before it were updated
+pub rows_ended : (old view after : Table) (filter : Option (Term ℕ)) (sets : List Setting) (row : ℕ) (fault : UpdateFault) → row < length old.rows → AreUpdated old filter sets view row
+    → updated_row (answer_of view) (kept_of view) filter sets row (get_or view.rows row []) (index_at view.extents row) ≡ Err fault → fault.row ≡ row
+    → after ≡ after_log view (row_log (answer_of view) filter sets row (get_or view.rows row []) (index_at view.extents row)) → IsStopped old filter sets after fault
+rows_ended old view after filter sets row fault small so_far stop named kept =
+    let rows : after.rows ≡ view.rows = ap (λ (t : Table). t.rows) kept in
+    let front : updated_of old filter sets row ≡ Ok (take row after.rows) = so_far.front ∙ ap (λ (r : List (List ℤ)). Ok (take row r)) (sym rows) in
+    record {
+      refused = rows_stopped old view filter sets row fault small so_far stop;
+      before = subst (λ (n : ℕ). updated_of old filter sets n ≡ Ok (take n after.rows)) (sym named) front;
+      behind = subst (λ (n : ℕ). drop n after.rows ≡ drop n old.rows) (sym named) (ap (drop row) rows ∙ so_far.back);
+      so_far = subst (λ (n : ℕ). after ≡ after_stores old after.rows (update_log old filter sets (n + 1))) (sym named) (rows_touched old view after filter sets row view.rows so_far kept);
+    }
+
 -- one row more
 pub rows_more : (old view after : Table) (filter : Option (Term ℕ)) (sets : List Setting) (row : ℕ) (new : List ℤ) → row < length old.rows → AreUpdated old filter sets view row → updated_row (answer_of view) (kept_of view) filter sets row (get_or view.rows row []) (index_at view.extents row) ≡ Ok new → after ≡ after_stores view (slice_set view.rows row new) (row_log (answer_of view) filter sets row (get_or view.rows row []) (index_at view.extents row)) → AreUpdated old filter sets after (row + 1)
 rows_more old view after filter sets row new small so_far gives changed =
@@ -198,19 +207,13 @@ count_one : (test : Bool) → count_by (λ t. t) (test ∷ []) ≡ bool_byte tes
 count_one true = refl
 count_one false = refl
 
-count_push : (tests : List Bool) (test : Bool) → count_by (λ t. t) (tests ++ test ∷ []) ≡ count_by (λ t. t) tests + bool_byte test
-count_push tests test = sum_by-append (λ (t : Bool). cond t 1 0) tests (test ∷ []) ∙ ap (λ (n : ℕ). count_by (λ t. t) tests + n) (count_one test)
-
-pub record AreCounted (step : ℕ → Result Bool UpdateFault) (row count : ℕ) : Type 0 where
-  pub few : count ≤ row
-  pub tests : List Bool
-  pub gives : each step (range_with_len 0 row) ≡ Ok tests
-  pub counts : count ≡ count_by (λ t. t) tests
+tests_push : (tests : List Bool) (test : Bool) → count_by (λ t. t) (tests ++ test ∷ []) ≡ count_by (λ t. t) tests + bool_byte test
+tests_push tests test = sum_by-append (λ (t : Bool). cond t 1 0) tests (test ∷ []) ∙ ap (λ (n : ℕ). count_by (λ t. t) tests + n) (count_one test)
 
 pub none_counted : (step : ℕ → Result Bool UpdateFault) → AreCounted step 0 0
 none_counted step = record { few = omega arith; tests = []; gives = refl; counts = refl }
 
-one_at_most : (test : Bool) → bool_byte test ≤ 1
+pub one_at_most : (test : Bool) → bool_byte test ≤ 1
 one_at_most true = omega arith
 one_at_most false = omega arith
 
@@ -221,7 +224,7 @@ one_counted step row count more test so_far gives is =
       few = omega (arith, so_far.few, one, is);
       tests = so_far.tests ++ test ∷ [];
       gives = rows_push step row so_far.tests test so_far.gives gives;
-      counts = omega (arith, count_push so_far.tests test, so_far.counts, is);
+      counts = omega (arith, tests_push so_far.tests test, so_far.counts, is);
     }
 
 pub counted_stop : (filter : Term ℕ) (extents : List ℕ) (rows : List (List ℤ)) (row count : ℕ) (fault : UpdateFault) → row < length rows → AreCounted (λ number. passes number (get_or rows number []) (index_at extents number) (Some filter)) row count → passes row (get_or rows row []) (index_at extents row) (Some filter) ≡ Err fault → counted filter extents rows ≡ Err fault
@@ -234,3 +237,78 @@ counted_all filter extents rows row count whole so_far =
     let step = λ (number : ℕ). passes number (get_or rows number []) (index_at extents number) (Some filter) in
     ap (λ (n : ℕ). each step (range_with_len 0 n) >>= (λ tests. Ok (count_by (λ test. test) tests))) (sym whole)
     ∙ ap (λ (r : Result (List Bool) UpdateFault). r >>= (λ tests. Ok (count_by (λ test. test) tests))) so_far.gives ∙ ap (λ (n : ℕ). Ok n) (sym so_far.counts)
+
+-- one row more of a view whose accesses are counted
+test_here : (old view : Table) (filter : Term ℕ) (row count : ℕ) → IsCounted old filter view row count → row_test view filter row ≡ row_test old filter row
+test_here old view filter row count so_far = ap (λ (t : Table). row_test t filter row) so_far.same
+
+log_here : (old view after : Table) (filter : Term ℕ) (row count : ℕ) → IsCounted old filter view row count
+    → after ≡ after_log view (value_log row (get_or view.rows row []) (index_at view.extents row) filter) → after ≡ after_log old (count_log filter old.extents old.rows (row + 1))
+log_here old view after filter row count so_far read =
+    count_push old view after filter row so_far.same (read ∙ ap (λ (e : List ℕ). after_log view (value_log row (get_or view.rows row []) (index_at e row) filter)) (ap (λ (t : Table). t.extents) so_far.same))
+
+pub row_counted : (old view after : Table) (filter : Term ℕ) (row count more : ℕ) (test : Bool) → IsCounted old filter view row count → row_test view filter row ≡ Ok test → more ≡ bool_byte test
+    → after ≡ after_log view (value_log row (get_or view.rows row []) (index_at view.extents row) filter) → IsCounted old filter after (row + 1) (count + more)
+row_counted old view after filter row count more test so_far gives is read = record {
+  same = log_here old view after filter row count so_far read;
+  counted = one_counted (row_test old filter) row count more test so_far.counted (sym (test_here old view filter row count so_far) ∙ gives) is;
+}
+
+pub count_ended : (old view after : Table) (filter : Term ℕ) (row count : ℕ) (fault : UpdateFault) → row < length view.rows → IsCounted old filter view row count → row_test view filter row ≡ Err fault
+    → fault.row ≡ row → after ≡ after_log view (value_log row (get_or view.rows row []) (index_at view.extents row) filter) → IsCountStopped old filter after fault
+count_ended old view after filter row count fault small so_far stop named read =
+    let rows : length view.rows ≡ length old.rows = ap (λ (t : Table). length t.rows) so_far.same in
+    let inside : row < length old.rows = omega (arith, small, rows) in
+    record {
+      value = counted_stop filter old.extents old.rows row count fault inside so_far.counted (sym (test_here old view filter row count so_far) ∙ stop);
+      so_far = subst (λ (n : ℕ). after ≡ after_log old (count_log filter old.extents old.rows (n + 1))) (sym named) (log_here old view after filter row count so_far read);
+    }
+
+-- an update of all rows, and its fault
+pub record IsWhole (old : Table) (filter : Option (Term ℕ)) (sets : List Setting) (view : Table) (result : Result Unit UpdateFault) : Type 0 where
+  pub stored : OnOk result (updated_of old filter sets (length old.rows) ≡ Ok view.rows)
+  pub refused : IfErr result (λ fault. updated_of old filter sets (length old.rows) ≡ Err fault)
+  pub before : IfErr result (λ fault. updated_of old filter sets fault.row ≡ Ok (take fault.row view.rows))
+  pub behind : IfErr result (λ fault. drop fault.row view.rows ≡ drop fault.row old.rows)
+  pub same : OnOk result (view ≡ after_stores old view.rows (update_log old filter sets (length old.rows)))
+  pub so_far : IfErr result (λ fault. view ≡ after_stores old view.rows (update_log old filter sets (fault.row + 1)))
+
+pub whole : (old view : Table) (filter : Option (Term ℕ)) (sets : List Setting) (row : ℕ) (result : Result Unit UpdateFault) → row ≡ length old.rows
+    → OnOk result (AreUpdated old filter sets view row) → IfErr result (IsStopped old filter sets view) → IsWhole old filter sets view result
+whole old view filter sets row (Ok x) all done stopped =
+    let here = subst (AreUpdated old filter sets view) all done in
+    let long : length view.rows ≤ length old.rows = omega (arith, here.count) in
+    record {
+      stored = here.front ∙ ap (λ (r : List (List ℤ)). Ok r) (take_all (length old.rows) view.rows long);
+      refused = tt;
+      before = tt;
+      behind = tt;
+      same = here.same;
+      so_far = tt;
+    }
+whole old view filter sets row (Err fault) all done stopped =
+    record { stored = tt; refused = stopped.refused; before = stopped.before; behind = stopped.behind; same = tt; so_far = stopped.so_far }
+
+-- a count of all rows, and its fault
+pub record IsWholeCount (old : Table) (filter : Term ℕ) (view : Table) (result : Result ℕ UpdateFault) : Type 0 where
+  pub value : result ≡ counted filter old.extents old.rows
+  pub same : OnOk result (view ≡ after_log old (count_log filter old.extents old.rows (length old.rows)))
+  pub so_far : IfErr result (λ fault. view ≡ after_log old (count_log filter old.extents old.rows (fault.row + 1)))
+
+pub whole_count : (old view : Table) (filter : Term ℕ) (row : ℕ) (result : Result ℕ UpdateFault) → row ≡ length old.rows
+    → IfOk result (λ more. IsCounted old filter view row more) → IfErr result (IsCountStopped old filter view) → IsWholeCount old filter view result
+whole_count old view filter row (Ok more) all done stopped =
+    record {
+      value = sym (counted_all filter old.extents old.rows row more all done.counted);
+      same = subst (λ (n : ℕ). view ≡ after_log old (count_log filter old.extents old.rows n)) all done.same;
+      so_far = tt;
+    }
+whole_count old view filter row (Err fault) all done stopped = record { value = sym stopped.value; same = tt; so_far = stopped.so_far }
+
+-- and of rows behind none
+pub from_none : (old view : Table) (filter : Term ℕ) (row : ℕ) (result : Result ℕ UpdateFault) → IfOk result (λ more. IsCounted old filter view row (0 + more)) → IfOk result (λ more. IsCounted old filter view row more)
+from_none old view filter row (Ok more) done = (let none : 0 + more ≡ more = omega arith in subst (λ (n : ℕ). IsCounted old filter view row n) none done)
+from_none old view filter row (Err fault) done = tt
+
+pub none_rows : (view : Table) (filter : Term ℕ) → IsCounted view filter view 0 0
+none_rows view filter = record { same = sym (after_log-none view); counted = none_counted (row_test view filter) }

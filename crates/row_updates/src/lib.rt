@@ -4,7 +4,10 @@
 mod count;
 mod fault;
 mod index;
+mod limits;
 mod one_leaf;
+mod run_updates;
+mod runs;
 mod side;
 mod update;
 mod value;

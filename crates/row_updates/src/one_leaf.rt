@@ -1,8 +1,9 @@
 // Updates of one leaf.
-ghost use Rattle.std.specs.Prelude.{◌≡◌, ◌<◌, ◌+◌, ℤ, Ok, Err, OnOk, OnErr, IfErr, IfSome, [], ◌∷◌, List, length, take, drop, slice_index_or, slice_set};
-ghost use Rattle.views.specs.Tables.{leaf_count_of, answer_of, kept_of, after_log, after_stores};
-ghost use Rattle.row_updates.specs.Rows.{IsSideOver, side_setting, side_filter, store_kind, updated_row, updated_of};
-ghost use Rattle.row_updates.specs.Logs.{row_log, update_log};
+ghost use Rattle.std.specs.Prelude.{◌≡◌, ◌<◌, ◌≤◌, ℤ, Ok, Err, OnOk, OnErr, IfErr, IfSome, [], ◌∷◌, List, length, slice_index_or, slice_set};
+ghost use Rattle.views.specs.Tables.{Table, leaf_count_of, answer_of, kept_of, after_log, after_stores};
+ghost use Rattle.row_updates.specs.Rows.{IsSideOver, side_setting, side_filter, store_kind, updated_row};
+ghost use Rattle.row_updates.specs.Logs.{row_log};
+ghost use Rattle.row_updates.specs.Updated.{AreUpdated, IsStopped};
 
 use crate::fault::UpdateFault;
 use crate::index::put_index;
@@ -13,29 +14,30 @@ use std::sync::ledger::Ledger;
 use steps::Steps;
 use views::View;
 
-/// Stores the value of a side in a leaf of each row where the filter is not 0, row by row, as [`update_rows`](crate::update_rows) does.
+/// Stores the value of a side in a leaf of each of the rows from one to another where the filter is not 0, row by row, as
+/// [`update_rows`](crate::update_rows) does.
 pub fn update_lone<L: Ledger>(
     view: &mut View,
     filter: Option<Side>,
     leaf: usize,
     side: Side,
+    first: u64,
+    end: u64,
     steps: &mut Steps<L>,
 ) -> Result<(), UpdateFault>
     requires filter { IfSome filter (IsSideOver view.old) }
     requires inside { leaf < leaf_count_of view.old }
     requires side { IsSideOver view.old side }
-    ensures stored { OnOk result (updated_of view.old (side_filter filter.entry) (side_setting leaf side.entry ∷ []) (length view.old.rows) ≡ Ok view.new.rows) }
-    ensures refused { IfErr result (λ fault. updated_of view.old (side_filter filter.entry) (side_setting leaf side.entry ∷ []) (length view.old.rows) ≡ Err fault) }
-    ensures before { IfErr result (λ fault. updated_of view.old (side_filter filter.entry) (side_setting leaf side.entry ∷ []) fault.row ≡ Ok (take fault.row view.new.rows)) }
-    ensures behind { IfErr result (λ fault. drop fault.row view.new.rows ≡ drop fault.row view.old.rows) }
-    ensures same { OnOk result (view.new ≡ after_stores view.old view.new.rows
-        (update_log view.old (side_filter filter.entry) (side_setting leaf side.entry ∷ []) (length view.old.rows))) }
-    ensures so_far { IfErr result (λ fault. view.new ≡ after_stores view.old view.new.rows
-        (update_log view.old (side_filter filter.entry) (side_setting leaf side.entry ∷ []) (fault.row + 1))) }
+    requires order { first ≤ end }
+    requires rows_in { end ≤ length view.old.rows }
+    ensures done { (old : Table) → AreUpdated old (side_filter filter.entry) (side_setting leaf side.entry ∷ []) view.old first
+        → OnOk result (AreUpdated old (side_filter filter.entry) (side_setting leaf side.entry ∷ []) view.new end) }
+    ensures stopped { (old : Table) → AreUpdated old (side_filter filter.entry) (side_setting leaf side.entry ∷ []) view.old first
+        → IfErr result (IsStopped old (side_filter filter.entry) (side_setting leaf side.entry ∷ []) view.new) }
 {
     let extents = view.extents();
     let mut numbers = [0; 4];
-    for row in 0..extents.count() {
+    for row in first..end {
         put_index(&extents, row, &mut numbers);
         let index = &numbers[..extents.rank()];
         update_leaf(view, row, index, filter, leaf, side, steps)?;

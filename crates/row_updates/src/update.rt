@@ -1,19 +1,25 @@
 // New values of leaves, row by row.
 ghost use Rattle.std.specs.Prelude.{◌≡◌, ◌<◌, ◌≤◌, ◌+◌, ℕ, ℤ, pos, true, is_ok, Ok, OnOk, OnErr, IfOk, IfErr, IfSome, Some, None, if◌then◌else◌, All, [], ◌∷◌, List, length, map, take, drop, slice_index_or, slice_set};
-ghost use Rattle.views.specs.Tables.{leaf_count_of, answer_of, kept_of, after_log, after_stores};
+ghost use Rattle.views.specs.Tables.{Table, leaf_count_of, answer_of, kept_of, after_log, after_stores};
 ghost use Rattle.linearize.specs.Slots.{index_at};
 ghost use Rattle.row_updates.specs.Rows.{IsOver, IsSideOver, IsSetOf, Setting, setting_of, side_term, side_setting, filter_term, side_filter, each, store_kind, new_value, with_values, tried_row, updated_row, updated_of};
 ghost use Rattle.row_updates.specs.Logs.{value_log, sides_log, stores_log, tried_log, row_log, update_log};
+ghost use Rattle.row_updates.specs.Updated.{AreUpdated, IsStopped};
 
 use crate::fault::{UpdateFault, UpdateKind};
 use crate::index::put_index;
+use crate::limits::find_limits;
 use crate::one_leaf::update_lone;
+use crate::run_updates::update_by_runs;
 use crate::side::{Side, filter_side, side_of};
 use crate::value::{passes, value_of};
 use expr_lang::Bound;
 use std::sync::ledger::Ledger;
 use steps::Steps;
 use views::{StoreFault, View};
+
+/// How many right sides go by runs, since each has a buffer on the stack.
+const MOST_SETS: usize = 4;
 
 /// A leaf, and the expression of its new value.
 #[derive(Drop)]
@@ -43,13 +49,43 @@ pub fn update_rows<L: Ledger>(
     ensures so_far { IfErr result (λ fault. view.new ≡ after_stores view.old view.new.rows
         (update_log view.old (filter_term filter.entry) (map setting_of sets.now) (fault.row + 1))) }
 {
+    let mut leaves = [0; 64];
+    let mut places = [0; 4];
+    let leaves = &mut leaves[..view.schema().leaf_count()];
+    let places = &mut places[..view.extents().rank()];
+    if sets.len() <= MOST_SETS && find_limits(view, filter, sets, leaves, places) {
+        return update_by_runs(view, filter, sets, leaves, places, steps);
+    }
+    let count = view.extents().count();
+    update_between(view, filter, sets, 0, count, steps)
+}
+
+/// The same of the rows from one to another, row by row.
+pub(crate) fn update_between<L: Ledger>(
+    view: &mut View,
+    filter: Option<&Bound>,
+    sets: &[Assign],
+    first: u64,
+    end: u64,
+    steps: &mut Steps<L>,
+) -> Result<(), UpdateFault>
+    requires filter { IfSome filter (λ bound. IsOver view.old bound.now) }
+    requires sets { All (IsSetOf view.old) sets.now }
+    requires few { length sets.now ≤ 64 }
+    requires order { first ≤ end }
+    requires rows_in { end ≤ length view.old.rows }
+    ensures done { (old : Table) → AreUpdated old (filter_term filter.entry) (map setting_of sets.now) view.old first
+        → OnOk result (AreUpdated old (filter_term filter.entry) (map setting_of sets.now) view.new end) }
+    ensures stopped { (old : Table) → AreUpdated old (filter_term filter.entry) (map setting_of sets.now) view.old first
+        → IfErr result (IsStopped old (filter_term filter.entry) (map setting_of sets.now) view.new) }
+{
     let test = filter_side(view, filter);
     if sets.len() == 1 {
         let set = &sets[0];
         let side = side_of(view, &set.value);
-        return update_lone(view, test, set.leaf, side, steps);
+        return update_lone(view, test, set.leaf, side, first, end, steps);
     }
-    update_each(view, test, sets, steps)
+    update_each(view, test, sets, first, end, steps)
 }
 
 // The same of any number of right sides.
@@ -57,24 +93,24 @@ fn update_each<L: Ledger>(
     view: &mut View,
     filter: Option<Side>,
     sets: &[Assign],
+    first: u64,
+    end: u64,
     steps: &mut Steps<L>,
 ) -> Result<(), UpdateFault>
     requires filter { IfSome filter (IsSideOver view.old) }
     requires sets { All (IsSetOf view.old) sets.now }
     requires few { length sets.now ≤ 64 }
-    ensures stored { OnOk result (updated_of view.old (side_filter filter.entry) (map setting_of sets.now) (length view.old.rows) ≡ Ok view.new.rows) }
-    ensures refused { IfErr result (λ fault. updated_of view.old (side_filter filter.entry) (map setting_of sets.now) (length view.old.rows) ≡ Err fault) }
-    ensures before { IfErr result (λ fault. updated_of view.old (side_filter filter.entry) (map setting_of sets.now) fault.row ≡ Ok (take fault.row view.new.rows)) }
-    ensures behind { IfErr result (λ fault. drop fault.row view.new.rows ≡ drop fault.row view.old.rows) }
-    ensures same { OnOk result (view.new ≡ after_stores view.old view.new.rows
-        (update_log view.old (side_filter filter.entry) (map setting_of sets.now) (length view.old.rows))) }
-    ensures so_far { IfErr result (λ fault. view.new ≡ after_stores view.old view.new.rows
-        (update_log view.old (side_filter filter.entry) (map setting_of sets.now) (fault.row + 1))) }
+    requires order { first ≤ end }
+    requires rows_in { end ≤ length view.old.rows }
+    ensures done { (old : Table) → AreUpdated old (side_filter filter.entry) (map setting_of sets.now) view.old first
+        → OnOk result (AreUpdated old (side_filter filter.entry) (map setting_of sets.now) view.new end) }
+    ensures stopped { (old : Table) → AreUpdated old (side_filter filter.entry) (map setting_of sets.now) view.old first
+        → IfErr result (IsStopped old (side_filter filter.entry) (map setting_of sets.now) view.new) }
 {
     let extents = view.extents();
     let mut numbers = [0; 4];
     let mut values = [0; 64];
-    for row in 0..extents.count() {
+    for row in first..end {
         put_index(&extents, row, &mut numbers);
         let index = &numbers[..extents.rank()];
         update_row(view, row, index, filter, sets, &mut values, steps)?;

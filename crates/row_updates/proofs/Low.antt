@@ -1,0 +1,26 @@
+-- Values of a leaf as 64 bits with a sign.
+use Rattle.std.proofs.Common.{◌≡◌, ◌∙◌, ℕ, ◌≤◌, ◌≤ℤ◌, ℤ, pos, negsuc, neg_ℤ, Bool, true, false, FitsSigned, to_z, of_z, w64, refl, ap, arith}
+use Rattle.std.specs.Int.{w128}
+use Rattle.std.specs.Prelude.{unsigned_abs, if◌then◌else◌}
+use Rattle.std.proofs.lemmas.Int.{ints, to_z-of_z}
+use Rattle.record_dim.specs.declared.leaf_type.LeafType.{LeafType}
+use Rattle.record_dim.specs.declared.leaf_type.LeafType.TheVariants.{U64}
+use Rattle.record_dim.specs.LeafTypes.{is_signed}
+use Rattle.views.specs.Runs.{raised}
+
+-- low bits that lie no lower than a type's values do are the value
+pub low_is : (kind : LeafType) (low : ℤ) (limit : ℕ) → (if is_signed kind then neg_ℤ (pos limit) else pos 0) ≤ℤ low → raised kind low ≡ low
+low_is U64 (pos n) limit least = refl
+low_is U64 (negsuc n) limit least = absurd (omega (arith, ints, least))
+low_is _ low limit least = refl
+
+-- they lie near enough
+pub low_near : (signed : Bool) (value : ℤ) (limit : ℕ) → (if signed then neg_ℤ (pos limit) else pos 0) ≤ℤ value → value ≤ℤ pos limit → unsigned_abs value ≤ limit
+low_near true (pos n) limit low high = omega (arith, ints, high)
+low_near true (negsuc n) limit low high = omega (arith, ints, low)
+low_near false (pos n) limit low high = omega (arith, ints, high)
+low_near false (negsuc n) limit low high = absurd (omega (arith, ints, low))
+
+-- one that is handed on with 128 bits
+pub passed : (value wide : ℤ) → FitsSigned w64 value → wide ≡ value → to_z w128 (of_z w128 wide) ≡ value
+passed value wide fits same = ap (λ (z : ℤ). to_z w128 (of_z w128 z)) same ∙ to_z-of_z w128 value (record { sfits = omega (arith, fits.sfits) })

@@ -1,0 +1,243 @@
+-- Rows of a run that are updated at once, as if each were updated after the one before.
+use Rattle.std.proofs.Common.{◌≡◌, ◌∙◌, ℕ, zero, suc, ◌+◌, ◌<◌, ◌≤◌, List, [], ◌∷◌, ◌++◌, length, map, take, drop, set, get_or, ℤ, pos, Bool, true, false, Option, Result, Ok, Err, is_ok, refl, sym, ap, subst, arith, get_or-drop}
+use Rattle.std.specs.Prelude.{slice_set}
+use Rattle.std.proofs.lemmas.List.{get_or-map, length-map, get_or-take, length-take-le, set-get_or, take_more, drop-drop}
+use Rattle.expr_lang.specs.Terms.{Term}
+use Rattle.expr_lang.specs.Values.{outcome_of}
+use Rattle.expr_runs.specs.Exacts.{IsSafe}
+use Rattle.expr_runs.specs.ExactsLaws.{worth}
+use Rattle.linearize.specs.Slots.{index_at}
+use Rattle.piece_bits.specs.Tables.{hold_at}
+use Rattle.record_dim.specs.Leaves.{Leaf, leaves}
+use Rattle.views.specs.AnswerLaws.{stays_answer}
+use Rattle.views.specs.Columns.{in_leaf, with_column}
+use Rattle.views.specs.ColumnsLaws.{no_column, length-with_column}
+use Rattle.views.specs.Stores.{Answer, Keeping, kept_or}
+use Rattle.views.specs.Tables.{Table, IsTable, leaf_count_of, leaf_type_of, leaf_types_of, table_holds, answer_of, kept_of, after_stores}
+use Rattle.views.specs.Tallies.{Access, Tally}
+use Rattle.views.specs.declared.fault.StoreFault.{StoreFault}
+use Rattle.row_updates.specs.declared.fault.UpdateFault.{UpdateFault}
+use Rattle.row_updates.specs.declared.runs.Run.{Run}
+use Rattle.row_updates.specs.Rows.{Setting, each, in_row, store_kind, passes, new_value, with_values, updated_row, updated_of, ◌>>=◌}
+use Rattle.row_updates.specs.Logs.{update_log}
+use Rattle.row_updates.specs.Runs.{IsIdle, row_of, IsGiven}
+use Rattle.row_updates.specs.Updated.{AreUpdated, IsStill, IsRunUpdated, AreTested}
+use Rattle.row_updates.proofs.Each.{parted, each_push, rows_push}
+
+-- ---- the rows in which a leaf has other values: those before, those behind, and each of them
+
+column_front : (leaf first : ℕ) (values : List ℤ) (rows : List (List ℤ)) → take first (with_column leaf first values rows) ≡ take first rows
+column_front leaf zero values rows = refl
+column_front leaf (suc first) values [] = refl
+column_front leaf (suc first) values (numbers ∷ rows) = ap (λ (more : List (List ℤ)). numbers ∷ more) (column_front leaf first values rows)
+
+column_back : (leaf first at : ℕ) (values : List ℤ) (rows : List (List ℤ)) → at ≡ first + length values → drop at (with_column leaf first values rows) ≡ drop at rows
+column_back leaf first at [] rows place = ap (drop at) (no_column leaf first rows)
+column_back leaf zero zero (value ∷ values) rows place = absurd (omega (arith, place))
+column_back leaf zero (suc at) (value ∷ values) [] place = refl
+column_back leaf zero (suc at) (value ∷ values) (numbers ∷ rows) place = column_back leaf zero at values rows (omega (arith, place))
+column_back leaf (suc first) zero (value ∷ values) rows place = absurd (omega (arith, place))
+column_back leaf (suc first) (suc at) (value ∷ values) [] place = refl
+column_back leaf (suc first) (suc at) (value ∷ values) (numbers ∷ rows) place = column_back leaf first at (value ∷ values) rows (omega (arith, place))
+
+column_at : (leaf first k at : ℕ) (values : List ℤ) (rows : List (List ℤ)) → k < length values → at ≡ first + k → at < length rows
+    → get_or (with_column leaf first values rows) at [] ≡ set (get_or rows at []) leaf (get_or values k (pos 0))
+column_at leaf first k at [] rows inside place below = absurd (omega arith)
+column_at leaf first k at (value ∷ values) [] inside place below = absurd (omega arith)
+column_at leaf zero zero zero (value ∷ values) (numbers ∷ rows) inside place below = refl
+column_at leaf zero zero (suc at) (value ∷ values) (numbers ∷ rows) inside place below = absurd (omega arith)
+column_at leaf zero (suc k) zero (value ∷ values) (numbers ∷ rows) inside place below = absurd (omega arith)
+column_at leaf zero (suc k) (suc at) (value ∷ values) (numbers ∷ rows) inside place below = column_at leaf zero k at values rows (omega arith) (omega arith) (omega arith)
+column_at leaf (suc first) k zero (value ∷ values) (numbers ∷ rows) inside place below = absurd (omega arith)
+column_at leaf (suc first) k (suc at) (value ∷ values) (numbers ∷ rows) inside place below = column_at leaf first k at (value ∷ values) rows inside (omega arith) (omega arith)
+
+-- ---- one right side more of a row
+
+each_long : (step : Setting → Result ℤ UpdateFault) (sets : List Setting) (values : List ℤ) → each step sets ≡ Ok values → length values ≡ length sets
+each_long step [] values gives =
+    let none : values ≡ [] = cc in
+    ap length none
+each_long step (one ∷ sets) values gives =
+    let p = parted (step one) (each step sets) values gives in
+    ap length p.all_are ∙ ap suc (each_long step sets p.ys p.rest_is)
+
+values_push : (keep : Keeping) (sets : List Setting) (last : Setting) (values row : List ℤ) (value : ℤ) → length values ≡ length sets
+    → with_values keep (sets ++ last ∷ []) (values ++ value ∷ []) row ≡ slice_set (with_values keep sets values row) last.leaf (keep last.leaf value)
+values_push keep [] last [] row value long = refl
+values_push keep [] last (v ∷ values) row value long = absurd (omega (arith, long))
+values_push keep (s ∷ sets) last [] row value long = absurd (omega (arith, long))
+values_push keep (s ∷ sets) last (v ∷ values) row value long = values_push keep sets last values (slice_set row s.leaf (keep s.leaf v)) value (omega (arith, long))
+
+module _ (answer : Answer) (keep : Keeping) (filter : Option (Term ℕ)) (sets : List Setting) (last : Setting) (number : ℕ) (row : List ℤ) (index : List ℕ) where
+  record HasValues (all : Result (List ℤ) UpdateFault) (new : List ℤ) : Type 0 where
+    values : List ℤ
+    is : all ≡ Ok values
+    made : with_values keep sets values row ≡ new
+
+  have_values : (all : Result (List ℤ) UpdateFault) (new : List ℤ) → (all >>= (λ values. Ok (with_values keep sets values row))) ≡ Ok new → HasValues all new
+  have_values (Ok values) new gives = record { values = values; is = refl; made = cc }
+  have_values (Err fault) new gives = absurd (cc)
+
+  -- a row that passes, whose last right side has a value
+  row_more : (new : List ℤ) (value : ℤ) → passes number row index filter ≡ Ok true → updated_row answer keep filter sets number row index ≡ Ok new
+      → new_value answer number row index last ≡ Ok value → updated_row answer keep filter (sets ++ last ∷ []) number row index ≡ Ok (slice_set new last.leaf (keep last.leaf value))
+  row_more new value test gives one =
+      let have = have_values (each (new_value answer number row index) sets) new (rw test at gives) in
+      let all = each_push (new_value answer number row index) sets last have.values value have.is one in
+      let long = each_long (new_value answer number row index) sets have.values have.is in
+      rw (test, all) (ap (λ (r : List ℤ). Ok r) (values_push keep sets last have.values row value long ∙ ap (λ (r : List ℤ). slice_set r last.leaf (keep last.leaf value)) have.made))
+
+  -- one that does not
+  row_left : passes number row index filter ≡ Ok false → updated_row answer keep filter (sets ++ last ∷ []) number row index ≡ Ok row
+  row_left test = rw test refl
+
+  was_left : (new : List ℤ) → passes number row index filter ≡ Ok false → updated_row answer keep filter sets number row index ≡ Ok new → new ≡ row
+  was_left new test gives = let same = rw test at gives in cc
+
+-- ---- what is given
+
+-- a value that stands in a table is kept as it is
+own_kept : (table : Table) (row leaf : ℕ) → IsTable table → row < length table.rows → leaf < leaf_count_of table → kept_of table leaf (in_leaf leaf (row_of table row)) ≡ in_leaf leaf (row_of table row)
+own_kept table row leaf is inside below =
+    let value = in_leaf leaf (row_of table row) in
+    let in_kinds : leaf < length (leaf_types_of table) = omega (arith, below, length-map (leaves table.fields) (λ (one : Leaf). one.kind)) in
+    ap (kept_or value) (stays_answer table.mode (leaf_type_of table leaf) (hold_at (table_holds table) leaf) value (is.stays row leaf inside in_kinds))
+
+taken : (number leaf : ℕ) (value : ℤ) (answer : Result ℤ StoreFault) → is_ok answer ≡ true → (in_row number (store_kind leaf) answer >>= (λ kept. Ok value)) ≡ Ok value
+taken number leaf value (Ok kept) ok = refl
+taken number leaf value (Err fault) ok = absurd (cc)
+
+value_given : (answer : Answer) (number : ℕ) (row : List ℤ) (index : List ℕ) (set : Setting) (value : ℤ) → (outcome_of row index set.value).answer ≡ Ok value → is_ok (answer set.leaf value) ≡ true
+    → new_value answer number row index set ≡ Ok value
+value_given answer number row index set value gives ok = rw gives (taken number set.leaf value (answer set.leaf value) ok)
+
+-- rows that are stored in a table that counts nothing
+pub stored_still : (table mid after : Table) (leaf first : ℕ) (values : List ℤ) (log : List Access) → IsIdle table → IsStill table mid
+    → after ≡ after_stores mid (with_column leaf first values mid.rows) log → IsStill table after
+stored_still table mid after leaf first values log idle before stored =
+    let raw = with_column leaf first values mid.rows in
+    let there : after.rows ≡ raw = ap (λ (t : Table). t.rows) stored in
+    record {
+      same = stored ∙ ap (λ (t : Table). after_stores t raw log) before.same
+          ∙ ap (λ (tally : Tally). let t : Table = record table { rows = raw; tally = tally } in t) (ap (λ (t : Table). t.tally) (idle log))
+          ∙ ap (λ (r : List (List ℤ)). let t : Table = record table { rows = r } in t) (sym there);
+      count = ap (λ (r : List (List ℤ)). length r) there ∙ length-with_column leaf first values mid.rows ∙ before.count;
+    }
+
+module _ (table : Table) (run : Run) (filter : Option (Term ℕ)) (sets : List Setting) (last : Setting) (count : ℕ) (test : ℕ → Bool) (values : List ℤ) where
+  -- a row in which the value of the last right side is stored
+  row_stored : (mid : Table) (k : ℕ) → IsTable table → run.first + k < length table.rows → last.leaf < leaf_count_of table → IsSafe run.leaves.now run.places.now last.value
+      → passes (run.first + k) (row_of table (run.first + k)) (index_at table.extents (run.first + k)) filter ≡ Ok (test k)
+      → updated_row (answer_of table) (kept_of table) filter sets (run.first + k) (row_of table (run.first + k)) (index_at table.extents (run.first + k)) ≡ Ok (row_of mid (run.first + k))
+      → IsGiven (test k) table run last k (get_or values k (pos 0)) → is_ok (answer_of table last.leaf (get_or values k (pos 0))) ≡ true
+      → updated_row (answer_of table) (kept_of table) filter (sets ++ last ∷ []) (run.first + k) (row_of table (run.first + k)) (index_at table.extents (run.first + k))
+      ≡ Ok (slice_set (row_of mid (run.first + k)) last.leaf (kept_of table last.leaf (get_or values k (pos 0))))
+  row_stored mid k is inside below safe passed so_far given ok = by_test (test k) passed given where
+    number : ℕ
+    number = run.first + k
+
+    by_test : (t : Bool) → passes number (row_of table number) (index_at table.extents number) filter ≡ Ok t → IsGiven t table run last k (get_or values k (pos 0))
+        → updated_row (answer_of table) (kept_of table) filter (sets ++ last ∷ []) number (row_of table number) (index_at table.extents number)
+        ≡ Ok (slice_set (row_of mid number) last.leaf (kept_of table last.leaf (get_or values k (pos 0))))
+    by_test true passed worthy =
+        let row = row_of table number in
+        let index = index_at table.extents number in
+        let value = get_or values k (pos 0) in
+        let far = worth run.leaves.now run.places.now row index last.value safe worthy.reached in
+        let gives : (outcome_of row index last.value).answer ≡ Ok value = far.answer ∙ ap (λ (v : ℤ). Ok v) (sym worthy.is) in
+        row_more (answer_of table) (kept_of table) filter sets last number row index (row_of mid number) value passed so_far (value_given (answer_of table) number row index last value gives ok)
+    by_test false passed stands =
+        let row = row_of table number in
+        let index = index_at table.extents number in
+        let value = get_or values k (pos 0) in
+        let same : row_of mid number ≡ row = was_left (answer_of table) (kept_of table) filter sets last number row index (row_of mid number) passed so_far in
+        let kept : kept_of table last.leaf value ≡ in_leaf last.leaf row = ap (kept_of table last.leaf) stands ∙ own_kept table number last.leaf is inside below in
+        let stays : slice_set (row_of mid number) last.leaf (kept_of table last.leaf value) ≡ row =
+        ap (λ (r : List ℤ). slice_set r last.leaf (kept_of table last.leaf value)) same ∙ ap (slice_set row last.leaf) kept ∙ set-get_or row last.leaf (pos 0) in
+        row_left (answer_of table) (kept_of table) filter sets last number row index passed ∙ ap (λ (r : List ℤ). Ok r) (sym stays)
+
+  -- the rows of a run in which the values of the last right side are stored
+  pub run_stored : (mid after : Table) (log : List Access) → IsTable table → IsIdle table → IsSafe run.leaves.now run.places.now last.value → last.leaf < leaf_count_of table
+      → run.first + count ≤ length table.rows → count ≤ length values → AreTested table filter run.first count test → IsRunUpdated table filter sets run.first count mid
+      → ((k : ℕ) → k < count → IsGiven (test k) table run last k (get_or values k (pos 0)))
+      → ((k : ℕ) → k < count → is_ok (answer_of table last.leaf (get_or values k (pos 0))) ≡ true)
+      → after ≡ after_stores mid (with_column last.leaf run.first (map (kept_of mid last.leaf) (take count values)) mid.rows) log
+      → IsRunUpdated table filter (sets ++ last ∷ []) run.first count after
+  run_stored mid after log is idle safe inside rows_in long tested before given ok stored =
+      let first = run.first in
+      let leaf = last.leaf in
+      let keep = kept_of table leaf in
+      let kept = map keep (take count values) in
+      let raw = with_column leaf first (map (kept_of mid leaf) (take count values)) mid.rows in
+      let many : length kept ≡ count = length-map (take count values) keep ∙ length-take-le count values long in
+      let there : after.rows ≡ raw = ap (λ (t : Table). t.rows) stored in
+      let rows : after.rows ≡ with_column leaf first kept mid.rows =
+      there ∙ ap (λ (t : Table). with_column leaf first (map (kept_of t leaf) (take count values)) mid.rows) before.still.same in
+      record {
+        still = stored_still table mid after leaf first (map (kept_of mid leaf) (take count values)) log idle before.still stored;
+        front = ap (take first) rows ∙ column_front leaf first kept mid.rows ∙ before.front;
+        back = ap (drop (first + count)) rows ∙ column_back leaf first (first + count) kept mid.rows (ap (λ (n : ℕ). first + n) (sym many)) ∙ before.back;
+        each = λ k small.
+            let below : first + k < length table.rows = omega (arith, small, rows_in) in
+            let entry : get_or kept k (pos 0) ≡ keep (get_or values k (pos 0)) =
+            get_or-map keep (take count values) k (pos 0) (pos 0) (omega (arith, small, length-take-le count values long)) ∙ ap keep (get_or-take count values k (pos 0) small) in
+            let row : row_of after (first + k) ≡ slice_set (row_of mid (first + k)) leaf (keep (get_or values k (pos 0))) =
+            ap (λ (r : List (List ℤ)). get_or r (first + k) []) rows
+            ∙ column_at leaf first k (first + k) kept mid.rows (omega (arith, small, many)) refl (omega (arith, below, before.still.count))
+            ∙ ap (slice_set (row_of mid (first + k)) leaf) entry in
+            row_stored mid k is below inside safe (tested k small) (before.each k small) (given k small) (ok k small) ∙ ap (λ (r : List ℤ). Ok r) (sym row);
+      }
+
+-- ---- runs
+
+-- no right side, and no row
+module _ (table : Table) (filter : Option (Term ℕ)) (first count : ℕ) where
+  pub no_sides : (test : ℕ → Bool) → AreTested table filter first count test → IsRunUpdated table filter [] first count table
+  no_sides test tested = record { still = record { same = refl; count = refl }; front = refl; back = refl; each = λ k small. by_test (first + k) (test k) (tested k small) } where
+    by_test : (number : ℕ) (t : Bool) → passes number (row_of table number) (index_at table.extents number) filter ≡ Ok t
+        → updated_row (answer_of table) (kept_of table) filter [] number (row_of table number) (index_at table.extents number) ≡ Ok (row_of table number)
+    by_test number true passed = rw passed refl
+    by_test number false passed = rw passed refl
+
+  -- none passes
+  pub none_pass : (sets : List Setting) → AreTested table filter first count (λ k. false) → IsRunUpdated table filter sets first count table
+  none_pass sets tested = record { still = record { same = refl; count = refl }; front = refl; back = refl; each = λ k small. (let passed = tested k small in rw passed refl) }
+
+pub no_rows : (table : Table) (filter : Option (Term ℕ)) (sets : List Setting) (first : ℕ) → IsRunUpdated table filter sets first 0 table
+no_rows table filter sets first = record { still = record { same = refl; count = refl }; front = refl; back = refl; each = λ k small. absurd (omega (arith, small)) }
+
+-- behind rows that are updated
+module _ (old view after : Table) (filter : Option (Term ℕ)) (sets : List Setting) (first count : ℕ) (idle : IsIdle old) (rows_in : first + count ≤ length old.rows)
+    (so_far : AreUpdated old filter sets view first) (run : IsRunUpdated view filter sets first count after) where
+  view_is : view ≡ record old { rows = view.rows }
+  view_is = so_far.same ∙ ap (λ (tally : Tally). let t : Table = record old { rows = view.rows; tally = tally } in t) (ap (λ (t : Table). t.tally) (idle (update_log old filter sets first)))
+
+  gives : (k : ℕ) → k < count → updated_row (answer_of old) (kept_of old) filter sets (first + k) (get_or old.rows (first + k) []) (index_at old.extents (first + k)) ≡ Ok (get_or after.rows (first + k) [])
+  gives k small =
+      let number = first + k in
+      let row : get_or old.rows number [] ≡ get_or view.rows number [] =
+      sym (get_or-drop first old.rows k []) ∙ ap (λ (l : List (List ℤ)). get_or l k []) (sym so_far.back) ∙ get_or-drop first view.rows k [] in
+      ap (λ (r : List ℤ). updated_row (answer_of old) (kept_of old) filter sets number r (index_at old.extents number)) row
+      ∙ ap (λ (t : Table). updated_row (answer_of t) (kept_of t) filter sets number (get_or view.rows number []) (index_at t.extents number)) (sym view_is)
+      ∙ run.each k small
+
+  fronts : (k : ℕ) → k ≤ count → updated_of old filter sets (first + k) ≡ Ok (take (first + k) after.rows)
+  fronts zero few =
+      let none : first ≡ first + 0 = omega arith in
+      subst (λ (n : ℕ). updated_of old filter sets n ≡ Ok (take n after.rows)) none (so_far.front ∙ ap (λ (r : List (List ℤ)). Ok r) (sym run.front))
+  fronts (suc k) few =
+      let small : k < count = omega (arith, few) in
+      let next : (first + k) + 1 ≡ first + suc k = omega arith in
+      let inside : first + k < length after.rows = omega (arith, small, rows_in, run.still.count, so_far.count) in
+      let one = rows_push (λ number. updated_row (answer_of old) (kept_of old) filter sets number (get_or old.rows number []) (index_at old.extents number)) (first + k) (take (first + k) after.rows)
+      (get_or after.rows (first + k) []) (fronts k (omega (arith, few))) (gives k small) in
+      subst (λ (n : ℕ). updated_of old filter sets n ≡ Ok (take n after.rows)) next (one ∙ ap (λ (r : List (List ℤ)). Ok r) (sym (take_more after.rows (first + k) [] inside)))
+
+  pub run_more : AreUpdated old filter sets after (first + count)
+  run_more = record {
+    same = run.still.same ∙ ap (λ (t : Table). let u : Table = record t { rows = after.rows } in u) view_is
+        ∙ ap (λ (tally : Tally). let t : Table = record old { rows = after.rows; tally = tally } in t) (sym (ap (λ (t : Table). t.tally) (idle (update_log old filter sets (first + count)))));
+    count = run.still.count ∙ so_far.count;
+    front = fronts count (omega arith);
+    back = run.back ∙ sym (drop-drop count first view.rows) ∙ ap (drop count) so_far.back ∙ drop-drop count first old.rows;
+  }

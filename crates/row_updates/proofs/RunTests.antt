@@ -1,0 +1,70 @@
+-- The rows of a run that pass, by the values of the filter.
+use Rattle.std.proofs.Common.{◌≡◌, ◌∙◌, ℕ, zero, suc, ◌+◌, ◌<◌, ◌≤◌, List, [], ◌∷◌, length, get_or, ℤ, pos, Bool, true, false, cond, count_by, Some, Result, Ok, refl, sym, ap, subst, arith}
+use Rattle.std.proofs.lemmas.List.Sums.{count_by-le-length, sum_by-cons}
+use Rattle.expr_lang.specs.declared.fault.EvalFault.{EvalFault}
+use Rattle.expr_lang.specs.Terms.{Term}
+use Rattle.expr_lang.specs.Values.{is_true}
+use Rattle.expr_runs.specs.Exacts.{IsSafe}
+use Rattle.expr_runs.specs.ExactsLaws.{worth}
+use Rattle.linearize.specs.Slots.{index_at}
+use Rattle.views.specs.Tables.{Table}
+use Rattle.row_updates.specs.declared.fault.UpdateFault.{UpdateFault}
+use Rattle.row_updates.specs.declared.runs.Run.{Run}
+use Rattle.row_updates.specs.Rows.{in_row, eval_kind, ◌>>=◌}
+use Rattle.row_updates.specs.Runs.{row_of, AreWorth}
+use Rattle.row_updates.specs.Updated.{AreTested, AreCounted}
+use Rattle.row_updates.proofs.Rows.{one_counted}
+use mir.Val.{bool_byte}
+
+-- a row passes where the value of the filter is not 0
+pub tested : (table : Table) (run : Run) (term : Term ℕ) (values : List ℤ) → IsSafe run.leaves.now run.places.now term → AreWorth table run term values
+    → AreTested table (Some term) run.first (length values) (λ k. is_true (get_or values k (pos 0)))
+tested table run term values safe worthy k small =
+    let number = run.first + k in
+    let here = worthy k small in
+    let far = worth run.leaves.now run.places.now (row_of table number) (index_at table.extents number) term safe here.reached in
+    ap (λ (answer : Result ℤ EvalFault). in_row number eval_kind answer >>= (λ value. Ok (is_true value))) (far.answer ∙ ap (λ (v : ℤ). Ok v) (sym here.is))
+
+-- how many pass of one more
+off : (b : Bool) (rest : ℕ) → cond b 1 0 + rest ≡ 0 → (b ≡ false) × (rest ≡ 0)
+off true rest none = absurd (omega (arith, none))
+off false rest none = (refl, omega (arith, none))
+
+on : (b : Bool) (rest all : ℕ) → cond b 1 0 + rest ≡ suc all → rest ≤ all → (b ≡ true) × (rest ≡ all)
+on true rest all whole few = (refl, omega (arith, whole))
+on false rest all whole few = absurd (omega (arith, whole, few))
+
+counts : (value : ℤ) (values : List ℤ) → count_by is_true (value ∷ values) ≡ cond (is_true value) 1 0 + count_by is_true values
+counts value values = sum_by-cons (λ (x : ℤ). cond (is_true x) 1 0) value values
+
+pub none_true : (values : List ℤ) → count_by is_true values ≡ 0 → (k : ℕ) → is_true (get_or values k (pos 0)) ≡ false
+none_true [] none k = refl
+none_true (value ∷ values) none zero = (off (is_true value) (count_by is_true values) (sym (counts value values) ∙ none)).0
+none_true (value ∷ values) none (suc k) = none_true values (off (is_true value) (count_by is_true values) (sym (counts value values) ∙ none)).1 k
+
+pub all_true : (values : List ℤ) → count_by is_true values ≡ length values → (k : ℕ) → k < length values → is_true (get_or values k (pos 0)) ≡ true
+all_true [] all k small = absurd (omega (arith, small))
+all_true (value ∷ values) all zero small = (on (is_true value) (count_by is_true values) (length values) (sym (counts value values) ∙ all) (count_by-le-length is_true values)).0
+all_true (value ∷ values) all (suc k) small = all_true values (on (is_true value) (count_by is_true values) (length values) (sym (counts value values) ∙ all) (count_by-le-length is_true values)).1 k (omega (arith, small))
+
+as_byte : (b : Bool) → bool_byte b ≡ cond b 1 0
+as_byte true = refl
+as_byte false = refl
+
+-- the rows of a run are counted behind those before
+pub run_counted : (step : ℕ → Result Bool UpdateFault) (values : List ℤ) (first before : ℕ) → AreCounted step first before
+    → ((k : ℕ) → k < length values → step (first + k) ≡ Ok (is_true (get_or values k (pos 0)))) → AreCounted step (first + length values) (before + count_by is_true values)
+run_counted step [] first before so_far gives =
+    let end : first ≡ first + 0 = omega arith in
+    let sum : before ≡ before + 0 = omega arith in
+    subst (λ (n : ℕ). AreCounted step n (before + 0)) end (subst (AreCounted step first) sum so_far)
+run_counted step (value ∷ values) first before so_far gives =
+    let test = is_true value in
+    let here : first + 0 ≡ first = omega arith in
+    let one = one_counted step first before (bool_byte test) test so_far (subst (λ (n : ℕ). step n ≡ Ok test) here (gives 0 (omega arith))) refl in
+    let rest = run_counted step values (first + 1) (before + bool_byte test) one (λ k small.
+    (let next : first + suc k ≡ (first + 1) + k = omega arith in
+    subst (λ (n : ℕ). step n ≡ Ok (is_true (get_or values k (pos 0)))) next (gives (suc k) (omega (arith, small))))) in
+    let end : (first + 1) + length values ≡ first + suc (length values) = omega arith in
+    let sum : (before + bool_byte test) + count_by is_true values ≡ before + count_by is_true (value ∷ values) = omega (arith, as_byte test, counts value values) in
+    subst (λ (n : ℕ). AreCounted step n (before + count_by is_true (value ∷ values))) end (subst (AreCounted step ((first + 1) + length values)) sum rest)

@@ -1,0 +1,113 @@
+-- Values that a leaf takes.
+use Rattle.std.proofs.Common.{◌≡◌, ◌∙◌, ℕ, zero, suc, ◌+◌, ◌<◌, ◌≤◌, ◌≤ℤ◌, List, [], ◌∷◌, length, get_or, ℤ, pos, Bool, true, false, Option, Some, None, Result, Ok, Err, is_ok, refl, sym, ap, arith}
+use Rattle.std.specs.Prelude.{if◌then◌else◌}
+use Rattle.std.specs.Option.{option_or}
+use Rattle.std.proofs.lemmas.Int.{ints}
+use Rattle.places.specs.declared.piece.Hold.{Hold}
+use Rattle.record_dim.specs.declared.leaf_type.LeafType.{LeafType}
+use Rattle.record_dim.specs.LeafTypes.{least_of, greatest_of, least_in, greatest_in}
+use Rattle.kept_tables.specs.declared.mode.StoreMode.{StoreMode}
+use Rattle.kept_tables.specs.declared.mode.StoreMode.TheVariants.{Strict, Wrap}
+use Rattle.views.specs.Columns.{lane_fault, first_lane_fault}
+use Rattle.views.specs.Stores.{Answer, is_between, store_answer, told}
+use Rattle.views.specs.Runs.{told_lane, stored_count}
+use Rattle.views.specs.declared.fault.LaneFault.{LaneFault}
+use Rattle.views.specs.AnswerLaws.{told_same}
+use Rattle.views.specs.StrictLaws.{between_true, fitting_stored}
+use Rattle.views.specs.declared.fault.StoreFault.{StoreFault}
+use Rattle.views.specs.declared.fault.StoreFault.TheVariants.{Range, Narrow}
+
+module _ (answer : Answer) (leaf : ℕ) where
+  -- a value without a fault in front of others
+  fault_free : (lane : ℕ) (one : Result ℤ StoreFault) (rest : Option LaneFault) → option_or (lane_fault lane one) rest ≡ None → (is_ok one ≡ true) × (rest ≡ None)
+  fault_free lane (Ok kept) rest none = (refl, none)
+  fault_free lane (Err fault) rest none = absurd (cc)
+
+  free_fault : (lane : ℕ) (one : Result ℤ StoreFault) (rest : Option LaneFault) → is_ok one ≡ true → rest ≡ None → option_or (lane_fault lane one) rest ≡ None
+  free_fault lane (Ok kept) rest ok none = none
+  free_fault lane (Err fault) rest ok none = absurd (cc)
+
+  -- no value has a fault
+  pub all_taken : (lane : ℕ) (values : List ℤ) → first_lane_fault answer leaf lane values ≡ None → (k : ℕ) → k < length values → is_ok (answer leaf (get_or values k (pos 0))) ≡ true
+  all_taken lane [] none k small = absurd (omega (arith, small))
+  all_taken lane (value ∷ values) none zero small = (fault_free lane (answer leaf value) (first_lane_fault answer leaf (lane + 1) values) none).0
+  all_taken lane (value ∷ values) none (suc k) small =
+      all_taken (lane + 1) values (fault_free lane (answer leaf value) (first_lane_fault answer leaf (lane + 1) values) none).1 k (omega (arith, small))
+
+  pub none_faulty : (lane : ℕ) (values : List ℤ) → ((k : ℕ) → k < length values → is_ok (answer leaf (get_or values k (pos 0))) ≡ true) → first_lane_fault answer leaf lane values ≡ None
+  none_faulty lane [] taken = refl
+  none_faulty lane (value ∷ values) taken =
+      free_fault lane (answer leaf value) (first_lane_fault answer leaf (lane + 1) values) (taken 0 (omega arith)) (none_faulty (lane + 1) values (λ k small. taken (suc k) (omega (arith, small))))
+
+  -- the values before the first fault have none
+  pub record AreTakenUpTo (lane : ℕ) (values : List ℤ) (fault : LaneFault) : Type 0 where
+    pub inside : fault.lane < lane + length values
+    pub from : lane ≤ fault.lane
+    pub taken : (k : ℕ) → lane + k < fault.lane → is_ok (answer leaf (get_or values k (pos 0))) ≡ true
+
+  later : (lane : ℕ) (value : ℤ) (values : List ℤ) (fault : LaneFault) → is_ok (answer leaf value) ≡ true → AreTakenUpTo (lane + 1) values fault → AreTakenUpTo lane (value ∷ values) fault
+  later lane value values fault ok rest = record { inside = omega (arith, rest.inside); from = omega (arith, rest.from); taken = by_lane } where
+    by_lane : (k : ℕ) → lane + k < fault.lane → is_ok (answer leaf (get_or (value ∷ values) k (pos 0))) ≡ true
+    by_lane zero small = ok
+    by_lane (suc k) small = rest.taken k (omega (arith, small))
+
+  before_by : (lane : ℕ) (value : ℤ) (values : List ℤ) (fault : LaneFault) (one : Result ℤ StoreFault) → answer leaf value ≡ one
+      → (first_lane_fault answer leaf (lane + 1) values ≡ Some fault → AreTakenUpTo (lane + 1) values fault)
+      → option_or (lane_fault lane one) (first_lane_fault answer leaf (lane + 1) values) ≡ Some fault → AreTakenUpTo lane (value ∷ values) fault
+  before_by lane value values fault (Ok kept) is rest some = later lane value values fault (ap (λ (r : Result ℤ StoreFault). is_ok r) is) (rest some)
+  before_by lane value values fault (Err other) is rest some =
+      let told : lane_fault lane (Err other) ≡ Some fault = some in
+      let same : fault.lane ≡ lane = cc in
+      record { inside = omega (arith, same); from = omega (arith, same); taken = λ k small. absurd (omega (arith, small, same)) }
+
+  pub taken_before : (lane : ℕ) (values : List ℤ) (fault : LaneFault) → first_lane_fault answer leaf lane values ≡ Some fault → AreTakenUpTo lane values fault
+  taken_before lane [] fault some = absurd (cc)
+  taken_before lane (value ∷ values) fault some = before_by lane value values fault (answer leaf value) refl (taken_before (lane + 1) values fault) some
+
+-- what a strict view takes lies in both ranges
+parts : (declared held : Bool) (value : ℤ) → is_ok (if declared then (if held then Ok value else Err Narrow) else Err Range) ≡ true → (declared ≡ true) × (held ≡ true)
+parts true true value ok = (refl, refl)
+parts true false value ok = absurd (cc)
+parts false held value ok = absurd (cc)
+
+-- what lies between two values that are taken is taken
+pub between_taken : (mode : StoreMode) (kind : LeafType) (hold : Hold) (least greatest value : ℤ) → least ≤ℤ value → value ≤ℤ greatest
+    → is_ok (store_answer mode kind hold least) ≡ true → is_ok (store_answer mode kind hold greatest) ≡ true → is_ok (store_answer mode kind hold value) ≡ true
+between_taken Wrap kind hold least greatest value low high one two = refl
+between_taken Strict kind hold least greatest value low high one two =
+    let from = least_of kind in
+    let to = greatest_of kind in
+    let first = least_in hold.signed hold.width in
+    let last = greatest_in hold.signed hold.width in
+    let below = parts (is_between from to least) (is_between first last least) least one in
+    let above = parts (is_between from to greatest) (is_between first last greatest) greatest two in
+    let declared_low = (between_true from to least below.0).0 in
+    let declared_high = (between_true from to greatest above.0).1 in
+    let held_low = (between_true first last least below.1).0 in
+    let held_high = (between_true first last greatest above.1).1 in
+    ap (λ (r : Result ℤ StoreFault). is_ok r)
+    (fitting_stored kind hold value (omega (arith, ints, declared_low, low), omega (arith, ints, declared_high, high)) (omega (arith, ints, held_low, low), omega (arith, ints, held_high, high)))
+
+-- what is stored of values up to their first fault
+pub record IsStored (answer : Answer) (leaf : ℕ) (values : List ℤ) (count : ℕ) : Type 0 where
+  pub few : count ≤ length values
+  pub taken : (k : ℕ) → k < count → is_ok (answer leaf (get_or values k (pos 0))) ≡ true
+
+pub stored_front : (answer : Answer) (leaf : ℕ) (values : List ℤ) (fault : Option LaneFault) → first_lane_fault answer leaf 0 values ≡ fault → IsStored answer leaf values (stored_count (length values) fault)
+stored_front answer leaf values None is = record { few = omega arith; taken = all_taken answer leaf 0 values is }
+stored_front answer leaf values (Some fault) is =
+    let before = taken_before answer leaf 0 values fault is in
+    record { few = omega (arith, before.inside); taken = λ k small. before.taken k (omega (arith, small)) }
+
+-- what is told of it
+pub told_none : (fault : Option LaneFault) (x : Unit {0}) → told_lane fault ≡ Ok x → fault ≡ None
+told_none None x told = refl
+told_none (Some fault) x told = absurd (cc)
+
+pub told_some : (fault : Option LaneFault) (other : LaneFault) → told_lane fault ≡ Err other → fault ≡ Some other
+told_some None other told = absurd (cc)
+told_some (Some fault) other told = cc
+
+-- a value fits
+pub fits_taken : (answer : Result ℤ StoreFault) (fits : Result Unit StoreFault) (test : Bool) → fits ≡ told answer → test ≡ is_ok fits → test ≡ true → is_ok answer ≡ true
+fits_taken answer fits test is tested ok = sym (told_same answer) ∙ ap (λ (r : Result Unit StoreFault). is_ok r) (sym is) ∙ sym tested ∙ ok

@@ -1,0 +1,28 @@
+use Rattle.std.proofs.Common.{rules, ◌≡◌, ◌∙◌, ℕ, List, length, Err, sym, ap, subst, arith}
+use Rattle.expr_lang.specs.Bounds.{bound_term}
+use Rattle.extents.specs.Indices.{indices}
+use Rattle.row_updates.specs.Logs.{count_log}
+use Rattle.row_updates.specs.Runs.{IsIdle}
+use Rattle.row_updates.proofs.Rows.{none_rows}
+use Rattle.row_updates.proofs.count.count_by_runs.Goals as goal
+
+pub loop-first-init : goal.loop-first-init
+loop-first-init g c = record {
+  few = omega arith;
+  all = c.count-count.ensures.rows ∙ ap (λ (e : List ℕ). length (indices e)) c.extents.ensures.value ∙ sym c.extents.ensures.table.rows;
+  idle = c.requires.idle;
+  counted = none_rows c.args.view.now (bound_term c.args.filter.now);
+}
+
+pub returns-in_err-passing-clause-stopped : goal.returns-in_err-passing-clause-stopped
+returns-in_err-passing-clause-stopped g c =
+    let is : c.from_residual.result ≡ Err c.in_err-passing.field-0.0 = search rules in
+    rw is (c.in_err-passing.ensures.stopped c.args.view.now c.loop-first.passing c.requires.idle c.loop-first.invariant.counted)
+
+pub loop-first-preserved : goal.loop-first-preserved
+loop-first-preserved g c =
+    let view = c.args.view.now in
+    let before = c.loop-first.invariant in
+    let done = c.in_ok-passing.ensures.done view c.loop-first.passing c.requires.idle before.counted in
+    let same = done.same ∙ c.requires.idle (count_log (bound_term c.args.filter.now) view.extents view.rows c.min-end.result) in
+    record { few = omega arith; all = before.all; idle = subst IsIdle (sym same) c.requires.idle; counted = done }

@@ -1,0 +1,42 @@
+use Rattle.std.proofs.Common.{rules, ◌≡◌, ◌∙◌, ◌+◌, ◌-◌, ℕ, count_by, length, sym, ap, subst, arith}
+use Rattle.std.proofs.lemmas.List.Sums.{count_by-le-length}
+use Rattle.expr_lang.specs.Bounds.{bound_term}
+use Rattle.expr_lang.specs.Terms.{Term}
+use Rattle.expr_lang.specs.Values.{is_true}
+use Rattle.views.specs.Tables.{Table}
+use Rattle.row_updates.specs.Logs.{count_log}
+use Rattle.row_updates.specs.Runs.{AreWorth}
+use Rattle.row_updates.specs.Updated.{AreCounted, IsCounted, row_test}
+use Rattle.row_updates.proofs.RunTests.{tested, run_counted}
+use Rattle.row_updates.proofs.count.count_next.Goals as goal
+
+pub returns-then-chain_run-clause-few : goal.returns-then-chain_run-clause-few
+returns-then-chain_run-clause-few g c =
+    let values = c.chain_run.new.values in
+    let long : length values ≡ c.args.end - c.args.run.now.first = search rules in
+    omega (arith, long, count_by-le-length is_true values, c.count_passing.ensures, c.requires.order)
+
+pub returns-then-chain_run-clause-done : goal.returns-then-chain_run-clause-done
+returns-then-chain_run-clause-done g c = λ old before idle so_far.
+    let view = c.args.view.now in
+    let run = c.args.run.now in
+    let term = bound_term c.args.filter.now in
+    let values = c.chain_run.new.values in
+    let long : length values ≡ c.args.end - run.first = search rules in
+    let end : run.first + length values ≡ c.args.end = omega (arith, long, c.requires.order) in
+    let worthy = subst (λ (t : Term ℕ). AreWorth view run t values) c.chain.ensures.term (c.chain_run.ensures.worth c.if-chain_run.true) in
+    let all = run_counted (row_test old term) values run.first before so_far.counted (λ k small.
+    sym (ap (λ (t : Table). row_test t term (run.first + k)) so_far.same) ∙ tested view run term values c.requires.safe worthy k small) in
+    record {
+      same = c.chain_run.ensures.same ∙ so_far.same ∙ idle (count_log term old.extents old.rows run.first) ∙ sym (idle (count_log term old.extents old.rows c.args.end));
+      counted = subst (λ (n : ℕ). AreCounted (row_test old term) c.args.end (before + n)) (sym c.count_passing.ensures)
+          (subst (λ (n : ℕ). AreCounted (row_test old term) n (before + count_by is_true values)) end all);
+    }
+
+pub returns-clause-done : goal.returns-clause-done
+returns-clause-done g c = λ old before idle so_far.
+    c.count_between.ensures.done old before (subst (λ (t : Table). IsCounted old (bound_term c.args.filter.now) t c.args.run.now.first before) (sym c.chain_run.ensures.same) so_far)
+
+pub returns-clause-stopped : goal.returns-clause-stopped
+returns-clause-stopped g c = λ old before idle so_far.
+    c.count_between.ensures.stopped old before (subst (λ (t : Table). IsCounted old (bound_term c.args.filter.now) t c.args.run.now.first before) (sym c.chain_run.ensures.same) so_far)

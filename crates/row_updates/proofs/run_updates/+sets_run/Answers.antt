@@ -1,0 +1,62 @@
+use Rattle.std.proofs.Common.{rules, ◌≡◌, ◌-◌, ◌<◌, ℕ, List, length, map, take, sym, ap, subst, arith}
+use Rattle.std.proofs.lemmas.List.Elements.{All-get_or}
+use Rattle.expr_lang.specs.Bounds.{bound_term}
+use Rattle.expr_runs.specs.Exacts.{IsSafe}
+use Rattle.views.specs.Columns.{column_writes}
+use Rattle.views.specs.Tables.{Table, leaf_count_of, kept_of}
+use Rattle.row_updates.specs.declared.update.Assign.{Assign}
+use Rattle.row_updates.specs.Rows.{Setting, setting_of, IsSetOf}
+use Rattle.row_updates.specs.Runs.{AreTaken}
+use Rattle.row_updates.specs.Updated.{IsRunUpdated, IsStill, lane_test}
+use Rattle.row_updates.proofs.RunRows.{stored_still}
+use Rattle.row_updates.proofs.RunSets.{stored_of, last_stored, all_settings}
+use Rattle.row_updates.proofs.run_updates.+sets_run.Goals as goal
+
+pub store_run-taken-requires-clause-leaf_in : goal.store_run-taken-requires-clause-leaf_in
+store_run-taken-requires-clause-leaf_in g t c =
+    let view = c.args.view.now in
+    let sets = c.args.sets.now in
+    let last = c.index-sets-before.result in
+    let before : ℕ = length sets - 1 in
+    let small : before < length sets = search rules in
+    let set = subst (IsSetOf view) (sym c.index-sets-before.is) (All-get_or (IsSetOf view) sets before last small c.requires.sets) in
+    subst (λ (v : Table). last.leaf < leaf_count_of v) (sym c.sets_run.ensures.still.same) (subst (λ (v : Table). last.leaf < leaf_count_of v) (sym c.value_run.ensures.same) set.inside)
+
+pub store_run-taken-requires-clause-rows_in : goal.store_run-taken-requires-clause-rows_in
+store_run-taken-requires-clause-rows_in g t c =
+    let long : length c.value_run.new.values ≡ c.args.count = search rules in
+    omega (arith, long, c.requires.rows.rows, c.sets_run.ensures.still.count, ap (λ (v : Table). length v.rows) c.value_run.ensures.same)
+
+pub returns-clause-still : goal.returns-clause-still
+returns-clause-still g t c =
+    let table = c.args.view.now in
+    let first = c.args.run.now.first in
+    let leaf = c.index-sets-before.result.leaf in
+    let values = c.value_run.new.values in
+    let mid = c.sets_run.new.view in
+    let before = subst (λ (v : Table). IsStill v mid) c.value_run.ensures.same c.sets_run.ensures.still in
+    let many = stored_of mid leaf values in
+    stored_still table mid c.store_run-taken.new.self leaf first (map (kept_of mid leaf) (take many values)) (column_writes leaf first many) c.requires.idle before c.store_run-taken.ensures.stored
+
+pub returns-clause-updated : goal.returns-clause-updated
+returns-clause-updated g t c = λ all filter tested.
+    let table = c.args.view.now in
+    let run = c.args.run.now in
+    let leaves = run.leaves.now in
+    let places = run.places.now in
+    let sets = c.args.sets.now in
+    let values = c.value_run.new.values in
+    let mid = c.sets_run.new.view in
+    let after = c.store_run-taken.new.self in
+    let last = c.index-sets-before.result in
+    let before : ℕ = length sets - 1 in
+    let small : before < length sets = search rules in
+    let long : length values ≡ c.args.count = search rules in
+    let set = subst (IsSetOf table) (sym c.index-sets-before.is) (All-get_or (IsSetOf table) sets before last small c.requires.sets) in
+    let safe = subst (λ (s : Assign). IsSafe leaves places (bound_term s.value)) (sym c.index-sets-before.is)
+    (All-get_or (λ (s : Assign). IsSafe leaves places (bound_term s.value)) sets before last small c.requires.safe) in
+    let front = (rw c.value_run.ensures.same at c.sets_run.ensures.updated) c.if-not-sets_run.false filter tested in
+    let taken = subst (λ (v : Table). AreTaken v last.leaf values) c.value_run.ensures.same (c.takes_all.ensures c.if-not-takes_all.false) in
+    subst (λ (s : List Setting). IsRunUpdated table filter s run.first c.args.count after) (all_settings sets before last (omega (arith, small)) c.index-sets-before.is)
+    (last_stored table run filter c.args.count (lane_test c.args.mask) values (setting_of last) c.laws_of_table.ensures.table c.requires.idle safe set.inside c.requires.rows.rows long tested
+    (c.value_run.ensures.given c.if-not-value_run.false) (map setting_of (take before sets)) mid after front taken c.store_run-taken.ensures.stored)

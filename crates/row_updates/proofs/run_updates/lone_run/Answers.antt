@@ -1,0 +1,45 @@
+use Rattle.std.proofs.Common.{rules, ◌≡◌, ◌∙◌, ℕ, ◌∷◌, [], Some, length, sym, ap, subst, arith}
+use Rattle.views.specs.Columns.{first_lane_fault}
+use Rattle.views.specs.Runs.{stored_count}
+use Rattle.views.specs.Tables.{answer_of}
+use Rattle.row_updates.specs.Rows.{setting_of}
+use Rattle.row_updates.specs.Updated.{IsRunUpdated, lane_test}
+use Rattle.row_updates.proofs.RunSets.{lone_stored}
+use Rattle.row_updates.proofs.Taken.{stored_front, told_none, told_some}
+use Rattle.row_updates.proofs.run_updates.lone_run.Goals as goal
+
+pub returns-in-Ok-clause-updated : goal.returns-in-Ok-clause-updated
+returns-in-Ok-clause-updated g c = λ filter tested.
+    let table = c.args.view.now in
+    let run = c.args.run.now in
+    let last = setting_of c.args.set.now in
+    let values = c.value_run.new.values in
+    let long : length values ≡ c.args.count = search rules in
+    let named = rw c.value_run.ensures.same at c.store_run.ensures.named in
+    let none = told_none (first_lane_fault (answer_of table) last.leaf 0 values) _ (sym named ∙ c.in-Ok.is) in
+    subst (λ (n : ℕ). IsRunUpdated table filter (last ∷ []) run.first n c.store_run.new.self) (ap (stored_count (length values)) none ∙ long)
+    (lone_stored table run filter c.args.count (lane_test c.args.mask) values last c.laws_of_table.ensures.table c.requires.idle c.requires.safe c.requires.set.inside c.requires.rows.rows long tested
+    (c.value_run.ensures.given c.if-not-value_run.false) c.store_run.new.self (rw c.value_run.ensures.same at c.store_run.ensures.stored))
+
+pub returns-in-Err-clause-few : goal.returns-in-Err-clause-few
+returns-in-Err-clause-few g c =
+    let leaf = c.args.set.now.leaf in
+    let view = c.value_run.new.view in
+    let values = c.value_run.new.values in
+    let long : length values ≡ c.args.count = search rules in
+    let some = told_some (first_lane_fault (answer_of view) leaf 0 values) c.in-Err.fault (sym c.store_run.ensures.named ∙ c.in-Err.is) in
+    let few = (stored_front (answer_of view) leaf values (Some c.in-Err.fault) some).few in
+    omega (arith, few, long)
+
+pub returns-in-Err-clause-updated : goal.returns-in-Err-clause-updated
+returns-in-Err-clause-updated g c = λ filter tested.
+    let table = c.args.view.now in
+    let run = c.args.run.now in
+    let last = setting_of c.args.set.now in
+    let values = c.value_run.new.values in
+    let long : length values ≡ c.args.count = search rules in
+    let named = rw c.value_run.ensures.same at c.store_run.ensures.named in
+    let some = told_some (first_lane_fault (answer_of table) last.leaf 0 values) c.in-Err.fault (sym named ∙ c.in-Err.is) in
+    subst (λ (n : ℕ). IsRunUpdated table filter (last ∷ []) run.first n c.store_run.new.self) (ap (stored_count (length values)) some)
+    (lone_stored table run filter c.args.count (lane_test c.args.mask) values last c.laws_of_table.ensures.table c.requires.idle c.requires.safe c.requires.set.inside c.requires.rows.rows long tested
+    (c.value_run.ensures.given c.if-not-value_run.false) c.store_run.new.self (rw c.value_run.ensures.same at c.store_run.ensures.stored))

@@ -1,0 +1,20 @@
+use Rattle.std.proofs.Common.{◌≡◌, ◌≤◌, length}
+use Rattle.expr_lang.specs.declared.bound.Links.{size-Links}
+use Rattle.expr_lang.specs.Chains.{chain_term, AreWithin}
+use Rattle.expr_runs.specs.Steps.{AreStepsSafe}
+use Rattle.views.specs.Tables.{leaf_count_of}
+use Rattle.row_updates.specs.Runs.{IsIdle, IsRunOf}
+use Rattle.row_updates.proofs.WorthSoFar.{IsWorthSoFar}
+use Rattle.row_updates.proofs.runs.+run.Given as goal
+
+abbrev pub invariant-chain_run-loop-links : goal.invariant-chain_run-loop-links
+invariant-chain_run-loop-links g l = record {
+  no_deeper : size-Links l.links ≤ size-Links l.chain.links;
+  same : l.view ≡ l.fn.view;
+  idle : IsIdle l.view;
+  within : AreWithin (leaf_count_of l.view) (length l.view.extents) l.links;
+  safe : AreStepsSafe l.run.leaves.now l.run.places.now l.links;
+  rows : IsRunOf l.view l.run (length l.other);
+  long : length l.other ≡ length l.values;
+  so_far : IsWorthSoFar l.fn.view l.run (chain_term l.chain) l.links l.values;
+}
