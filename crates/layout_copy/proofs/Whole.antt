@@ -1,8 +1,9 @@
 -- Tables that are copied whole: what they hold, what is counted, and the steps.
-use Rattle.std.proofs.Common.{◌≡◌, ◌+◌, ◌*◌, ◌≤◌, ℕ, ℤ, List, [], ◌++◌, append-nil, length, Option, Some, None, Ok, Err, sym, ap, ◌∙◌, subst, arith}
+use Rattle.std.proofs.Common.{◌≡◌, ◌+◌, ◌*◌, ◌<◌, ◌≤◌, ℕ, ℤ, List, [], ◌++◌, append-nil, length, Option, Some, None, Ok, Err, refl, sym, ap, ◌∙◌, subst, arith}
 use Rattle.std.specs.Prelude.{Result, IsErrOf, IsSomeAnd}
 use Rattle.extents.specs.Indices.{indices}
-use Rattle.record_dim.specs.Leaves.{leaves, kinds_of}
+use Rattle.std.proofs.lemmas.List.{length-map}
+use Rattle.record_dim.specs.Leaves.{Leaf, leaves, kinds_of}
 use Rattle.record_dim.specs.Trees.{Fields}
 use Rattle.places.specs.Image.{entry}
 use Rattle.places.specs.declared.piece.Hold.{Hold}
@@ -13,6 +14,7 @@ use Rattle.map_plans.specs.Arrays.{array_of}
 use Rattle.map_any.specs.Strategies.{AreRuns}
 use Rattle.map_any.specs.declared.strategy.Strategy.{Strategy}
 use Rattle.map_any.specs.declared.strategy.Strategy.TheVariants as way
+use Rattle.kept_tables.specs.EntryLaws.{fitting_stays, stays_declared}
 use Rattle.views.specs.MovesLaws.{with_rows, stays_moves, may_move, runs_full}
 use Rattle.views.specs.Stores.{AllStay}
 use Rattle.views.specs.Tables.{Table, IsTable, table_holds, leaf_count_of, leaf_type_of, leaf_types_of, after_log, after_stores}
@@ -21,6 +23,7 @@ use Rattle.views.specs.UncountedLaws.{holds_uncounted}
 use Rattle.layout_copy.specs.Copies.{AreAlike, IsCopied}
 use Rattle.layout_copy.specs.Costs.{cost, IsWay, MayMoveTo}
 use Rattle.layout_copy.specs.OwnLaws.{staying_held, staying_kept}
+use Rattle.layout_copy.specs.RowRuns.{AllTake, CountsNothing}
 use Rattle.layout_copy.specs.declared.fault.CopyFault.{CopyFault}
 use Rattle.layout_copy.specs.declared.fault.CopyFault.TheVariants.{Mismatch, Narrow}
 use Rattle.layout_copy.proofs.WayLaws.{one_way}
@@ -61,21 +64,34 @@ pub whole_read : (old new : Table) → new ≡ after_log old (all_touches 1 0 (l
 whole_read old new is = is ∙ ap (after_log old) (only_reads (leaf_count_of old) (length old.rows))
 
 -- a table that has become another one, each of its entries counted
-module _ (source old now new : Table) (is : IsTable source) (to : IsTable old) (alike : AreAlike source old) (may : MayMoveTo source old)
+module _ (source old now new : Table) (is : IsTable source) (to : IsTable old) (alike : AreAlike source old)
     (moved : now ≡ with_rows old source.rows) (counted : new ≡ after_log now (all_touches 0 1 (leaf_count_of now) (length now.rows))) where
-  -- what the source holds stays in the target
-  all_stay : table_holds source ≡ table_holds old → AllStay old.mode (length source.rows) (leaf_types_of old) (table_holds old) source.rows
-  all_stay holds row leaf row_in leaf_in =
-      let here : AllStay source.mode (length source.rows) (leaf_types_of old) (table_holds old) source.rows =
-      subst (λ (f : Fields). AllStay source.mode (length source.rows) (kinds_of f) (table_holds old) source.rows) alike.0
-      (subst (λ (hs : List Hold). AllStay source.mode (length source.rows) (leaf_types_of source) hs source.rows) holds is.stays) in
-      stays_moves source.mode old.mode (leaf_type_of old leaf) (hold_at (table_holds old) leaf) (entry source.rows row leaf) (to.some leaf leaf_in)
-      (may_move source.mode old.mode (leaf_types_of old) (table_holds old) may leaf leaf_in) (here row leaf row_in leaf_in)
+  abbrev Stay : Type 0
+  Stay = AllStay old.mode (length source.rows) (leaf_types_of old) (table_holds old) source.rows
 
-  whole_copied : table_holds source ≡ table_holds old → IsCopied source old new (Ok tt)
-  whole_copied holds =
-      let shape : HasShape (length source.rows) (leaf_count_of old) source.rows = subst (λ (f : Fields). HasShape (length source.rows) (length (leaves f)) source.rows) alike.0 is.shape in
-      let stay = all_stay holds in (
+  -- what the source holds, by the types of the target's leaves
+  there : (holds : List Hold) → table_holds source ≡ holds → AllStay source.mode (length source.rows) (leaf_types_of old) holds source.rows
+  there holds same =
+      subst (λ (f : Fields). AllStay source.mode (length source.rows) (kinds_of f) holds source.rows) alike.0
+      (subst (λ (hs : List Hold). AllStay source.mode (length source.rows) (leaf_types_of source) hs source.rows) same is.stays)
+
+  -- it stays in the target where the leaves are stored alike, and where each takes all of its type
+  moved_stay : MayMoveTo source old → table_holds source ≡ table_holds old → Stay
+  moved_stay may holds row leaf row_in leaf_in =
+      stays_moves source.mode old.mode (leaf_type_of old leaf) (hold_at (table_holds old) leaf) (entry source.rows row leaf) (to.some leaf leaf_in)
+      (may_move source.mode old.mode (leaf_types_of old) (table_holds old) may leaf leaf_in) (there (table_holds old) holds row leaf row_in leaf_in)
+
+  taken_stay : AllTake old → Stay
+  taken_stay takes row leaf row_in leaf_in =
+      let value : ℤ = entry source.rows row leaf in
+      let inside : leaf < leaf_count_of old = omega (arith, leaf_in, length-map (leaves old.fields) (λ (one : Leaf). one.kind)) in
+      fitting_stays old.mode (leaf_type_of old leaf) (hold_at (table_holds old) leaf) value (to.some leaf leaf_in)
+      (takes leaf inside value
+      (stays_declared source.mode (leaf_type_of old leaf) (hold_at (table_holds source) leaf) value (there (table_holds source) refl row leaf row_in leaf_in)))
+
+  whole_copied : Stay → IsCopied source old new (Ok tt)
+  whole_copied stay =
+      let shape : HasShape (length source.rows) (leaf_count_of old) source.rows = subst (λ (f : Fields). HasShape (length source.rows) (length (leaves f)) source.rows) alike.0 is.shape in (
         alike,
         staying_held old source.rows shape stay,
         counted ∙ ap (λ (t : Table). after_log t (all_touches 0 1 (leaf_count_of t) (length t.rows))) moved
@@ -83,11 +99,22 @@ module _ (source old now new : Table) (is : IsTable source) (to : IsTable old) (
             ∙ ap (λ (rows : List (List ℤ)). after_stores old rows (all_accesses Write (leaf_count_of old) (length source.rows))) (sym (staying_kept old source.rows shape stay)),
       )
 
-  pub blobs_copied : uncounted source.mapping ≡ uncounted old.mapping → IsCopied source old new (Ok tt)
-  blobs_copied same = whole_copied (blob_holds source.mapping old.mapping source.fields same ∙ ap (holds_by old.mapping) alike.0)
+  pub blobs_copied : MayMoveTo source old → uncounted source.mapping ≡ uncounted old.mapping → IsCopied source old new (Ok tt)
+  blobs_copied may same = whole_copied (moved_stay may (blob_holds source.mapping old.mapping source.fields same ∙ ap (holds_by old.mapping) alike.0))
 
-  pub runs_copied : AreRuns source.mapping old.mapping → IsCopied source old new (Ok tt)
-  runs_copied are = whole_copied (run_holds source.mapping old.mapping source.fields are ∙ ap (holds_by old.mapping) alike.0)
+  pub runs_copied : MayMoveTo source old → AreRuns source.mapping old.mapping → IsCopied source old new (Ok tt)
+  runs_copied may are = whole_copied (moved_stay may (run_holds source.mapping old.mapping source.fields are ∙ ap (holds_by old.mapping) alike.0))
+
+  pub taken_copied : AllTake old → IsCopied source old new (Ok tt)
+  taken_copied takes = whole_copied (taken_stay takes)
+
+-- where nothing is counted, the entries alone
+pub rows_copied : (source old new : Table) → IsTable source → IsTable old → AreAlike source old → CountsNothing old → AllTake old → new ≡ with_rows old source.rows
+    → IsCopied source old new (Ok tt)
+rows_copied source old new is to alike nothing takes moved =
+    let log = all_touches 0 1 (leaf_count_of new) (length new.rows) in
+    taken_copied source old new new is to alike moved
+    (moved ∙ sym (ap (λ (t : Table). after_log t log) moved ∙ ap (λ (t : Table). with_rows t source.rows) (nothing log))) takes
 
 -- views that are alike are not told apart
 pub no_mismatch : (source old new : Table) (result : Result Unit CopyFault) → IsCopied source old new result → AreAlike source old → IsErrOf result Mismatch → ⊥

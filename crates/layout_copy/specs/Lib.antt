@@ -1,4 +1,5 @@
 pub mod Copies
 pub mod Costs
 pub mod OwnLaws
+pub mod RowRuns
 pub mod Runs

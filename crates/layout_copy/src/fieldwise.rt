@@ -1,4 +1,4 @@
-// A copy that goes by the leaves of one row after another.
+// A copy that goes by the leaves of one row after another, or by runs of rows.
 ghost use Rattle.std.specs.Prelude.{◌≡◌, ◌+◌, ◌*◌, ◌<◌, ◌≤◌, [], IfNone, IfSome, length, slice_index_or, slice_set};
 ghost use Rattle.views.specs.Stores.{kept_row};
 ghost use Rattle.views.specs.Tables.{leaf_count_of, answer_of, kept_of, after_log, after_stores};
@@ -6,12 +6,13 @@ ghost use Rattle.views.specs.Tallies.{Read, Write, row_accesses, all_touches};
 ghost use Rattle.layout_copy.specs.Copies.{AreAlike, IsCopied, refusing, source_log};
 
 use crate::fault::CopyFault;
+use crate::row_runs::{copy_row_runs, may_go_by_runs};
 use std::sync::ledger::Ledger;
 use steps::Steps;
 use views::{View, laws_of_table};
 
-// A copy of a table to a view that is alike, row by row. `Narrow` comes exactly where the target refuses a value, and names the first by rows,
-// then leaves; exactly the rows before it are copied.
+// A copy of a table to a view that is alike: by runs of rows where none is refused and no side counts, and else row by row. `Narrow` comes
+// exactly where the target refuses a value, and names the first by rows, then leaves; exactly the rows before it are copied.
 pub(crate) fn copy_fields<L: Ledger>(
     source: &mut View,
     target: &mut View,
@@ -23,6 +24,12 @@ pub(crate) fn copy_fields<L: Ledger>(
     ensures source { source.new ≡ after_log source.old (source_log (leaf_count_of source.old) (length source.old.rows) result) }
     ensures steps { steps.new ≤ steps.old + 2 * (length source.old.rows * leaf_count_of source.old) }
 {
+    if may_go_by_runs(source, target) {
+        laws_of_table(source);
+        laws_of_table(target);
+        copy_row_runs(source, target, steps);
+        return Ok(());
+    }
     let mut buffer = [0; 64];
     let values = &mut buffer[..source.schema().leaf_count()];
     for row in 0..source.extents().count() {

@@ -4,6 +4,7 @@
 mod copies;
 mod fault;
 mod fieldwise;
+mod row_runs;
 mod runs;
 mod ways;
 

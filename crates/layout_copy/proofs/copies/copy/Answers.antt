@@ -44,7 +44,7 @@ returns-clause-copied g c =
     let to = c.laws_of_table-2.ensures.table in
     elim c.match-strategy.branch [
       | in-Blobs w ↦ let by = moved_way source old c.way_of-strategy.result way.Blobs w.in-Blobs.is (λ e. cc) c.way_of-strategy.ensures in
-          blobs_copied source old now new table to alike by.0 (w.target-is ∙ w.move_blobs.ensures.rows) c.touch_all-2.ensures by.1
+          blobs_copied source old now new table to alike (w.target-is ∙ w.move_blobs.ensures.rows) c.touch_all-2.ensures by.0 by.1
       | in-Runs w ↦ let by = moved_way source old c.way_of-strategy.result way.Runs w.in-Runs.is (λ e. cc) c.way_of-strategy.ensures in
-          runs_copied source old now new table to alike by.0 (w.target-is ∙ w.copy_runs.ensures.rows) c.touch_all-2.ensures by.1.1
+          runs_copied source old now new table to alike (w.target-is ∙ w.copy_runs.ensures.rows) c.touch_all-2.ensures by.0 by.1.1
     ]

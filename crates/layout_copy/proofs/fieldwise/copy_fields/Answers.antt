@@ -1,10 +1,16 @@
-use Rattle.std.proofs.Common.{rules, arith, ◌≡◌, ◌<◌, ◌∙◌, ◌+◌, ℕ, List, length, ap, sym}
+use Rattle.std.proofs.Common.{rules, arith, ◌≡◌, ◌<◌, ◌∙◌, ◌+◌, ℕ, List, length, refl, ap, sym}
 use Rattle.extents.specs.Indices.{indices}
 use Rattle.views.specs.Tables.{leaf_count_of}
 use Rattle.views.specs.TallyLaws.{after_log-none}
 use Rattle.views.specs.Tallies.{Read, row_accesses}
 use Rattle.layout_copy.proofs.Rows.{reads_after, row_read, none_copied, row_copied, row_refused, steps_more}
+use Rattle.layout_copy.proofs.Whole.{rows_copied}
 use Rattle.layout_copy.proofs.fieldwise.copy_fields.Goals as goal
+
+pub returns-then-may_go_by_runs-clause-copied : goal.returns-then-may_go_by_runs-clause-copied
+returns-then-may_go_by_runs-clause-copied g c =
+    rows_copied c.args.source.now c.args.target.now c.copy_row_runs.new.target c.laws_of_table.ensures.table c.laws_of_table-then-may_go_by_runs.ensures.table c.requires.alike
+    (c.if-may_go_by_runs.ensures.target refl) (c.if-may_go_by_runs.ensures.takes refl) c.copy_row_runs.ensures.rows
 
 pub returns-in-Some-clause-copied : goal.returns-in-Some-clause-copied
 returns-in-Some-clause-copied g c =
