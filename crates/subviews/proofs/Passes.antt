@@ -10,7 +10,7 @@ use Rattle.places.specs.Image.{entry}
 use Rattle.places.specs.declared.piece.Hold.{Hold}
 use Rattle.record_dim.specs.Trees.{Fields}
 use Rattle.record_dim.specs.Leaves.{Leaf, leaves, kinds_of}
-use Rattle.map_expr.specs.Terms.{Term, uncounted}
+use Rattle.map_expr.specs.Terms.{Term}
 use Rattle.map_checks.specs.Mappings.{leaf_cells, holds_by}
 use Rattle.kept_tables.specs.declared.mode.StoreMode.{StoreMode}
 use Rattle.piece_bits.specs.Tables.{HasShape, hold_at, with_entry}
@@ -31,16 +31,12 @@ use Rattle.subviews.proofs.Fronts.{logs_front, map_front, fits_more, fault_here,
 
 -- ---- a buffer keeps what its view keeps
 
-same_holds : (one two : Term) (fields : Fields) → uncounted one ≡ uncounted two → holds_by one fields ≡ holds_by two fields
-same_holds one two fields same =
-    let cells = leaf_cells (kinds_of fields) in
-    sym (holds_uncounted one fields cells) ∙ ap (λ (t : Term). holds_by t fields) same ∙ holds_uncounted two fields cells
-
 pub same_answer : (view buffer : Table) → IsBufferOf view buffer → (leaf : ℕ) (value : ℤ) → answer_of buffer leaf value ≡ answer_of view leaf value
 same_answer view buffer is leaf value =
     ap (λ (mode : StoreMode). store_answer mode (leaf_type_of buffer leaf) (hold_at (table_holds buffer) leaf) value) is.mode
     ∙ ap (λ (fields : Fields). store_answer view.mode (kind_at (kinds_of fields) leaf) (hold_at (holds_by buffer.mapping fields) leaf) value) is.fields
-    ∙ ap (λ (holds : List Hold). store_answer view.mode (leaf_type_of view leaf) (hold_at holds leaf) value) (same_holds buffer.mapping view.mapping view.fields is.mapping)
+    ∙ ap (λ (holds : List Hold). store_answer view.mode (leaf_type_of view leaf) (hold_at holds leaf) value)
+    (ap (λ (t : Term). holds_by t view.fields) is.mapping ∙ holds_uncounted view.mapping view.fields (leaf_cells (kinds_of view.fields)))
 
 -- the answer of the buffer, by what a store of it told
 pub refused_here : (answer : Result ℤ StoreFault) (result : Result Unit StoreFault) (fault : StoreFault) → result ≡ told answer → result ≡ Err fault → answer ≡ Err fault
