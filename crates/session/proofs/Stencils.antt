@@ -1,5 +1,5 @@
 -- What stencils do, and the buffer of their rounds.
-use Rattle.std.proofs.Common.{◌≡◌, ◌∙◌, ℕ, List, [], Ok, Err, refl, sym, ap}
+use Rattle.std.proofs.Common.{◌≡◌, ◌∙◌, ℕ, List, [], Ok, Err, sym, ap}
 use Rattle.extents.specs.declared.window.Span.{Span}
 use Rattle.line_grammar.specs.declared.line.TermText.{TermText}
 use Rattle.map_checks.specs.Mappings.{IsBuiltTerm}
@@ -46,20 +46,6 @@ pub rounds_stop : (table : Table) (stencil : Stencil) (rounds : ℕ) (fault : St
 rounds_stop table stencil rounds fault told is tells = rw is (ap (λ (f : CommandFault). Faults f) (sym tells))
 
 -- ---- expressions without counters
-
-pub uncounted_twice : (term : Term) → uncounted (uncounted term) ≡ uncounted term
-uncounted_twice (Count inner) = uncounted_twice inner
-uncounted_twice (Heat granule inner) = uncounted_twice inner
-uncounted_twice (Aos form order) = refl
-uncounted_twice (Soa form order) = refl
-uncounted_twice (Aosoa lanes order) = refl
-uncounted_twice (BitAos width entries order) = refl
-uncounted_twice (BitSoa width entries order) = refl
-uncounted_twice (Split path first rest) = refl
-uncounted_twice (Byteswap inner) = refl
-uncounted_twice (Bytesplit inner) = refl
-uncounted_twice (Change from to inner) = refl
-uncounted_twice (Named name) = refl
 
 pub built_uncounted : (term : Term) → IsBuiltTerm term → IsBuiltTerm (uncounted term)
 built_uncounted (Count inner) built = built_uncounted inner built

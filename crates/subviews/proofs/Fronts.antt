@@ -1,5 +1,6 @@
 -- What a loop over the rows of a window has done so far.
-use Rattle.std.proofs.Common.{◌≡◌, ℕ, zero, suc, ◌+◌, ◌<◌, ℤ, List, [], ◌∷◌, ◌++◌, length, map, take, get_or, flat_map, Contains, Result, Ok, Err, refl, ap, sym, ◌∙◌, arith}
+use Rattle.std.proofs.Common.{◌≡◌, ℕ, zero, suc, ◌+◌, ◌<◌, ℤ, List, [], ◌∷◌, ◌++◌, length, map, take, get_or, flat_map, Contains, Result, Ok, Err, is_err, cond, not, refl, ap, sym, ◌∙◌, arith}
+use Rattle.std.specs.List.{position_or_len}
 use Rattle.std.proofs.lemmas.List.{append-nil, take_more, map-append}
 use Rattle.std.proofs.lemmas.List.Concat.{flat_map-append}
 use Rattle.piece_bits.specs.Tables.{with_entry}
@@ -31,14 +32,17 @@ pub fits_more : (answer : ℕ → Result ℤ StoreFault) (rows : List ℕ) (k d 
 fits_more answer rows k d kept small fits taken =
     ap (first_fault answer) (take_more rows k d small) ∙ fault_behind answer (take k rows) (get_or rows k d ∷ []) fits ∙ ap (λ one. at_row (get_or rows k d) one (Ok tt)) taken
 
+-- a fault behind rows without one is the first, and it is in this place
 pub fault_here : (answer : ℕ → Result ℤ StoreFault) (rows : List ℕ) (k d : ℕ) (fault : StoreFault) → k < length rows → first_fault answer (take k rows) ≡ Ok tt → answer (get_or rows k d) ≡ Err fault
-    → first_fault answer rows ≡ Err (record { row = get_or rows k d; fault = fault })
+    → (first_fault answer rows ≡ Err (record { row = get_or rows k d; fault = fault })) × (position_or_len (λ row. is_err (answer row)) rows ≡ k)
 fault_here answer [] k d fault small fits refused = absurd (omega (arith, small))
-fault_here answer (row ∷ rows) zero d fault small fits refused = ap (λ one. at_row row one (first_fault answer rows)) refused
+fault_here answer (row ∷ rows) zero d fault small fits refused =
+    (ap (λ one. at_row row one (first_fault answer rows)) refused, ap (λ (one : Result ℤ StoreFault). cond (not (is_err one)) (1 + position_or_len (λ row. is_err (answer row)) rows) 0) refused)
 fault_here answer (row ∷ rows) (suc k) d fault small fits refused = of_row (answer row) fits (λ before. fault_here answer rows k d fault (omega (arith, small)) before refused) where
   of_row : (one : Result ℤ StoreFault) → at_row row one (first_fault answer (take k rows)) ≡ Ok tt
-      → (first_fault answer (take k rows) ≡ Ok tt → first_fault answer rows ≡ Err (record { row = get_or rows k d; fault = fault })) → at_row row one (first_fault answer rows) ≡ Err (record { row = get_or rows k d; fault = fault })
-  of_row (Ok kept) fits rest = rest fits
+      → (first_fault answer (take k rows) ≡ Ok tt → (first_fault answer rows ≡ Err (record { row = get_or rows k d; fault = fault })) × (position_or_len (λ row. is_err (answer row)) rows ≡ k))
+      → (at_row row one (first_fault answer rows) ≡ Err (record { row = get_or rows k d; fault = fault })) × (cond (not (is_err one)) (1 + position_or_len (λ row. is_err (answer row)) rows) 0 ≡ suc k)
+  of_row (Ok kept) fits rest = ((rest fits).0, omega (arith, (rest fits).1))
   of_row (Err other) fits rest = absurd (cc)
 
 -- ---- columns

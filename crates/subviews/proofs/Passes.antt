@@ -10,7 +10,7 @@ use Rattle.places.specs.Image.{entry}
 use Rattle.places.specs.declared.piece.Hold.{Hold}
 use Rattle.record_dim.specs.Trees.{Fields}
 use Rattle.record_dim.specs.Leaves.{Leaf, leaves, kinds_of}
-use Rattle.map_expr.specs.Terms.{Term, uncounted}
+use Rattle.map_expr.specs.Terms.{Term}
 use Rattle.map_checks.specs.Mappings.{leaf_cells, holds_by}
 use Rattle.kept_tables.specs.declared.mode.StoreMode.{StoreMode}
 use Rattle.piece_bits.specs.Tables.{HasShape, hold_at, with_entry}
@@ -23,7 +23,7 @@ use Rattle.views.specs.TallyLaws.{after_log-none, after_log-append, after_stores
 use Rattle.views.specs.Tables.{Table, IsTable, owners_of, leaf_count_of, leaf_type_of, table_holds, answer_of, kept_of, after_log, after_stores, after_write}
 use Rattle.views.specs.declared.fault.StoreFault.{StoreFault}
 use Rattle.subviews.specs.SubViews.{rows_of}
-use Rattle.subviews.specs.Stencils.{Stencil, values_fault, stencil_value, new_entry, with_column, if_fits, round, next_round, stenciled, term_reads, round_reads, round_writes, round_log, rounds_log}
+use Rattle.subviews.specs.Stencils.{Stencil, values_fault, stencil_value, new_entry, with_column, if_fits, round, next_round, stenciled, term_reads, round_reads, round_writes, round_log, tried_rows, rounds_log, refused_log}
 use Rattle.subviews.specs.declared.fault.StencilFault.{StencilFault}
 use Rattle.subviews.specs.declared.rounds.Plan.{Plan}
 use Rattle.subviews.specs.Plans.{IsBufferOf, IsPlanOf, planned}
@@ -31,16 +31,12 @@ use Rattle.subviews.proofs.Fronts.{logs_front, map_front, fits_more, fault_here,
 
 -- ---- a buffer keeps what its view keeps
 
-same_holds : (one two : Term) (fields : Fields) → uncounted one ≡ uncounted two → holds_by one fields ≡ holds_by two fields
-same_holds one two fields same =
-    let cells = leaf_cells (kinds_of fields) in
-    sym (holds_uncounted one fields cells) ∙ ap (λ (t : Term). holds_by t fields) same ∙ holds_uncounted two fields cells
-
 pub same_answer : (view buffer : Table) → IsBufferOf view buffer → (leaf : ℕ) (value : ℤ) → answer_of buffer leaf value ≡ answer_of view leaf value
 same_answer view buffer is leaf value =
     ap (λ (mode : StoreMode). store_answer mode (leaf_type_of buffer leaf) (hold_at (table_holds buffer) leaf) value) is.mode
     ∙ ap (λ (fields : Fields). store_answer view.mode (kind_at (kinds_of fields) leaf) (hold_at (holds_by buffer.mapping fields) leaf) value) is.fields
-    ∙ ap (λ (holds : List Hold). store_answer view.mode (leaf_type_of view leaf) (hold_at holds leaf) value) (same_holds buffer.mapping view.mapping view.fields is.mapping)
+    ∙ ap (λ (holds : List Hold). store_answer view.mode (leaf_type_of view leaf) (hold_at holds leaf) value)
+    (ap (λ (t : Term). holds_by t view.fields) is.mapping ∙ holds_uncounted view.mapping view.fields (leaf_cells (kinds_of view.fields)))
 
 -- the answer of the buffer, by what a store of it told
 pub refused_here : (answer : Result ℤ StoreFault) (result : Result Unit StoreFault) (fault : StoreFault) → result ≡ told answer → result ≡ Err fault → answer ≡ Err fault
@@ -107,12 +103,26 @@ module _ (old view first buffer : Table) (plan : Plan) (k outer : ℕ) (value : 
   answer_is =
       ap (λ (t : Table). answer_of t plan.leaf value) so_far.same ∙ same_answer old first is plan.leaf value ∙ ap (answer_of old plan.leaf) value_of_old
 
-  pub fill_stopped : (fault : StoreFault) → answer_of buffer plan.leaf value ≡ Err fault → values_fault (answer_of old) (planned plan) old.rows (rows_of plan.window.now) ≡ Err (record { row = outer; fault = fault })
-  fill_stopped fault refused =
+  read_more : (after : Table) → after ≡ after_log view (term_reads (planned plan) outer) → after ≡ after_log old (round_reads (planned plan) (take (k + 1) (rows_of plan.window.now)))
+  read_more after read =
+      let numbers = rows_of plan.window.now in
+      read ∙ ap (λ (t : Table). after_log t (term_reads (planned plan) outer)) so_far.read
+      ∙ after_log-append old (round_reads (planned plan) (take k numbers)) (term_reads (planned plan) outer)
+      ∙ ap (λ (r : ℕ). after_log old (round_reads (planned plan) (take k numbers) ++ term_reads (planned plan) r)) (sym (outer_at numbers k outer at))
+      ∙ ap (after_log old) (logs_front (term_reads (planned plan)) numbers k 0 (slice_get_within numbers k outer at))
+
+  -- a row whose value does not fit is the first such row, and the last that is read
+  pub fill_stopped : (after : Table) (fault : StoreFault) → answer_of buffer plan.leaf value ≡ Err fault → after ≡ after_log view (term_reads (planned plan) outer)
+      → (values_fault (answer_of old) (planned plan) old.rows (rows_of plan.window.now) ≡ Err (record { row = outer; fault = fault }))
+      × (after ≡ after_log old (round_reads (planned plan) (tried_rows (answer_of old) (planned plan) old.rows (rows_of plan.window.now))))
+  fill_stopped after fault refused read =
       let numbers = rows_of plan.window.now in
       let answer = λ (row : ℕ). answer_of old plan.leaf (stencil_value (planned plan) old.rows row) in
       let here = outer_at numbers k outer at in
-      fault_here answer numbers k 0 fault (slice_get_within numbers k outer at) so_far.fits (ap answer here ∙ sym answer_is ∙ refused) ∙ ap (λ (r : ℕ). Err (record { row = r; fault = fault })) here
+      let first = fault_here answer numbers k 0 fault (slice_get_within numbers k outer at) so_far.fits (ap answer here ∙ sym answer_is ∙ refused) in (
+        first.0 ∙ ap (λ (r : ℕ). Err (record { row = r; fault = fault })) here,
+        read_more after read ∙ ap (λ (n : ℕ). after_log old (round_reads (planned plan) (take (n + 1) numbers))) (sym first.1),
+      )
 
   pub filled_more : (after after' : Table) (kept : ℤ) → answer_of buffer plan.leaf value ≡ Ok kept → IsTable buffer → outer < length buffer.rows → plan.leaf < leaf_count_of buffer
       → after ≡ after_log view (term_reads (planned plan) outer) → after' ≡ after_write buffer outer plan.leaf value → IsFilled old after first after' plan (k + 1)
@@ -128,10 +138,7 @@ module _ (old view first buffer : Table) (plan : Plan) (k outer : ℕ) (value : 
       let rows : after'.rows ≡ with_entry buffer.rows outer plan.leaf (f outer) = ap (λ (t : Table). t.rows) stored ∙ ap (with_entry buffer.rows outer plan.leaf) keeps in
       record {
         fits = fits_more answer numbers k 0 kept small so_far.fits (ap answer here ∙ sym answer_is ∙ taken);
-        read = read ∙ ap (λ (t : Table). after_log t (term_reads (planned plan) outer)) so_far.read
-            ∙ after_log-append old (round_reads (planned plan) (take k numbers)) (term_reads (planned plan) outer)
-            ∙ ap (λ (r : ℕ). after_log old (round_reads (planned plan) (take k numbers) ++ term_reads (planned plan) r)) (sym here)
-            ∙ ap (after_log old) (logs_front (term_reads (planned plan)) numbers k 0 small);
+        read = read_more after read;
         filled = λ j low.
             ap (λ (r : List (List ℤ)). entry r (get_or numbers j 0) plan.leaf) rows
             ∙ entry_more (length buffer.rows) (leaf_count_of buffer) buffer.rows table.shape numbers plan.leaf k outer f here row_in leaf_in so_far.filled j low;
@@ -243,6 +250,29 @@ round_stopped old view stencil fault from refused =
     let numbers = rows_of stencil.window in
     sym (ap (λ (t : Table). round (answer_of t) stencil view.rows) from)
     ∙ ap (λ (r : Result Unit StencilFault). if_fits r (with_column stencil.leaf (new_entry (answer_of view) stencil view.rows) numbers view.rows)) refused
+
+-- what a stencil that meets a fault leaves: the rows of the rounds before, and beside their accesses the reads up to the row of the fault
+abbrev pub IsRefused : Table → Table → Stencil → ℕ → StencilFault → Type 0
+IsRefused old new stencil rounds fault =
+    (done : ℕ) × (done < rounds) × (stenciled old stencil done ≡ Ok new.rows) × (round (answer_of old) stencil new.rows ≡ Err fault)
+    × (new ≡ after_stores old new.rows (refused_log (answer_of old) stencil done new.rows))
+
+pub is_refused : (old view read first buffer : Table) (stencil : Stencil) (count rounds : ℕ) (fault : StencilFault) → count < rounds → IsAfter old view first buffer stencil count
+    → values_fault (answer_of view) stencil view.rows (rows_of stencil.window) ≡ Err fault → read ≡ after_log view (round_reads stencil (tried_rows (answer_of view) stencil view.rows (rows_of stencil.window)))
+    → IsRefused old read stencil rounds fault
+is_refused old view read first buffer stencil count rounds fault low so_far refused reads =
+    let numbers = rows_of stencil.window in
+    let rows : read.rows ≡ view.rows = ap (λ (t : Table). t.rows) reads in
+    let from = same_after old view first buffer stencil count so_far in (
+      count,
+      low,
+      so_far.rounds ∙ ap (λ (r : List (List ℤ)). Ok r) (sym rows),
+      ap (round (answer_of old) stencil) rows ∙ round_stopped old view stencil fault from refused,
+      reads ∙ ap (λ (t : Table). after_log t (round_reads stencil (tried_rows (answer_of view) stencil view.rows numbers))) so_far.counted
+          ∙ after_stores-append old view.rows view.rows (rounds_log stencil count) (round_reads stencil (tried_rows (answer_of view) stencil view.rows numbers))
+          ∙ ap (λ (t : Table). after_stores old view.rows (rounds_log stencil count ++ round_reads stencil (tried_rows (answer_of t) stencil view.rows numbers))) from
+          ∙ ap (λ (r : List (List ℤ)). after_stores old r (refused_log (answer_of old) stencil count r)) (sym rows),
+    )
 
 -- a fault ends all rounds behind it
 pub stopped : (old : Table) (rows : List (List ℤ)) (stencil : Stencil) (count more all : ℕ) (fault : StencilFault) → all ≡ suc (more + count) → stenciled old stencil count ≡ Ok rows

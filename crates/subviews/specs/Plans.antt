@@ -20,12 +20,12 @@ pub record IsTermOf (leaves : ℕ) (window : WindowOf) (term : Term) : Type 0 wh
   pub weight : is_weight term.weight ≡ true
   pub reach : reaches window term.offsets.items ≡ true
 
--- a buffer has the record, the extents, the mode and, but for counters, the mapping of a view
+-- a buffer has the record, the extents and the mode of a view, and its mapping without the counters
 pub record IsBufferOf (table buffer : Table) : Type 0 where
   pub fields : buffer.fields ≡ table.fields
   pub extents : buffer.extents ≡ table.extents
   pub mode : buffer.mode ≡ table.mode
-  pub mapping : uncounted buffer.mapping ≡ uncounted table.mapping
+  pub mapping : buffer.mapping ≡ uncounted table.mapping
 
 -- from each row of a window its entry lies this many rows away
 abbrev pub IsFar : WindowOf → List ℤ → ℤ → Type 0

@@ -1,5 +1,5 @@
 -- What a stencil makes of the rows of a table, which fault ends it, and which entries it reads and writes.
-use Rattle.std.specs.Prelude.{ℕ, zero, suc, ◌^◌, ◌==◌, ◌&&◌, Bool, ℤ, pos, neg_ℤ, ◌+ℤ◌, ◌*ℤ◌, ◌-ℤ◌, int_div, int_le, nat_lt, List, [], ◌∷◌, ◌++◌, length, map, fold, Result, Ok, Err}
+use Rattle.std.specs.Prelude.{ℕ, zero, suc, ◌+◌, ◌^◌, ◌==◌, ◌&&◌, Bool, ℤ, pos, neg_ℤ, ◌+ℤ◌, ◌*ℤ◌, ◌-ℤ◌, int_div, int_le, nat_lt, List, [], ◌∷◌, ◌++◌, length, map, take, fold, Result, Ok, Err, is_err}
 use Rattle.std.specs.List.{flat_map, range_with_len, position_or_len, list_all}
 use Rattle.std.specs.Ordering.{int_eq}
 use Rattle.std.specs.Cmp.Lexicographic.{pointwise}
@@ -117,6 +117,14 @@ round_log stencil = round_reads stencil (rows_of stencil.window) ++ round_writes
 -- those of so many rounds
 abbrev pub rounds_log : Stencil → ℕ → List Access
 rounds_log stencil count = flat_map (λ number. round_log stencil) (range_with_len 0 count)
+
+-- the rows of a round that are tried: up to the first whose value does not fit
+abbrev pub tried_rows : Answer → Stencil → List (List ℤ) → List ℕ → List ℕ
+tried_rows answer stencil rows numbers = take (position_or_len (λ row. is_err (answer stencil.leaf (stencil_value stencil rows row))) numbers + 1) numbers
+
+-- those of so many rounds, and of the next one over these rows, up to the row whose value does not fit
+abbrev pub refused_log : Answer → Stencil → ℕ → List (List ℤ) → List Access
+refused_log answer stencil done rows = rounds_log stencil done ++ round_reads stencil (tried_rows answer stencil rows (rows_of stencil.window))
 
 -- ---- which stencils there are
 

@@ -1,9 +1,9 @@
 // Rounds of a stencil over a window.
-ghost use Rattle.std.specs.Prelude.{◌≡◌, ◌<◌, ◌≤◌, ℕ, true, pos, ◌<ℤ◌, int_div, All, Contains, Ok, Err, OnOk, IfErr, length, map};
+ghost use Rattle.std.specs.Prelude.{◌≡◌, ◌<◌, ◌≤◌, ℕ, true, pos, ◌<ℤ◌, int_div, All, Contains, Ok, Err, OnOk, OnErr, IfErr, length, map};
 ghost use Rattle.places.specs.Image.{entry};
 ghost use Rattle.views.specs.Tables.{leaf_count_of, answer_of, after_log, after_stores};
 ghost use Rattle.subviews.specs.SubViews.{rows_of};
-ghost use Rattle.subviews.specs.Stencils.{Stencil, weighted, stencil_value, values_fault, new_entry, with_column, round, stenciled, term_reads, round_reads, round_writes, rounds_log};
+ghost use Rattle.subviews.specs.Stencils.{Stencil, weighted, stencil_value, values_fault, new_entry, with_column, round, stenciled, term_reads, round_reads, round_writes, tried_rows, rounds_log, refused_log};
 ghost use Rattle.subviews.specs.Plans.{IsTermOf, IsBufferOf, IsPlanOf, stencil_by, planned};
 
 use crate::blocks::{near_pair, store_block};
@@ -18,7 +18,7 @@ use views::{View, laws_of_table};
 
 /// Sets a leaf in each row of a window to the sum of the terms there, divided and cut toward zero, so many times. All values of a round are
 /// worked out over the table before it, into the buffer, and only then stored. On a fault the table is that after the rounds before, and what
-/// was read counts. The buffer holds anything afterwards. It takes no memory.
+/// was read up to the named row counts. The buffer holds anything afterwards. It takes no memory.
 pub fn stencil<L: Ledger>(
     view: &mut View,
     buffer: &mut View,
@@ -37,9 +37,10 @@ pub fn stencil<L: Ledger>(
     requires buffer { IsBufferOf view.old buffer.old }
     ensures stored { OnOk result (stenciled view.old (stencil_by window.now leaf terms.now divisor) rounds ≡ Ok view.new.rows) }
     ensures refused { IfErr result (λ fault. stenciled view.old (stencil_by window.now leaf terms.now divisor) rounds ≡ Err fault) }
-    ensures before { IfErr result (λ fault. (done : ℕ) × (done < rounds)
+    ensures so_far { IfErr result (λ fault. (done : ℕ) × (done < rounds)
         × (stenciled view.old (stencil_by window.now leaf terms.now divisor) done ≡ Ok view.new.rows)
-        × (round (answer_of view.old) (stencil_by window.now leaf terms.now divisor) view.new.rows ≡ Err fault)) }
+        × (round (answer_of view.old) (stencil_by window.now leaf terms.now divisor) view.new.rows ≡ Err fault)
+        × (view.new ≡ after_stores view.old view.new.rows (refused_log (answer_of view.old) (stencil_by window.now leaf terms.now divisor) done view.new.rows))) }
     ensures counted { OnOk result (view.new ≡ after_stores view.old view.new.rows (rounds_log (stencil_by window.now leaf terms.now divisor) rounds)) }
     ensures same { view.new ≡ record view.old { rows = view.new.rows; tally = view.new.tally } }
     ensures buffer { buffer.new ≡ record buffer.old { rows = buffer.new.rows; tally = buffer.new.tally } }
@@ -80,6 +81,8 @@ fn fill<L: Ledger>(
     ensures fits { OnOk result (values_fault (answer_of view.old) (planned plan.now) view.old.rows (rows_of plan.now.window.now) ≡ Ok tt) }
     ensures refused { IfErr result (λ fault. values_fault (answer_of view.old) (planned plan.now) view.old.rows (rows_of plan.now.window.now) ≡ Err fault) }
     ensures read { OnOk result (view.new ≡ after_log view.old (round_reads (planned plan.now) (rows_of plan.now.window.now))) }
+    ensures so_far { OnErr result (view.new ≡ after_log view.old
+        (round_reads (planned plan.now) (tried_rows (answer_of view.old) (planned plan.now) view.old.rows (rows_of plan.now.window.now)))) }
     ensures same { view.new ≡ record view.old { tally = view.new.tally } }
     ensures filled { OnOk result ((row : ℕ) → Contains (rows_of plan.now.window.now) row
         → entry buffer.new.rows row plan.now.leaf ≡ new_entry (answer_of view.old) (planned plan.now) view.old.rows row) }

@@ -1,7 +1,7 @@
 use Rattle.std.proofs.Common.{◌≡◌, ◌∙◌, sym, ap, subst}
 use Rattle.map_checks.specs.Mappings.{IsBuiltTerm}
 use Rattle.map_expr.specs.Terms.{term_of, uncounted}
-use Rattle.session.proofs.Stencils.{built_uncounted, uncounted_twice}
+use Rattle.session.proofs.Stencils.{built_uncounted}
 use Rattle.session.proofs.stencil.buffer_for.Goals as goal
 
 pub new_within-requires : goal.new_within-requires
@@ -18,5 +18,5 @@ returns-in-Ok c =
       fields = c.in-Ok.ensures.schema ∙ c.schema.ensures.value;
       extents = c.in-Ok.ensures.extents ∙ c.extents.ensures.value;
       mode = c.in-Ok.ensures.mode ∙ c.mode.ensures;
-      mapping = ap uncounted (c.in-Ok.ensures.expr ∙ is) ∙ uncounted_twice mapping;
+      mapping = c.in-Ok.ensures.expr ∙ is;
     }

@@ -18,8 +18,17 @@ returns-in-Err-clause-refused g c =
     let value = c.value_at-value.result in
     let fits : FitsSigned w128 value = search rules in
     let answer = rw (to_z-of_z w128 value fits) at c.set.ensures.answer in
-    fill_stopped c.args.view.now c.loop-row.view c.args.buffer.now c.loop-row.buffer plan c.loop-row.row c.outer-outer.result value c.requires.buffer c.loop-row.invariant.0 c.outer-outer.ensures.entry c.value_at-value.ensures.value
-    c.in-Err.fault (refused_here (answer_of c.loop-row.buffer plan.leaf value) c.set.result c.in-Err.fault answer c.in-Err.is)
+    (fill_stopped c.args.view.now c.loop-row.view c.args.buffer.now c.loop-row.buffer plan c.loop-row.row c.outer-outer.result value c.requires.buffer c.loop-row.invariant.0 c.outer-outer.ensures.entry c.value_at-value.ensures.value
+    c.value_at-value.new.view c.in-Err.fault (refused_here (answer_of c.loop-row.buffer plan.leaf value) c.set.result c.in-Err.fault answer c.in-Err.is) c.value_at-value.ensures.read).0
+
+pub returns-in-Err-clause-so_far : goal.returns-in-Err-clause-so_far
+returns-in-Err-clause-so_far g c =
+    let plan = c.args.plan.now in
+    let value = c.value_at-value.result in
+    let fits : FitsSigned w128 value = search rules in
+    let answer = rw (to_z-of_z w128 value fits) at c.set.ensures.answer in
+    (fill_stopped c.args.view.now c.loop-row.view c.args.buffer.now c.loop-row.buffer plan c.loop-row.row c.outer-outer.result value c.requires.buffer c.loop-row.invariant.0 c.outer-outer.ensures.entry c.value_at-value.ensures.value
+    c.value_at-value.new.view c.in-Err.fault (refused_here (answer_of c.loop-row.buffer plan.leaf value) c.set.result c.in-Err.fault answer c.in-Err.is) c.value_at-value.ensures.read).1
 
 pub loop-row-preserved : goal.loop-row-preserved
 loop-row-preserved g c =

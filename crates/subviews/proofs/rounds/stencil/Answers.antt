@@ -3,7 +3,7 @@ use Rattle.std.proofs.lemmas.Int.{to_z-of_z}
 use Rattle.subviews.specs.Stencils.{stenciled}
 use Rattle.subviews.specs.Plans.{stencil_by, planned}
 use Rattle.subviews.specs.declared.rounds.Plan.{Plan}
-use Rattle.subviews.proofs.Passes.{no_round, same_after, buffer_same, round_done, round_stopped, after_more, stopped}
+use Rattle.subviews.proofs.Passes.{no_round, same_after, buffer_same, round_done, round_stopped, after_more, IsRefused, is_refused, stopped}
 use Rattle.subviews.proofs.rounds.stencil.Goals as goal
 
 pub loop-round-init : goal.loop-round-init
@@ -22,6 +22,18 @@ returns-in_err-fill-clause-refused g c =
     let same : stenciled old (stencil_by c.args.window.now c.args.leaf c.args.terms.now c.args.divisor) c.args.rounds ≡ Err fault =
     subst (λ (divisor : ℤ). stenciled old (record (planned plan) { divisor = divisor }) c.args.rounds ≡ Err fault) (to_z-of_z w64 c.from.result fits ∙ c.from.ensures) all in
     search rules
+
+pub returns-in_err-fill-clause-so_far : goal.returns-in_err-fill-clause-so_far
+returns-in_err-fill-clause-so_far g c =
+    let old = c.args.view.now in
+    let new = c.fill.new.view in
+    let plan : Plan = record { window = c.args.window; leaf = c.args.leaf; terms = c.args.terms; far = c.all_far.result; divisor = to_z w64 (of_z w64 c.from.result) } in
+    let fault = c.in_err-fill.field-0.0 in
+    let fits : FitsSigned w64 c.from.result = search rules in
+    let is : c.from_residual.result ≡ Err fault = search rules in
+    let all = is_refused old c.loop-round.view new c.args.buffer.now c.loop-round.buffer (planned plan) c.loop-round._round c.args.rounds fault c.loop-round-test.true c.loop-round.invariant
+    c.in_err-fill.ensures.refused c.in_err-fill.ensures.so_far in
+    rw is (subst (λ (divisor : ℤ). IsRefused old new (record (planned plan) { divisor = divisor }) c.args.rounds fault) (to_z-of_z w64 c.from.result fits ∙ c.from.ensures) all)
 
 pub loop-round-preserved : goal.loop-round-preserved
 loop-round-preserved g c =
