@@ -103,7 +103,7 @@ rest_read lanes count row refused some at small room is =
     let over : count < (row / lanes + 1) * lanes = omega (arith, times, mul_comm (row / lanes + 1) lanes, mul-add lanes (row / lanes) 1) in
     ap (rows_read lanes count) is ∙ read_rest lanes count row over
 
-rest_step : (lanes count row : ℕ) → 0 < lanes → IsAt lanes count row → row < count → count < row + lanes → IsStep false lanes count row 1
+rest_step : (lanes count row : ℕ) → 0 < lanes → IsAt lanes count row → row < count → count < row + lanes → (IsStep false lanes count row) 1
 rest_step lanes count row some at small room = record {
   some = omega arith;
   few = omega arith;
