@@ -191,8 +191,7 @@ int32_t llama_set(llama_view *view, uint64_t row, size_t leaf, int64_t value);
 /* The same, of a value without a sign. */
 int32_t llama_set_u64(llama_view *view, uint64_t row, size_t leaf, uint64_t value);
 
-/* ---- One leaf of many rows, to and from an array: the fast way, sixteen rows at a time where the values stand side by side as whole bytes of at
- * most 32 bits, and one load a value where they are fields of up to 57 bits. */
+/* ---- One leaf of many rows, to and from an array: the fast way. How the values are stored is asked once for many rows. */
 
 /* The values of a leaf in the rows first, first + 1 and so on, as many as the array is long: values[k] is that of row first + k. It answers as
  * llama_get does, LLAMA_NO_PLACE also where there are not so many rows, and on a refusal the array stays as it was. A view that counts accesses

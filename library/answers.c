@@ -238,7 +238,7 @@ static void runs_under(const char *line) {
             EXPECT(value, values[k]);
         }
     }
-    /* the first value that is not taken, in a block of sixteen and before one; what is before it is stored */
+    /* the first value that is not taken; what is before it is stored */
     for (k = 0; k < 100; k++) {
         values[k] = 40000 + (int64_t)k;
         naturals[k] = k == 70 ? UINT64_MAX : 7;

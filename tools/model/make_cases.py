@@ -1,12 +1,12 @@
 #!/usr/bin/env python3
-"""Writes the cases of the tables as folders of script, datasets, stdout and status.
+"""Writes the cases of the tables: a transcript for each table, and a folder for each case that no transcript can tell.
 
-usage: make_cases.py FOLDER          writes each case as FOLDER/TABLE/NAME
+usage: make_cases.py FOLDER          writes them as FOLDER/TABLE.txt and FOLDER/TABLE/NAME
        make_cases.py --check FOLDER  tells the cases that do not stand there as they are written, and what else stands there
 
-What is printed comes from the model, and must be what the table tells, which was worked out by hand. FOLDER/by_hand has the cases of no table.
+What is printed comes from the model, and must be what the table tells, which was worked out by hand. FOLDER/by_hand.txt and FOLDER/by_hand have the cases
+of no table.
 """
-import filecmp
 import pathlib
 import re
 import shutil
@@ -16,6 +16,7 @@ import tempfile
 
 import llama_model
 from tables import TABLES
+from transcripts import BadTranscript, cases_below, files_below, tree_of, write_files
 
 BY_HAND = 'by_hand'
 FULL, NO_MEMORY = 4, 5
@@ -38,8 +39,8 @@ def status_of(printed):
     return 1 if re.search(rb'line \d+: [^\n]*\n\Z', printed) else 0
 
 
-def write_inputs(case, folder):
-    folder.mkdir(parents=True)
+def inputs_of(case):
+    """The files of a case, but for what is printed and the status."""
     files = dict(case.files or {})
     if case.script is not None:
         files['script.llama'] = lines(case.script)
@@ -52,19 +53,16 @@ def write_inputs(case, folder):
     for name, value in (('into', case.into), ('room', case.room), ('memory', case.memory)):
         if value is not None:
             files[name] = f'{value}\n'.encode()
-    for name, data in files.items():
-        (folder / name).parent.mkdir(exist_ok=True)
-        (folder / name).write_bytes(data)
+    return files
 
 
-def modelled(folder, words):
-    """What the model prints for these words in a copy of the folder, where its big files are made."""
-    with tempfile.TemporaryDirectory() as room:
-        copy = pathlib.Path(room, 'case')
-        shutil.copytree(folder, copy)
-        if (copy / 'make').exists():
-            subprocess.run(['sh', 'make'], cwd=copy, check=True)
-        return llama_model.run(words, copy)
+def modelled(files, words):
+    """What the model prints for these words in a folder of the files, where the big ones are made."""
+    with tempfile.TemporaryDirectory() as folder:
+        write_files(files, folder)
+        if 'make' in files:
+            subprocess.run(['sh', 'make'], cwd=folder, check=True)
+        return llama_model.run(words, folder)
 
 
 def agrees(printed, due):
@@ -83,53 +81,59 @@ def what_is_taken(case, printed, status):
     return (b'', NO_MEMORY) if case.memory is not None else (printed, status)
 
 
-def write_case(case, folder):
-    """Writes a case; tells whether the model and the table agree."""
-    if folder.exists():
-        shutil.rmtree(folder)
-    write_inputs(case, folder)
-    printed, status = (lines(case.due), status_of(lines(case.due))) if case.by_hand else modelled(folder, case.words or ['run', 'script.llama'])
+def files_of(case):
+    """The files of a case, and whether the model and the table agree."""
+    files = inputs_of(case)
+    printed, status = (lines(case.due), status_of(lines(case.due))) if case.by_hand else modelled(files, case.words or ['run', 'script.llama'])
     taken, ended = what_is_taken(case, printed, status)
     if taken:
-        (folder / 'stdout').write_bytes(taken)
+        files['stdout'] = taken
     if ended:
-        (folder / 'status').write_text(f'{ended}\n')
+        files['status'] = f'{ended}\n'.encode()
     if agrees(printed, case.due) and status == status_of(printed):
-        return True
+        return files, True
     print(f'{case.name}\n  table: {case.due}\n  model: {printed[-400:].decode(errors="replace")}({status})')
-    return False
+    return files, False
 
 
-def is_same(one, other):
-    found = filecmp.dircmp(one, other)
-    if found.left_only or found.right_only or found.funny_files:
-        return False
-    _, differ, errors = filecmp.cmpfiles(one, other, found.common_files, shallow=False)
-    return not differ and not errors and all(is_same(one / name, other / name) for name in found.common_dirs)
+def is_by_hand(place):
+    return re.split('[/.]', place)[0] == BY_HAND
 
 
-def check(folder):
-    """Tells the cases that do not stand in the folder as they are written, and the folders there that are no case of a table."""
-    with tempfile.TemporaryDirectory() as room:
-        fresh = pathlib.Path(room)
-        wrong = [place for place, case in CASES.items() if not write_case(case, fresh / place) or not (folder / place).is_dir()
-                 or not is_same(fresh / place, folder / place)]
-    for place in wrong:
-        print(f'not as the table and the model have it: {place}')
-    found = {f'{case.parent.name}/{case.name}' for case in folder.glob('*/*') if case.parent.name != BY_HAND}
-    for place in sorted(found - CASES.keys()):
-        print(f'of no table: {place}')
-    return not wrong and found == CASES.keys()
+def check(folder, cases):
+    """Tells the cases that do not stand in the folder as they are written, and those there that are of no table. Where none differs, the files have to be
+    those that are written: each case in its form, and in the order of its table."""
+    found = {place: files for place, files in cases_below(folder).items() if not is_by_hand(place)}
+    wrong = [f'not as the table and the model have it: {place}' for place, files in cases.items() if found.get(place) != files]
+    wrong += [f'of no table: {place}' for place in found if place not in cases]
+    if not wrong:
+        due, there = tree_of(cases), {name: data for name, data in files_below(folder).items() if not is_by_hand(name)}
+        wrong = [f'not as it is written: {name}' for name in sorted(due.keys() | there.keys()) if due.get(name) != there.get(name)]
+    for how in wrong:
+        print(how)
+    return not wrong
+
+
+def write(folder, cases):
+    for table in {place.split('/')[0] for place in cases}:
+        shutil.rmtree(folder / table, ignore_errors=True)
+    write_files(tree_of(cases), folder)
 
 
 def main(words):
     assert len(CASES) == sum(len(table.CASES) for table in TABLES), 'two cases of a table have one name'
+    folder = pathlib.Path(words[-1])
+    made = {place: files_of(case) for place, case in CASES.items()}
+    good, cases = all(agree for _, agree in made.values()), {place: files for place, (files, _) in made.items()}
     if words[:1] == ['--check']:
-        good = check(pathlib.Path(words[1]))
+        good = check(folder, cases) and good
     else:
-        good = all([write_case(case, pathlib.Path(words[0], place)) for place, case in CASES.items()])
+        write(folder, cases)
     print(f'model: {len(CASES)} cases of the tables')
     return 0 if good else 1
 
 
-sys.exit(main(sys.argv[1:]))
+try:
+    sys.exit(main(sys.argv[1:]))
+except BadTranscript as bad:
+    sys.exit(f'model: {bad}')

@@ -163,11 +163,18 @@ module _ (old : Table) (filter : Option (Term ℕ)) (sets : List Setting) where
   abbrev log_step : ℕ → List Access
   log_step row = row_log (answer_of old) filter sets row (get_or old.rows row []) (index_at old.extents row)
 
-  pub one_tried : (view after : Table) (row : ℕ) → AreTried view row → IsUpdatedRow (row_step row) → after ≡ after_log view (reads_in (log_step row)) → AreTried after (row + 1)
+  -- what was read where one row more was tried
+  pub one_read : (view after : Table) (row : ℕ) → AreTried view row
+      → after ≡ after_log view (reads_in (row_log (answer_of view) filter sets row (get_or view.rows row []) (index_at view.extents row)))
+      → after ≡ after_log old (reads_in (update_log old filter sets (row + 1)))
+  one_read view after row so_far read =
+      read ∙ ap (λ (t : Table). after_log t (reads_in (row_log (answer_of t) filter sets row (get_or t.rows row []) (index_at t.extents row)))) so_far.read
+      ∙ after_log-append old (reads_in (update_log old filter sets row)) (reads_in (log_step row))
+      ∙ ap (after_log old) (sym (ap reads_in (logs_more log_step row) ∙ filter-append is_read (update_log old filter sets row) (log_step row)))
+
+  pub one_tried : (view after : Table) (row : ℕ) → AreTried view row → IsUpdatedRow (row_step row) → after ≡ after_log old (reads_in (update_log old filter sets (row + 1))) → AreTried after (row + 1)
   one_tried view after row so_far updated read = record {
-    read = read ∙ ap (λ (t : Table). after_log t (reads_in (log_step row))) so_far.read
-        ∙ after_log-append old (reads_in (update_log old filter sets row)) (reads_in (log_step row))
-        ∙ ap (after_log old) (sym (ap reads_in (logs_more log_step row) ∙ filter-append is_read (update_log old filter sets row) (log_step row)));
+    read = read;
     updated = (so_far.updated.0 ++ updated.0 ∷ [], each_more row_step row so_far.updated.0 so_far.updated.1 updated.0 updated.1);
   }
 

@@ -1,6 +1,11 @@
--- What the plain update gives.
-use Rattle.std.specs.Prelude.{◌≡◌, ℤ, List, Result, Ok, Err}
+-- What the plain update gives and reads.
+use Rattle.std.specs.Prelude.{ℕ, ◌≡◌, ◌+◌, ◌≤◌, ℤ, List, length, Option, Result, Ok, Err}
+use Rattle.expr_lang.specs.Terms.{Term}
+use Rattle.views.specs.Tables.{Table, after_log}
+use Rattle.views.specs.Tallies.{reads_in}
 use Rattle.row_updates.specs.declared.fault.UpdateFault.{UpdateFault}
+use Rattle.row_updates.specs.Logs.{update_log}
+use Rattle.row_updates.specs.Rows.{Setting}
 use Rattle.actors.specs.declared.fault.ActorFault.{ActorFault}
 use Rattle.actors.specs.declared.fault.ActorFault.TheVariants.{Update, NoMemory}
 
@@ -15,3 +20,9 @@ IsUpdatedRow updated = (row : List ℤ) × (updated ≡ Ok row)
 abbrev pub IsMet : Result (List (List ℤ)) UpdateFault → ActorFault → Type 0
 IsMet updated (Update fault) = updated ≡ Err fault
 IsMet updated NoMemory = Unit {0}
+
+-- what is counted where there is no run: the reads of the plain update up to and with the row of its fault, or, where memory ran out, those of
+-- some of the first rows
+abbrev pub HasRead : Table → Option (Term ℕ) → List Setting → Table → ActorFault → Type 0
+HasRead old filter sets view (Update fault) = view ≡ after_log old (reads_in (update_log old filter sets (fault.row + 1)))
+HasRead old filter sets view NoMemory = (count : ℕ) × (count ≤ length old.rows) × (view ≡ after_log old (reads_in (update_log old filter sets count)))

@@ -1,9 +1,8 @@
 // Blobs of a run: copies of those of a view, and single rows and bytes of them.
 ghost use Rattle.std.specs.Prelude.{◌≡◌, ◌<◌, ◌≤◌, IfOk, length, map};
 ghost use Rattle.blobs.specs.Bits.{bit_in};
-ghost use Rattle.places.specs.Image.{entry};
 ghost use Rattle.places.specs.Writes.{IsWrite};
-ghost use Rattle.piece_bits.specs.Tables.{AreSized, table_in};
+ghost use Rattle.piece_bits.specs.Tables.{AreSized};
 ghost use Rattle.views.specs.Tables.{leaf_count_of, owners_of};
 ghost use Rattle.actor_steps.specs.Agree.{IsLawful};
 ghost use Rattle.actor_steps.specs.Jobs.{memory_of, fresh_of};
@@ -13,7 +12,7 @@ ghost use Rattle.actors.specs.Rows.{row_held, HasByte};
 use actor_steps::Place;
 use blobs::Blob;
 use kept_numbers::{declared, held};
-use piece_bits::{decode, encode, read_pieces, write_pieces};
+use piece_bits::{encode, read_entry, write_pieces};
 use places::{Mapping, laws_of};
 use std::alloc::{AllocError as NoMemory, Global};
 use views::{BlobList, View, laws_of_table};
@@ -74,21 +73,9 @@ pub fn read_held(view: &View, blobs: &[Blob], row: u64, values: &mut [i128])
 {
     laws_of_view(view);
     for leaf in 0..values.len() {
-        let raw = raw_entry(view.map(), blobs, row, leaf);
+        let raw = read_entry(view.map(), blobs, row, leaf);
         values[leaf] = declared(view.schema().leaf_type(leaf), raw);
     }
-}
-
-// The raw number of a leaf in a row that blobs hold.
-fn raw_entry<M: Mapping>(mapping: &M, blobs: &[Blob], slot: u64, cell: usize) -> i128
-    requires slot_in { slot < M.slot_count mapping.now }
-    requires cell_in { cell < length (M.cell_list mapping.now) }
-    requires sized { AreSized (M.layout mapping.now) blobs.now }
-    ensures { result ≡ entry (table_in (M.layout mapping.now) (M.slot_count mapping.now) (M.hold_list mapping.now) blobs.now) slot cell }
-{
-    let hold = mapping.hold(cell);
-    let pieces = mapping.locate(slot, cell);
-    decode(hold, read_pieces(blobs, pieces.as_slice()))
 }
 
 /// The byte at a place.

@@ -8,7 +8,7 @@ ghost use Rattle.views.specs.Tables.{answer_of, kept_of, after_log, leaf_count_o
 ghost use Rattle.actor_steps.specs.Jobs.{job_of, memory_of};
 ghost use Rattle.actor_steps.specs.Micro.{test_of, filter_reads, set_reads};
 ghost use Rattle.actors.specs.Rows.{IsPlanOf, ArePlans, marked};
-ghost use Rattle.actors.specs.Updates.{IsUpdated, IsUpdatedRow, IsMet};
+ghost use Rattle.actors.specs.Updates.{HasRead, IsUpdated, IsUpdatedRow, IsMet};
 ghost use Rattle.views.specs.Tallies.{reads_in};
 
 use crate::fault::ActorFault;
@@ -62,6 +62,7 @@ pub fn plan_rows<L: Ledger>(
         (reads_in (update_log view.old (filter_term filter.entry) (map setting_of sets.now) (length view.old.rows)))) }
     ensures refused { IfErr result (IsMet (updated_of view.old (filter_term filter.entry) (map setting_of sets.now) (length view.old.rows))) }
     ensures stands { OnErr result (view.new ≡ record view.old { tally = view.new.tally }) }
+    ensures so_far { IfErr result (HasRead view.old (filter_term filter.entry) (map setting_of sets.now) view.new) }
 {
     let mut plans = Vec::new(alloc);
     for row in 0..view.extents().count() {
@@ -89,6 +90,7 @@ fn plan_row<L: Ledger>(
         row (slice_index_or view.old.rows row []) (index_at view.old.extents row))) }
     ensures refused { IfErr result (λ fault. updated_row (answer_of view.old) (kept_of view.old) (filter_term filter.entry) (map setting_of sets.now)
         row (slice_index_or view.old.rows row []) (index_at view.old.extents row) ≡ Err fault) }
+    ensures named { IfErr result (λ fault. fault.row ≡ row) }
     ensures read { view.new ≡ after_log view.old (reads_in (row_log (answer_of view.old) (filter_term filter.entry)
         (map setting_of sets.now) row (slice_index_or view.old.rows row []) (index_at view.old.extents row))) }
 {

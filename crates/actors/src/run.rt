@@ -9,7 +9,7 @@ ghost use Rattle.actor_steps.specs.Schedules.{turns_left};
 ghost use Rattle.actor_steps.specs.Shared.{shared_byte};
 ghost use Rattle.actors.specs.Kept.{IsReached};
 ghost use Rattle.actors.specs.Runs.{IsDone, IsPlain, IsStoredBack, uncounted, started_run, after_turns, finished_from, rest_in, has_any};
-ghost use Rattle.actors.specs.Updates.{IsMet, IsUpdated};
+ghost use Rattle.actors.specs.Updates.{HasRead, IsMet, IsUpdated};
 ghost use Rattle.views.specs.Tallies.{reads_in};
 
 use crate::actor::{Actor, turn_of};
@@ -79,8 +79,8 @@ impl<'a> Model for ActorRun<'a> {
 
 impl<'a> ActorRun<'a> {
     /// A run whose memory begins as the view's blobs, and whose actors have the rows between the cuts. No byte of the view holds bits of rows of
-    /// two actors. `Update` comes exactly where the plain update would meet this fault. The table stands on each answer; exactly the reads of the
-    /// plain update are counted where there is a run.
+    /// two actors. `Update` comes exactly where the plain update would meet this fault. The table stands on each answer. Exactly the reads of the
+    /// plain update are counted where there is a run, those up to the named row on a fault, and those of some first rows where memory ran out.
     pub fn new<L: Ledger>(
         alloc: Global,
         view: &mut View,
@@ -102,6 +102,7 @@ impl<'a> ActorRun<'a> {
             (reads_in (update_log view.old (filter_term filter.entry) (map setting_of sets.now) (length view.old.rows)))) }
         ensures refused { IfErr result (IsMet (updated_of view.old (filter_term filter.entry) (map setting_of sets.now) (length view.old.rows))) }
         ensures stands { OnErr result (view.new ≡ record view.old { tally = view.new.tally }) }
+        ensures so_far { IfErr result (HasRead view.old (filter_term filter.entry) (map setting_of sets.now) view.new) }
     {
         laws_of_view(view);
         let found = copied_blobs(alloc, view)?;

@@ -1,5 +1,5 @@
 -- Cells that are chosen one after another.
-use Rattle.std.proofs.Common.{◌≡◌, ℕ, ◌+◌, ◌<◌, ◌≤◌, ◌==◌, Bool, true, false, List, [], ◌∷◌, ◌++◌, All, length, get_or, refl, sym, ap, ◌∙◌, ⊎_elim, arith}
+use Rattle.std.proofs.Common.{◌≡◌, ℕ, ◌+◌, ◌<◌, ◌==◌, Bool, true, false, List, [], ◌∷◌, ◌++◌, All, get_or, refl, sym, ap, ◌∙◌, ⊎_elim, arith}
 use Rattle.std.specs.Prelude.{◌||◌}
 use Rattle.std.specs.List.{list_any}
 use Rattle.std.proofs.lemmas.Bool.{ne_eqb, eq-eqb, cases_eq}
@@ -10,9 +10,6 @@ use Rattle.std.proofs.lemmas.List.Folds.{list_any-append, list_any_none}
 pub record AreChosen (wanted : ℕ → Bool) (count : ℕ) (chosen : List ℕ) : Type 0 where
   pub inside : All (λ cell. cell < count) chosen
   pub right : (cell : ℕ) → cell < count → list_any (λ other. other == cell) chosen ≡ wanted cell
-
-pub none_chosen : (wanted : ℕ → Bool) → AreChosen wanted 0 []
-none_chosen wanted = record { inside = λ k d l. absurd (omega (arith, l)); right = λ cell l. absurd (omega (arith, l)) }
 
 wider : (count : ℕ) (chosen : List ℕ) → All (λ cell. cell < count) chosen → All (λ cell. cell < count + 1) chosen
 wider count chosen inside = λ k d l. omega (arith, inside k d l)

@@ -1,13 +1,15 @@
 -- What the answers of a mapping's constructor say of an expression with the limits of granules.
-use Rattle.std.proofs.Common.{◌≡◌, ℕ, ◌*◌, ◌^◌, ◌<◌, ◌≤◌, ◌⊎◌, ⊎_elim, inl, inr, Bool, true, false, List, length, Ok, Err, refl, sym, ap, ◌∙◌, subst, arith}
-use Rattle.std.specs.Prelude.{◌||◌, nat_lt, nat_le, sum_by, Result}
-use Rattle.std.proofs.lemmas.Bool.{or_left, or_right, or_from, lt-ltb, le-ltb, leb-false, cases_lt}
+use Rattle.std.proofs.Common.{◌≡◌, ℕ, ◌*◌, ◌^◌, ◌<◌, ◌≤◌, ◌⊎◌, ⊎_elim, inl, inr, Bool, true, false, List, length, Ok, Err, refl, sym, ap, ◌∙◌, subst}
+use Rattle.std.specs.Prelude.{nat_lt, nat_le, sum_by, Result}
+use Rattle.std.proofs.lemmas.Bool.{true≢false, or_left, or_right, or_from, lt-ltb, le-ltb, leb-false, cases_lt}
 use Rattle.record_dim.specs.Trees.{Fields}
 use Rattle.places.specs.Layout.{Owner}
 use Rattle.places.specs.declared.piece.Cell.{Cell}
 use Rattle.map_expr.specs.Terms.{Term}
 use Rattle.map_expr.specs.declared.check.BadMapping.{BadMapping}
-use Rattle.map_checks.specs.Mappings.{layout_of, most_slots, accepted, IsTooBigFor, IsRefusal}
+use Rattle.map_expr.specs.declared.check.BadMapping.TheVariants.{NotFull}
+use Rattle.map_any.proofs.Built.{good_parts}
+use Rattle.map_checks.specs.Mappings.{layout_of, most_slots, accepted, not_full, IsTooBigFor, IsRefusal}
 use Rattle.map_checks.specs.declared.fault.MakeMap.{MakeMap}
 use Rattle.map_checks.specs.declared.fault.MakeMap.TheVariants.{Bad, TooBig, NoMemory}
 use Rattle.instrument.specs.Counters.{granules_in}
@@ -17,6 +19,17 @@ use Rattle.advisor.specs.Judged.{is_over, limited, judged}
 limited_bad : (over : Bool) (bad : BadMapping) → limited over (Err bad) ≡ Err (Bad bad)
 limited_bad true bad = refl
 limited_bad false bad = refl
+
+-- what no plan is made of though it is accepted is over a limit
+pub plan_refused : (term : Term) (extents : List ℕ) (fields : Fields) (cells : List Cell) → accepted term fields cells ≡ Ok tt → (e : MakeMap)
+    → (e ≡ TooBig → IsTooBigFor term extents fields cells) → (e ≡ Bad NotFull → not_full term fields cells ≡ true) → (e ≡ TooBig) ⊎ ((e ≡ Bad NotFull) ⊎ (e ≡ NoMemory))
+    → IsRefusal term extents fields cells e
+plan_refused term extents fields cells good e big part only =
+    ⊎_elim (λ (is : e ≡ TooBig). subst (IsRefusal term extents fields cells) (sym is) (good, big is))
+    (λ (other : (e ≡ Bad NotFull) ⊎ (e ≡ NoMemory)). ⊎_elim
+    (λ (is : e ≡ Bad NotFull). absurd (true≢false (sym (part is) ∙ good_parts term fields cells good)))
+    (λ (is : e ≡ NoMemory). subst (IsRefusal term extents fields cells) (sym is) tt) other)
+    only
 
 module _ (granule : ℕ) (term : Term) (extents : List ℕ) (fields : Fields) (cells : List Cell) where
   abbrev slots : ℕ

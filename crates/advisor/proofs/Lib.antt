@@ -1,6 +1,8 @@
 pub mod WarmLaws
 pub mod SteadyLaws
+pub mod CurveLaws
 pub mod SweepLaws
+pub mod RuledLaws
 pub mod Chosen
 pub mod JudgedLaws
 pub mod SplitLaws
@@ -9,4 +11,5 @@ pub mod Listing
 pub mod PoolLaws
 pub mod Cheapest
 pub mod Tried
+pub mod TriedRuns
 pub mod Advising

@@ -1,5 +1,5 @@
 -- What a split is where its sides are known: whether it is accepted, its limits and what it costs.
-use Rattle.std.proofs.Common.{◌≡◌, ℕ, ◌+◌, ◌*◌, ◌/◌, ◌^◌, ◌≤◌, Bool, true, false, List, [], ◌∷◌, length, map, get_or, max, None, Some, Ok, Err, refl, sym, ap, ◌∙◌, arith, cond}
+use Rattle.std.proofs.Common.{◌≡◌, ℕ, ◌+◌, ◌*◌, ◌/◌, ◌^◌, ◌≤◌, Bool, true, false, List, [], ◌∷◌, length, map, get_or, max, None, Some, Ok, Err, refl, ap, ◌∙◌, arith, cond}
 use Rattle.std.specs.Prelude.{◌||◌, not, nat_lt, sum_by, filter, Option, Result, if◌then◌else◌}
 use Rattle.std.specs.List.{enumerate_from}
 use Rattle.std.specs.Option.{option_or}
@@ -23,8 +23,6 @@ use Rattle.map_expr.specs.declared.check.BadMapping.TheVariants.{TooDeep, Counte
 use Rattle.map_checks.specs.Mappings.{layout_of, most_slots, bad_side, bad_field, not_full, else_for, accepted, leaf_cells}
 use Rattle.map_checks.specs.Sides.{side_of, cells_under, cells_beside}
 use Rattle.map_checks.specs.TermLaws.{neither_of}
-use Rattle.map_checks.specs.declared.fault.MakeMap.{MakeMap}
-use Rattle.map_checks.specs.declared.fault.MakeMap.TheVariants.{Bad, TooBig}
 use Rattle.instrument.specs.Counters.{granules_of, granules_in}
 use Rattle.views.specs.Tallies.{blob_lengths}
 use Rattle.advisor.specs.declared.pass.Pass.{Pass}

@@ -1,19 +1,20 @@
 -- Slots whose pieces follow each other by at most a granule touch the granules of one long piece.
-use Rattle.std.proofs.Common.{◌≡◌, ℕ, zero, suc, ◌+◌, ◌-◌, ◌*◌, ◌/◌, ◌%◌, ◌<◌, ◌≤◌, ◌^◌, max, Bool, true, false, refl, sym, ap, ◌∙◌, ⊎_elim, get_or, arith}
-use Rattle.std.specs.Prelude.{◌==◌, ◌||◌, min, nat_lt}
+use Rattle.std.proofs.Common.{◌≡◌, ℕ, zero, suc, ◌+◌, ◌-◌, ◌*◌, ◌/◌, ◌%◌, ◌<◌, ◌≤◌, ◌^◌, max, Bool, true, false, List, ◌∷◌, ◌++◌, refl, sym, ap, ◌∙◌, ⊎_elim, get_or, arith}
+use Rattle.std.specs.Prelude.{◌==◌, ◌&&◌, ◌||◌, min, nat_lt}
 use Rattle.std.specs.List.{list_any, range_with_len}
 use Rattle.std.proofs.Math.Nat.{mod-lt}
 use Rattle.std.proofs.lemmas.Bool.{cases_lt, and_from, and_parts, eq-eqb, eqb-true, lt-ltb, ltb-true}
 use Rattle.std.proofs.lemmas.List.FromFn.{get_or-range_with_len, length-range_with_len}
-use Rattle.std.proofs.lemmas.List.Folds.{Any-from_list_any, list_any_at}
-use Rattle.std.proofs.lemmas.Grind.{div_ceil_times}
-use Rattle.std.proofs.lemmas.Nat.{div-mul-add, mod-mul-add, div-add-mod', mul-le}
+use Rattle.std.proofs.lemmas.List.Folds.{Any-from_list_any, list_any_at, list_any-append}
+use Rattle.std.proofs.lemmas.Nat.{div-mul-add, mod-mul-add, div-add-mod'}
+use Rattle.extents.specs.declared.order.Order.{Order}
 use Rattle.places.specs.Touched.{is_in_granule}
 use Rattle.places.specs.declared.piece.Piece.{Piece}
 use Rattle.instrument.specs.Counters.{HeatCounts, IsInside}
 use Rattle.piece_rules.specs.PieceRules.{begin_in, piece_in}
 use Rattle.piece_rules.specs.declared.rule.PieceRule.{PieceRule}
-use Rattle.advisor.specs.Steady.{IsSteady, HasSteps, is_run_touched, long_piece}
+use Rattle.advisor.specs.Curve.{has_row}
+use Rattle.advisor.specs.Steady.{IsSteady, HasSteps, is_run_touched, are_rows_touched, long_piece}
 use Rattle.advisor.specs.TouchedLaws.{same_tests}
 
 -- ---- which slots are
@@ -78,6 +79,17 @@ module _ (wide : ℕ) (rule : PieceRule) where
   -- one slot alone
   pub one_steady : (start count : ℕ) → count ≤ 1 → IsSteady wide rule start count
   one_steady start count few = record { on = λ slot l. absurd (omega (arith, l, few)); near = λ slot l. absurd (omega (arith, l, few)) }
+
+  -- some of them, one behind another
+  pub part_steady : (start most first count : ℕ) → IsSteady wide rule start most → first + count ≤ most → IsSteady wide rule (start + first) count
+  part_steady start most first count steady fits = record {
+    on = λ slot l. (let here : begin_in rule (start + (first + slot)) ≡ begin_in rule (start + first + slot) = ap (begin_in rule) (omega arith) in
+        let next : begin_in rule (start + (first + slot + 1)) ≡ begin_in rule (start + first + (slot + 1)) = ap (begin_in rule) (omega arith) in
+        omega (arith, here, next, steady.on (first + slot) (omega (arith, l, fits))));
+    near = λ slot l. (let here : begin_in rule (start + (first + slot)) ≡ begin_in rule (start + first + slot) = ap (begin_in rule) (omega arith) in
+        let next : begin_in rule (start + (first + slot + 1)) ≡ begin_in rule (start + first + (slot + 1)) = ap (begin_in rule) (omega arith) in
+        omega (arith, here, next, steady.near (first + slot) (omega (arith, l, fits))));
+  }
 
 -- ---- what they touch
 
@@ -195,51 +207,32 @@ long_inside heat rule start count end last = record {
 
 -- ---- more slots
 
-or_more : (a b c : Bool) → (a || (b || c)) ≡ ((a || b) || c)
-or_more true b c = refl
-or_more false b c = refl
-
 -- some numbers, and those behind them
-any_cut : (p : ℕ → Bool) (a m n : ℕ) → list_any p (range_with_len a (m + n)) ≡ (list_any p (range_with_len a m) || list_any p (range_with_len (a + m) n))
-any_cut p a zero n =
+pub range_cut : (a m n : ℕ) → range_with_len a (m + n) ≡ range_with_len a m ++ range_with_len (a + m) n
+range_cut a zero n =
     let left : 0 + n ≡ n = omega arith in
     let right : a ≡ a + 0 = omega arith in
-    ap (λ (k : ℕ). list_any p (range_with_len a k)) left ∙ ap (λ (k : ℕ). list_any p (range_with_len k n)) right
-any_cut p a (suc m) n =
+    ap (range_with_len a) left ∙ ap (λ (k : ℕ). range_with_len k n) right
+range_cut a (suc m) n =
     let e : suc m + n ≡ suc (m + n) = omega arith in
     let next : a + 1 + m ≡ a + suc m = omega arith in
-    ap (λ (k : ℕ). list_any p (range_with_len a k)) e
-    ∙ ap (λ (b : Bool). p a || b) (any_cut p (a + 1) m n ∙ ap (λ (k : ℕ). list_any p (range_with_len (a + 1) m) || list_any p (range_with_len k n)) next)
-    ∙ or_more (p a) (list_any p (range_with_len (a + 1) m)) (list_any p (range_with_len (a + suc m) n))
+    ap (range_with_len a) e ∙ ap (λ (ns : List ℕ). a ∷ ns) (range_cut (a + 1) m n ∙ ap (λ (k : ℕ). range_with_len (a + 1) m ++ range_with_len k n) next)
+
+any_cut : (p : ℕ → Bool) (a m n : ℕ) → list_any p (range_with_len a (m + n)) ≡ (list_any p (range_with_len a m) || list_any p (range_with_len (a + m) n))
+any_cut p a m n = ap (list_any p) (range_cut a m n) ∙ list_any-append p (range_with_len a m) (range_with_len (a + m) n)
 
 pub or_false : (b : Bool) → (b || false) ≡ b
 or_false true = refl
 or_false false = refl
 
--- one number more
-pub any_more : (p : ℕ → Bool) (n : ℕ) → list_any p (range_with_len 0 (n + 1)) ≡ (list_any p (range_with_len 0 n) || p n)
-any_more p n =
-    let at : 0 + n ≡ n = omega arith in
-    any_cut p 0 n 1 ∙ ap (λ (b : Bool). list_any p (range_with_len 0 n) || b) (or_false (p (0 + n)) ∙ ap p at)
+pub touched_more : (granule : ℕ) (rule : PieceRule) (start done more : ℕ) (blob at : ℕ)
+    → is_run_touched granule rule start (done + more) blob at ≡ (is_run_touched granule rule start done blob at || is_run_touched granule rule (start + done) more blob at)
+touched_more granule rule start done more blob at = any_cut (λ slot. is_in_granule granule blob at (piece_in rule slot)) start done more
 
-pub touched_more : (granule : ℕ) (rule : PieceRule) (start more total : ℕ) → start + more ≡ total → (blob at : ℕ)
-    → is_run_touched granule rule 0 total blob at ≡ (is_run_touched granule rule 0 start blob at || is_run_touched granule rule start more blob at)
-touched_more granule rule start more total sum blob at =
-    let test : ℕ → Bool = λ slot. is_in_granule granule blob at (piece_in rule slot) in
-    let begins : 0 + start ≡ start = omega arith in
-    ap (λ (n : ℕ). list_any test (range_with_len 0 n)) (sym sum) ∙ any_cut test 0 start more
-    ∙ ap (λ (n : ℕ). list_any test (range_with_len 0 start) || list_any test (range_with_len n more)) begins
-
--- a run that is not behind the last begins below their number
-pub run_begins : (slots most run : ℕ) → 0 < most → run < slots / most + min 1 (slots % most) → run * most < slots
-run_begins slots most run some low =
-    let past = (div_ceil_times slots most some).1 in
-    let next : (run + 1) * most ≤ (slots / most + min 1 (slots % most)) * most = mul-le (run + 1) most (slots / most + min 1 (slots % most)) most (omega (arith, low)) (omega arith) in
-    let more : (run + 1) * most ≡ run * most + most = grind arith in
-    omega (arith, past, next, more)
-
--- and ends where the next one does, or at their number
-pub run_ends : (slots most run : ℕ) → run * most < slots → min (run * most) slots + min most (slots - run * most) ≡ min ((run + 1) * most) slots
-run_ends slots most run low =
-    let more : (run + 1) * most ≡ run * most + most = grind arith in
-    omega (arith, low, more)
+pub rows_more : (granule : ℕ) (order : Order) (extents : List ℕ) (rules : List PieceRule) (slot more : ℕ) (blob at : ℕ)
+    → are_rows_touched granule order extents rules 0 (slot + more) blob at
+    ≡ (are_rows_touched granule order extents rules 0 slot blob at || are_rows_touched granule order extents rules slot more blob at)
+rows_more granule order extents rules slot more blob at =
+    let begins : 0 + slot ≡ slot = omega arith in
+    any_cut (λ one. has_row order extents one && list_any (λ rule. is_in_granule granule blob at (piece_in rule one)) rules) 0 slot more
+    ∙ ap (λ (n : ℕ). are_rows_touched granule order extents rules 0 slot blob at || are_rows_touched granule order extents rules n more blob at) begins

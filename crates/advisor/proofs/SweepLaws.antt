@@ -1,23 +1,31 @@
--- The granules that hold a bit of a cell are those that it touches in all rows, and those that its rules touch in all slots.
-use Rattle.std.proofs.Common.{◌≡◌, ℕ, ◌+◌, ◌<◌, ◌≤◌, ◌==◌, Bool, true, List, All, length, get_or, refl, sym, ap, ◌∙◌, subst, arith}
+-- The granules that hold a bit of a cell are those that its rule touches in the slots of all rows.
+use Rattle.std.proofs.Common.{◌≡◌, ℕ, zero, suc, ◌+◌, ◌<◌, ◌≤◌, ◌==◌, Bool, true, false, List, All, Option, Some, None, length, get_or, refl, sym, ap, ◌∙◌, subst, arith}
+use Rattle.std.specs.Prelude.{◌&&◌, ◌||◌, is_some}
 use Rattle.std.specs.List.{list_any, range_with_len}
-use Rattle.std.proofs.lemmas.Bool.{eq-eqb, eqb-true}
+use Rattle.std.proofs.lemmas.Bool.{true≢false, eq-eqb, eqb-true, and_parts, and_from}
 use Rattle.std.proofs.lemmas.List.{length-map, get_or-map}
 use Rattle.std.proofs.lemmas.List.FromFn.{get_or-range_with_len, length-range_with_len}
 use Rattle.std.proofs.lemmas.List.Folds.{Any-from_list_any, list_any_at}
+use Rattle.extents.specs.Indices.{indices}
+use Rattle.extents.specs.declared.order.Order.{Order}
+use Rattle.linearize.specs.Slots.{row_at, slot_at, slot_count}
+use Rattle.linearize.specs.SlotsLaws.{row_at-slot_at, slot_at-row_at, slot_at_below}
 use Rattle.places.specs.Layout.{Owner}
-use Rattle.places.specs.Laws.{IsLaidOut, IsPiece}
-use Rattle.places.specs.Touched.{is_in_granule, is_touched, is_hot}
+use Rattle.places.specs.Laws.{IsLaidOut, IsLocated, IsPiece}
+use Rattle.places.specs.Touched.{is_in_granule, is_hot}
 use Rattle.places.specs.TouchedLaws.{touched_hot as pieces_hot}
 use Rattle.piece_rules.specs.PieceRules.{piece_in, pieces_in}
 use Rattle.piece_rules.specs.declared.rule.PieceRule.{PieceRule}
-use Rattle.map_any.specs.SlotRules.{ArePlacesOf}
+use Rattle.map_plans.specs.Ruled.{IsRuleOf}
+use Rattle.map_plans.specs.declared.rule.Rule.{Rule}
 use Rattle.instrument.specs.Counters.{HeatCounts, IsInside}
 use Rattle.views.specs.Kept.{HasGranules}
 use Rattle.views.specs.CountLaws.{piece_inside}
+use Rattle.advisor.specs.Curve.{has_row}
 use Rattle.advisor.specs.Touched.{holds_cell}
 use Rattle.advisor.specs.TouchedLaws.{IsTouchedBy, same_tests, any_map, touched_hot}
-use Rattle.advisor.specs.Steady.{is_run_touched, are_slots_touched}
+use Rattle.advisor.specs.Steady.{are_rows_touched, are_slots_touched}
+use Rattle.advisor.proofs.WarmLaws.{any_swap}
 
 -- one of the first numbers passes a test
 low_any : (test : ℕ → Bool) (count n : ℕ) → n < count → test n ≡ true → list_any test (range_with_len 0 count) ≡ true
@@ -32,53 +40,91 @@ any_low test count e =
     let at : found.1 ≡ 0 + found.0 = sym found.3 ∙ get_or-range_with_len 0 count found.0 found.1 low in
     (found.1, omega (arith, low, at), found.4)
 
-module _ (layout : List (List Owner)) (slots : ℕ) (widths : List ℕ) (laid : IsLaidOut layout slots widths) (granule cell : ℕ) where
-  by : (blob at : ℕ) → IsTouchedBy layout slots (length widths) (λ other. cell == other) granule blob at
-  by blob at = touched_hot layout slots widths laid (λ other. cell == other) granule blob at
+-- ---- slots that rows have, and others
 
-  -- row by row
-  pub rows_hold : (blob at : ℕ) → list_any (λ row. is_hot layout granule row cell blob at) (range_with_len 0 slots) ≡ holds_cell layout granule cell blob at
+-- numbers that all pass another test, or none
+any_both : (guard test : ℕ → Bool) (start count : ℕ) → ((k : ℕ) → k < count → guard (start + k) ≡ true)
+    → list_any (λ n. guard n && test n) (range_with_len start count) ≡ list_any test (range_with_len start count)
+any_both guard test start zero each = refl
+any_both guard test start (suc count) each =
+    let first : start + 0 ≡ start = omega arith in
+    let here : guard start ≡ true = ap guard (sym first) ∙ each 0 (omega arith) in
+    ap (λ (b : Bool). (b && test start) || list_any (λ n. guard n && test n) (range_with_len (start + 1) count)) here
+    ∙ ap (λ (b : Bool). test start || b) (any_both guard test (start + 1) count (λ k l.
+    (let next : start + suc k ≡ start + 1 + k = omega arith in ap guard (sym next) ∙ each (suc k) (omega (arith, l)))))
+
+any_neither : (guard test : ℕ → Bool) (start count : ℕ) → ((k : ℕ) → k < count → guard (start + k) ≡ false) → list_any (λ n. guard n && test n) (range_with_len start count) ≡ false
+any_neither guard test start zero each = refl
+any_neither guard test start (suc count) each =
+    let first : start + 0 ≡ start = omega arith in
+    let here : guard start ≡ false = ap guard (sym first) ∙ each 0 (omega arith) in
+    ap (λ (b : Bool). (b && test start) || list_any (λ n. guard n && test n) (range_with_len (start + 1) count)) here
+    ∙ any_neither guard test (start + 1) count (λ k l.
+    (let next : start + suc k ≡ start + 1 + k = omega arith in ap guard (sym next) ∙ each (suc k) (omega (arith, l))))
+
+module _ (granule : ℕ) (order : Order) (extents : List ℕ) (rules : List PieceRule) (start count blob at : ℕ) where
+  in_slot : ℕ → PieceRule → Bool
+  in_slot slot rule = is_in_granule granule blob at (piece_in rule slot)
+
+  pub run_of_rows : ((k : ℕ) → k < count → has_row order extents (start + k) ≡ true) → are_rows_touched granule order extents rules start count blob at ≡ are_slots_touched granule rules start count blob at
+  unfolding in_slot
+  run_of_rows each =
+      any_both (has_row order extents) (λ slot. list_any (in_slot slot) rules) start count each
+      ∙ same_tests (list_any (λ slot. list_any (in_slot slot) rules) (range_with_len start count)) (list_any (λ rule. list_any (λ slot. in_slot slot rule) (range_with_len start count)) rules)
+      (any_swap in_slot (range_with_len start count) rules) (any_swap (λ rule slot. in_slot slot rule) rules (range_with_len start count))
+
+  pub run_of_none : ((k : ℕ) → k < count → has_row order extents (start + k) ≡ false) → are_rows_touched granule order extents rules start count blob at ≡ false
+  unfolding in_slot
+  run_of_none each = any_neither (has_row order extents) (λ slot. list_any (in_slot slot) rules) start count each
+
+-- ---- the rule of a cell
+
+-- the row of a slot that has one
+row_of : (order : Order) (extents : List ℕ) (slot : ℕ) → has_row order extents slot ≡ true → (row : ℕ) × (row < length (indices extents)) × (slot_at order extents row ≡ slot)
+row_of order extents slot has = of (row_at order extents slot) has (λ row at. slot_at-row_at order extents slot row at) where
+  of : (found : Option ℕ) → is_some found ≡ true → ((row : ℕ) → found ≡ Some row → (row < length (indices extents)) × (slot_at order extents row ≡ slot))
+      → (row : ℕ) × (row < length (indices extents)) × (slot_at order extents row ≡ slot)
+  of None is each = absurd (true≢false (sym is))
+  of (Some row) is each = let row_is = each row refl in (row, row_is.0, row_is.1)
+
+module _ (layout : List (List Owner)) (extents widths : List ℕ) (laid : IsLaidOut layout (length (indices extents)) widths) (granule cell : ℕ)
+    (rule : Rule) (places : IsRuleOf layout extents cell (get_or widths cell 0) rule) where
+  by : (blob at : ℕ) → IsTouchedBy layout (length (indices extents)) (length widths) (λ other. cell == other) granule blob at
+  by blob at = touched_hot layout (length (indices extents)) widths laid (λ other. cell == other) granule blob at
+
+  located : (row slot : ℕ) → row < length (indices extents) → slot_at rule.order extents row ≡ slot → IsLocated layout row cell (get_or widths cell 0) (pieces_in rule.pieces.items slot)
+  located row slot low at = subst (λ (s : ℕ). IsLocated layout row cell (get_or widths cell 0) (pieces_in rule.pieces.items s)) at (places.places row low)
+
+  -- it touches the granules of the cell in its row
+  slot_hot : (row slot : ℕ) → row < length (indices extents) → slot_at rule.order extents row ≡ slot → (blob at : ℕ)
+      → list_any (λ piece. is_in_granule granule blob at (piece_in piece slot)) rule.pieces.items ≡ is_hot layout granule row cell blob at
+  slot_hot row slot low at blob place =
+      sym (any_map (is_in_granule granule blob place) (λ (piece : PieceRule). piece_in piece slot) rule.pieces.items) ∙ pieces_hot laid (located row slot low at) granule blob place
+
+  pub rows_hold : (blob at : ℕ) → are_rows_touched granule rule.order extents rule.pieces.items 0 (slot_count rule.order extents) blob at ≡ holds_cell layout granule cell blob at
   rows_hold blob at =
+      let slots = slot_count rule.order extents in
+      let in_slot : ℕ → Bool = λ slot. list_any (λ piece. is_in_granule granule blob at (piece_in piece slot)) rule.pieces.items in
+      let test : ℕ → Bool = λ slot. has_row rule.order extents slot && in_slot slot in
       same_tests _ _
-      (λ (e : list_any (λ row. is_hot layout granule row cell blob at) (range_with_len 0 slots) ≡ true).
-      (let row = any_low (λ row. is_hot layout granule row cell blob at) slots e in
-      (by blob at).only row.0 cell (record { passes = eq-eqb cell cell refl; hot = row.2 })))
+      (λ (e : list_any test (range_with_len 0 slots) ≡ true).
+      (let slot = any_low test slots e in
+      let both = and_parts (has_row rule.order extents slot.0) (in_slot slot.0) slot.2 in
+      let row = row_of rule.order extents slot.0 both.0 in
+      (by blob at).only row.0 cell (record { passes = eq-eqb cell cell refl; hot = sym (slot_hot row.0 slot.0 row.1 row.2 blob at) ∙ both.1 })))
       (λ (e : holds_cell layout granule cell blob at ≡ true).
       (let a = (by blob at).some e in
       let same : cell ≡ a.1 = eqb-true cell a.1 a.4.passes in
-      low_any (λ row. is_hot layout granule row cell blob at) slots a.0 a.2 (ap (λ (c : ℕ). is_hot layout granule a.0 c blob at) same ∙ a.4.hot)))
+      let hot : is_hot layout granule a.0 cell blob at ≡ true = ap (λ (c : ℕ). is_hot layout granule a.0 c blob at) same ∙ a.4.hot in
+      let slot : ℕ = slot_at rule.order extents a.0 in
+      low_any test slots slot (slot_at_below rule.order extents a.0 a.2)
+      (and_from (has_row rule.order extents slot) (in_slot slot) (ap (λ (o : Option ℕ). is_some o) (row_at-slot_at rule.order extents a.0 a.2)) (slot_hot a.0 slot a.2 refl blob at ∙ hot))))
 
-  -- slot by slot
-  module _ (rules : List PieceRule) (places : ArePlacesOf layout slots cell (get_or widths cell 0) rules) where
-    pub slots_hold : (blob at : ℕ) → are_slots_touched granule rules slots blob at ≡ holds_cell layout granule cell blob at
-    slots_hold blob at =
-        same_tests _ _
-        (λ (e : are_slots_touched granule rules slots blob at ≡ true).
-        (let rule = Any-from_list_any (λ rule. is_run_touched granule rule 0 slots blob at) rules e in
-        let slot = any_low (λ slot. is_in_granule granule blob at (piece_in rule.1 slot)) slots rule.4 in
-        let row = places.some slot.0 slot.1 in
-        let one : list_any (λ other. is_in_granule granule blob at (piece_in other slot.0)) rules ≡ true =
-        list_any_at (λ other. is_in_granule granule blob at (piece_in other slot.0)) rules rule.0 rule.1 rule.2
-        (ap (λ (other : PieceRule). is_in_granule granule blob at (piece_in other slot.0)) rule.3 ∙ slot.2) in
-        let touched : is_touched granule (pieces_in rules slot.0) blob at ≡ true = any_map (is_in_granule granule blob at) (λ other. piece_in other slot.0) rules ∙ one in
-        (by blob at).only row.0 cell (record { passes = eq-eqb cell cell refl; hot = sym (pieces_hot laid row.2 granule blob at) ∙ touched })))
-        (λ (e : holds_cell layout granule cell blob at ≡ true).
-        (let a = (by blob at).some e in
-        let same : cell ≡ a.1 = eqb-true cell a.1 a.4.passes in
-        let hot : is_hot layout granule a.0 cell blob at ≡ true = ap (λ (c : ℕ). is_hot layout granule a.0 c blob at) same ∙ a.4.hot in
-        let slot = places.each a.0 a.2 in
-        let touched : is_touched granule (pieces_in rules slot.0) blob at ≡ true = pieces_hot laid slot.2 granule blob at ∙ hot in
-        let one : list_any (λ other. is_in_granule granule blob at (piece_in other slot.0)) rules ≡ true =
-        sym (any_map (is_in_granule granule blob at) (λ other. piece_in other slot.0) rules) ∙ touched in
-        let rule = Any-from_list_any (λ other. is_in_granule granule blob at (piece_in other slot.0)) rules one in
-        list_any_at (λ other. is_run_touched granule other 0 slots blob at) rules rule.0 rule.1 rule.2
-        (ap (λ (other : PieceRule). is_run_touched granule other 0 slots blob at) rule.3
-        ∙ low_any (λ n. is_in_granule granule blob at (piece_in rule.1 n)) slots slot.0 slot.1 rule.4)))
-
-    -- all these pieces lie in granules that are counted
-    pub slots_inside : (heat : HeatCounts) → 1 ≤ heat.granule → HasGranules layout heat → (slot : ℕ) → slot < slots → All (λ rule. IsInside heat (piece_in rule slot)) rules
-    slots_inside heat some has slot low k d small =
-        let row = places.some slot low in
-        let many : k < length (pieces_in rules slot) = omega (arith, small, length-map rules (λ (rule : PieceRule). piece_in rule slot)) in
-        piece_inside layout heat (piece_in (get_or rules k d) slot) some laid.whole_bytes has
-        (subst (IsPiece layout) (get_or-map (λ (rule : PieceRule). piece_in rule slot) rules k d (piece_in d slot) small) (row.2.each k (piece_in d slot) many))
+  -- all these pieces lie in granules that are counted
+  pub rows_inside : (heat : HeatCounts) → 1 ≤ heat.granule → HasGranules layout heat → (slot : ℕ) → has_row rule.order extents slot ≡ true → All (λ piece. IsInside heat (piece_in piece slot)) rule.pieces.items
+  rows_inside heat some granules slot has k d small =
+      let row = row_of rule.order extents slot has in
+      let pieces = rule.pieces.items in
+      let many : k < length (pieces_in pieces slot) = omega (arith, small, length-map pieces (λ (piece : PieceRule). piece_in piece slot)) in
+      piece_inside layout heat (piece_in (get_or pieces k d) slot) some laid.whole_bytes granules
+      (subst (IsPiece layout) (get_or-map (λ (piece : PieceRule). piece_in piece slot) pieces k d (piece_in d slot) small) ((located row.0 slot row.1 row.2).each k (piece_in d slot) many))

@@ -1,15 +1,12 @@
 -- Ways of storing leaves that are tried, and what they say of candidates.
-use Rattle.std.proofs.Common.{◌≡◌, ℕ, ◌+◌, ◌<◌, Bool, true, false, ℤ, List, [], ◌∷◌, ◌++◌, All, length, map, get_or, take, refl, sym, ap, ◌∙◌, ⊎_elim, subst, arith}
+use Rattle.std.proofs.Common.{◌≡◌, ℕ, ◌+◌, ◌<◌, Bool, true, false, ℤ, List, [], ◌∷◌, ◌++◌, All, length, map, get_or, refl, sym, ap, ◌∙◌, ⊎_elim, subst, arith}
 use Rattle.std.specs.Prelude.{◌==◌, ◌&&◌, ◌||◌, not, Ok, Err, if◌then◌else◌}
 use Rattle.std.specs.List.{list_all, range_with_len}
 use Rattle.std.proofs.lemmas.Cmp.{int_eq_equiv}
 use Rattle.std.proofs.lemmas.Bool.{true≢false, cases_eq, eq-eqb, eqb-true, and_parts, and_from}
-use Rattle.std.proofs.lemmas.List.{take_more}
-use Rattle.std.proofs.lemmas.List.Folds.{list_any-append, list_all-append, list_all-map, Any-from_list_any}
+use Rattle.std.proofs.lemmas.List.Folds.{list_any-append, list_all-map, Any-from_list_any}
 use Rattle.std.proofs.lemmas.List.Sums.{AllPass-from_list_all, list_all-from_AllPass}
 use Rattle.std.proofs.lemmas.List.FromFn.{get_or-range_with_len, length-range_with_len}
-use Rattle.std.proofs.lemmas.Simd.{map-map}
-use Rattle.std.proofs.Math.Path.{fun_ext}
 use Rattle.std.proofs.lemmas.List.Elements.{All-push, All-map}
 use Rattle.record_dim.specs.Trees.{Fields}
 use Rattle.record_dim.specs.declared.leaf_type.LeafType.{LeafType}
@@ -20,9 +17,7 @@ use Rattle.views.specs.Stores.{is_between}
 use Rattle.views.specs.declared.fault.StoreFault.{StoreFault}
 use Rattle.views.specs.declared.fault.StoreFault.TheVariants.{Range, Narrow}
 use Rattle.views.specs.Columns.{in_leaf}
-use Rattle.views.specs.Tables.{Table, leaf_count_of, leaf_type_of, after_log}
-use Rattle.views.specs.Tallies.{Access, Read, row_accesses, all_accesses}
-use Rattle.views.specs.TallyLaws.{after_log-append, logs_more}
+use Rattle.views.specs.Tables.{Table, leaf_count_of, leaf_type_of}
 use Rattle.advisor.specs.Suits.{keeps, stays, leaf_stays, all_stay, suits}
 use Rattle.kept_tables.specs.declared.mode.StoreMode.{StoreMode}
 use Rattle.piece_bits.specs.Tables.{hold_at}
@@ -30,7 +25,7 @@ use Rattle.map_expr.specs.Terms.{term_of}
 use Rattle.advisor.specs.declared.candidate.Candidate.{Candidate}
 use Rattle.advisor.specs.declared.trials.Trial.{Trial}
 use Rattle.advisor.specs.Pools.{IsStored}
-use Rattle.advisor.specs.Trials.{IsTrial, IsFresh, HasTrials, same_hold, is_for, has_trial, takes, tried, tried_all, has_not_failed, none_failed}
+use Rattle.advisor.specs.Trials.{IsTrial, IsFresh, HasTrials, same_hold, is_for, has_trial, takes, tried_all, has_not_failed, none_failed}
 use Rattle.advisor.specs.TouchedLaws.{same_tests}
 use Rattle.advisor.proofs.Cheapest.{same_images}
 
@@ -115,46 +110,6 @@ one_pushed fields before holds count trials so trial is fresh leaf hold =
     (ap (λ (n : ℕ). has_trial (trials ++ trial ∷ []) n (hold_at holds count)) (sym leaf)
     ∙ ap (λ (h : Hold). has_trial (trials ++ trial ∷ []) trial.leaf h) (sym hold)
     ∙ has_pushed trials trial)
-
--- a row more
-and_more : (a b c : Bool) → ((a && b) && c) ≡ (a && (b && (c && true)))
-and_more true true true = refl
-and_more true true false = refl
-and_more true false c = refl
-and_more false b c = refl
-
-with_stays : Trial → Bool → Trial
-with_stays trial stays = record trial { stays = stays }
-
-tried_more : (mode : StoreMode) (rows : List (List ℤ)) (row : List ℤ) (trial : Trial) → tried mode row (tried_all mode rows trial) ≡ tried_all mode (rows ++ row ∷ []) trial
-unfolding with_stays
-tried_more mode rows row trial =
-    ap (with_stays trial)
-    (and_more trial.stays (list_all (takes mode trial) rows) (takes mode trial row)
-    ∙ ap (λ b. trial.stays && b) (sym (list_all-append (takes mode trial) rows (row ∷ []))))
-
-pub trials_more : (mode : StoreMode) (rows : List (List ℤ)) (row : List ℤ) (trials : List Trial)
-    → map (tried mode row) (map (tried_all mode rows) trials) ≡ map (tried_all mode (rows ++ row ∷ [])) trials
-trials_more mode rows row trials = map-map (tried mode row) (tried_all mode rows) trials ∙ ap (λ f. map f trials) (fun_ext (λ trial. tried_more mode rows row trial))
-
-pub row_read : (seen now next : Table) (row : ℕ) → next ≡ after_log now (row_accesses Read (leaf_count_of now) row) → now ≡ after_log seen (all_accesses Read (leaf_count_of seen) row)
-    → next ≡ after_log seen (all_accesses Read (leaf_count_of seen) (row + 1))
-row_read seen now next row step so =
-    let leaves = leaf_count_of seen in
-    step
-    ∙ ap (λ (table : Table). after_log table (row_accesses Read (leaf_count_of table) row)) so
-    ∙ after_log-append seen (all_accesses Read leaves row) (row_accesses Read leaves row)
-    ∙ ap (λ (log : List Access). after_log seen log) (sym (logs_more (row_accesses Read leaves) row))
-
-pub row_tried : (mode : StoreMode) (rows : List (List ℤ)) (row : ℕ) (before now next : List Trial) (used : StoreMode) (values : List ℤ) → row < length rows
-    → next ≡ map (tried used values) now → used ≡ mode → values ≡ get_or rows row [] → now ≡ map (tried_all mode (take row rows)) before → next ≡ map (tried_all mode (take (row + 1) rows)) before
-row_tried mode rows row before now next used values l step modes read so =
-    step
-    ∙ ap (λ (m : StoreMode). map (tried m values) now) modes
-    ∙ ap (λ (numbers : List ℤ). map (tried mode numbers) now) read
-    ∙ ap (λ (trials : List Trial). map (tried mode (get_or rows row [])) trials) so
-    ∙ trials_more mode (take row rows) (get_or rows row []) before
-    ∙ ap (λ (some : List (List ℤ)). map (tried_all mode some) before) (sym (take_more rows row [] l))
 
 must_stay : (stays same : Bool) → (stays || not same) ≡ true → same ≡ true → stays ≡ true
 must_stay true same passed is = refl
@@ -241,12 +196,3 @@ pub trials_now : (fields : Fields) (mode : StoreMode) (rows : List (List ℤ)) (
 trials_now fields mode rows before trials each so =
     subst (λ (ts : List Trial). All (IsTrial fields) ts) {x = map (tried_all mode rows) before} (sym so)
     (All-map (IsTrial fields) (tried_all mode rows) before (λ k d l. (let is = each k d l in record { inside = is.inside; kind_is = is.kind_is; hold = is.hold })))
-
-and_all : (b : Bool) → (b && true) ≡ b
-and_all true = refl
-and_all false = refl
-
-pub none_tried : (mode : StoreMode) (trials : List Trial) → map (tried_all mode []) trials ≡ trials
-unfolding with_stays
-none_tried mode [] = refl
-none_tried mode (trial ∷ trials) = ap (λ (b : Bool). with_stays trial b ∷ map (tried_all mode []) trials) (and_all trial.stays) ∙ ap (λ (ts : List Trial). trial ∷ ts) (none_tried mode trials)

@@ -154,7 +154,7 @@ warm_few layout heat has =
     omega (arith, most, long)
 
 -- a granule holds a bit of one of some cells where it holds a bit of some cell that is one of them
-any_swap : {X Y : Type 0} (test : X → Y → Bool) (xs : List X) (ys : List Y) → list_any (λ x. list_any (test x) ys) xs ≡ true → list_any (λ y. list_any (λ x. test x y) xs) ys ≡ true
+pub any_swap : {X Y : Type 0} (test : X → Y → Bool) (xs : List X) (ys : List Y) → list_any (λ x. list_any (test x) ys) xs ≡ true → list_any (λ y. list_any (λ x. test x y) xs) ys ≡ true
 any_swap test xs ys e =
     let x = Any-from_list_any (λ x. list_any (test x) ys) xs e in
     let y = Any-from_list_any (test x.1) ys x.4 in
@@ -191,3 +191,18 @@ warm_touched layout granule cells heat has warmed =
     warmed.warm b at counted ∙ ap (λ (was : Bool). list_any (λ cell. holds_cell layout granule cell b at) cells || was) (cold granule (blob_lengths layout) b at counted)
     ∙ or_false (list_any (λ cell. holds_cell layout granule cell b at) cells) ∙ cells_hold layout granule cells b at))
     ∙ ap (λ n. count_by (holds_bit is_one granule (get_or layout b [])) (range_with_len 0 n)) long))
+
+-- no cell touches a granule
+sum_none : {X : Type 0} (f : X → ℕ) (xs : List X) → ((x : X) → f x ≡ 0) → sum_by f xs ≡ 0
+sum_none f [] none = refl
+sum_none f (x ∷ xs) none = omega (arith, sum_by-cons f x xs, none x, sum_none f xs none)
+
+no_bit : (owner : Owner) → is_bit_in (λ cell. false) owner ≡ false
+no_bit Pad = refl
+no_bit (Bit row cell bit) = refl
+
+pub none_touched : (granule : ℕ) (layout : List (List Owner)) → touched (λ cell. false) granule layout ≡ 0
+none_touched granule layout =
+    sum_none (touched_blob (λ cell. false) granule) layout (λ blob. sum_none (λ at. cond (holds_bit (λ cell. false) granule blob at) 1 0) (range_with_len 0 (granules_of granule (length blob / 8)))
+    (λ at. (let owners = take (8 * granule) (drop (8 * granule * at) blob) in
+    ap (λ (b : Bool). cond b 1 0) (list_any_none (is_bit_in (λ cell. false)) owners (λ k d low. no_bit (get_or owners k d))))))

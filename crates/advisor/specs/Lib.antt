@@ -1,6 +1,7 @@
 pub mod Touched
 pub mod TouchedLaws
 pub mod Warm
+pub mod Curve
 pub mod Steady
 pub mod Passes
 pub mod Judged

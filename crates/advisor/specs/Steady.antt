@@ -1,10 +1,12 @@
 -- Slots of a rule whose pieces follow each other closely, and the granules that they touch.
-use Rattle.std.specs.Prelude.{ℕ, ◌+◌, ◌-◌, ◌*◌, ◌<◌, ◌≤◌, Bool, List}
+use Rattle.std.specs.Prelude.{ℕ, ◌+◌, ◌-◌, ◌*◌, ◌<◌, ◌≤◌, ◌&&◌, Bool, List}
 use Rattle.std.specs.List.{list_any, range_with_len}
+use Rattle.extents.specs.declared.order.Order.{Order}
 use Rattle.places.specs.Touched.{is_in_granule}
 use Rattle.places.specs.declared.piece.Piece.{Piece}
 use Rattle.piece_rules.specs.PieceRules.{begin_in, piece_in}
 use Rattle.piece_rules.specs.declared.rule.PieceRule.{PieceRule}
+use Rattle.advisor.specs.Curve.{has_row}
 
 -- of so many slots from this one on each begins at most so many bits behind the one before it, and none before it
 pub record IsSteady (wide : ℕ) (rule : PieceRule) (start count : ℕ) : Type 0 where
@@ -21,9 +23,14 @@ pub record HasSteps (wide : ℕ) (rule : PieceRule) : Type 0 where
 abbrev pub is_run_touched : ℕ → PieceRule → ℕ → ℕ → ℕ → ℕ → Bool
 is_run_touched granule rule start count blob at = list_any (λ slot. is_in_granule granule blob at (piece_in rule slot)) (range_with_len start count)
 
--- or one of the pieces of some rules in one of the first so many slots
-abbrev pub are_slots_touched : ℕ → List PieceRule → ℕ → ℕ → ℕ → Bool
-are_slots_touched granule rules slots blob at = list_any (λ rule. is_run_touched granule rule 0 slots blob at) rules
+-- or one of the pieces of some rules in one of these slots
+abbrev pub are_slots_touched : ℕ → List PieceRule → ℕ → ℕ → ℕ → ℕ → Bool
+are_slots_touched granule rules start count blob at = list_any (λ rule. is_run_touched granule rule start count blob at) rules
+
+-- or one of them in those of these slots that rows have
+abbrev pub are_rows_touched : ℕ → Order → List ℕ → List PieceRule → ℕ → ℕ → ℕ → ℕ → Bool
+are_rows_touched granule order extents rules start count blob at =
+    list_any (λ slot. has_row order extents slot && list_any (λ rule. is_in_granule granule blob at (piece_in rule slot)) rules) (range_with_len start count)
 
 -- from the first bit of the first of so many slots to the last bit of the last
 abbrev pub long_piece : PieceRule → ℕ → ℕ → Piece

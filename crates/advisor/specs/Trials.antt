@@ -1,6 +1,6 @@
 -- Ways of storing leaves, each tried with the values of all rows.
 use Rattle.std.specs.Prelude.{ℕ, ◌≡◌, ◌<◌, ◌==◌, ◌&&◌, ◌||◌, Bool, true, not, ℤ, List, length, if◌then◌else◌}
-use Rattle.std.specs.List.{list_any, list_all}
+use Rattle.std.specs.List.{list_any, list_all, flat_map, range_with_len}
 use Rattle.record_dim.specs.Trees.{Fields}
 use Rattle.record_dim.specs.Leaves.{leaves, kinds_of}
 use Rattle.places.specs.declared.piece.Hold.{Hold}
@@ -8,6 +8,8 @@ use Rattle.piece_bits.specs.Tables.{hold_at}
 use Rattle.kept_tables.specs.Modes.{kind_at}
 use Rattle.kept_tables.specs.declared.mode.StoreMode.{StoreMode}
 use Rattle.views.specs.Columns.{in_leaf}
+use Rattle.views.specs.Runs.{raised}
+use Rattle.views.specs.Tallies.{Access, row_accesses}
 use Rattle.advisor.specs.Sides.{IsHold}
 use Rattle.advisor.specs.Suits.{stays}
 use Rattle.advisor.specs.declared.trials.Trial.{Trial}
@@ -41,12 +43,24 @@ HasTrials trials holds count = (leaf : ℕ) → leaf < count → has_trial trial
 abbrev pub takes : StoreMode → Trial → List ℤ → Bool
 takes mode trial row = stays mode trial.kind trial.hold (in_leaf trial.leaf row)
 
--- a trial after one row, and after some
-abbrev pub tried : StoreMode → List ℤ → Trial → Trial
-tried mode row trial = record trial { stays = trial.stays && takes mode trial row }
-
+-- a trial after some rows
 abbrev pub tried_all : StoreMode → List (List ℤ) → Trial → Trial
 tried_all mode rows trial = record trial { stays = trial.stays && list_all (takes mode trial) rows }
+
+-- a value of its leaf stays, which is given by its low bits, and so does each of some
+abbrev pub low_stays : StoreMode → Trial → ℤ → Bool
+low_stays mode trial low = stays mode trial.kind trial.hold (raised trial.kind low)
+
+abbrev pub all_lows_stay : StoreMode → Trial → List ℤ → Bool
+all_lows_stay mode trial lows = list_all (low_stays mode trial) lows
+
+-- a trial after values of a leaf
+abbrev pub tried_leaf : StoreMode → ℕ → List ℤ → Trial → Trial
+tried_leaf mode leaf lows trial = record trial { stays = trial.stays && (not (trial.leaf == leaf) || all_lows_stay mode trial lows) }
+
+-- one access of each leaf of each of so many rows from one on
+abbrev pub rows_accesses : (ℕ → ℕ → Access) → ℕ → ℕ → ℕ → List Access
+rows_accesses access leaves first count = flat_map (row_accesses access leaves) (range_with_len first count)
 
 -- no way in which leaves are stored failed
 abbrev pub has_not_failed : List Hold → Trial → Bool

@@ -5,32 +5,33 @@ ghost use Rattle.instrument.specs.Counters.{granules_in};
 ghost use Rattle.views.specs.Tallies.{blob_lengths};
 ghost use Rattle.advisor.specs.Passes.{reads, part_cost, leaves_in};
 
+use crate::mapped::RuledMap;
 use crate::pass::Pass;
 use crate::touched::touched;
-use map_any::SlotRules;
-use places::{Cell, laws_of};
+use map_any::CellMap;
+use places::{Cell, Mapping, laws_of};
 use std::alloc::{AllocError as NoMemory, Global};
 
 /// What passes over a mapping of these cells cost.
-pub fn part_cost<M: SlotRules>(
+pub fn part_cost(
     alloc: Global,
-    mapping: &M,
+    map: &RuledMap,
     cells: &[Cell],
     granule: u32,
     passes: &[Pass],
 ) -> Result<u64, NoMemory>
-    requires cells { length cells.now ≡ length (M.cell_list mapping.now) }
+    requires cells { length cells.now ≡ length (⟦<CellMap as Mapping>⟧.cell_list map.now.mapping) }
     requires some { 1 ≤ granule }
-    requires few { granules_in granule (blob_lengths (M.layout mapping.now)) ≤ 2 ^ 24 }
+    requires few { granules_in granule (blob_lengths (⟦<CellMap as Mapping>⟧.layout map.now.mapping)) ≤ 2 ^ 24 }
     requires passes { length passes.now ≤ 16 }
-    ensures value { IfOk result (λ cost. cost ≡ part_cost passes.now granule (leaves_in cells.now) (M.layout mapping.now)) }
+    ensures value { IfOk result (λ cost. cost ≡ part_cost passes.now granule (leaves_in cells.now) (⟦<CellMap as Mapping>⟧.layout map.now.mapping)) }
     ensures most { IfOk result (λ cost. cost ≤ 2 ^ 60) }
 {
-    laws_of(mapping);
+    laws_of(&map.mapping);
     let mut cost = 0;
     for pass in passes {
         let read = cells_read(alloc, pass, cells)?;
-        let granules = touched(alloc, mapping, granule, read.as_slice())?;
+        let granules = touched(alloc, map, granule, read.as_slice())?;
         cost += repeated(pass.times, granules);
     }
     Ok(cost)

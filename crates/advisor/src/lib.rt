@@ -6,6 +6,7 @@ mod adviser;
 mod candidate;
 mod choice;
 mod costs;
+mod curve;
 mod laws;
 mod listed;
 mod mapped;

@@ -84,9 +84,9 @@ fn whole_candidate(
     ensures refused { IfErr result (λ e. (e ≡ MakeMap.NoMemory) ⊎ (judge view.now price.now.granule (term_of expr.now) ≡ Err e)) }
 {
     let map = mapped(alloc, view, cells, price.granule, expr)?;
-    laws_of(&map);
+    laws_of(&map.mapping);
     let cost = part_cost(alloc, &map, cells.as_slice(), price.granule, price.passes)?;
-    let holds = holds_in(alloc, &map)?;
+    let holds = holds_in(alloc, &map.mapping)?;
     let expr = expr.copy(alloc)?;
     Ok(Candidate { expr, cost, holds })
 }

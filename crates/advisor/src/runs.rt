@@ -1,35 +1,64 @@
-// The granules that a cell's rules touch in all slots, by runs of slots.
+// The granules that a cell touches in the slots of all rows, by runs of slots.
 ghost use Rattle.std.specs.Prelude.{ℕ, ◌≡◌, ◌+◌, ◌-◌, ◌*◌, ◌<◌, ◌≤◌, ◌^◌, All, true};
+ghost use Rattle.linearize.specs.Slots.{slot_count};
 ghost use Rattle.instrument.specs.Counters.{heat_counts, IsInside};
 ghost use Rattle.piece_rules.specs.PieceRules.{piece_in};
-ghost use Rattle.advisor.specs.Steady.{IsSteady, HasSteps, is_run_touched, are_slots_touched};
+ghost use Rattle.advisor.specs.Curve.{has_row};
+ghost use Rattle.advisor.specs.Steady.{IsSteady, HasSteps, is_run_touched, are_slots_touched, are_rows_touched};
 ghost use Rattle.advisor.specs.Warm.{IsWarmed};
 
+use crate::curve::run_from;
+use extents::Extents;
 use instrument::Heat;
+use map_plans::{Rule, slots_of};
 use piece_rules::PieceRule;
 use places::{Piece, Pieces};
 
-/// Touches the granules that hold a bit of a piece of these rules in one of so many slots.
-pub fn touch_slots(heat: &mut Heat, granule: u32, rules: &[PieceRule], slots: u64)
+/// Touches the granules that hold a bit of a cell with this rule in the slot of a row.
+pub fn touch_rows(heat: &mut Heat, granule: u32, rule: &Rule, extents: &Extents)
     requires granule { (heat_counts heat.old).granule ≡ granule }
-    requires inside { (slot : ℕ) → slot < slots → All (λ rule. IsInside (heat_counts heat.old) (piece_in rule slot)) rules.now }
-    ensures { IsWarmed (heat_counts heat.old) (heat_counts heat.new) (are_slots_touched granule rules.now slots) }
+    requires few { slot_count rule.now.order extents.now ≤ 2 ^ 24 }
+    requires inside { (slot : ℕ) → has_row rule.now.order extents.now slot ≡ true → All (λ piece. IsInside (heat_counts heat.old) (piece_in piece slot)) rule.now.pieces.items }
+    ensures { IsWarmed (heat_counts heat.old) (heat_counts heat.new)
+        (are_rows_touched granule rule.now.order extents.now rule.now.pieces.items 0 (slot_count rule.now.order extents.now)) }
+{
+    let slots = slots_of(rule.order, extents);
+    let mut slot = 0;
+    while slot < slots {
+        let run = run_from(rule.order, extents, slot, slots - slot);
+        if run.rows {
+            touch_slots(heat, granule, rule.pieces.as_slice(), slot, run.slots);
+        }
+        slot += run.slots;
+    }
+}
+
+// Touches the granules that hold a bit of a piece of these rules in one of so many slots from one on.
+fn touch_slots(heat: &mut Heat, granule: u32, rules: &[PieceRule], start: u64, count: u64)
+    requires granule { (heat_counts heat.old).granule ≡ granule }
+    requires end { start + count < 2 ^ 64 }
+    requires inside { (k : ℕ) → k < count → All (λ rule. IsInside (heat_counts heat.old) (piece_in rule (start + k))) rules.now }
+    ensures { IsWarmed (heat_counts heat.old) (heat_counts heat.new) (are_slots_touched granule rules.now start count) }
 {
     for rule in rules {
-        touch_rule(heat, granule, rule, slots);
+        touch_rule(heat, granule, rule, start, count);
     }
 }
 
 // The same of one rule.
-fn touch_rule(heat: &mut Heat, granule: u32, rule: &PieceRule, slots: u64)
+fn touch_rule(heat: &mut Heat, granule: u32, rule: &PieceRule, start: u64, count: u64)
     requires granule { (heat_counts heat.old).granule ≡ granule }
-    requires inside { (slot : ℕ) → slot < slots → IsInside (heat_counts heat.old) (piece_in rule.now slot) }
-    ensures { IsWarmed (heat_counts heat.old) (heat_counts heat.new) (is_run_touched granule rule.now 0 slots) }
+    requires end { start + count < 2 ^ 64 }
+    requires inside { (k : ℕ) → k < count → IsInside (heat_counts heat.old) (piece_in rule.now (start + k)) }
+    ensures { IsWarmed (heat_counts heat.old) (heat_counts heat.new) (is_run_touched granule rule.now start count) }
 {
     let most = run_of(rule, granule);
-    for run in 0..slots.div_ceil(most) {
-        let start = run * most;
-        touch_run(heat, rule, start, most.min(slots - start));
+    let mut done = 0;
+    while done < count {
+        let slot = start + done;
+        let slots = (most - slot % most).min(count - done);
+        touch_run(heat, rule, slot, slots);
+        done += slots;
     }
 }
 
@@ -67,7 +96,7 @@ fn touch_run(heat: &mut Heat, rule: &PieceRule, start: u64, count: u64)
     requires end { start + count < 2 ^ 64 }
     requires steady { IsSteady (8 * (heat_counts heat.old).granule) rule.now start count }
     requires narrow { (count - 1) * (8 * (heat_counts heat.old).granule) + rule.now.bits < 2 ^ 32 }
-    requires inside { (slot : ℕ) → slot < start + count → IsInside (heat_counts heat.old) (piece_in rule.now slot) }
+    requires inside { (k : ℕ) → k < count → IsInside (heat_counts heat.old) (piece_in rule.now (start + k)) }
     ensures { IsWarmed (heat_counts heat.old) (heat_counts heat.new) (is_run_touched (heat_counts heat.old).granule rule.now start count) }
 {
     let first = rule.piece(start);

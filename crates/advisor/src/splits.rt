@@ -224,7 +224,7 @@ fn split_candidate(
 {
     match mapped(alloc, view, cells, granule, &expr) {
         Ok(map) => {
-            let holds = holds_in(alloc, &map)?;
+            let holds = holds_in(alloc, &map.mapping)?;
             Ok(Some(Candidate { expr, cost, holds }))
         }
         Err(MakeMap::NoMemory) => Err(NoMemory),

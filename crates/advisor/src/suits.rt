@@ -1,18 +1,21 @@
 // Which candidates the values of a view suit.
-ghost use Rattle.std.specs.Prelude.{◌≡◌, ◌<◌, All, IfOk, OnOk, OnErr, length, map};
+ghost use Rattle.std.specs.Prelude.{◌≡◌, ◌+◌, ◌<◌, ◌≤◌, All, IfOk, OnOk, OnErr, length, map, take, drop};
 ghost use Rattle.map_expr.specs.Terms.{term_of};
 ghost use Rattle.views.specs.Tables.{leaf_count_of, after_log};
 ghost use Rattle.views.specs.Tallies.{Read, all_accesses};
 ghost use Rattle.advisor.specs.Pools.{IsStored};
 ghost use Rattle.advisor.specs.Suits.{suits};
-ghost use Rattle.advisor.specs.Trials.{IsTrial, IsFresh, HasTrials, tried_all, none_failed};
+ghost use Rattle.advisor.specs.Trials.{IsTrial, IsFresh, HasTrials, rows_accesses, tried_all, none_failed};
 
 use crate::candidate::Candidate;
-use crate::trials::{Trial, none_failed, trials_of, try_row};
+use crate::trials::{Trial, none_failed, trials_of, try_leaf};
 use std::alloc::{AllocError as NoMemory, Global};
 use std::sync::ledger::Ledger;
 use steps::Steps;
 use views::View;
+
+// The most rows whose values are read at once. They lie on the stack.
+const RUN: usize = 256;
 
 /// Whether the values of a view suit each candidate. It takes all its memory first, and then reads each leaf of each row once.
 pub fn suiting<L: Ledger>(
@@ -27,12 +30,10 @@ pub fn suiting<L: Ledger>(
     ensures unread { OnErr result (view.new ≡ view.old) }
 {
     let mut marks = vec![in alloc; false; pool.len()]?;
-    let mut values = vec![in alloc; 0; view.schema().leaf_count()]?;
     let mut trials = trials_of(alloc, view.schema(), pool)?;
     mark_suiting(
         view,
         pool,
-        values.as_mut_slice(),
         trials.as_mut_slice(),
         marks.as_mut_slice(),
         steps,
@@ -44,13 +45,11 @@ pub fn suiting<L: Ledger>(
 fn mark_suiting<L: Ledger>(
     view: &mut View,
     pool: &[Candidate],
-    values: &mut [i128],
     trials: &mut [Trial],
     marks: &mut [bool],
     steps: &mut Steps<L>,
 )
     requires stored { All (IsStored view.old) pool.now }
-    requires values { length values.old ≡ leaf_count_of view.old }
     requires trials { All (IsTrial view.old.fields) trials.old }
     requires fresh { All IsFresh trials.old }
     requires all { All (λ candidate. HasTrials trials.old candidate.holds (length candidate.holds)) pool.now }
@@ -58,26 +57,44 @@ fn mark_suiting<L: Ledger>(
     ensures marks { marks.new ≡ map (λ candidate. suits view.old (term_of candidate.expr)) pool.now }
     ensures read { view.new ≡ after_log view.old (all_accesses Read (leaf_count_of view.old) (length view.old.rows)) }
 {
-    try_rows(view, values, trials, steps);
+    try_rows(view, trials, steps);
     mark(trials, pool, marks);
 }
 
-// Tries the values of all rows. The values of one after another come into `values`.
-fn try_rows<L: Ledger>(
-    view: &mut View,
-    values: &mut [i128],
-    trials: &mut [Trial],
-    steps: &mut Steps<L>,
-)
-    requires each { length values.old ≡ leaf_count_of view.old }
-    requires trials { All (IsTrial view.old.fields) trials.old }
+// Tries the values of all rows, run by run.
+fn try_rows<L: Ledger>(view: &mut View, trials: &mut [Trial], steps: &mut Steps<L>)
+    requires { All (IsTrial view.old.fields) trials.old }
     ensures tried { trials.new ≡ map (tried_all view.old.mode view.old.rows) trials.old }
     ensures read { view.new ≡ after_log view.old (all_accesses Read (leaf_count_of view.old) (length view.old.rows)) }
 {
+    let mut buffer = [0; RUN];
+    let count = view.extents().count();
+    let mut first = 0;
+    while first < count {
+        let rows = (count - first).min(RUN as u64);
+        try_run(view, first, &mut buffer[..rows as usize], trials, steps);
+        first += rows;
+    }
+}
+
+// Tries the values of as many rows as the buffer has room for, from one on, leaf by leaf.
+fn try_run<L: Ledger>(
+    view: &mut View,
+    first: u64,
+    buffer: &mut [i64],
+    trials: &mut [Trial],
+    steps: &mut Steps<L>,
+)
+    requires rows_in { first + length buffer.old ≤ length view.old.rows }
+    requires trials { All (IsTrial view.old.fields) trials.old }
+    ensures tried { trials.new ≡ map (tried_all view.old.mode (take (length buffer.old) (drop first view.old.rows))) trials.old }
+    ensures read { view.new ≡ after_log view.old (rows_accesses Read (leaf_count_of view.old) first (length buffer.old)) }
+    ensures count { length buffer.new ≡ length buffer.old }
+{
     let mode = view.mode();
-    for row in 0..view.extents().count() {
-        view.read_row(row, values, steps);
-        try_row(mode, values, trials);
+    for leaf in 0..view.schema().leaf_count() {
+        view.read_run(leaf, first, buffer, steps);
+        try_leaf(mode, leaf, buffer, trials);
     }
 }
 

@@ -7,9 +7,10 @@ ghost use Rattle.views.specs.Tallies.{blob_lengths};
 ghost use Rattle.advisor.specs.Touched.{holds_cell, touched};
 ghost use Rattle.advisor.specs.Warm.{is_warm, IsWarmed};
 
-use crate::runs::touch_slots;
+use crate::mapped::RuledMap;
+use crate::runs::touch_rows;
 use instrument::{Heat, HeatFault, MAX_GRANULES};
-use map_any::SlotRules;
+use map_any::CellMap;
 use places::{Mapping, laws_of};
 use std::alloc::{AllocError as NoMemory, Global};
 
@@ -29,30 +30,34 @@ pub fn has_few_granules<M: Mapping>(mapping: &M, granule: u32) -> bool
     true
 }
 
-/// How many granules of a mapping's blobs hold a bit of these cells in any slot. It takes memory for a number for each granule.
-pub fn touched<M: SlotRules>(
+/// How many granules of a mapping's blobs hold a bit of these cells in any slot. It takes memory for a number for each granule, if there is
+/// a cell.
+pub fn touched(
     alloc: Global,
-    mapping: &M,
+    map: &RuledMap,
     granule: u32,
     cells: &[usize],
 ) -> Result<u64, NoMemory>
     requires some { 1 ≤ granule }
-    requires few { granules_in granule (blob_lengths (M.layout mapping.now)) ≤ 2 ^ 24 }
-    requires inside { All (λ cell. cell < length (M.cell_list mapping.now)) cells.now }
-    ensures value { IfOk result (λ count. count ≡ touched (λ cell. list_any (λ other. other == cell) cells.now) granule (M.layout mapping.now)) }
+    requires few { granules_in granule (blob_lengths (⟦<CellMap as Mapping>⟧.layout map.now.mapping)) ≤ 2 ^ 24 }
+    requires inside { All (λ cell. cell < length (⟦<CellMap as Mapping>⟧.cell_list map.now.mapping)) cells.now }
+    ensures value { IfOk result (λ count. count ≡ touched (λ cell. list_any (λ other. other == cell) cells.now) granule (⟦<CellMap as Mapping>⟧.layout map.now.mapping)) }
     ensures most { IfOk result (λ count. count ≤ 2 ^ 24) }
 {
-    laws_of(mapping);
-    let lengths = blob_lengths(alloc, mapping)?;
+    if cells.is_empty() {
+        return Ok(0);
+    }
+    laws_of(&map.mapping);
+    let lengths = blob_lengths(alloc, &map.mapping)?;
     let mut heat = match Heat::new(alloc, granule, lengths.as_slice()) {
         Ok(heat) => heat,
         Err(HeatFault::NoMemory) => return Err(NoMemory),
         Err(HeatFault::TooBig) => unreachable!(),
     };
     for cell in cells {
-        touch_cell(mapping, &mut heat, granule, *cell);
+        touch_cell(map, &mut heat, granule, *cell);
     }
-    Ok(warm_granules(mapping, &heat))
+    Ok(warm_granules(&map.mapping, &heat))
 }
 
 // The bytes of each blob.
@@ -66,31 +71,16 @@ fn blob_lengths<M: Mapping>(alloc: Global, mapping: &M) -> Result<Vec<u64>, NoMe
     Ok(lengths)
 }
 
-// Counts accesses to a cell in each granule that holds a bit of it: by the slots of its rules, or else row by row.
-fn touch_cell<M: SlotRules>(mapping: &M, heat: &mut Heat, granule: u32, cell: usize)
+// Counts accesses to a cell in each granule that holds a bit of it.
+fn touch_cell(map: &RuledMap, heat: &mut Heat, granule: u32, cell: usize)
     requires granule { (heat_counts heat.old).granule ≡ granule }
-    requires inside { cell < length (M.cell_list mapping.now) }
-    requires granules { HasGranules (M.layout mapping.now) (heat_counts heat.old) }
-    ensures warmed { IsWarmed (heat_counts heat.old) (heat_counts heat.new) (holds_cell (M.layout mapping.now) granule cell) }
-    ensures granules { HasGranules (M.layout mapping.now) (heat_counts heat.new) }
+    requires inside { cell < length (⟦<CellMap as Mapping>⟧.cell_list map.now.mapping) }
+    requires granules { HasGranules (⟦<CellMap as Mapping>⟧.layout map.now.mapping) (heat_counts heat.old) }
+    ensures warmed { IsWarmed (heat_counts heat.old) (heat_counts heat.new) (holds_cell (⟦<CellMap as Mapping>⟧.layout map.now.mapping) granule cell) }
+    ensures granules { HasGranules (⟦<CellMap as Mapping>⟧.layout map.now.mapping) (heat_counts heat.new) }
 {
-    laws_of(mapping);
-    match mapping.slot_rules(cell) {
-        Some(rules) => touch_slots(heat, granule, rules.as_slice(), mapping.slots()),
-        None => touch_rows(mapping, heat, cell),
-    }
-}
-
-// Counts an access to a cell in each row.
-fn touch_rows<M: Mapping>(mapping: &M, heat: &mut Heat, cell: usize)
-    requires inside { cell < length (M.cell_list mapping.now) }
-    requires granules { HasGranules (M.layout mapping.now) (heat_counts heat.old) }
-    ensures { IsWarmed (heat_counts heat.old) (heat_counts heat.new) (holds_cell (M.layout mapping.now) (heat_counts heat.old).granule cell) }
-{
-    laws_of(mapping);
-    for row in 0..mapping.slots() {
-        heat.touch(&mapping.locate(row, cell));
-    }
+    laws_of(&map.mapping);
+    touch_rows(heat, granule, map.rule(cell), &map.extents);
 }
 
 // How many granules were accessed.

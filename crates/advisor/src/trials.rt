@@ -1,11 +1,12 @@
 // Ways of storing leaves, each tried with the values of all rows.
-ghost use Rattle.std.specs.Prelude.{ℕ, ◌&&◌, ◌≡◌, ◌<◌, All, true, IfOk, OnOk, length, map};
+ghost use Rattle.std.specs.Prelude.{ℕ, ◌&&◌, ◌||◌, ◌==◌, ◌≡◌, ◌<◌, All, true, not, IfOk, OnOk, length, map};
 ghost use Rattle.record_dim.specs.Leaves.{leaves};
 ghost use Rattle.record_dim.specs.Schemas.{schema_fields};
+ghost use Rattle.views.specs.Runs.{raised};
 ghost use Rattle.views.specs.Stores.{is_between};
 ghost use Rattle.advisor.specs.Sides.{IsHold};
 ghost use Rattle.advisor.specs.Suits.{stays};
-ghost use Rattle.advisor.specs.Trials.{IsTrial, IsFresh, has_trial, HasTrials, takes, tried, has_not_failed, none_failed};
+ghost use Rattle.advisor.specs.Trials.{IsTrial, IsFresh, has_trial, HasTrials, low_stays, all_lows_stay, tried_leaf, has_not_failed, none_failed};
 
 use crate::candidate::Candidate;
 use kept_numbers::kept;
@@ -73,24 +74,51 @@ fn has_trial(trials: &[Trial], leaf: usize, hold: Hold) -> bool
         .any(|trial| trial.leaf == leaf && trial.hold == hold)
 }
 
-/// Tries the values of a row.
-pub fn try_row(mode: StoreMode, values: &[i128], trials: &mut [Trial])
-    requires inside { All (λ trial. trial.leaf < length values.now) trials.old }
-    requires holds { All (λ trial. IsHold trial.hold) trials.old }
-    ensures { trials.new ≡ map (tried mode values.now) trials.old }
+/// Tries values of a leaf in the ways of storing it. They are given by their low 64 bits, read with a sign.
+pub fn try_leaf(mode: StoreMode, leaf: usize, lows: &[i64], trials: &mut [Trial])
+    requires { All (λ trial. IsHold trial.hold) trials.old }
+    ensures { trials.new ≡ map (tried_leaf mode leaf lows.now) trials.old }
 {
     for trial in trials.iter_mut() {
-        trial.stays = still_stays(mode, values, *trial);
+        trial.stays = still_stays(mode, leaf, *trial, lows);
     }
 }
 
-// Whether the value of a row stays too.
-fn still_stays(mode: StoreMode, values: &[i128], trial: Trial) -> bool
-    requires inside { trial.leaf < length values.now }
-    requires hold { IsHold trial.hold }
-    ensures { result ≡ (trial.stays && takes mode trial values.now) }
+// Whether these values stay too, where they are of its leaf.
+fn still_stays(mode: StoreMode, leaf: usize, trial: Trial, lows: &[i64]) -> bool
+    requires { IsHold trial.hold }
+    ensures { result ≡ (trial.stays && (not (trial.leaf == leaf) || all_lows_stay mode trial lows.now)) }
 {
-    trial.stays && stays(mode, trial.kind, trial.hold, values[trial.leaf])
+    trial.stays && (trial.leaf != leaf || all_stay(mode, trial, lows))
+}
+
+fn all_stay(mode: StoreMode, trial: Trial, lows: &[i64]) -> bool
+    requires { IsHold trial.hold }
+    ensures { result ≡ all_lows_stay mode trial lows.now }
+{
+    for low in lows {
+        if !low_stays(mode, trial, *low) {
+            return false;
+        }
+    }
+    true
+}
+
+fn low_stays(mode: StoreMode, trial: Trial, low: i64) -> bool
+    requires { IsHold trial.hold }
+    ensures { result ≡ low_stays mode trial low }
+{
+    stays(mode, trial.kind, trial.hold, raised(trial.kind, low))
+}
+
+// The value of a leaf of a type whose low 64 bits these are.
+fn raised(kind: LeafType, low: i64) -> i128
+    ensures { result ≡ raised kind low }
+{
+    match kind {
+        LeafType::U64 => i128::from(low.cast_unsigned()),
+        _ => i128::from(low),
+    }
 }
 
 // Whether a store of a value in a leaf that is stored so would keep the value.

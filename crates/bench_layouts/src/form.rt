@@ -1,6 +1,3 @@
-ghost use Rattle.std.specs.Prelude.{◌≡◌};
-ghost use Rattle.bench_layouts.specs.Forms.{form_named};
-
 /// How the table lies in memory, and in which order its slots follow the rows.
 #[derive(Clone, Copy, Debug, PartialEq, Eq)]
 pub enum Form {
@@ -39,9 +36,7 @@ pub enum Form {
 
 impl Form {
     /// The form of this name.
-    pub fn of(text: &str) -> Option<Form>
-        ensures { result ≡ form_named text.now }
-    {
+    pub fn of(text: &str) -> Option<Form> {
         match text {
             "aos" => Some(Form::Aos),
             "soa" => Some(Form::Soa),

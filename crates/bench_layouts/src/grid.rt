@@ -1,6 +1,3 @@
-ghost use Rattle.std.specs.Prelude.{◌≡◌};
-ghost use Rattle.bench_layouts.specs.Forms.{grid_named};
-
 /// The extents of a table behind the first, which is the number of rows that is asked for.
 #[derive(Clone, Copy, Debug, PartialEq, Eq)]
 pub enum Grid {
@@ -14,9 +11,7 @@ pub enum Grid {
 
 impl Grid {
     /// The grid of this name.
-    pub fn of(text: &str) -> Option<Grid>
-        ensures { result ≡ grid_named text.now }
-    {
+    pub fn of(text: &str) -> Option<Grid> {
         match text {
             "line" => Some(Grid::Line),
             "plane" => Some(Grid::Plane),

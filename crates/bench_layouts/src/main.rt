@@ -1,7 +1,6 @@
 // Measures what no script reaches: the words name what is done and how often, and its checksum is printed.
 #![tactic(auto)]
 
-mod adding;
 mod copying;
 mod count;
 mod evaluation;

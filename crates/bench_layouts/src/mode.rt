@@ -1,7 +1,3 @@
-ghost use Rattle.std.specs.Prelude.{◌≡◌, IfOk, IfErr, IfSome, Ok, Some, map, option_map, string_bytes};
-ghost use Rattle.bench_layouts.specs.Faults.{IsFaultOf};
-ghost use Rattle.bench_layouts.specs.Modes.{behind_eval, behind_word, checksum_of, NamesMode};
-
 use crate::copying::Copying;
 use crate::count::count_in;
 use crate::fault::BenchFault;
@@ -25,10 +21,7 @@ pub enum Mode {
 
 impl Mode {
     /// The mode that the words name.
-    pub fn of(words: &[String]) -> Option<Mode>
-        ensures named { IfSome result (NamesMode (map string_bytes words.now)) }
-        ensures only { (mode : Mode) → NamesMode (map string_bytes words.now) mode → result ≡ Some mode }
-    {
+    pub fn of(words: &[String]) -> Option<Mode> {
         if let Some(text) = behind_eval(words) {
             let rows = count_in(text)?;
             return Some(Mode::Eval { rows });
@@ -46,10 +39,7 @@ impl Mode {
     }
 
     /// A number that is right only where all of the work was done.
-    pub fn checksum(self, alloc: Global) -> Result<i128, BenchFault>
-        ensures sum { IfOk result (λ sum. Ok sum ≡ checksum_of self) }
-        ensures fault { IfErr result (IsFaultOf self) }
-    {
+    pub fn checksum(self, alloc: Global) -> Result<i128, BenchFault> {
         match self {
             Mode::Eval { rows } => evaluation::total(alloc, rows),
             Mode::Table(work) => table::sum(alloc, work),
@@ -60,9 +50,7 @@ impl Mode {
 }
 
 // What stands behind the one word `eval`.
-fn behind_eval(words: &[String]) -> Option<&str>
-    ensures { option_map (λ text. text.now) result ≡ behind_eval (map string_bytes words.now) }
-{
+fn behind_eval(words: &[String]) -> Option<&str> {
     match words {
         [name, text] if name.as_str() == "eval" => Some(text.as_str()),
         _ => None,
@@ -70,9 +58,7 @@ fn behind_eval(words: &[String]) -> Option<&str>
 }
 
 // What stands behind a first word.
-fn behind_word<'a>(first: &str, words: &'a [String]) -> Option<&'a [String]>
-    ensures { option_map (λ behind. map string_bytes behind.now) result ≡ behind_word first.now (map string_bytes words.now) }
-{
+fn behind_word<'a>(first: &str, words: &'a [String]) -> Option<&'a [String]> {
     match words {
         [name, behind @ ..] if name.as_str() == first => Some(behind),
         _ => None,

@@ -1,6 +1,3 @@
-ghost use Rattle.std.specs.Prelude.{◌≡◌};
-ghost use Rattle.bench_layouts.specs.Samples.{numbers_of, sample};
-
 use expr_lang::Row;
 use std::sync::ledger::Ledger;
 use steps::Steps;
@@ -16,9 +13,7 @@ pub struct Sample {
 
 impl Sample {
     /// The row of this number.
-    pub fn of_row(row: u32) -> Sample
-        ensures { numbers_of result ≡ sample row }
-    {
+    pub fn of_row(row: u32) -> Sample {
         let number = i64::from(row);
         Sample {
             x: number,

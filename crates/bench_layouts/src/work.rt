@@ -1,6 +1,3 @@
-ghost use Rattle.std.specs.Prelude.{◌≡◌, IfSome, Some, map, string_bytes};
-ghost use Rattle.bench_layouts.specs.Modes.{IsWork};
-
 use crate::count::count_in;
 use crate::form::Form;
 use crate::grid::Grid;
@@ -17,10 +14,7 @@ pub struct Work {
 
 impl Work {
     /// The work that the words name.
-    pub fn of(words: &[String]) -> Option<Work>
-        ensures named { IfSome result (IsWork (map string_bytes words.now)) }
-        ensures only { (work : Work) → IsWork (map string_bytes words.now) work → result ≡ Some work }
-    {
+    pub fn of(words: &[String]) -> Option<Work> {
         let [form, grid, rows, sets, gets] = words else {
             return None;
         };

@@ -1,86 +1,47 @@
--- The rows of a view that are stored one after another.
-use Rattle.std.proofs.Common.{◌≡◌, ℕ, ◌+◌, ◌*◌, ◌<◌, ◌≤◌, ℤ, pos, true, false, List, [], ◌++◌, length, take, drop, get_or, set, is_ok, sym, ap, ◌∙◌, subst, ⊎_elim, arith}
-use Rattle.std.proofs.lemmas.Bool.{cases_lt, cases_eq, false≢true}
-use Rattle.std.proofs.lemmas.List.{length-map, get_or-map, get_or-set_same, get_or-set_other, ext_get_or, length-append, length-take, length-drop}
+-- The rows of a view that are stored run by run, and each run leaf by leaf.
+use Rattle.std.proofs.Common.{◌≡◌, ℕ, zero, suc, ◌+◌, ◌-◌, ◌*◌, ◌<◌, ◌≤◌, ℤ, pos, negsuc, ◌≤ℤ◌, true, false, Bool, List, [], ◌∷◌, ◌++◌, length, map, get_or, is_ok, Ok, ◌^◌, ltb, refl, sym, ap, ◌∙◌, subst, ⊎_elim, arith, w64, FitsSigned}
+use Rattle.std.specs.Prelude.{◌⊎◌, Result}
+use Rattle.std.specs.List.{flat_map, range_with_len}
+use Rattle.std.proofs.lemmas.Bool.{cases_lt, le-ltb}
+use Rattle.std.proofs.Math.Pow.{pow_mono}
+use Rattle.std.proofs.lemmas.Int.{ints, to_z_pos}
+use Rattle.std.proofs.lemmas.List.{length-map, get_or-map, ext_get_or}
+use Rattle.std.proofs.lemmas.List.Concat.{flat_map-cons}
 use Rattle.extents.specs.Indices.{indices}
+use Rattle.record_dim.specs.LeafTypes.{is_signed, least_of, greatest_of, least_in, greatest_in, IsDeclared, IsIn}
+use Rattle.record_dim.specs.Leaves.{Leaf, leaves}
+use Rattle.record_dim.specs.declared.leaf_type.LeafType.{LeafType}
 use Rattle.places.specs.Image.{entry}
-use Rattle.map_checks.specs.Mappings.{holds_by}
-use Rattle.blobs.specs.Bits.{bit_in}
 use Rattle.places.specs.Layout.{Owner}
 use Rattle.places.specs.declared.piece.Hold.{Hold}
-use Rattle.piece_bits.specs.Tables.{table_in}
-use Rattle.piece_bits.specs.TableLaws.{table_shape}
 use Rattle.map_any.specs.AnyLaws.{length-leaf_cells}
-use Rattle.map_checks.specs.Mappings.{leaf_cells}
-use Rattle.record_dim.specs.Leaves.{Leaf, leaves}
-use Rattle.views.specs.Tables.{Table, answer_of, kept_of, leaf_count_of, leaf_types_of, owners_of, table_holds, after_stores}
-use Rattle.views.specs.Stores.{Answer, kept_row, kept_rows}
-use Rattle.views.specs.HalfLaws.{half, half_more, half_whole}
-use Rattle.views.specs.TallyLaws.{after_log-none, after_log-append, logs_more}
+use Rattle.map_checks.specs.Mappings.{holds_by, leaf_cells}
+use Rattle.blobs.specs.Bits.{bit_in}
+use Rattle.piece_bits.specs.TableLaws.{table_shape, tables_same}
+use Rattle.piece_bits.specs.Tables.{HasShape, hold_at, table_in}
+use Rattle.kept_tables.specs.EntryLaws.{fitting_stays}
+use Rattle.leaf_runs.specs.Lows.{low_64}
+use Rattle.leaf_runs.specs.LowsLaws.{low_same}
+use Rattle.views.specs.AnswerLaws.{stays_answer}
+use Rattle.views.specs.Columns.{column_writes, with_column}
+use Rattle.views.specs.Runs.{raised, AreRowsMoved, CountsNothing}
+use Rattle.views.specs.RunsLaws.{run_entry, run_length, AreBefore}
+use Rattle.views.specs.Stores.{Fits, kept_or, kept_row, kept_rows}
+use Rattle.views.specs.Tables.{Table, IsTable, answer_of, kept_of, leaf_count_of, leaf_type_of, leaf_types_of, owners_of, table_holds, after_stores}
 use Rattle.views.specs.Tallies.{Access, Write, row_accesses, all_accesses}
+use Rattle.views.specs.TallyLaws.{after_stores-append, logs_more}
+use Rattle.views.specs.declared.fault.StoreFault.{StoreFault}
 use Rattle.blob_file.specs.Files.{Header, owners_by}
-use Rattle.blob_file.specs.Filling.{IsTakenRow, IsTaken}
+use Rattle.blob_file.specs.Filling.{kept_run, run_writes, AreFitting, AreTaken, IsTaken, IsTakenLeaf}
 use Rattle.blob_file.specs.Opened.{raw_in, row_count}
 use Rattle.blob_file.specs.Saving.{header_of}
+use Rattle.blob_file.proofs.Fills.{kept_entry, kept_shape}
 
--- there is a raw row for each index
-pub raw_rows : (header : Header) (blobs : List (List ℕ)) → length (raw_in header blobs) ≡ row_count header
+-- ---- the raw rows
+
+-- there is one for each index
+raw_rows : (header : Header) (blobs : List (List ℕ)) → length (raw_in header blobs) ≡ row_count header
 raw_rows header blobs = (table_shape (owners_by header) (length (indices header.extents)) (holds_by header.mapping header.fields) (bit_in blobs)).row_count
-
--- the rows before this one were stored, and each number was taken
-pub record IsFilled (raw : List (List ℤ)) (old now : Table) (row : ℕ) : Type 0 where
-  pub same : now ≡ after_stores old (half (kept_rows (kept_of old) raw) old.rows row) (all_accesses Write (leaf_count_of old) row)
-  pub taken : (r leaf : ℕ) → r < row → leaf < leaf_count_of old → is_ok (answer_of old leaf (entry raw r leaf)) ≡ true
-
-pub none_filled : (raw : List (List ℤ)) (old : Table) → IsFilled raw old old 0
-none_filled raw old = record { same = sym (after_log-none old); taken = λ r leaf l m. absurd (omega (arith, l)) }
-
-pub row_filled : (raw : List (List ℤ)) (old now new : Table) (row : ℕ) → row < length raw → length raw ≡ length old.rows → IsFilled raw old now row
-    → IsTakenRow now (get_or raw row [])
-    → new ≡ after_stores now (set now.rows row (kept_row (kept_of now) (get_or raw row []))) (row_accesses Write (leaf_count_of now) row)
-    → IsFilled raw old new (row + 1)
-row_filled raw old now new row small same so_far here stored =
-    let leaves = leaf_count_of old in
-    let kept = kept_rows (kept_of old) raw in
-    let long : length kept ≡ length raw = length-map raw (kept_row (kept_of old)) in
-    let table = λ (values : List ℤ). set (half kept old.rows row) row values in
-    record {
-      same = stored ∙ ap (λ (s : Table). after_stores s (set s.rows row (kept_row (kept_of s) (get_or raw row []))) (row_accesses Write (leaf_count_of s) row)) so_far.same
-          ∙ after_log-append (record old { rows = table (kept_row (kept_of old) (get_or raw row [])) }) (all_accesses Write leaves row) (row_accesses Write leaves row)
-          ∙ ap (λ (log : List Access). after_stores old (table (kept_row (kept_of old) (get_or raw row []))) log) (sym (logs_more (row_accesses Write leaves) row))
-          ∙ ap (λ (values : List ℤ). after_stores old (table values) (all_accesses Write leaves (row + 1))) (sym (get_or-map (kept_row (kept_of old)) raw row [] [] small))
-          ∙ ap (λ (t : List (List ℤ)). after_stores old t (all_accesses Write leaves (row + 1))) (half_more kept old.rows row [] (omega arith) (long ∙ same));
-      taken = λ r leaf l m.
-          ⊎_elim (λ (before : r < row). so_far.taken r leaf before m)
-          (λ (at : row ≤ r).
-          let is : r ≡ row = omega (arith, l, at) in
-          let told = rw so_far.same at here in
-          subst (λ (k : ℕ). is_ok (answer_of old leaf (entry raw k leaf)) ≡ true) (sym is) (told leaf m))
-          (cases_lt r row);
-    }
-
--- all rows
-pub all_filled : (raw : List (List ℤ)) (old now : Table) (row : ℕ) → length raw ≤ row → length raw ≡ length old.rows → IsFilled raw old now row
-    → now ≡ after_stores old (kept_rows (kept_of old) raw) (all_accesses Write (leaf_count_of old) row)
-all_filled raw old now row over same filled =
-    let kept = kept_rows (kept_of old) raw in
-    let long : length kept ≡ length raw = length-map raw (kept_row (kept_of old)) in
-    filled.same ∙ ap (λ (t : List (List ℤ)). after_stores old t (all_accesses Write (leaf_count_of old) row)) (half_whole kept old.rows row (omega (arith, long, over)) (long ∙ same))
-
--- a row that is refused
-pub row_refused : (raw : List (List ℤ)) (old now : Table) (row : ℕ) → row < length old.rows → IsFilled raw old now row → (IsTakenRow now (get_or raw row []) → ⊥) → IsTaken old raw → ⊥
-row_refused raw old now row small so_far refused all =
-    let none = rw so_far.same at refused in none (λ leaf m. all row leaf small m)
-
--- steps of one row more
-pub steps_more : (before now new row leaves : ℕ) → now ≡ before + row * leaves → new ≡ now + leaves → new ≡ before + (row + 1) * leaves
-steps_more before now new row leaves so_far more =
-    let next : (row + 1) * leaves ≡ row * leaves + leaves = grind arith in
-    omega (arith, so_far, more, next)
-
--- the header of the view stays
-pub header_stays : (raw : List (List ℤ)) (old now : Table) (row : ℕ) → IsFilled raw old now row → header_of now ≡ header_of old
-header_stays raw old now row filled = ap header_of filled.same
 
 -- the raw numbers that a mapping of a view's layout reads off blobs
 pub raw_is : (table : Table) (blobs : List (List ℕ)) (layout : List (List Owner)) (slots : ℕ) (holds : List Hold) → layout ≡ owners_of table → slots ≡ length (indices table.extents) → holds ≡ table_holds table
@@ -90,49 +51,139 @@ raw_is table blobs layout slots holds a b c =
     ∙ ap (λ (n : ℕ). table_in (owners_of table) n holds blobs) b
     ∙ ap (λ (hs : List Hold). table_in (owners_of table) (length (indices table.extents)) hs blobs) c
 
--- the numbers of a row before a leaf were read, and each was taken
-pub record AreRead (answer : Answer) (row values : List ℤ) (leaf : ℕ) : Type 0 where
-  pub read : (k : ℕ) → k < leaf → get_or values k (pos 0) ≡ get_or row k (pos 0)
-  pub taken : (k : ℕ) → k < leaf → is_ok (answer k (get_or row k (pos 0))) ≡ true
-
-pub none_read : (answer : Answer) (row values : List ℤ) → AreRead answer row values 0
-none_read answer row values = record { read = λ k l. absurd (omega (arith, l)); taken = λ k l. absurd (omega (arith, l)) }
-
-pub leaf_read : (answer : Answer) (row values : List ℤ) (leaf : ℕ) (value : ℤ) → leaf < length values → value ≡ get_or row leaf (pos 0) → is_ok (answer leaf value) ≡ true → AreRead answer row values leaf
-    → AreRead answer row (set values leaf value) (leaf + 1)
-leaf_read answer row values leaf value small is ok so_far = record {
-  read = λ k l.
-      ⊎_elim (λ (same : k ≡ leaf). ap (λ (n : ℕ). get_or (set values leaf value) n (pos 0)) same ∙ get_or-set_same values leaf value (pos 0) small ∙ is ∙ ap (λ (n : ℕ). get_or row n (pos 0)) (sym same))
-      (λ (other : k ≡ leaf → ⊥). get_or-set_other values leaf k value (pos 0) other ∙ so_far.read k (omega (arith, l, other)))
-      (cases_eq k leaf);
-  taken = λ k l.
-      ⊎_elim (λ (same : k ≡ leaf). subst (λ (n : ℕ). is_ok (answer n (get_or row n (pos 0))) ≡ true) (sym same) (subst (λ (v : ℤ). is_ok (answer leaf v) ≡ true) is ok))
-      (λ (other : k ≡ leaf → ⊥). so_far.taken k (omega (arith, l, other)))
-      (cases_eq k leaf);
-}
-
--- a leaf that refuses its number
-pub leaf_refused : (answer : Answer) (row : List ℤ) (leaf : ℕ) (value : ℤ) → value ≡ get_or row leaf (pos 0) → is_ok (answer leaf value) ≡ false → is_ok (answer leaf (get_or row leaf (pos 0))) ≡ true → ⊥
-leaf_refused answer row leaf value is refused taken = false≢true (sym (subst (λ (v : ℤ). is_ok (answer leaf v) ≡ false) is refused) ∙ taken)
-
--- all of them
-pub row_read : (answer : Answer) (row values : List ℤ) (leaf : ℕ) → length values ≡ length row → length values ≤ leaf → AreRead answer row values leaf → values ≡ row
-row_read answer row values leaf same over so_far = ext_get_or (pos 0) values row same (λ k l. so_far.read k (omega (arith, l, over)))
-
--- the rows of a view stay as many
-pub rows_stay : (raw : List (List ℤ)) (old now : Table) (row : ℕ) → row ≤ length raw → length raw ≡ length old.rows → IsFilled raw old now row → length now.rows ≡ length old.rows
-rows_stay raw old now row low same filled =
-    let kept = kept_rows (kept_of old) raw in
-    let long : length kept ≡ length raw = length-map raw (kept_row (kept_of old)) in
-    ap (λ (t : Table). length t.rows) filled.same
-    ∙ (let e : length (take row kept ++ drop row old.rows) ≡ length old.rows = omega (arith, length-append (take row kept) (drop row old.rows), length-take row kept, length-drop row old.rows, long, low, same) in e)
-
--- a raw row has a number for each leaf
-pub raw_row_long : (table : Table) (blobs : List (List ℕ)) (row : ℕ) → row < length (indices table.extents) → length (table_holds table) ≡ length (leaf_types_of table) → length (get_or (raw_in (header_of table) blobs) row []) ≡ leaf_count_of table
-raw_row_long table blobs row inside paired =
-    (table_shape (owners_of table) (length (indices table.extents)) (table_holds table) (bit_in blobs)).leaf_count row inside ∙ paired
-    ∙ length-map (leaves table.fields) (λ (leaf : Leaf). leaf.kind)
-
 -- as many cells as leaves
 pub cell_count : (table : Table) → length (leaf_cells (leaf_types_of table)) ≡ leaf_count_of table
 cell_count table = length-leaf_cells (leaf_types_of table) ∙ length-map (leaves table.fields) (λ (leaf : Leaf). leaf.kind)
+
+-- ---- what a view keeps of them
+
+module _ (table : Table) (blobs : List (List ℕ)) (is : IsTable table) (paired : length (table_holds table) ≡ length (leaf_types_of table)) where
+  abbrev raw : List (List ℤ)
+  raw = raw_in (header_of table) blobs
+
+  abbrev kept : List (List ℤ)
+  kept = kept_rows (kept_of table) raw
+
+  raw_shape : HasShape (length (indices table.extents)) (leaf_count_of table) raw
+  raw_shape =
+      let shape = table_shape (owners_of table) (length (indices table.extents)) (table_holds table) (bit_in blobs) in
+      record { row_count = shape.row_count; leaf_count = λ row l. shape.leaf_count row l ∙ paired ∙ length-map (leaves table.fields) (λ (leaf : Leaf). leaf.kind) }
+
+  pub kept_long : length kept ≡ length table.rows
+  kept_long = length-map raw (kept_row (kept_of table)) ∙ raw_rows (header_of table) blobs ∙ sym is.rows
+
+  pub entry_kept : (row leaf : ℕ) → row < length table.rows → leaf < leaf_count_of table → entry kept row leaf ≡ kept_of table leaf (entry raw row leaf)
+  entry_kept row leaf l m =
+      let row_in : row < length (indices table.extents) = omega (arith, l, is.rows) in
+      kept_entry (kept_of table) raw row leaf (omega (arith, row_in, raw_shape.row_count)) (omega (arith, m, raw_shape.leaf_count row row_in))
+
+  -- a number of a run
+  pub run_kept : (leaf first count k : ℕ) → k < count → first + count ≤ length table.rows → leaf < leaf_count_of table
+      → get_or (kept_run leaf first count table raw) k (pos 0) ≡ kept_of table leaf (entry raw (first + k) leaf)
+  run_kept leaf first count k below inside leaf_in =
+      run_entry leaf first count k kept below (omega (arith, inside, kept_long)) ∙ entry_kept (first + k) leaf (omega (arith, below, inside)) leaf_in
+
+  -- rows whose entries are kept are all that is kept
+  pub all_kept : (rows : List (List ℤ)) (first : ℕ) → HasShape (length rows) (leaf_count_of table) rows → length rows ≡ length table.rows → length table.rows ≤ first
+      → AreBefore (leaf_count_of table) first kept rows → rows ≡ kept
+  all_kept rows first shape same all before =
+      tables_same (length rows) (leaf_count_of table) rows kept shape
+      (subst (λ (n : ℕ). HasShape n (leaf_count_of table) kept) (sym is.rows ∙ sym same) (kept_shape (kept_of table) raw (length (indices table.extents)) (leaf_count_of table) raw_shape))
+      (λ row leaf l m. before row leaf (omega (arith, l, same, all)) m)
+
+  -- numbers that fit are taken, and kept as they are
+  module _ (leaf first : ℕ) (lows : List ℤ) (leaf_in : leaf < leaf_count_of table) (fitting : AreFitting leaf first table raw lows) where
+    fits_answer : (k : ℕ) → k < length lows → answer_of table leaf (entry raw (first + k) leaf) ≡ Ok (entry raw (first + k) leaf)
+    fits_answer k below =
+        let kind = leaf_type_of table leaf in
+        let hold = hold_at (table_holds table) leaf in
+        let some : 1 ≤ hold.width = is.some leaf (omega (arith, leaf_in, length-map (leaves table.fields) (λ (one : Leaf). one.kind))) in
+        stays_answer table.mode kind hold (entry raw (first + k) leaf) (fitting_stays table.mode kind hold (entry raw (first + k) leaf) some (fitting k below).0)
+
+    pub fitting_taken : IsTakenLeaf leaf first (length lows) table raw
+    fitting_taken row low high =
+        let at : first + (row - first) ≡ row = omega (arith, low) in
+        subst (λ (n : ℕ). is_ok (answer_of table leaf (entry raw n leaf)) ≡ true) at
+        (ap (λ (answer : Result ℤ StoreFault). is_ok answer) (fits_answer (row - first) (omega (arith, low, high))))
+
+    pub fitting_kept : first + length lows ≤ length table.rows → map (raised (leaf_type_of table leaf)) lows ≡ kept_run leaf first (length lows) table raw
+    fitting_kept inside =
+        let many : length (kept_run leaf first (length lows) table raw) ≡ length lows = run_length leaf first (length lows) kept (omega (arith, inside, kept_long)) in
+        ext_get_or (pos 0) (map (raised (leaf_type_of table leaf)) lows) (kept_run leaf first (length lows) table raw) (length-map lows (raised (leaf_type_of table leaf)) ∙ sym many)
+        (λ k l.
+        let below : k < length lows = omega (arith, l, length-map lows (raised (leaf_type_of table leaf))) in
+        get_or-map (raised (leaf_type_of table leaf)) lows k (pos 0) (pos 0) below ∙ (fitting k below).1
+        ∙ sym (run_kept leaf first (length lows) k below inside leaf_in ∙ ap (kept_or (entry raw (first + k) leaf)) (fits_answer k below)))
+
+-- ---- which numbers are those of a type
+
+-- each number that a hold has is, where its type has the range of the hold
+pub covered : (kind : LeafType) (hold : Hold) (raw : ℤ) → least_of kind ≤ℤ least_in hold.signed hold.width → greatest_in hold.signed hold.width ≤ℤ greatest_of kind → IsIn hold.signed hold.width raw
+    → IsDeclared kind raw
+covered kind hold raw low high held = between (least_of kind) (least_in hold.signed hold.width) raw (greatest_in hold.signed hold.width) (greatest_of kind) low held.0 held.1 high where
+  between : (a least v greatest b : ℤ) → a ≤ℤ least → least ≤ℤ v → v ≤ℤ greatest → greatest ≤ℤ b → (a ≤ℤ v) × (v ≤ℤ b)
+  between a least v greatest b one two three four = (grind (arith, ints), grind (arith, ints))
+
+-- and so is one of 64 bits whose low bits, read with a sign, are one of the type
+unsigned_low : (n : ℕ) → pos 0 ≤ℤ low_64 (pos n) → low_64 (pos n) ≡ pos n
+unsigned_low n low =
+    ⊎_elim (λ (small : n < 2 ^ 63). to_z_pos w64 n small)
+    (λ (large : 2 ^ 63 ≤ n). let none : ltb n (2 ^ 63) ≡ false = le-ltb n (2 ^ 63) large in absurd (let below = rw none at low in omega (arith, ints, below)))
+    (cases_lt n (2 ^ 63))
+
+same_low : (signed : Bool) (width : ℕ) (value : ℤ) → width ≤ 64 → IsIn signed width value → (signed ≡ false → pos 0 ≤ℤ low_64 value) → low_64 value ≡ value
+same_low true width (pos n) narrow held low = low_same (pos n) (record { sfits = omega (arith, ints, held.1, pow_mono {i = width - 1} {j = 63} (omega (arith, narrow))) })
+same_low true width (negsuc n) narrow held low = low_same (negsuc n) (record { sfits = omega (arith, ints, held.0, pow_mono {i = width - 1} {j = 63} (omega (arith, narrow))) })
+same_low false width (pos n) narrow held low = unsigned_low n (low refl)
+same_low false width (negsuc n) narrow held low = absurd (omega (arith, ints, held.0))
+
+pub low_declares : (kind : LeafType) (hold : Hold) (raw : ℤ) → hold.width ≤ 64 → hold.signed ≡ is_signed kind → IsIn hold.signed hold.width raw → IsDeclared kind (low_64 raw) → IsDeclared kind raw
+low_declares kind hold raw narrow sign held declared =
+    subst (IsDeclared kind)
+    (same_low hold.signed hold.width raw narrow held (λ no. (let plain : is_signed kind ≡ false = sym sign ∙ no in rw plain at declared.0)))
+    declared
+
+-- ---- a leaf more of a run
+
+-- the log of one more
+pub leaf_logged : (old now new : Table) (rows : List (List ℤ)) (leaf first count : ℕ) → now ≡ after_stores old now.rows (run_writes leaf first count)
+    → new ≡ after_stores now rows (column_writes leaf first count) → new ≡ after_stores old rows (run_writes (leaf + 1) first count)
+leaf_logged old now new rows leaf first count same stored =
+    stored ∙ ap (λ (t : Table). after_stores t rows (column_writes leaf first count)) same
+    ∙ after_stores-append old now.rows rows (run_writes leaf first count) (column_writes leaf first count)
+    ∙ ap (after_stores old rows) (sym (logs_more (λ (l : ℕ). column_writes l first count) leaf))
+
+-- ---- a run more
+
+-- one row of a view that counts is written leaf after leaf
+single : (leaves : List ℕ) (row : ℕ) → flat_map (λ (leaf : ℕ). Write row leaf ∷ []) leaves ≡ map (Write row) leaves
+single [] row = refl
+single (leaf ∷ leaves) row = flat_map-cons (λ (l : ℕ). Write row l ∷ []) leaf leaves ∙ ap (λ (log : List Access). Write row leaf ∷ log) (single leaves row)
+
+-- the log of one more run
+pub run_logged : (old now new : Table) (leaves first count : ℕ) → (count ≡ 1) ⊎ CountsNothing old → now ≡ after_stores old now.rows (all_accesses Write leaves first)
+    → new ≡ after_stores now new.rows (run_writes leaves first count) → new ≡ after_stores old new.rows (all_accesses Write leaves (first + count))
+run_logged old now new leaves first count quiet same stored =
+    stored ∙ ap (λ (t : Table). after_stores t new.rows (run_writes leaves first count)) same
+    ∙ after_stores-append old now.rows new.rows (all_accesses Write leaves first) (run_writes leaves first count)
+    ∙ ⊎_elim
+    (λ (one : count ≡ 1).
+    ap (λ (n : ℕ). after_stores old new.rows (all_accesses Write leaves first ++ run_writes leaves first n)) one
+    ∙ ap (λ (log : List Access). after_stores old new.rows (all_accesses Write leaves first ++ log)) (single (range_with_len 0 leaves) first)
+    ∙ ap (after_stores old new.rows) (sym (logs_more (row_accesses Write leaves) first))
+    ∙ ap (λ (n : ℕ). after_stores old new.rows (all_accesses Write leaves (first + n))) (sym one))
+    (λ (nothing : CountsNothing old).
+    ap (λ (t : Table). record t { rows = new.rows }) (nothing (all_accesses Write leaves first ++ run_writes leaves first count) ∙ sym (nothing (all_accesses Write leaves (first + count)))))
+    quiet
+
+-- ---- steps
+
+pub leaf_steps : (before now new rows leaf : ℕ) → now ≡ before + rows * leaf → new ≡ now + rows → new ≡ before + rows * (leaf + 1)
+leaf_steps before now new rows leaf so_far more =
+    let next : rows * (leaf + 1) ≡ rows * leaf + rows = grind arith in
+    omega (arith, so_far, more, next)
+
+pub run_steps_more : (before now new first rows leaves : ℕ) → now ≡ before + first * leaves → new ≡ now + rows * leaves → new ≡ before + (first + rows) * leaves
+run_steps_more before now new first rows leaves so_far more =
+    let next : (first + rows) * leaves ≡ first * leaves + rows * leaves = grind arith in
+    omega (arith, so_far, more, next)

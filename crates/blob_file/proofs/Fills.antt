@@ -45,7 +45,7 @@ kept_declared Strict kind hold raw some inside taken =
 kept_declared Wrap kind hold raw some inside taken = ap (declared kind) (low_same hold.signed hold.width raw some inside)
 
 -- an entry of rows that are kept
-kept_entry : (keep : Keeping) (rows : List (List ℤ)) (row leaf : ℕ) → row < length rows → leaf < length (get_or rows row []) → entry (kept_rows keep rows) row leaf ≡ keep leaf (entry rows row leaf)
+pub kept_entry : (keep : Keeping) (rows : List (List ℤ)) (row leaf : ℕ) → row < length rows → leaf < length (get_or rows row []) → entry (kept_rows keep rows) row leaf ≡ keep leaf (entry rows row leaf)
 kept_entry keep rows row leaf row_in leaf_in =
     let values = get_or rows row [] in
     let pairs : leaf < length (enumerate_from 0 values) = omega (arith, leaf_in, length-enumerate_from 0 values) in
@@ -55,7 +55,7 @@ kept_entry keep rows row leaf row_in leaf_in =
     ∙ ap (λ (v : ℕ × ℤ). keep v.0 v.1) (get_or-enumerate_from 0 values leaf (0, pos 0) leaf_in)
     ∙ ap (λ (n : ℕ). keep n (get_or values leaf (pos 0))) number
 
-kept_shape : (keep : Keeping) (rows : List (List ℤ)) (count leaves : ℕ) → HasShape count leaves rows → HasShape count leaves (kept_rows keep rows)
+pub kept_shape : (keep : Keeping) (rows : List (List ℤ)) (count leaves : ℕ) → HasShape count leaves rows → HasShape count leaves (kept_rows keep rows)
 kept_shape keep rows count leaves shape = record {
   row_count = length-map rows (kept_row keep) ∙ shape.row_count;
   leaf_count = λ row l.

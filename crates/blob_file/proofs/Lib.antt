@@ -17,4 +17,3 @@ mod HeadReads
 mod Blobs
 mod HeadTold
 mod Lies
-mod OnePiece

@@ -1,23 +1,25 @@
 -- A header with which a view was made, and one with which none was.
-use Rattle.std.proofs.Common.{◌≡◌, ℕ, false, List, map, None, Result, Ok, Err, sym, ap, ◌∙◌, subst}
-use Rattle.std.specs.Prelude.{OnOk}
+use Rattle.std.proofs.Common.{◌≡◌, ℕ, false, List, map, None, Ok, sym, ap, ◌∙◌, subst}
 use Rattle.std.specs.List.{list_any}
 use Rattle.extents.specs.declared.words.ExtentWord.{ExtentWord}
 use Rattle.extents.specs.Shapes.{bad_shape, bad_extents, extent_of, is_rows}
 use Rattle.map_expr.specs.Terms.{term_of}
-use Rattle.map_checks.specs.Mappings.{accepted, leaf_cells}
+use Rattle.map_checks.specs.Mappings.{accepted, layout_by, leaf_cells}
 use Rattle.record_dim.specs.Leaves.{first_fault, kinds_of}
-use Rattle.record_dim.specs.Trees.{Fields, Record, tree_of}
+use Rattle.record_dim.specs.Trees.{Fields, Record, tree_of, IsRecord}
+use Rattle.record_dim.specs.declared.dim.Dim.{Dim}
+use Rattle.record_dim.specs.declared.dim.Dim.TheVariants as dims
 use Rattle.views.specs.Refusals.{IsOver}
+use Rattle.blob_file.specs.Files.{owners_by}
 use Rattle.blob_file.specs.Headers.{CanLie}
 use Rattle.blob_file.specs.Parts.{fields_in, header_in}
 use Rattle.blob_file.specs.declared.header.FileHeader.{FileHeader}
 use Rattle.blob_file.proofs.Heads.{words_back}
 
--- two facts of an answer
-pub on_both : {A E : Type 0} {P Q R : Type 0} (answer : Result A E) → (P → Q → R) → OnOk answer P → OnOk answer Q → OnOk answer R
-on_both (Ok x) gives p q = gives p q
-on_both (Err why) gives p q = tt
+-- the record of a header is that of its tree
+pub fit_by : (dim : Dim) → IsRecord dim → first_fault (Record (fields_in (tree_of dim))) ≡ None → first_fault (tree_of dim) ≡ None
+fit_by (dims.Fields fields) kind fit = fit
+fit_by _ kind fit = absurd kind
 
 module _ (header : FileHeader) (plain : list_any is_rows header.words ≡ false) where
   pub shaped_by : CanLie (header_in header) → bad_shape header.words ≡ None
@@ -49,6 +51,11 @@ module _ (header : FileHeader) (plain : list_any is_rows header.words ≡ false)
       mapped = subst (λ (f : Fields). accepted (term_of header.expr) f (leaf_cells (kinds_of f)) ≡ Ok tt) same mapped;
       within = λ over. within (over_by over);
     }
+
+    pub same_owners : layout_by (term_of header.expr) extents fields ≡ owners_by (header_in header)
+    same_owners =
+        ap (λ (e : List ℕ). layout_by (term_of header.expr) e fields) are
+        ∙ ap (layout_by (term_of header.expr) (map (extent_of 0) header.words)) same
 
     pub none_by : (accepted (term_of header.expr) fields (leaf_cells (kinds_of fields)) ≡ Ok tt → (IsOver (term_of header.expr) extents fields → ⊥) → ⊥) → CanLie (header_in header) → ⊥
     none_by none can =

@@ -1,6 +1,6 @@
 -- Views of zeros, and the words of their extents.
-use Rattle.std.proofs.Common.{◌≡◌, ℕ, ◌+◌, false, List, [], ◌∷◌, length, map, None, Some, Result, Ok, Err, refl, sym, ap, ◌∙◌, arith}
-use Rattle.std.specs.Prelude.{IfOk, count_by, cond, sum_by}
+use Rattle.std.proofs.Common.{◌≡◌, ℕ, ◌+◌, false, List, [], ◌∷◌, length, map, None, Some, refl, sym, ap, ◌∙◌, arith}
+use Rattle.std.specs.Prelude.{count_by, cond, sum_by}
 use Rattle.std.specs.List.{list_any}
 use Rattle.std.proofs.lemmas.List.Sums.{sum_by-cons}
 use Rattle.extents.specs.declared.words.BadExtents.{BadExtents as Bad}
@@ -14,7 +14,6 @@ use Rattle.map_expr.specs.Terms.{Term}
 use Rattle.map_checks.specs.Mappings.{layout_by}
 use Rattle.piece_bits.specs.Tables.{zeros}
 use Rattle.kept_tables.specs.declared.mode.StoreMode.{StoreMode}
-use Rattle.views.specs.declared.fault.MakeView.{MakeView}
 use Rattle.views.specs.Tables.{Table, owners_of, leaf_count_of}
 use Rattle.views.specs.Tallies.{no_tally}
 use Rattle.blob_file.specs.Opened.{empty_table}
@@ -31,14 +30,6 @@ table_new seen mode fields extents term m f e t z n =
     ∙ ap (λ (w : List ℕ). no_tally term (layout_by term w seen.fields) (leaf_count_of seen)) e
     ∙ ap (λ (w : Fields). no_tally term (layout_by term extents w) (length (leaves w))) f in
     λ i. record { fields = f i; extents = e i; mapping = t i; mode = m i; rows = z i; tally = tally i }
-
--- the answer of a new view
-pub made_table : (result : Result Table MakeView) (mode : StoreMode) (fields : Fields) (extents : List ℕ) (term : Term) → IfOk result (λ v. v.mode ≡ mode) → IfOk result (λ v. v.fields ≡ fields)
-    → IfOk result (λ v. v.extents ≡ extents) → IfOk result (λ v. v.mapping ≡ term)
-    → IfOk result (λ v. v.rows ≡ zeros (length (indices extents)) (length (leaves fields))) → IfOk result (λ v. v.tally ≡ no_tally v.mapping (owners_of v) (leaf_count_of v))
-    → IfOk result (λ v. v ≡ empty_table (header_by fields extents mode term))
-made_table (Ok seen) mode fields extents term m f e t z n = table_new seen mode fields extents term m f e t z n
-made_table (Err why) mode fields extents term m f e t z n = tt
 
 -- words of which none is open
 pub none_open : (words : List ExtentWord) → list_any is_rows words ≡ false → count_by is_rows words ≡ 0

@@ -1,11 +1,16 @@
 -- What a view saves as is a file.
-use Rattle.std.proofs.Common.{◌≡◌, ℕ, ◌<◌, ◌≤◌, List, [], ◌∷◌, ◌++◌, length, refl, ap, ◌∙◌, subst, append_assoc, arith}
+use Rattle.std.proofs.Common.{◌≡◌, ℕ, ◌+◌, ◌*◌, ◌%◌, List, [], ◌∷◌, ◌++◌, All, length, refl, ap, ◌∙◌, subst, append_assoc, length-append, arith}
+use Rattle.std.specs.Prelude.{sum_by}
+use Rattle.places.specs.Layout.{Owner}
 use Rattle.piece_bits.specs.Tables.{HasShape}
 use Rattle.layout_io.specs.Writing.{joined}
 use Rattle.views.specs.Stores.{AllStay}
-use Rattle.views.specs.Tables.{Table, IsTable, leaf_count_of, leaf_types_of, table_holds}
+use Rattle.views.specs.Tables.{Table, IsTable, leaf_count_of, leaf_types_of, owners_of, table_holds}
+use Rattle.views.specs.Tallies.{blob_lengths}
 use Rattle.blob_file.specs.Files.{magic, four_bytes, record_text, view_text, header_text, file_of, IsShort, IsFile}
 use Rattle.blob_file.specs.Saving.{header_of, blobs_of, head_of}
+use Rattle.blob_file.proofs.Cuts.{total, total_bits, length-joined}
+use Rattle.blob_file.proofs.OneFile.{lengths_of_image}
 
 pub saved_file : (table : Table) → IsTable table → IsShort (header_of table) → IsFile (file_of (header_of table) (blobs_of table)) (header_of table) (blobs_of table)
 saved_file table is short = record {
@@ -17,19 +22,6 @@ saved_file table is short = record {
     stays = subst (λ (n : ℕ). AllStay table.mode n (leaf_types_of table) (table_holds table) table.rows) is.rows is.stays;
   };
   image_is = refl;
-}
-
--- a text that is too long
-pub long_record : (table : Table) (text : List ℕ) → text ≡ record_text (header_of table) → 4096 < length text → IsShort (header_of table) → ⊥
-long_record table text is long short = omega (arith, ap (length {A = ℕ}) is, long, short.of_record)
-
-pub long_view : (table : Table) (text : List ℕ) → text ≡ view_text (header_of table) → 4096 < length text → IsShort (header_of table) → ⊥
-long_view table text is long short = omega (arith, ap (length {A = ℕ}) is, long, short.of_view)
-
-pub both_short : (table : Table) (first second : List ℕ) → first ≡ record_text (header_of table) → second ≡ view_text (header_of table) → length first ≤ 4096 → length second ≤ 4096 → IsShort (header_of table)
-both_short table first second one two few less = record {
-  of_record = subst (λ (text : List ℕ). length text ≤ 4096) one few;
-  of_view = subst (λ (text : List ℕ). length text ≤ 4096) two less;
 }
 
 -- the parts that are written are the file
@@ -49,3 +41,14 @@ file_text table first second one two =
     ∙ ap (λ (rest : List ℕ). (magic ++ size) ++ rest) (append_assoc text (10 ∷ []) (next ++ 10 ∷ [])))
     ∙ append_assoc (magic ++ size) header body
     ∙ append_assoc magic size (header ++ body)
+
+-- how long it is
+pub file_length : (table : Table) → All (λ (blob : List Owner). length blob % 8 ≡ 0) (owners_of table) → (lines bytes : ℕ) → lines ≡ length (header_text (header_of table))
+    → 8 * bytes ≡ sum_by (length {A = Owner}) (owners_of table) → 12 + lines + bytes ≡ length (file_of (header_of table) (blobs_of table))
+unfolding file_of
+file_length table whole lines bytes is sum =
+    let header = header_text (header_of table) in
+    let size = four_bytes (length header) in
+    let body = joined (blobs_of table) in
+    let long : length body ≡ total (blob_lengths (owners_of table)) = length-joined (blobs_of table) ∙ ap total (lengths_of_image (header_of table) table.rows) in
+    omega (arith, is, sum, long, total_bits (owners_of table) whole, length-append magic (size ++ (header ++ body)), length-append size (header ++ body), length-append header body)

@@ -1,10 +1,11 @@
 ghost use Rattle.std.specs.Prelude.{◌≡◌};
 ghost use Rattle.blob_file.specs.declared.fault.SaveEnd.TheVariants.{Failed as SinkFailed, NoMemory as NoRoom};
-ghost use Rattle.blob_file.specs.declared.fault.FileFault.TheVariants.{NoMemory};
+ghost use Rattle.blob_file.specs.declared.fault.FileFault.TheVariants.{Contents, NoMemory};
 
 use layout_io::Failed;
 use std::alloc::{AllocError, AllocFailed};
 use thiserror::Error;
+use views::StoreFault;
 
 /// Why a view was not written as a file.
 #[derive(Clone, Copy, Debug, PartialEq, Eq, Error)]
@@ -64,6 +65,15 @@ impl From<AllocError> for FileFault {
 
     fn from(_error: AllocError) -> FileFault {
         FileFault::NoMemory
+    }
+}
+
+/// A number of a file that its leaf refuses.
+impl From<StoreFault> for FileFault {
+    ghost from_gives = { λ _ fault. fault ≡ Contents };
+
+    fn from(_refused: StoreFault) -> FileFault {
+        FileFault::Contents
     }
 }
 

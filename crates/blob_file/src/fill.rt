@@ -1,23 +1,29 @@
 // The rows of a view, stored by the raw numbers that blobs hold.
-ghost use Rattle.std.specs.Prelude.{ℕ, ◌≡◌, ◌+◌, ◌*◌, ◌<◌, pos, true, is_ok, IfErr, IfSome, OnOk, OnErr, [], length, slice_index_or, slice_set};
-ghost use Rattle.places.specs.Image.{entry};
-ghost use Rattle.piece_bits.specs.Tables.{AreSized, table_in};
-ghost use Rattle.views.specs.Stores.{kept_row, kept_rows};
-ghost use Rattle.views.specs.Tables.{answer_of, kept_of, leaf_count_of, owners_of, after_stores};
-ghost use Rattle.views.specs.Tallies.{Write, row_accesses, all_accesses};
+ghost use Rattle.std.specs.Prelude.{ℕ, ℤ, ◌≡◌, ◌⊎◌, ◌+◌, ◌*◌, ◌<◌, ◌≤◌, pos, true, IfErr, OnOk, OnErr, length, slice_index_or};
+ghost use Rattle.record_dim.specs.LeafTypes.{is_signed, IsDeclared, IsIn};
+ghost use Rattle.leaf_runs.specs.Lows.{low_64};
+ghost use Rattle.piece_bits.specs.Tables.{AreSized, hold_at};
+ghost use Rattle.views.specs.Columns.{column_writes, with_column};
+ghost use Rattle.views.specs.Runs.{run_steps, AreRowsMoved, CountsNothing};
+ghost use Rattle.views.specs.Stores.{kept_rows};
+ghost use Rattle.views.specs.Tables.{kept_of, leaf_count_of, leaf_type_of, owners_of, table_holds, after_stores};
+ghost use Rattle.views.specs.Tallies.{Write, all_accesses};
 ghost use Rattle.blob_file.specs.Opened.{raw_in};
-ghost use Rattle.blob_file.specs.Filling.{IsTaken, IsTakenRow, is_one_piece};
+ghost use Rattle.blob_file.specs.Filling.{kept_run, run_writes, AreFitting, AreTaken, IsTaken, IsTakenLeaf};
 ghost use Rattle.blob_file.specs.Saving.{header_of};
 ghost use Rattle.blob_file.specs.declared.fault.FileFault.TheVariants as fault;
 
 use crate::fault::FileFault;
 use blobs::Blob;
-use map_any::{AnyMap, Word};
-use piece_bits::{decode, read_pieces, read_word};
-use places::{Mapping, laws_of};
+use piece_bits::read_entry;
+use places::{Hold, Mapping, laws_of};
+use record_dim::LeafType;
 use std::sync::ledger::Ledger;
 use steps::Steps;
-use views::{View, laws_of_table};
+use views::{View, laws_of_table, read_rows};
+
+// The most rows that are stored leaf after leaf. Their numbers lie on the stack, and the records of both sides stay in the cache.
+const RUN: usize = 256;
 
 /// Stores the raw numbers that blobs hold as the rows of a view of zeros. `Contents` comes exactly where a leaf refuses its number.
 pub fn fill_rows<L: Ledger>(
@@ -32,118 +38,162 @@ pub fn fill_rows<L: Ledger>(
     ensures refused { IfErr result (λ found. (found ≡ fault.Contents) × (IsTaken view.old (raw_in (header_of view.old) blobs.now) → ⊥)) }
     ensures steps { OnOk result (steps.new ≡ steps.old + length view.old.rows * leaf_count_of view.old) }
 {
-    let mut buffer = [0; 64];
-    let values = &mut buffer[..view.schema().leaf_count()];
-    for row in 0..view.extents().count() {
-        fill_row(blobs, row, view, values, steps)?;
+    let mut lows = [0; RUN];
+    let most = rows_at_once(view);
+    let count = view.extents().count();
+    let mut first = 0;
+    while first < count {
+        laws_of_table(view);
+        let rows = (count - first).min(most);
+        fill_run(blobs, first, &mut lows[..rows as usize], view, steps)?;
+        first += rows;
     }
+    laws_of_table(view);
     Ok(())
 }
 
-// Stores one row, or leaves it where a leaf refuses its number.
-fn fill_row<L: Ledger>(
+// How many rows are stored leaf after leaf: one in a view that counts, whose writes come row by row.
+fn rows_at_once(view: &View) -> u64
+    ensures some { 1 ≤ result }
+    ensures few { result ≤ 256 }
+    ensures quiet { (result ≡ 1) ⊎ CountsNothing view.now }
+{
+    if view.counts_nothing() { RUN as u64 } else { 1 }
+}
+
+// Stores as many rows as there is room for, from one on, leaf after leaf, or leaves off where a leaf refuses its number.
+fn fill_run<L: Ledger>(
     blobs: &[Blob],
-    row: u64,
+    first: u64,
+    lows: &mut [i64],
     view: &mut View,
-    values: &mut [i128],
     steps: &mut Steps<L>,
 ) -> Result<(), FileFault>
     requires sized { AreSized (owners_of view.old) blobs.now }
-    requires row_in { row < length view.old.rows }
-    requires values { length values.old ≡ leaf_count_of view.old }
-    ensures taken { OnOk result (IsTakenRow view.old (slice_index_or (raw_in (header_of view.old) blobs.now) row [])) }
-    ensures stored { OnOk result (view.new ≡ after_stores view.old (slice_set view.old.rows row
-        (kept_row (kept_of view.old) (slice_index_or (raw_in (header_of view.old) blobs.now) row [])))
-        (row_accesses Write (leaf_count_of view.old) row)) }
-    ensures refused { IfErr result (λ found. (found ≡ fault.Contents) × (IsTakenRow view.old (slice_index_or (raw_in (header_of view.old) blobs.now) row []) → ⊥)) }
-    ensures count { length values.new ≡ length values.old }
-    ensures steps { OnOk result (steps.new ≡ steps.old + leaf_count_of view.old) }
+    requires rows_in { first + length lows.old ≤ length view.old.rows }
+    ensures taken { OnOk result (AreTaken (leaf_count_of view.old) first (length lows.old) view.old (raw_in (header_of view.old) blobs.now)) }
+    ensures stored { OnOk result (AreRowsMoved (leaf_count_of view.old) first (length lows.old)
+        (kept_rows (kept_of view.old) (raw_in (header_of view.old) blobs.now)) view.old.rows view.new.rows) }
+    ensures same { OnOk result (view.new ≡ after_stores view.old view.new.rows (run_writes (leaf_count_of view.old) first (length lows.old))) }
+    ensures refused { IfErr result (λ found. (found ≡ fault.Contents)
+        × (AreTaken (leaf_count_of view.old) first (length lows.old) view.old (raw_in (header_of view.old) blobs.now) → ⊥)) }
+    ensures count { length lows.new ≡ length lows.old }
+    ensures steps { OnOk result (steps.new ≡ steps.old + length lows.old * leaf_count_of view.old) }
 {
-    read_row(blobs, row, view, values)?;
-    view.store_row(row, values, steps);
+    for leaf in 0..view.schema().leaf_count() {
+        laws_of_table(view);
+        fill_leaf(blobs, leaf, first, lows, view, steps)?;
+    }
     Ok(())
 }
 
-// Reads the raw numbers of a row, each of which its leaf takes.
-fn read_row(blobs: &[Blob], row: u64, view: &View, values: &mut [i128]) -> Result<(), FileFault>
-    requires sized { AreSized (owners_of view.now) blobs.now }
-    requires row_in { row < length view.now.rows }
-    requires values { length values.old ≡ leaf_count_of view.now }
-    ensures read { OnOk result (values.new ≡ slice_index_or (raw_in (header_of view.now) blobs.now) row []) }
-    ensures taken { OnOk result (IsTakenRow view.now (slice_index_or (raw_in (header_of view.now) blobs.now) row [])) }
-    ensures refused { IfErr result (λ found. (found ≡ fault.Contents) × (IsTakenRow view.now (slice_index_or (raw_in (header_of view.now) blobs.now) row []) → ⊥)) }
-    ensures count { length values.new ≡ length values.old }
+// Stores a leaf of as many rows as there is room for: at once where its numbers are read at once and all fit.
+fn fill_leaf<L: Ledger>(
+    blobs: &[Blob],
+    leaf: usize,
+    first: u64,
+    lows: &mut [i64],
+    view: &mut View,
+    steps: &mut Steps<L>,
+) -> Result<(), FileFault>
+    requires sized { AreSized (owners_of view.old) blobs.now }
+    requires leaf_in { leaf < leaf_count_of view.old }
+    requires rows_in { first + length lows.old ≤ length view.old.rows }
+    ensures taken { OnOk result (IsTakenLeaf leaf first (length lows.old) view.old (raw_in (header_of view.old) blobs.now)) }
+    ensures stored { OnOk result (view.new ≡ after_stores view.old
+        (with_column leaf first (kept_run leaf first (length lows.old) view.old (raw_in (header_of view.old) blobs.now)) view.old.rows)
+        (column_writes leaf first (length lows.old))) }
+    ensures refused { IfErr result (λ found. (found ≡ fault.Contents)
+        × (IsTakenLeaf leaf first (length lows.old) view.old (raw_in (header_of view.old) blobs.now) → ⊥)) }
+    ensures count { length lows.new ≡ length lows.old }
+    ensures steps { OnOk result (steps.new ≡ steps.old + length lows.old) }
+{
+    if !read_fitting(blobs, leaf, first, view, lows) {
+        return fill_far(blobs, leaf, first, lows.len() as u64, view, steps);
+    }
+    let kind = view.schema().leaf_type(leaf);
+    view.put_run(leaf, first, lows, steps);
+    count_rest(kind, lows.len(), steps);
+    Ok(())
+}
+
+// Stores a leaf of so many rows, row by row.
+#[inline(never)]
+fn fill_far<L: Ledger>(
+    blobs: &[Blob],
+    leaf: usize,
+    first: u64,
+    rows: u64,
+    view: &mut View,
+    steps: &mut Steps<L>,
+) -> Result<(), FileFault>
+    requires sized { AreSized (owners_of view.old) blobs.now }
+    requires leaf_in { leaf < leaf_count_of view.old }
+    requires rows_in { first + rows ≤ length view.old.rows }
+    ensures taken { OnOk result (IsTakenLeaf leaf first rows view.old (raw_in (header_of view.old) blobs.now)) }
+    ensures stored { OnOk result (view.new ≡ after_stores view.old
+        (with_column leaf first (kept_run leaf first rows view.old (raw_in (header_of view.old) blobs.now)) view.old.rows)
+        (column_writes leaf first rows)) }
+    ensures refused { IfErr result (λ found. (found ≡ fault.Contents)
+        × (IsTakenLeaf leaf first rows view.old (raw_in (header_of view.old) blobs.now) → ⊥)) }
+    ensures steps { OnOk result (steps.new ≡ steps.old + rows) }
 {
     laws_of_table(view);
-    for leaf in 0..values.len() {
-        let value = raw_entry(view.map(), blobs, row, leaf);
-        if view.fits(leaf, value).is_err() {
-            return Err(FileFault::Contents);
-        }
-        values[leaf] = value;
+    let _rows = view.extents().count();
+    for k in 0..rows {
+        let row = first + k;
+        let value = read_entry(view.map(), blobs, row, leaf);
+        view.set(row, leaf, value, steps)?;
     }
     Ok(())
 }
 
-// The raw number of a leaf in a row, read off blobs whose padding may be anything.
-#[inline(always)]
-fn raw_entry(map: &AnyMap, blobs: &[Blob], row: u64, leaf: usize) -> i128
-    requires slot_in { row < ⟦<AnyMap as Mapping>⟧.slot_count map.now }
-    requires cell_in { leaf < length (⟦<AnyMap as Mapping>⟧.cell_list map.now) }
-    requires sized { AreSized (⟦<AnyMap as Mapping>⟧.layout map.now) blobs.now }
-    ensures { result ≡ entry (table_in (⟦<AnyMap as Mapping>⟧.layout map.now) (⟦<AnyMap as Mapping>⟧.slot_count map.now)
-        (⟦<AnyMap as Mapping>⟧.hold_list map.now) blobs.now) row leaf }
+// Reads the raw numbers of a leaf in as many rows as there is room for, each by its low bits, and says whether its rows lie in stretches and
+// each number is one that the leaf holds.
+fn read_fitting(blobs: &[Blob], leaf: usize, first: u64, view: &View, lows: &mut [i64]) -> bool
+    requires sized { AreSized (owners_of view.now) blobs.now }
+    requires leaf_in { leaf < leaf_count_of view.now }
+    requires rows_in { first + length lows.old ≤ length view.now.rows }
+    ensures count { length lows.new ≡ length lows.old }
+    ensures fitting { result ≡ true → AreFitting leaf first view.now (raw_in (header_of view.now) blobs.now) lows.new }
 {
-    match near_entry(map, blobs, row, leaf) {
-        Some(number) => number,
-        None => entry_by_rule(map, blobs, row, leaf),
-    }
-}
-
-// The same by the short form of the leaf's rule, where it lies in one piece and goes by rows. None says nothing.
-#[inline(always)]
-fn near_entry(map: &AnyMap, blobs: &[Blob], row: u64, leaf: usize) -> Option<i128>
-    requires slot_in { row < ⟦<AnyMap as Mapping>⟧.slot_count map.now }
-    requires cell_in { leaf < length (⟦<AnyMap as Mapping>⟧.cell_list map.now) }
-    requires sized { AreSized (⟦<AnyMap as Mapping>⟧.layout map.now) blobs.now }
-    ensures { IfSome result (λ number. number ≡ entry (table_in (⟦<AnyMap as Mapping>⟧.layout map.now) (⟦<AnyMap as Mapping>⟧.slot_count map.now)
-        (⟦<AnyMap as Mapping>⟧.hold_list map.now) blobs.now) row leaf) }
-{
+    laws_of_table(view);
+    let map = view.map();
     laws_of(map);
-    let short = &map.short(leaf).short;
-    let start = short.near_start(row)?;
-    if !is_one_piece(short.word) {
-        return None;
+    if !read_rows(map, blobs, leaf, first, lows) {
+        return false;
     }
-    Some(read_word(&blobs[short.blob], start, short.word, &short.field))
+    are_declared(view.schema().leaf_type(leaf), map.hold(leaf), lows)
 }
 
-// Whether what stands at a place is one piece: no bytes in reverse order, and none by itself.
-#[inline(always)]
-fn is_one_piece(word: Word) -> bool
-    ensures { result ≡ is_one_piece word }
+// Whether each of some numbers that are stored so, told by their low bits, is one of a type. None is looked at where each that can be stored
+// so is one.
+fn are_declared(kind: LeafType, hold: Hold, lows: &[i64]) -> bool
+    requires some { 1 ≤ hold.width }
+    requires narrow { hold.width ≤ 64 }
+    requires sign { hold.signed ≡ is_signed kind }
+    ensures { result ≡ true → (k : ℕ) → k < length lows.now → (raw : ℤ) → IsIn hold.signed hold.width raw
+        → slice_index_or lows.now k (pos 0) ≡ low_64 raw → IsDeclared kind raw }
 {
-    !matches!(
-        word,
-        Word::TurnedU16
-            | Word::TurnedU32
-            | Word::TurnedU64
-            | Word::TurnedI16
-            | Word::TurnedI32
-            | Word::TurnedI64
-            | Word::Scattered
-    )
+    let (least, greatest) = (kind.least(), kind.greatest());
+    if least <= hold.least() && hold.greatest() <= greatest {
+        return true;
+    }
+    let mut all = true;
+    for low in lows {
+        let value = i128::from(*low);
+        all &= least <= value;
+        all &= value <= greatest;
+    }
+    all
 }
 
-// The same by the whole rule.
-#[inline(never)]
-fn entry_by_rule<M: Mapping>(map: &M, blobs: &[Blob], slot: u64, cell: usize) -> i128
-    requires slot_in { slot < M.slot_count map.now }
-    requires cell_in { cell < length (M.cell_list map.now) }
-    requires sized { AreSized (M.layout map.now) blobs.now }
-    ensures { result ≡ entry (table_in (M.layout map.now) (M.slot_count map.now) (M.hold_list map.now) blobs.now) slot cell }
+// Takes the steps that are left of one for each of so many rows, behind those of a run.
+fn count_rest<L: Ledger>(kind: LeafType, rows: usize, steps: &mut Steps<L>)
+    ensures { steps.new + run_steps kind rows ≡ steps.old + rows }
 {
-    let hold = map.hold(cell);
-    let pieces = map.locate(slot, cell);
-    decode(hold, read_pieces(blobs, pieces.as_slice()))
+    let each = if kind.width() <= 32 { 16 } else { 8 };
+    for _row in rows.div_ceil(each)..rows {
+        steps.tick();
+    }
 }

@@ -14,4 +14,4 @@ mod texts;
 pub use fault::{FileFault, SaveEnd};
 pub use laws::{bits_law, file_law, opened_law, rows_law};
 pub use open::{mode_by, read_file};
-pub use save::write_file;
+pub use save::{file_len, write_file};

@@ -1,17 +1,17 @@
 // A file, opened as a view.
-ghost use Rattle.std.specs.Prelude.{◌≡◌, ◌≤◌, ◌+◌, ◌*◌, ◌⊎◌, false, true, IfOk, IfErr, OnOk, Ok, Err, length, map};
+ghost use Rattle.std.specs.Prelude.{◌≡◌, ◌≤◌, ◌+◌, ◌*◌, ◌⊎◌, false, true, IfOk, IfErr, OnOk, Ok, Err, Some, length, map, sum_by};
 ghost use Rattle.std.specs.List.{list_any};
 ghost use Rattle.extents.specs.Shapes.{bad_shape, bad_extents, extent_of, is_rows};
 ghost use Rattle.map_expr.specs.Terms.{term_of};
-ghost use Rattle.map_checks.specs.Mappings.{accepted, leaf_cells};
+ghost use Rattle.map_checks.specs.Mappings.{accepted, layout_by, leaf_cells};
 ghost use Rattle.record_dim.specs.Leaves.{first_fault, kinds_of};
 ghost use Rattle.record_dim.specs.Schemas.{schema_fields};
 ghost use Rattle.record_dim.specs.Trees.{tree_of, Record, IsRecord};
-ghost use Rattle.blob_file.specs.Files.{Header, IsFile};
+ghost use Rattle.blob_file.specs.Files.{owners_by, Header, IsFile};
 ghost use Rattle.blob_file.specs.Headers.{is_nameless, CanLie};
-ghost use Rattle.blob_file.specs.Opened.{empty_table, leaf_count, mode_by, opened, row_count, with_blobs, with_body, IsRead, IsReadInto};
+ghost use Rattle.blob_file.specs.Opened.{empty_table, leaf_count, mode_by, opened, row_count, with_blobs, with_body, with_header, IsRead, IsReadInto};
 ghost use Rattle.piece_bits.specs.Tables.{AreSized};
-ghost use Rattle.views.specs.Refusals.{IsOver, IsNoView};
+ghost use Rattle.views.specs.Refusals.{IsOver};
 ghost use Rattle.views.specs.Tables.{owners_of};
 ghost use Rattle.blob_file.specs.Parts.{header_by, header_in};
 ghost use Rattle.blob_file.specs.Saving.{header_of, blobs_of};
@@ -29,11 +29,11 @@ use record_dim::{Dim, MakeSchema, Schema};
 use std::alloc::Global;
 use std::sync::ledger::Ledger;
 use steps::Steps;
-use views::{MakeView, StoreMode, View, laws_of_table};
+use views::{MakeView, StoreMode, View, bytes_for, laws_of_table};
 
 /// The view of which bytes are the file. It has counted one write of each leaf of each row, and nothing else. The refusals come in the order
-/// of `FileFault`, each exactly where `opened` says so; memory may run out at any time, and that of the view, whose size is within the limits
-/// by then, is taken before the number of bytes behind the header is looked at. A step is taken for each leaf of each row that is stored.
+/// of `FileFault`, each exactly where `opened` says so; memory may run out at any time. That of the view is taken once the number of bytes
+/// behind the header is right. A step is taken for each leaf of each row that is stored.
 pub fn read_file<L: Ledger>(
     alloc: Global,
     bytes: &[u8],
@@ -47,7 +47,7 @@ pub fn read_file<L: Ledger>(
         return Err(FileFault::Magic);
     };
     let (header, body) = read_header(alloc, rest)?;
-    let mut view = empty_view(alloc, header)?;
+    let mut view = empty_view(alloc, header, body)?;
     match fill_view(alloc, &mut view, body, steps) {
         Ok(()) => Ok(view),
         Err(fault) => {
@@ -57,14 +57,15 @@ pub fn read_file<L: Ledger>(
     }
 }
 
-// A view of zeros that the header says, in which nothing was counted.
-fn empty_view(alloc: Global, header: FileHeader) -> Result<View, FileFault>
+// A view of zeros that the header says, in which nothing was counted, where as many bytes stand behind the header as it has.
+fn empty_view(alloc: Global, header: FileHeader, body: &[u8]) -> Result<View, FileFault>
     requires kind { IsRecord header.dim }
     requires plain { list_any is_rows header.words ≡ false }
     requires nameless { is_nameless (term_of header.expr) ≡ true }
     ensures made { IfOk result (λ view. view ≡ empty_table (header_in header)) }
     ensures lies { OnOk result (CanLie (header_in header)) }
-    ensures refused { IfErr result (λ found. (found ≡ fault.NoMemory) ⊎ ((found ≡ fault.Layout) × (CanLie (header_in header) → ⊥))) }
+    ensures sized { OnOk result (8 * length body.now ≡ sum_by length (owners_by (header_in header))) }
+    ensures refused { IfErr result (λ found. IsRead (with_header (Some (header_in header, body.now))) (Err found)) }
 {
     let FileHeader {
         dim,
@@ -74,7 +75,11 @@ fn empty_view(alloc: Global, header: FileHeader) -> Result<View, FileFault>
     } = header;
     let schema = schema_of(alloc, dim)?;
     let extents = extents_of(words.as_slice())?;
-    made(alloc, mode_by(wrap), &schema, extents, &expr)
+    let bytes = bytes_of(alloc, &schema, extents, &expr)?;
+    if body.len() as u64 != bytes {
+        return Err(FileFault::Length);
+    }
+    zeros(alloc, &schema, extents, &expr, mode_by(wrap), bytes)
 }
 
 // The schema of a record.
@@ -119,48 +124,47 @@ pub fn mode_by(wrap: bool) -> StoreMode
     }
 }
 
-// A view of zeros in a mode.
-fn made(
+// How many bytes the blobs of a view of these have. Nothing of their size is made.
+#[tactic(auto, using(crate::specs::HeaderLaws::nameless_built))]
+fn bytes_of(
     alloc: Global,
-    mode: StoreMode,
     schema: &Schema,
     extents: Extents,
     expr: &MapExpr,
-) -> Result<View, FileFault>
+) -> Result<u64, FileFault>
     requires { is_nameless (term_of expr.now) ≡ true }
-    ensures made { IfOk result (λ view. view ≡ empty_table (header_by (schema_fields schema.now) extents mode (term_of expr.now))) }
+    ensures bytes { IfOk result (λ bytes. 8 * bytes ≡ sum_by length (layout_by (term_of expr.now) extents (schema_fields schema.now))) }
     ensures mapped { OnOk result (accepted (term_of expr.now) (schema_fields schema.now) (leaf_cells (kinds_of (schema_fields schema.now))) ≡ Ok tt) }
     ensures within { OnOk result (IsOver (term_of expr.now) extents (schema_fields schema.now) → ⊥) }
     ensures refused { IfErr result (λ found. (found ≡ fault.NoMemory) ⊎ ((found ≡ fault.Layout)
         × (accepted (term_of expr.now) (schema_fields schema.now) (leaf_cells (kinds_of (schema_fields schema.now))) ≡ Ok tt
         → (IsOver (term_of expr.now) extents (schema_fields schema.now) → ⊥) → ⊥))) }
 {
-    match zeros(alloc, mode, schema, extents, expr) {
-        Ok(view) => Ok(view),
+    match bytes_for(alloc, schema, extents, expr) {
+        Ok(bytes) => Ok(bytes),
         Err(MakeView::NoMemory) => Err(FileFault::NoMemory),
         Err(MakeView::Bad(_)) => Err(FileFault::Layout),
         Err(MakeView::TooBig) => Err(FileFault::Layout),
     }
 }
 
-// The same, with the answer of `View`.
+// A view of zeros of so many bytes. Those of which `bytes_of` tells them lack nothing but memory.
 #[tactic(auto, using(crate::specs::HeaderLaws::nameless_built))]
 fn zeros(
     alloc: Global,
-    mode: StoreMode,
     schema: &Schema,
     extents: Extents,
     expr: &MapExpr,
-) -> Result<View, MakeView>
+    mode: StoreMode,
+    bytes: u64,
+) -> Result<View, FileFault>
     requires { is_nameless (term_of expr.now) ≡ true }
     ensures made { IfOk result (λ view. view ≡ empty_table (header_by (schema_fields schema.now) extents mode (term_of expr.now))) }
-    ensures mapped { OnOk result (accepted (term_of expr.now) (schema_fields schema.now) (leaf_cells (kinds_of (schema_fields schema.now))) ≡ Ok tt) }
-    ensures within { OnOk result (IsOver (term_of expr.now) extents (schema_fields schema.now) → ⊥) }
-    ensures refused { IfErr result (IsNoView (term_of expr.now) extents (schema_fields schema.now)) }
+    ensures refused { IfErr result (λ found. found ≡ fault.NoMemory) }
 {
-    match mode {
-        StoreMode::Strict => View::new(alloc, schema, extents, expr),
-        StoreMode::Wrap => View::wrapping(alloc, schema, extents, expr),
+    match View::new_within(alloc, schema, extents, expr, mode, bytes) {
+        Ok(view) => Ok(view),
+        Err(_) => Err(FileFault::NoMemory),
     }
 }
 
@@ -172,13 +176,11 @@ fn fill_view<L: Ledger>(
     steps: &mut Steps<L>,
 ) -> Result<(), FileFault>
     requires empty { view.old ≡ empty_table (header_of view.old) }
+    requires sized { 8 * length body.now ≡ sum_by length (owners_of view.old) }
     ensures read { IsReadInto (with_body (header_of view.old) body.now) view.new result }
     ensures steps { OnOk result (steps.new ≡ steps.old + row_count (header_of view.new) * leaf_count (header_of view.new)) }
 {
     laws_of(view.map());
-    if body.len() as u64 != view.blob_bytes() {
-        return Err(FileFault::Length);
-    }
     let blobs = cut_blobs(alloc, view.map(), body)?;
     fill_from(blobs.as_slice(), view, steps)
 }

@@ -1,15 +1,17 @@
 // A view, written as a file.
-ghost use Rattle.std.specs.Prelude.{◌≡◌, ◌+◌, ◌≤◌, [], ◌∷◌, ◌++◌, length, take, drop};
+ghost use Rattle.std.specs.Prelude.{◌≡◌, ◌⊎◌, ◌+◌, ◌≤◌, [], ◌∷◌, ◌++◌, length, take, drop, IfOk, IfErr, OnOk};
 ghost use Rattle.layout_io.specs.Gathering.{Puts};
 ghost use Rattle.layout_io.specs.Writing.{Writes, joined};
-ghost use Rattle.blob_file.specs.Files.{four_bytes, two_lines, file_of, IsShort, IsFile};
+ghost use Rattle.blob_file.specs.Files.{four_bytes, two_lines, file_of, record_text, view_text, IsShort, IsFile};
 ghost use Rattle.blob_file.specs.Saving.{header_of, blobs_of, head_of, IsSaved};
+ghost use Rattle.blob_file.specs.declared.fault.SaveEnd.TheVariants.{TooBig, NoMemory};
 
 use crate::fault::SaveEnd;
 use crate::texts::{record_text, view_text};
 use blobs::Blob;
 use layout_io::{BUFFER_BYTES, Failed, Sink, TextBuffer, write_all};
-use places::Mapping;
+use places::{Mapping, laws_of};
+use record_dim::Text;
 use schema_lang::MAX_LINE_BYTES;
 use std::alloc::Global;
 use views::{View, laws_of_table};
@@ -28,18 +30,41 @@ pub fn write_file<K: Sink>(alloc: Global, view: &View, sink: &mut K) -> Result<(
     ensures file { IsShort (header_of view.now) → IsFile (file_of (header_of view.now) (blobs_of view.now)) (header_of view.now) (blobs_of view.now) }
 {
     laws_of_table(view);
+    let (record, shown) = header_texts(alloc, view)?;
+    put_file(
+        view,
+        record.as_str().as_bytes(),
+        shown.as_str().as_bytes(),
+        sink,
+    )?;
+    Ok(())
+}
+
+/// How many bytes the file of a view has. Only the texts of its header are made. `TooBig` comes exactly where it does of `write_file`.
+pub fn file_len(alloc: Global, view: &View) -> Result<usize, SaveEnd>
+    ensures len { IfOk result (λ len. len ≡ length (file_of (header_of view.now) (blobs_of view.now))) }
+    ensures short { OnOk result (IsShort (header_of view.now)) }
+    ensures refused { IfErr result (λ end. (end ≡ NoMemory) ⊎ ((end ≡ TooBig) × (IsShort (header_of view.now) → ⊥))) }
+{
+    laws_of(view.map());
+    let (record, shown) = header_texts(alloc, view)?;
+    let lines = lines_len(record.as_str().as_bytes(), shown.as_str().as_bytes());
+    Ok(MAGIC.len() + 4 + lines + view.blob_bytes() as usize)
+}
+
+// The two texts of the header of a view, neither of which is too long.
+fn header_texts(alloc: Global, view: &View) -> Result<(Text, Text), SaveEnd>
+    ensures record { IfOk result (λ texts. texts.0 ≡ record_text (header_of view.now)) }
+    ensures shown { IfOk result (λ texts. texts.1 ≡ view_text (header_of view.now)) }
+    ensures short { OnOk result (IsShort (header_of view.now)) }
+    ensures refused { IfErr result (λ end. (end ≡ NoMemory) ⊎ ((end ≡ TooBig) × (IsShort (header_of view.now) → ⊥))) }
+{
     let record = record_text(alloc, view)?;
     let shown = view_text(alloc, view)?;
-    let first = record.as_str().as_bytes();
-    let second = shown.as_str().as_bytes();
-    if first.len() > MAX_LINE_BYTES {
+    if record.as_str().len().max(shown.as_str().len()) > MAX_LINE_BYTES {
         return Err(SaveEnd::TooBig);
     }
-    if second.len() > MAX_LINE_BYTES {
-        return Err(SaveEnd::TooBig);
-    }
-    put_file(view, first, second, sink)?;
-    Ok(())
+    Ok((record, shown))
 }
 
 // Writes the file whose header has these texts.
@@ -87,8 +112,18 @@ pub fn size_of(first: &[u8], second: &[u8]) -> [u8; 4]
     requires less { length second.now ≤ 4096 }
     ensures { result ≡ four_bytes (length (two_lines first.now second.now)) }
 {
-    let size = (first.len() + second.len() + 2) as u32;
+    let size = lines_len(first, second) as u32;
     size.to_le_bytes()
+}
+
+// The same as a number.
+fn lines_len(first: &[u8], second: &[u8]) -> usize
+    requires few { length first.now ≤ 4096 }
+    requires less { length second.now ≤ 4096 }
+    ensures lines { result ≡ length (two_lines first.now second.now) }
+    ensures few { result ≤ 8194 }
+{
+    first.len() + second.len() + 2
 }
 
 // Puts the bytes of all blobs, in order.

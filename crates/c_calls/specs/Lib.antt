@@ -3,5 +3,4 @@ pub mod Faults
 pub mod Refusals
 pub mod Values
 pub mod Runs
-pub mod RunLaws
 pub mod Buffers

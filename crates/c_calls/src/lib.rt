@@ -11,7 +11,7 @@ mod number;
 mod print;
 mod refusal;
 mod runs;
-mod stores;
+mod unsigned;
 mod values;
 
 pub use blob_bytes::{blob_count, put_blob};
@@ -21,6 +21,5 @@ pub use files::{open_view, put_file};
 pub use number::Number64;
 pub use print::put_table;
 pub use refusal::{DONE, Fault, Refusal, TextOf};
-pub use runs::get_run;
-pub use stores::set_run;
+pub use runs::{get_run, set_run};
 pub use values::{get, set};

@@ -16,7 +16,6 @@ use Rattle.kept_numbers.specs.Far.{folded, shortened}
 use Rattle.kept_numbers.specs.FarLaws.{folded_near, folded_far, shortened_kept}
 use Rattle.csv_rows.specs.Datasets.{◌>>=◌, Place, unspaced, number_of, the_field, the_number, taken, value_at}
 use Rattle.csv_rows.specs.declared.fault.RowFault.{RowFault}
-use Rattle.csv_rows.specs.declared.fault.RowFault.TheVariants.{ShortRow, Number}
 use Rattle.csv_rows.proofs.CsvReads.{some_is}
 
 int_le-false : (a b : ℤ) → b <ℤ a → int_le a b ≡ false
@@ -81,10 +80,6 @@ answer_same Strict kind hold z few = ⊎_elim
     (strict_same kind hold z)
 answer_same Wrap kind hold z few = ap (λ (v : ℤ). Ok v) (sym (shortened_kept kind hold z few))
 
-none_from : (number : Option ℤ) → option_map shortened number ≡ None → number ≡ None
-none_from None e = refl
-none_from (Some z) e = absurd (cc e)
-
 abbrev value_of : Place → Option ℤ → Result ℤ RowFault
 value_of place number = the_number place number >>= (λ value. taken place (store_answer place.mode place.kind place.hold value))
 
@@ -98,24 +93,9 @@ clip_of place None value few is = absurd (cc is)
 clip_of place (Some z) value few is =
     ap (taken place) (answer_same place.mode place.kind place.hold z few ∙ ap (store_answer place.mode place.kind place.hold) (some_is is))
 
--- no field, a field that is no number, and one that is
-no_field : (place : Place) (fields : List (List ℕ)) → slice_get fields place.column ≡ None → value_at place fields ≡ Err (ShortRow place.row place.leaf)
-no_field place fields none = ap (λ (field : Option (List ℕ)). the_field place field >>= (λ text. value_of place (number_of (unspaced text)))) none
-
+-- a field that is a number
 field_in : (place : Place) (fields : List (List ℕ)) (field : List ℕ) → slice_get fields place.column ≡ Some field → value_at place fields ≡ value_of place (number_of (unspaced field))
 field_in place fields field some = ap (λ (found : Option (List ℕ)). the_field place found >>= (λ text. value_of place (number_of (unspaced text)))) some
-
-pub value_short : (place : Place) (fields : List (List ℕ)) → None ≡ option_map number_in (slice_get fields place.column) → value_at place fields ≡ Err (ShortRow place.row place.leaf)
-value_short place fields = by (slice_get fields place.column) refl where
-  by : (found : Option (List ℕ)) → slice_get fields place.column ≡ found → None ≡ option_map number_in found → value_at place fields ≡ Err (ShortRow place.row place.leaf)
-  by None is none = no_field place fields is
-  by (Some field) is none = cc none
-
-pub value_none : (place : Place) (fields : List (List ℕ)) → Some None ≡ option_map number_in (slice_get fields place.column) → value_at place fields ≡ Err (Number place.row place.leaf)
-value_none place fields = by (slice_get fields place.column) refl where
-  by : (found : Option (List ℕ)) → slice_get fields place.column ≡ found → Some None ≡ option_map number_in found → value_at place fields ≡ Err (Number place.row place.leaf)
-  by None is none = cc none
-  by (Some field) is none = field_in place fields field is ∙ ap (value_of place) (none_from (number_of (unspaced field)) (sym (some_is none)))
 
 pub value_some : (place : Place) (fields : List (List ℕ)) (value : ℤ) → place.hold.width ≤ 64 → Some (Some value) ≡ option_map number_in (slice_get fields place.column)
     → value_at place fields ≡ taken place (store_answer place.mode place.kind place.hold value)

@@ -1,10 +1,9 @@
 -- The fields of a line, one after another.
-use Rattle.std.proofs.Common.{◌≡◌, ℕ, zero, suc, ◌+◌, ◌-◌, ◌<◌, ◌≤◌, List, [], ◌∷◌, ◌++◌, length, take, drop, get_or, Some, None, refl, sym, ap, ◌∙◌, ⊎_elim, arith}
+use Rattle.std.proofs.Common.{◌≡◌, ℕ, zero, suc, ◌+◌, ◌-◌, ◌<◌, ◌≤◌, List, [], ◌∷◌, ◌++◌, length, take, drop, get_or, Some, sym, ap, ◌∙◌, ⊎_elim, arith}
 use Rattle.std.specs.List.{slice_get, slice_split}
 use Rattle.std.proofs.lemmas.Bool.{cases_lt}
 use Rattle.std.proofs.lemmas.List.{take-append-drop, drop-drop, drop_more, take_all, length-drop}
 use Rattle.std.proofs.lemmas.List.Splits.{slice_split_none, slice_split_at}
-use Rattle.std.proofs.lemmas.Option.{slice_get_past}
 use Rattle.csv_rows.specs.Plain.{is_comma, IsFirstField, IsField}
 
 -- the first field, and those behind its comma
@@ -28,9 +27,6 @@ first_left [] (suc i) x others is = absurd (cc is)
 first_left (y ∷ xs) zero x others is = let same : y ≡ x = cc is in ap Some same
 first_left (y ∷ xs) (suc i) x others is = first_left xs i x others is
 
-pub start_field : (line : List ℕ) → IsField line 0 0
-start_field line = record { within = omega arith; low = omega arith; behind = refl }
-
 -- the field of a column, and the next one
 pub field_found : (line : List ℕ) (column start count : ℕ) → IsField line column start → IsFirstField (drop start line) count → slice_get (slice_split is_comma line) column ≡ Some (take count (drop start line))
 field_found line column start count at first =
@@ -53,6 +49,3 @@ pub fields_end : (line : List ℕ) (column start count : ℕ) → IsField line c
 fields_end line column start count at first over =
     let one : length (drop column (slice_split is_comma line)) ≡ 1 = ap length (at.behind ∙ field_last (drop start line) count first over) in
     omega (arith, length-drop column (slice_split is_comma line), one)
-
-pub no_field : (line : List ℕ) (column : ℕ) → length (slice_split is_comma line) ≤ column → slice_get (slice_split is_comma line) column ≡ None
-no_field line column over = slice_get_past (slice_split is_comma line) column over

@@ -96,14 +96,14 @@ none_of false true c h = cc h
 none_of false false true h = cc h
 none_of false false false h = (refl, refl)
 
--- the bytes before the first comma or line end
-byte_before : (xs : List ℕ) (n k d : ℕ) → n ≤ length xs → ((k : ℕ) → k < n → is_byte3 44 13 10 (get_or xs k 0) ≡ true → ⊥) → k < length (take n xs) → (is_comma (get_or (take n xs) k d) ≡ false) × (is_line_end (get_or (take n xs) k d) ≡ false)
-byte_before xs n k d within none less =
+-- the bytes before the first one of a kind or line end
+pub byte_before : (a : ℕ) (xs : List ℕ) (n k d : ℕ) → n ≤ length xs → ((k : ℕ) → k < n → is_byte3 a 13 10 (get_or xs k 0) ≡ true → ⊥) → k < length (take n xs) → (nat_eq (get_or (take n xs) k d) a ≡ false) × (is_line_end (get_or (take n xs) k d) ≡ false)
+byte_before a xs n k d within none less =
     let under : k < n = omega (arith, less, length-take-le n xs within) in
     let same : get_or (take n xs) k d ≡ get_or xs k 0 = get_or-take n xs k d under ∙ get_or_default xs k d 0 (omega (arith, under, within)) in
     let byte = get_or xs k 0 in
-    let parts = none_of (nat_eq byte 44) (nat_eq byte 13) (nat_eq byte 10) (false_from_ne_true (is_byte3 44 13 10 byte) (none k under)) in
-    subst (λ (b : ℕ). (is_comma b ≡ false) × (is_line_end b ≡ false)) (sym same) (parts.1, parts.0)
+    let parts = none_of (nat_eq byte a) (nat_eq byte 13) (nat_eq byte 10) (false_from_ne_true (is_byte3 a 13 10 byte) (none k under)) in
+    subst (λ (b : ℕ). (nat_eq b a ≡ false) × (is_line_end b ≡ false)) (sym same) (parts.1, parts.0)
 
 -- it is the first one of the line that is left
 here_first : (bytes : List ℕ) (count : ℕ) → IsFieldHere bytes count → IsFirstField (first_line bytes) count
@@ -164,27 +164,6 @@ here_end text column start count at here other =
 pub here_last : (text : List ℕ) (column start count : ℕ) → IsField (first_line text) column start → IsFieldHere (drop start text) count → (count < length (drop start text) → is_comma (get_or (drop start text) count 0) ≡ false) → length (slice_split is_comma (first_line text)) ≤ column + 1
 here_last text column start count at here other =
     fields_end (first_line text) column start count at (here_field text column start count at here) (omega (arith, here_length (drop start text) count here other, left_length text column start at))
-
--- a comma or the end of a line, found
-or_grouped : (a b c : Bool) → (a || b || c) ≡ true → (a || (b || c)) ≡ true
-or_grouped true b c is = refl
-or_grouped false b c is = is
-
-pub here_some : (xs : List ℕ) (n : ℕ) → IsFirstByte (is_byte3 44 13 10) xs (Some n) → IsFieldHere xs n
-here_some xs n found =
-    let small : n < length xs = found.0.high in
-    record {
-      within = omega arith;
-      inside = λ k d less. byte_before xs n k d (omega arith) (λ j under. found.0.before j (omega arith) under) less;
-      ended = λ small. or_grouped (nat_eq (get_or xs n 0) 44) (nat_eq (get_or xs n 0) 13) (nat_eq (get_or xs n 0) 10) found.1;
-    }
-
-pub here_none : (xs : List ℕ) → IsFirstByte (is_byte3 44 13 10) xs None → IsFieldHere xs (length xs)
-here_none xs none = record {
-  within = omega arith;
-  inside = λ k d less. byte_before xs (length xs) k d (omega arith) (λ j under. none j (omega arith) under) less;
-  ended = λ small. absurd (omega arith);
-}
 
 -- what stands behind a line, whose end was looked for from one of its places on
 pub behind_found : (text : List ℕ) (start n : ℕ) → start ≤ line_length text → n ≡ line_length (drop start text) → drop n (drop start text) ≡ behind_line text

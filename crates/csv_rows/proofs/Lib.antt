@@ -3,6 +3,7 @@ pub mod Asked
 pub mod Clips
 pub mod ColumnNames
 pub mod Commas
+pub mod Counts
 pub mod CsvReads
 pub mod Fields
 pub mod FirstFaults

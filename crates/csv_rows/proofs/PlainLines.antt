@@ -16,13 +16,13 @@ use Rattle.csv_rows.specs.Plain.{is_comma, is_line_end, line_start, line_length,
 use Rattle.csv_rows.proofs.CsvReads.{one_record, no_record}
 
 -- one byte is read
-stepped : (s : State) (before : List (List ℕ)) (p : List ℕ) (c : ℕ) (xs : List ℕ) (r : State × Action) → step default_config s c ≡ r
+pub stepped : (s : State) (before : List (List ℕ)) (p : List ℕ) (c : ℕ) (xs : List ℕ) (r : State × Action) → step default_config s c ≡ r
     → next_record default_config s before p (c ∷ xs) ≡ (if is_end r.1 then Some (fields_after r.1 before p, r.0, xs) else next_record default_config r.0 (fields_after r.1 before p) (field_after r.1 c p) xs)
 unfolding next_record
 stepped s before p c xs r is = ap (λ (q : State × Action). if is_end q.1 then Some (fields_after q.1 before p, q.0, xs) else next_record default_config q.0 (fields_after q.1 before p) (field_after q.1 c p) xs) is
 
 -- two places at which the same record is read
-same_rows : (s t : State) (xs ys : List ℕ) → next_record default_config s [] [] xs ≡ next_record default_config t [] [] ys → rows_from s xs ≡ rows_from t ys
+pub same_rows : (s t : State) (xs ys : List ℕ) → next_record default_config s [] [] xs ≡ next_record default_config t [] [] ys → rows_from s xs ≡ rows_from t ys
 same_rows s t xs ys same = by (next_record default_config t [] [] ys) refl where
   by : (o : Option Read) → next_record default_config t [] [] ys ≡ o → rows_from s xs ≡ rows_from t ys
   by None is = no_record s xs (same ∙ is) ∙ sym (no_record t ys is)
@@ -35,7 +35,7 @@ data Kind (c : ℕ) : Type 0 where
   a_comma : c ≡ 44 → Kind c
   another : nat_eq c 13 ≡ false → nat_eq c 10 ≡ false → nat_eq c 44 ≡ false → Kind c
 
-number_is : (c n : ℕ) → nat_eq c n ≡ true → c ≡ n
+pub number_is : (c n : ℕ) → nat_eq c n ≡ true → c ≡ n
 number_is c n e = grind (arith, nat_tests)
 
 kind_of : (c : ℕ) → Kind c
@@ -103,7 +103,7 @@ no_rows bytes [] is none = start_rows bytes ∙ ap (rows_from st.StartRecord) (s
 no_rows bytes (c ∷ text) is none = absurd (omega arith)
 
 -- bytes in front of the first field
-abbrev onto : List ℕ → List (List ℕ) → List (List ℕ)
+abbrev pub onto : List ℕ → List (List ℕ) → List (List ℕ)
 onto p [] = p ∷ []
 onto p (field ∷ fields) = (p ++ field) ∷ fields
 
@@ -121,15 +121,15 @@ onto_more p c [] = refl
 onto_more p c (field ∷ fields) = ap (λ (f : List ℕ). f ∷ fields) (append_assoc p (c ∷ []) field)
 
 -- what a read inside a line gives: the fields before and those of the line, and then the records behind it
-record Gives (s : State) (before : List (List ℕ)) (p line tail : List ℕ) : Type 0 where
-  read : Read
-  is : next_record default_config s before p (line ++ tail) ≡ Some read
-  fields : read.0 ≡ before ++ onto p (slice_split is_comma line)
-  rest : rows_from read.1 read.2 ≡ rows_from st.StartRecord tail
+pub record Gives (s : State) (before : List (List ℕ)) (p line tail : List ℕ) : Type 0 where
+  pub read : Read
+  pub is : next_record default_config s before p (line ++ tail) ≡ Some read
+  pub fields : read.0 ≡ before ++ onto p (slice_split is_comma line)
+  pub rest : rows_from read.1 read.2 ≡ rows_from st.StartRecord tail
 
-record IsLine (line tail : List ℕ) : Type 0 where
-  inside : (before : List (List ℕ)) (p : List ℕ) → Gives st.InField before p line tail
-  begins : (before : List (List ℕ)) (p : List ℕ) → Gives st.StartField before p line tail
+pub record IsLine (line tail : List ℕ) : Type 0 where
+  pub inside : (before : List (List ℕ)) (p : List ℕ) → Gives st.InField before p line tail
+  pub begins : (before : List (List ℕ)) (p : List ℕ) → Gives st.StartField before p line tail
 
 -- the end of a line, or of the text
 abbrev pub EndsHere : List ℕ → Type 0
@@ -201,17 +201,21 @@ byte_line c line tail (another a b e) plain more = record {
   begins = λ before p. other_gives st.StartField before p c line tail (rw (plain.1, e, a, b) refl) e more.inside;
 }
 
-is_line : (line tail : List ℕ) → All IsPlain line → EndsHere tail → IsLine line tail
+pub is_line : (line tail : List ℕ) → All IsPlain line → EndsHere tail → IsLine line tail
 is_line [] tail plain here = ends tail here
 is_line (c ∷ line) tail plain here = byte_line c line tail (kind_of c) (plain 0 0 (omega arith)) (is_line line tail (λ k d small. plain (suc k) d (omega arith)) here)
 
 -- the record of a line, and those behind it
+pub record_here : (s : State) (line tail : List ℕ) → Gives s [] [] line tail → rows_from s (line ++ tail) ≡ onto [] (slice_split is_comma line) ∷ rows_from st.StartRecord tail
+record_here s line tail g =
+    one_record s (line ++ tail) g.read g.is
+    ∙ ap (λ (f : List (List ℕ)). f ∷ rows_from g.read.1 g.read.2) g.fields
+    ∙ ap (λ (rs : List (List (List ℕ))). onto [] (slice_split is_comma line) ∷ rs) g.rest
+
 pub line_rows : (line tail : List ℕ) → All IsPlain line → EndsHere tail → rows_from st.StartField (line ++ tail) ≡ slice_split is_comma line ∷ rows_from st.StartRecord tail
 line_rows line tail plain here =
-    let g = (is_line line tail plain here).begins [] [] in
-    one_record st.StartField (line ++ tail) g.read g.is
-    ∙ ap (λ (f : List (List ℕ)). f ∷ rows_from g.read.1 g.read.2) (g.fields ∙ onto_none line)
-    ∙ ap (λ (rs : List (List (List ℕ))). slice_split is_comma line ∷ rs) g.rest
+    record_here st.StartField line tail ((is_line line tail plain here).begins [] [])
+    ∙ ap (λ (f : List (List ℕ)). f ∷ rows_from st.StartRecord tail) (onto_none line)
 
 -- what is left of a text without quotes has none either
 rest_plain : (n : ℕ) (text : List ℕ) → HasNoQuote text → HasNoQuote (drop n text)

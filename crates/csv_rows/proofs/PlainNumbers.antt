@@ -1,13 +1,11 @@
 -- Numbers as most are written: digits, behind a minus or not.
 use Rattle.std.proofs.Common.{◌≡◌, ℕ, zero, suc, ◌+◌, ◌<◌, ◌≤◌, Bool, true, false, ℤ, pos, neg_ℤ, ◌-ℤ◌, FitsSigned, Option, List, [], ◌∷◌, length, take, drop, get_or, Some, None, refl, sym, ap, subst, ◌∙◌, arith}
-use Rattle.std.specs.Prelude.{if◌then◌else◌, ◌||◌, option_map, ◌^◌}
+use Rattle.std.specs.Prelude.{if◌then◌else◌, option_map, ◌^◌}
 use Rattle.std.specs.Int.{w128}
 use Rattle.std.specs.Char.{is_ascii_digit}
 use Rattle.std.specs.List.{list_all}
 use Rattle.std.specs.Str.Parse.{digits_value}
-use Rattle.std.proofs.lemmas.Bool.Decides.{nat_tests}
 use Rattle.std.proofs.lemmas.Int.{ints}
-use Rattle.std.proofs.lemmas.List.Sums.{AllPass-from_list_all}
 use Rattle.csv_rows.specs.Datasets.{unspaced, all_digits, digits_number, number_of}
 use Rattle.kept_numbers.specs.Far.{folded, shortened}
 use Rattle.kept_numbers.specs.FarLaws.{folded_near}
@@ -25,29 +23,6 @@ all_known xs n = by (list_all is_ascii_digit xs) refl where
 digits_known : (xs : List ℕ) (n : ℕ) → digits_number xs ≡ Some n → AreDigits n xs
 digits_known [] n is = cc is
 digits_known (c ∷ xs) n is = let (all, value) = all_known (c ∷ xs) n is in record { all = all; value = value; first = c; rest = xs; is = refl }
-
--- one digit or more
-pub some_digits : (xs : List ℕ) → 0 < length xs → digits_number xs ≡ all_digits xs
-some_digits [] some = absurd (omega arith)
-some_digits (c ∷ xs) some = refl
-
--- another byte among them
-pub no_digits : (xs : List ℕ) (i : ℕ) → i < length xs → is_ascii_digit (get_or xs i 0) ≡ false → all_digits xs ≡ None
-no_digits xs i small other = by (list_all is_ascii_digit xs) refl where
-  by : (b : Bool) → list_all is_ascii_digit xs ≡ b → (if b then Some (digits_value 10 xs) else None) ≡ None
-  by true all = cc (sym other ∙ AllPass-from_list_all is_ascii_digit xs all i 0 small)
-  by false all = refl
-
-no_comma : (c : ℕ) → is_ascii_digit c ≡ true → (is_comma c ≡ false) × (is_line_end c ≡ false)
-no_comma c digit = (grind (arith, nat_tests), grind (arith, nat_tests))
-
--- digits up to a comma or the end are the first field
-pub digits_field : (xs : List ℕ) (count n : ℕ) → count ≤ length xs → all_digits (take count xs) ≡ Some n → (count < length xs → (is_comma (get_or xs count 0) || is_line_end (get_or xs count 0)) ≡ true) → IsFieldHere xs count
-digits_field xs count n within known ended = record {
-  within = within;
-  inside = λ k d small. no_comma (get_or (take count xs) k d) (AllPass-from_list_all is_ascii_digit (take count xs) (all_known (take count xs) n known).0 k d small);
-  ended = ended;
-}
 
 clip_plain : (n : ℕ) → n < 2 ^ 65 → shortened (pos n) ≡ pos n
 clip_plain n small = ap pos (folded_near n small)

@@ -25,6 +25,11 @@ first_line text = take (line_length text) text
 abbrev pub behind_line : List ℕ → List ℕ
 behind_line text = drop (line_length text) text
 
+-- whether a quote opens quotes behind bytes that are no quotes and no ends of lines
+abbrev pub opens_behind : Bool → List ℕ → Bool
+opens_behind opens [] = opens
+opens_behind opens (c ∷ xs) = opens_behind (is_comma c) xs
+
 -- no byte is a quote
 abbrev pub HasNoQuote : List ℕ → Type 0
 HasNoQuote text = All (λ byte. (byte == 34) ≡ false) text

@@ -78,9 +78,9 @@ pub fn lines_of(text: &[u8]) -> Lines<'_>
     }
 }
 
-// What stands behind the ends of lines at the start. Most often this is one end.
+/// What stands behind the ends of lines at the start. Most often this is one end.
 #[inline(always)]
-fn behind_ends(bytes: &[u8]) -> &[u8]
+pub fn behind_ends(bytes: &[u8]) -> &[u8]
     ensures { result.now ≡ line_start bytes.now }
 {
     if has_one_end(bytes) {

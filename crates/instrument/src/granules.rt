@@ -10,7 +10,7 @@ use places::Piece;
 pub const MAX_GRANULES: u64 = 1 << 24;
 
 /// Whether blobs of so many bytes have at most 2^24 granules together.
-pub(crate) fn are_few(granule: u32, blob_bytes: &[u64]) -> bool
+pub fn are_few(granule: u32, blob_bytes: &[u64]) -> bool
     requires { 1 ≤ granule }
     ensures { result ≡ nat_le (granules_in granule blob_bytes.now) (2 ^ 24) }
 {

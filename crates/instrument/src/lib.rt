@@ -12,7 +12,7 @@ mod runs_text;
 pub use bytes::write_bytes;
 pub use counts::Counts;
 pub use counts_text::write_counts;
-pub use granules::MAX_GRANULES;
+pub use granules::{MAX_GRANULES, are_few};
 pub use heat::{Heat, HeatFault};
 pub use heat_text::write_heat;
 pub use runs_text::write_runs;

@@ -2,6 +2,8 @@ pub mod Stepping
 pub mod Logs
 pub mod Changed
 pub mod Faults
+pub mod Reductions
 pub mod Numbers
+pub mod LeafRuns
 pub mod Stores
 pub mod Whole

@@ -4,7 +4,7 @@ use Rattle.std.specs.List.{flat_map, range_with_len}
 use Rattle.std.proofs.lemmas.List.Concat.{flat_map-append}
 
 -- numbers from one on, after those before
-ranges : (first row step : ℕ) → range_with_len first (row + step) ≡ range_with_len first row ++ range_with_len (first + row) step
+pub ranges : (first row step : ℕ) → range_with_len first (row + step) ≡ range_with_len first row ++ range_with_len (first + row) step
 ranges first zero step =
     let none : zero + step ≡ step = omega arith in
     let here : first ≡ first + zero = omega arith in

@@ -1,14 +1,14 @@
 -- The number of the values of a leaf, and of more of them.
 use Rattle.std.proofs.Common.{◌≡◌, ℕ, zero, suc, ◌+◌, ◌<◌, ◌≤◌, ◌^◌, Bool, cond, List, [], ◌∷◌, ◌++◌, length, get_or, take, drop, map, fold, FitsSigned, to_z, ℤ, pos, ◌+ℤ◌, w64, Option, Some, None, refl, sym, ap, subst, ◌∙◌, arith, length-take, length-drop}
-use Rattle.std.specs.Int.{int_min, int_max}
+use Rattle.std.specs.Prelude.{option_map}
 use Rattle.std.specs.List.{count_by, sum_by}
 use Rattle.std.specs.Option.{unwrap_or}
 use Rattle.std.proofs.Math.Seq.{take-add}
-use Rattle.std.proofs.lemmas.Int.{ints, to_z_pos, int_min_is, int_max_is}
-use Rattle.std.proofs.lemmas.List.{length-map, map-append, take-map, take-take}
-use Rattle.std.proofs.lemmas.List.Sums.{fold-append, sum_by-append, count_by-le-length}
+use Rattle.std.proofs.lemmas.Int.{ints, to_z_pos}
+use Rattle.std.proofs.lemmas.List.{length-map, map-append, take-map}
+use Rattle.std.proofs.lemmas.List.Sums.{sum_by-append, count_by-le-length}
 use Rattle.std.specs.Simd.Lanes.{Each1}
-use Rattle.std.proofs.lemmas.Simd.{Each1-chunk}
+use Rattle.std.proofs.lemmas.Simd.{Each1-chunk, Each1-weaker}
 use Rattle.lanes.specs.Plain.{SumsFit}
 use Rattle.lanes.specs.NarrowLaws.{narrow_sum_fits}
 use Rattle.lanes.specs.BlockLaws.{narrow_fits}
@@ -19,15 +19,18 @@ use Rattle.record_dim.specs.LeafTypes.{width_of, IsDeclared}
 use Rattle.record_dim.specs.Leaves.{leaves}
 use Rattle.piece_bits.specs.Tables.{hold_at}
 use Rattle.kept_tables.specs.EntryLaws.{stays_declared}
-use Rattle.views.specs.Tables.{Table, IsTable, leaf_types_of, leaf_type_of, table_holds}
+use Rattle.views.specs.Tables.{Table, IsTable, leaf_types_of, leaf_type_of, leaf_count_of, table_holds}
 use Rattle.views.specs.Stores.{Keeping}
-use Rattle.lane_kernels.specs.Kernels.{Compare, compares, column, in_leaf, number_of, extreme, run_rows, IsNarrow, IsNarrowLeaf}
+use Rattle.lane_kernels.specs.Kernels.{Compare, compares, column, in_leaf, number_of, run_rows, IsNarrow, IsNarrowLeaf}
+use Rattle.lane_kernels.specs.Reductions.{reduced_by, with_more}
 use Rattle.lane_kernels.specs.Runs.{number_so_far, AreNext}
+use Rattle.lane_kernels.specs.declared.reduce.Reduction.{Reduction}
 use Rattle.leaf_runs.specs.Lows.{low_64}
 use Rattle.leaf_runs.specs.LowsLaws.{low_same}
 use Rattle.lane_kernels.specs.declared.kernel.Kernel.{Kernel}
 use Rattle.lane_kernels.specs.declared.kernel.Kernel.TheVariants.{Axpy, Clamp, Sum, Least, Greatest, CountWhere}
 use Rattle.lane_kernels.proofs.Changed.{rows_stand}
+use Rattle.lane_kernels.proofs.Reductions.{none_before, more_of, plain_more, run_sums_fit}
 
 -- a value of at most 32 bits
 declared_narrow : (kind : LeafType) (value : ℤ) → width_of kind ≤ 32 → IsDeclared kind value → IsNarrow value
@@ -45,13 +48,19 @@ each_row : (P : ℤ → Type 0) (f : List ℤ → ℤ) (rows : List (List ℤ)) 
 each_row P f [] holds = tt
 each_row P f (values ∷ rows) holds = (holds 0 (omega arith), each_row P f rows (λ row inside. holds (suc row) (omega arith)))
 
+-- the values of a leaf are of its type
+pub declared_column : (seen : Table) (leaf : ℕ) → IsTable seen → leaf < leaf_count_of seen → Each1 (IsDeclared (leaf_type_of seen leaf)) (column leaf seen.rows)
+declared_column seen leaf table inside =
+    let count = length-map (leaves seen.fields) (λ leaf. leaf.kind) in
+    let there : leaf < length (leaf_types_of seen) = omega (arith, inside, count) in
+    let kind = leaf_type_of seen leaf in
+    each_row (IsDeclared kind) (in_leaf leaf) seen.rows
+    (λ row here. stays_declared seen.mode kind (hold_at (table_holds seen) leaf) (entry seen.rows row leaf) (table.stays row leaf here there))
+
 pub narrow_column : (seen : Table) (leaf : ℕ) → IsTable seen → IsNarrowLeaf seen leaf → Each1 IsNarrow (column leaf seen.rows)
 narrow_column seen leaf table narrow =
-    let count = length-map (leaves seen.fields) (λ leaf. leaf.kind) in
-    let inside : leaf < length (leaf_types_of seen) = omega (arith, narrow.inside, count) in
     let kind = leaf_type_of seen leaf in
-    each_row IsNarrow (in_leaf leaf) seen.rows
-    (λ row here. declared_narrow kind (entry seen.rows row leaf) narrow.narrow (stays_declared seen.mode kind (hold_at (table_holds seen) leaf) (entry seen.rows row leaf) (table.stays row leaf here inside)))
+    Each1-weaker (IsDeclared kind) IsNarrow (λ value. declared_narrow kind value narrow.narrow) (column leaf seen.rows) (declared_column seen leaf table narrow.inside)
 
 -- the values of some rows in line
 pub column_rows : (leaf row n : ℕ) (rows : List (List ℤ)) → take n (drop row (column leaf rows)) ≡ column leaf (take n (drop row rows))
@@ -77,73 +86,53 @@ filled kernel [] [] some = absurd (omega arith)
 filled kernel [] (row ∷ rows) some = refl
 filled kernel (row ∷ rows) block some = refl
 
--- a sum
-sum_start : (x : ℕ) (before : List (List ℤ)) (number : Option ℤ) → number ≡ number_so_far (Sum x) before → unwrap_or number (pos 0) ≡ fold (λ a b. a +ℤ b) (pos 0) (column x before)
-sum_start x [] number is = ap (λ (n : Option ℤ). unwrap_or n (pos 0)) is
-sum_start x (row ∷ rows) number is = ap (λ (n : Option ℤ). unwrap_or n (pos 0)) is
+block_some : (kernel : Kernel) (rows : List (List ℤ)) (row step : ℕ) (number : Option ℤ) → AreNext rows kernel row step number → 1 ≤ length (take step (drop row rows))
+block_some kernel rows row step number next = omega (arith, next.some, next.inside, length-take step (drop row rows), length-drop row rows)
 
-sum_beside : (x : ℕ) (before block : List (List ℤ)) (number : Option ℤ) → number ≡ number_so_far (Sum x) before
-    → fold (λ a b. a +ℤ b) (unwrap_or number (pos 0)) (column x block) ≡ fold (λ a b. a +ℤ b) (pos 0) (column x (before ++ block))
-sum_beside x before block number is =
-    ap (λ (n : ℤ). fold (λ (a b : ℤ). a +ℤ b) n (column x block)) (sum_start x before number is)
-    ∙ sym (fold-append (λ (a b : ℤ). a +ℤ b) (pos 0) (column x before) (column x block))
-    ∙ ap (fold (λ (a b : ℤ). a +ℤ b) (pos 0)) (sym (map-append (in_leaf x) before block))
+-- a kernel that gives one number of a leaf
+pub record DoesReduce (kernel : Kernel) (form : Reduction) (x : ℕ) : Type 0 where
+  pub gives : (rows : List (List ℤ)) → number_of kernel rows ≡ reduced_by form (column x rows)
 
--- the least and the greatest
-extreme_beside : (pick : ℤ → ℤ → ℤ) (x : ℕ) (before block : List (List ℤ)) (number : Option ℤ) (d : ℤ) → ((z : ℤ) → pick z z ≡ z) → 1 ≤ length block → number ≡ extreme pick (column x before)
-    → Some (fold pick (unwrap_or number (get_or (column x block) 0 d)) (column x block)) ≡ extreme pick (column x (before ++ block))
-extreme_beside pick x before [] number d same some is = absurd (omega arith)
-extreme_beside pick x [] (row ∷ rows) number d same some is =
-    let start : unwrap_or number (in_leaf x row) ≡ in_leaf x row = ap (λ (n : Option ℤ). unwrap_or n (in_leaf x row)) is in
-    ap (λ (z : ℤ). Some (fold pick (pick z (in_leaf x row)) (column x rows))) start
-    ∙ ap (λ (z : ℤ). Some (fold pick z (column x rows))) (same (in_leaf x row))
-extreme_beside pick x (first ∷ before) (row ∷ rows) number d same some is =
-    ap (λ (n : Option ℤ). Some (fold pick (unwrap_or n (in_leaf x row)) (column x (row ∷ rows)))) is
-    ∙ ap (λ (z : ℤ). Some z) (sym (fold-append pick (in_leaf x first) (column x before) (column x (row ∷ rows))))
-    ∙ ap (λ (zs : List ℤ). Some (fold pick (in_leaf x first) zs)) (sym (map-append (in_leaf x) before (row ∷ rows)))
+beside : (kernel : Kernel) (form : Reduction) (x : ℕ) (before block : List (List ℤ)) → DoesReduce kernel form x
+    → with_more form (number_so_far kernel before) (column x block) ≡ number_of kernel (before ++ block)
+beside kernel form x [] block does = none_before form (column x block) ∙ sym (does.gives block)
+beside kernel form x (row ∷ before) block does =
+    ap (λ (n : Option ℤ). with_more form n (column x block)) (does.gives (row ∷ before))
+    ∙ more_of form (column x (row ∷ before)) (column x block)
+    ∙ ap (reduced_by form) (sym (map-append (in_leaf x) (row ∷ before) block))
+    ∙ sym (does.gives (row ∷ before ++ block))
 
-pub same_min : (z : ℤ) → int_min z z ≡ z
-same_min z = omega (arith, ints, int_min_is z z)
+pub reduced_more : (kernel : Kernel) (form : Reduction) (x : ℕ) (rows : List (List ℤ)) (row step : ℕ) (number result : Option ℤ) (values : List ℤ) → DoesReduce kernel form x
+    → AreNext rows kernel row step number → values ≡ column x (take step (drop row rows))
+    → option_map (λ z. z) result ≡ with_more form (option_map (λ z. z) number) (map (λ z. z) values) → result ≡ number_so_far kernel (take (row + step) rows)
+reduced_more kernel form x rows row step number result values does next values_are is =
+    let before = take row rows in
+    let block = take step (drop row rows) in
+    plain_more form result number values is
+    ∙ ap (with_more form number) values_are ∙ ap (λ (n : Option ℤ). with_more form n (column x block)) next.so_far ∙ beside kernel form x before block does
+    ∙ sym (filled kernel before block (block_some kernel rows row step number next)) ∙ ap (number_so_far kernel) (sym (take-add row step rows))
 
-pub same_max : (z : ℤ) → int_max z z ≡ z
-same_max z = omega (arith, ints, int_max_is z z)
+-- its sums fit
+sum_start : (x : ℕ) (before : List (List ℤ)) (number : Option ℤ) → number ≡ number_so_far (Sum x) before
+    → unwrap_or (option_map (λ z. z) number) (pos 0) ≡ fold (λ a b. a +ℤ b) (pos 0) (column x before)
+sum_start x [] number is = ap (λ (n : Option ℤ). unwrap_or (option_map (λ z. z) n) (pos 0)) is
+sum_start x (row ∷ rows) number is = ap (λ (n : Option ℤ). unwrap_or (option_map (λ z. z) n) (pos 0)) is
 
-pub least_of : (x : ℕ) (rows : List (List ℤ)) → number_so_far (Least x) rows ≡ extreme int_min (column x rows)
-least_of x [] = refl
-least_of x (row ∷ rows) = refl
-
-pub greatest_of : (x : ℕ) (rows : List (List ℤ)) → number_so_far (Greatest x) rows ≡ extreme int_max (column x rows)
-greatest_of x [] = refl
-greatest_of x (row ∷ rows) = refl
+pub narrow_sums_fit : (x : ℕ) (rows : List (List ℤ)) (row step : ℕ) (number : Option ℤ) → length rows ≤ 2 ^ 24 → Each1 IsNarrow (column x rows) → AreNext rows (Sum x) row step number
+    → SumsFit (λ z. z) (λ z. FitsSigned w64 z) (unwrap_or (option_map (λ z. z) number) (pos 0)) (column x (take step (drop row rows)))
+narrow_sums_fit x rows row step number few narrow next =
+    let all = column x rows in
+    let start = unwrap_or (option_map (λ z. z) number) (pos 0) in
+    let so_far = sum_start x (take row rows) number next.so_far ∙ ap (fold (λ (a b : ℤ). a +ℤ b) (pos 0)) (sym (take-map (in_leaf x) row rows)) in
+    subst (SumsFit (λ z. z) (λ z. FitsSigned w64 z) start) (column_rows x row step rows)
+    (run_sums_fit (λ z. FitsSigned w64 z) all row step start so_far
+    (λ n. narrow_sum_fits (take n all) (omega (arith, length-map rows (in_leaf x), length-take n all)) (Each1-chunk IsNarrow 0 n all narrow)))
 
 -- a count
 count_start : (x : ℕ) (op : Compare) (c : ℤ) (before : List (List ℤ)) (number : Option ℤ) → number ≡ number_so_far (CountWhere x op c) before
     → unwrap_or number (pos 0) ≡ pos (count_by (λ value. compares op value c) (column x before))
 count_start x op c [] number is = ap (λ (n : Option ℤ). unwrap_or n (pos 0)) is
 count_start x op c (row ∷ rows) number is = ap (λ (n : Option ℤ). unwrap_or n (pos 0)) is
-
--- with more rows, in a table
-block_some : (kernel : Kernel) (rows : List (List ℤ)) (row step : ℕ) (number : Option ℤ) → AreNext rows kernel row step number → 1 ≤ length (take step (drop row rows))
-block_some kernel rows row step number next = omega (arith, next.some, next.inside, length-take step (drop row rows), length-drop row rows)
-
-pub sum_more : (x : ℕ) (rows : List (List ℤ)) (row step : ℕ) (number : Option ℤ) (values : List ℤ) (start sum : ℤ) → AreNext rows (Sum x) row step number
-    → values ≡ column x (take step (drop row rows)) → start ≡ unwrap_or number (pos 0) → sum ≡ fold (λ a b. a +ℤ b) start values → Some sum ≡ number_so_far (Sum x) (take (row + step) rows)
-sum_more x rows row step number values start sum next values_are begun is =
-    let before = take row rows in
-    let block = take step (drop row rows) in
-    ap (λ (z : ℤ). Some z)
-    (is ∙ ap (λ (z : ℤ). fold (λ (a b : ℤ). a +ℤ b) z values) begun ∙ ap (fold (λ (a b : ℤ). a +ℤ b) (unwrap_or number (pos 0))) values_are ∙ sum_beside x before block number next.so_far)
-    ∙ sym (filled (Sum x) before block (block_some (Sum x) rows row step number next)) ∙ ap (number_so_far (Sum x)) (sym (take-add row step rows))
-
-pub extreme_more : (pick : ℤ → ℤ → ℤ) (kernel : Kernel) (x : ℕ) (rows : List (List ℤ)) (row step : ℕ) (number : Option ℤ) (values : List ℤ) (start found : ℤ)
-    → ((z : ℤ) → pick z z ≡ z) → ((seen : List (List ℤ)) → number_so_far kernel seen ≡ extreme pick (column x seen)) → AreNext rows kernel row step number
-    → values ≡ column x (take step (drop row rows)) → start ≡ unwrap_or number (get_or values 0 (pos 0)) → found ≡ fold pick start values → Some found ≡ number_so_far kernel (take (row + step) rows)
-extreme_more pick kernel x rows row step number values start found same of next values_are begun is =
-    let before = take row rows in
-    let block = take step (drop row rows) in
-    ap (λ (z : ℤ). Some z) (is ∙ ap (λ (z : ℤ). fold pick z values) begun ∙ ap (λ (vs : List ℤ). fold pick (unwrap_or number (get_or vs 0 (pos 0))) vs) values_are)
-    ∙ extreme_beside pick x before block number (pos 0) same (block_some kernel rows row step number next) (next.so_far ∙ of before)
-    ∙ sym (of (before ++ block)) ∙ ap (number_so_far kernel) (sym (take-add row step rows))
 
 pub count_more : (x : ℕ) (op : Compare) (c : ℤ) (rows : List (List ℤ)) (row step : ℕ) (number : Option ℤ) → AreNext rows (CountWhere x op c) row step number
     → Some (unwrap_or number (pos 0) +ℤ pos (count_by (λ value. compares op value c) (column x (take step (drop row rows))))) ≡ number_so_far (CountWhere x op c) (take (row + step) rows)
@@ -157,18 +146,7 @@ count_more x op c rows row step number next =
     ∙ sym (filled (CountWhere x op c) before block (block_some (CountWhere x op c) rows row step number next))
     ∙ ap (number_so_far (CountWhere x op c)) (sym (take-add row step rows))
 
--- they fit
-pub sums_fit : (x : ℕ) (rows : List (List ℤ)) (row step : ℕ) (number : Option ℤ) → length rows ≤ 2 ^ 24 → Each1 IsNarrow (column x rows) → AreNext rows (Sum x) row step number
-    → SumsFit (λ z. z) (λ z. FitsSigned w64 z) (unwrap_or number (pos 0)) (column x (take step (drop row rows)))
-sums_fit x rows row step number few narrow next k inside =
-    let block = take step (drop row rows) in
-    let within : k ≤ step = omega (arith, length-map block (in_leaf x), length-take step (drop row rows)) in
-    let joined : take row rows ++ take k block ≡ take (row + k) rows = ap (λ (more : List (List ℤ)). take row rows ++ more) (take-take k step (drop row rows) within) ∙ sym (take-add row k rows) in
-    let whole = ap (fold (λ (a b : ℤ). a +ℤ b) (unwrap_or number (pos 0))) (take-map (in_leaf x) k block) ∙ sum_beside x (take row rows) (take k block) number next.so_far
-    ∙ ap (λ (seen : List (List ℤ)). fold (λ (a b : ℤ). a +ℤ b) (pos 0) (column x seen)) joined in
-    subst (FitsSigned w64) (sym whole)
-    (narrow_sum_fits (column x (take (row + k) rows)) (omega (arith, length-map (take (row + k) rows) (in_leaf x), length-take (row + k) rows)) (narrow_rows x 0 (row + k) rows narrow))
-
+-- it fits
 pub count_fits : (x : ℕ) (op : Compare) (c : ℤ) (rows : List (List ℤ)) (row step : ℕ) (number : Option ℤ) → length rows ≤ 2 ^ 24 → AreNext rows (CountWhere x op c) row step number
     → FitsSigned w64 (unwrap_or number (pos 0) +ℤ pos (count_by (λ value. compares op value c) (column x (take step (drop row rows)))))
 count_fits x op c rows row step number few next =

@@ -1,5 +1,5 @@
 -- What a kernel makes of the rows of a table, row by row, and which number it gives.
-use Rattle.std.specs.Prelude.{ℕ, ◌+◌, ◌*◌, ◌/◌, ◌%◌, ◌≡◌, ℤ, pos, ◌+ℤ◌, ◌*ℤ◌, ◌≤ℤ◌, List, [], ◌∷◌, ◌++◌, length, map, take, drop, fold, slice_set, Option, Some, None, Result, Ok, Err}
+use Rattle.std.specs.Prelude.{ℕ, ◌+◌, ◌*◌, ◌/◌, ◌%◌, ◌≡◌, ℤ, pos, ◌+ℤ◌, ◌*ℤ◌, ◌≤ℤ◌, List, [], ◌∷◌, ◌++◌, length, map, take, drop, slice_set, Option, Some, None, Result, Ok, Err}
 use Rattle.std.specs.Int.{int_min, int_max}
 use Rattle.std.specs.List.{count_by}
 use Rattle.std.specs.Option.{option_or}
@@ -13,10 +13,12 @@ pub use Rattle.lanes.specs.Plain.{compares}
 pub use Rattle.lanes.specs.declared.compare.Compare.{Compare}
 pub use Rattle.lanes.specs.declared.compare.Compare.TheVariants.{Eq, Ne, Lt, Le, Gt, Ge}
 use Rattle.lane_kernels.specs.Logs.{rows_log, fault_log}
+pub use Rattle.lane_kernels.specs.Reductions.{reduced_by}
 use Rattle.lane_kernels.specs.declared.fault.KernelFault.{KernelFault}
 use Rattle.lane_kernels.specs.declared.fault.KernelFault.TheVariants.{Empty, Range, Narrow}
 use Rattle.lane_kernels.specs.declared.kernel.Kernel.{Kernel}
 use Rattle.lane_kernels.specs.declared.kernel.Kernel.TheVariants.{Axpy, Clamp, Sum, Least, Greatest, CountWhere}
+use Rattle.lane_kernels.specs.declared.reduce.Reduction.TheVariants as form
 
 -- what a kernel stores in a row: a leaf and its value
 pub record Store : Type 0 where
@@ -66,18 +68,13 @@ empty_fault _ rows = None
 abbrev pub kernel_fault : Answer → Kernel → List (List ℤ) → Option KernelFault
 kernel_fault answer kernel rows = option_or (empty_fault kernel rows) (first_fault answer kernel 0 rows)
 
--- the least and the greatest of some values
-abbrev pub extreme : (ℤ → ℤ → ℤ) → List ℤ → Option ℤ
-extreme pick [] = None
-extreme pick (value ∷ values) = Some (fold pick value values)
-
 -- the number that a kernel gives; those that store give none
 abbrev pub number_of : Kernel → List (List ℤ) → Option ℤ
 number_of (Axpy a x y) rows = None
 number_of (Clamp x lo hi) rows = None
-number_of (Sum x) rows = Some (fold (λ a b. a +ℤ b) (pos 0) (column x rows))
-number_of (Least x) rows = extreme int_min (column x rows)
-number_of (Greatest x) rows = extreme int_max (column x rows)
+number_of (Sum x) rows = reduced_by form.Sum (column x rows)
+number_of (Least x) rows = reduced_by form.Least (column x rows)
+number_of (Greatest x) rows = reduced_by form.Greatest (column x rows)
 number_of (CountWhere x op c) rows = Some (pos (count_by (λ value. compares op value c) (column x rows)))
 
 -- how many rows were done before a fault

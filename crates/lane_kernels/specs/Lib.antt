@@ -1,3 +1,4 @@
+pub mod Reductions
 pub mod Kernels
 pub mod Logs
 pub mod Blocks

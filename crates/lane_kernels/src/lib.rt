@@ -5,9 +5,11 @@ mod blocks;
 mod fault;
 mod kernel;
 mod plain;
+mod reduce;
 mod rows;
 
 pub use fault::KernelFault;
 pub use kernel::Kernel;
 pub use lanes::Compare;
 pub use plain::{run_lanes, run_plain};
+pub use reduce::{Reduction, reduce_leaf};

@@ -10,7 +10,8 @@ ghost use Rattle.lane_kernels.specs.Runs.{fault_in, named_row, number_so_far, Ar
 
 use crate::fault::KernelFault;
 use crate::kernel::Kernel;
-use lanes::{clamp, count, greatest, least, sum, times_plus};
+use crate::reduce::Reduction;
+use lanes::{clamp, count, times_plus};
 use std::sync::ledger::Ledger;
 use steps::Steps;
 use views::{LaneFault, View};
@@ -48,15 +49,15 @@ pub fn on_rows<L: Ledger>(
         }
         Kernel::Sum { x } => {
             read_rows(view, x, row, values, steps);
-            Ok(Some(sum(number.unwrap_or(0), values)))
+            Ok(Reduction::Sum.with_more(number, values))
         }
         Kernel::Least { x } => {
             read_rows(view, x, row, values, steps);
-            Ok(Some(least(number.unwrap_or(values[0]), values)))
+            Ok(Reduction::Least.with_more(number, values))
         }
         Kernel::Greatest { x } => {
             read_rows(view, x, row, values, steps);
-            Ok(Some(greatest(number.unwrap_or(values[0]), values)))
+            Ok(Reduction::Greatest.with_more(number, values))
         }
         Kernel::CountWhere { x, op, c } => {
             read_rows(view, x, row, values, steps);

@@ -1,5 +1,5 @@
 -- Sixteen numbers side by side, and numbers of at most 32 bits.
-use Rattle.std.specs.Prelude.{◌≡◌, ◌^◌, Bool, ◌&&◌, int_le, ℤ, pos, neg_ℤ, ◌≤ℤ◌, ◌<ℤ◌, List, length, FitsSigned}
+use Rattle.std.specs.Prelude.{◌≡◌, ◌^◌, ℤ, pos, neg_ℤ, ◌≤ℤ◌, ◌<ℤ◌, List, length, FitsSigned}
 use Rattle.std.specs.Simd.Lanes.{Each1}
 use mir.Syntax.{w64}
 
@@ -14,7 +14,3 @@ IsFactor a = (neg_ℤ (pos (2 ^ 31)) ≤ℤ a) × (a <ℤ pos (2 ^ 31))
 
 abbrev pub IsNarrow : ℤ → Type 0
 IsNarrow value = (neg_ℤ (pos (2 ^ 31)) ≤ℤ value) × (value <ℤ pos (2 ^ 32))
-
--- whether a value lies between two numbers, both included
-abbrev pub is_inside : ℤ → ℤ → ℤ → Bool
-is_inside least greatest value = int_le least value && int_le value greatest

@@ -1,7 +1,5 @@
-ghost use Rattle.std.specs.Prelude.{◌≡◌, ◌≤◌, int_lt, length, take, replicate};
-ghost use Rattle.std.specs.List.{prefix_len};
-ghost use Rattle.std.specs.Simd.Lanes.{zip2, mask_l};
-ghost use Rattle.lanes.specs.Blocks.{IsBlock, is_inside};
+ghost use Rattle.std.specs.Prelude.{◌≡◌, length};
+ghost use Rattle.lanes.specs.Blocks.{IsBlock};
 
 use std::marker::Model;
 use std::simd::Simd;
@@ -58,33 +56,5 @@ impl Block {
         ensures value { result ≡ self }
     {
         self.lanes
-    }
-
-    // The same number in each lane.
-    fn filled(value: i64) -> Block
-        ensures { result ≡ replicate 16 value }
-    {
-        Block {
-            lanes: Simd::splat(value),
-        }
-    }
-
-    // A bit for each lane that is below the other's.
-    fn below(self, other: Block) -> u64
-        ensures mask { result ≡ mask_l (zip2 int_lt self other) }
-        ensures count { length self ≡ 16 }
-        ensures other { length other ≡ 16 }
-    {
-        self.lanes.simd_lt(other.lanes).to_bitmask()
-    }
-
-    /// How many of the first so many lanes stand before the first that lies outside of `least` to `greatest`.
-    pub fn first_outside(self, least: i64, greatest: i64, lanes: usize) -> u32
-        requires { lanes ≤ 16 }
-        ensures { result ≡ prefix_len (is_inside least greatest) (take lanes self) }
-    {
-        let low = self.below(Block::filled(least)).trailing_zeros();
-        let high = Block::filled(greatest).below(self).trailing_zeros();
-        low.min(high).min(lanes as u32)
     }
 }

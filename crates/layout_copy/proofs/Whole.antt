@@ -16,6 +16,7 @@ use Rattle.map_any.specs.declared.strategy.Strategy.{Strategy}
 use Rattle.map_any.specs.declared.strategy.Strategy.TheVariants as way
 use Rattle.kept_tables.specs.EntryLaws.{fitting_stays, stays_declared}
 use Rattle.views.specs.MovesLaws.{with_rows, stays_moves, may_move, runs_full}
+use Rattle.views.specs.Runs.{CountsNothing}
 use Rattle.views.specs.Stores.{AllStay}
 use Rattle.views.specs.Tables.{Table, IsTable, table_holds, leaf_count_of, leaf_type_of, leaf_types_of, after_log, after_stores}
 use Rattle.views.specs.Tallies.{Read, Write, all_accesses, all_touches}
@@ -23,7 +24,7 @@ use Rattle.views.specs.UncountedLaws.{holds_uncounted}
 use Rattle.layout_copy.specs.Copies.{AreAlike, IsCopied}
 use Rattle.layout_copy.specs.Costs.{cost, IsWay, MayMoveTo}
 use Rattle.layout_copy.specs.OwnLaws.{staying_held, staying_kept}
-use Rattle.layout_copy.specs.RowRuns.{AllTake, CountsNothing}
+use Rattle.layout_copy.specs.RowRuns.{AllTake}
 use Rattle.layout_copy.specs.declared.fault.CopyFault.{CopyFault}
 use Rattle.layout_copy.specs.declared.fault.CopyFault.TheVariants.{Mismatch, Narrow}
 use Rattle.layout_copy.proofs.WayLaws.{one_way}

@@ -43,11 +43,11 @@ steps_at slots one two sizes slot = if is_cut one two slot then piece_steps size
 unfoldable pub steps_before : ℕ → ℕ → ℕ → List ℕ → ℕ → ℕ
 steps_before slots one two sizes slot = sum_by (steps_at slots one two sizes) (range_with_len 0 slot)
 
--- those of all slots of two mappings that lay out arrays, cut at the lanes of each; where one lays out none, nothing is said
+-- those of all slots of two mappings that lay out arrays, cut at the lanes of each; where one lays out none, a read and a write of each leaf
 abbrev pub run_steps : Option (Order × Option ℕ) → Option (Order × Option ℕ) → List ℕ → List ℕ → ℕ
 run_steps (Some one) (Some two) extents sizes =
     let slots = slot_count one.0 extents in steps_before slots (lanes_in one.1 slots) (lanes_in two.1 slots) sizes slots
-run_steps _ _ extents sizes = 0
+run_steps _ _ extents sizes = 2 * (length (indices extents) * length sizes)
 
 -- those of so many slots from one on, leaf after leaf
 abbrev pub round_steps : Option (Order × Option ℕ) → Option (Order × Option ℕ) → List ℕ → List ℕ → ℕ → ℕ → ℕ

@@ -67,8 +67,8 @@ module _ {layout : List (List Owner)} {slots : ℕ} {holds : List Hold} {slot ce
   pub apart : AreApart (spots_of pieces)
   apart = spots_apart layout slot cell hold.width pieces here
 
-  pub within : (blobs : List (List ℕ)) → AreLaid layout blobs → All (IsWithin blobs) pieces
-  within blobs are_laid = pieces_within layout slot cell hold.width pieces here blobs are_laid.sized
+  pub within : (blobs : List (List ℕ)) → AreSized layout blobs → All (IsWithin blobs) pieces
+  within = pieces_within layout slot cell hold.width pieces here
 
   -- what is read fits the hold, and says the entry
   pub read_small : (blobs : List (List ℕ)) (value : ℕ) → value ≡ number (bit_at_spot (bit_in blobs) (spots_of pieces)) (length (spots_of pieces)) → value < 2 ^ hold.width

@@ -62,7 +62,7 @@ module _ {layout : List (List Owner)} {slots : ℕ} {holds : List Hold} {slot ce
   one_width = sym (one_count piece) ∙ bit_count at
 
   pub one_within : IsWithin blobs piece
-  one_within = within at blobs laid 0 nowhere (omega arith)
+  one_within = within at blobs laid.sized 0 nowhere (omega arith)
 
   -- what its bits say is the entry
   pub one_entry : (blob : List ℕ) (value : ℤ) → blob ≡ get_or blobs piece.blob []

@@ -15,7 +15,7 @@ use Rattle.piece_bits.specs.Spots.{spots_of, spot_at, bit_at_spot, IsWithin}
 use Rattle.piece_bits.specs.SpotsOfLaws.{spots_in, length-spots_in, next_piece, nowhere}
 use Rattle.piece_bits.specs.OnePieceLaws.{one_count, one_at}
 use Rattle.piece_bits.specs.CellsLaws.{IsCell, bit_count, within, read_entry_is, written_table, written_padding, still_laid}
-use Rattle.piece_bits.specs.Tables.{AreLaid, table_in, with_entry}
+use Rattle.piece_bits.specs.Tables.{AreSized, AreLaid, table_in, with_entry}
 use Rattle.piece_bits.specs.WritesLaws.{AreWritten}
 use Rattle.piece_bits.specs.Words.{turned_pieces, word_signed, word_width, word_bit, word_place, word_pieces, IsWord}
 use Rattle.piece_bits.specs.declared.field.Field.{Field}
@@ -145,16 +145,16 @@ module _ (word : Word) (field : Field) (blobs : List (List ℕ)) (blob start : �
 
 -- a cell that is stored as a word
 module _ {layout : List (List Owner)} {slots : ℕ} {holds : List Hold} {slot cell : ℕ} {hold : Hold} (word : Word) (field : Field) (blob start : ℕ) (form : IsWord word field)
-    (at : IsCell layout slots holds slot cell hold (word_pieces word field blob start)) (blobs : List (List ℕ)) (laid : AreLaid layout blobs)
+    (at : IsCell layout slots holds slot cell hold (word_pieces word field blob start)) (blobs : List (List ℕ)) (sized : AreSized layout blobs)
     (signed : word_signed word field ≡ hold.signed) where
   width : word_width word field ≡ hold.width
   width = sym (word_count word field blob start form) ∙ bit_count at
 
   pub word_blob : blob < length blobs
-  word_blob = (word_within word field blobs blob start form (within at blobs laid)).0
+  word_blob = (word_within word field blobs blob start form (within at blobs sized)).0
 
   pub word_room : word_bit word start + word_width word field ≤ 8 * length (get_or blobs blob [])
-  word_room = (word_within word field blobs blob start form (within at blobs laid)).1
+  word_room = (word_within word field blobs blob start form (within at blobs sized)).1
 
   -- what its bits say is the entry
   pub word_entry : (bytes : List ℕ) (value : ℤ) → bytes ≡ get_or blobs blob []
@@ -189,7 +189,7 @@ module _ {layout : List (List Owner)} {slots : ℕ} {holds : List Hold} {slot ce
     pub word_table : table_in layout slots holds (set blobs blob new) ≡ with_entry (table_in layout slots holds blobs) slot cell value
     word_table = written_table at blobs (set blobs blob new) value code code_is held written.inside written.outside
 
-    pub word_laid : AreLaid layout (set blobs blob new)
-    word_laid =
+    pub word_laid : AreLaid layout blobs → AreLaid layout (set blobs blob new)
+    word_laid laid =
         still_laid layout blobs (set blobs blob new) laid written.lengths
         (written_padding at blobs (set blobs blob new) value code code_is held written.inside written.outside)

@@ -2,20 +2,20 @@ ghost use Rattle.std.specs.Prelude.{◌≡◌, ◌<◌, ◌∷◌, [], length, m
 ghost use Rattle.record_dim.specs.LeafTypes.{IsIn};
 ghost use Rattle.places.specs.Image.{entry};
 ghost use Rattle.places.specs.Laws.{IsLocated};
-ghost use Rattle.piece_bits.specs.Tables.{AreLaid, hold_at, table_in, with_entry};
+ghost use Rattle.piece_bits.specs.Tables.{AreSized, AreLaid, hold_at, table_in, with_entry};
 
 use crate::pieces::{read_pieces, write_pieces};
 use crate::value::{decode, encode};
 use blobs::Blob;
 use places::{Hold, Mapping, Piece};
 
-/// The value of a cell in a slot, read off blobs that the mapping lays out. The pieces come by value: where there is one, `read_piece`
-/// is shorter.
+/// The value of a cell in a slot, read off blobs of the mapping's lengths, whose padding may be anything. The pieces come by value: where
+/// there is one, `read_piece` is shorter.
 #[inline(never)]
 pub fn read_entry<M: Mapping>(map: &M, blobs: &[Blob], slot: u64, cell: usize) -> i128
     requires slot_in { slot < M.slot_count map.now }
     requires cell_in { cell < length (M.cell_list map.now) }
-    requires laid { AreLaid (M.layout map.now) blobs.now }
+    requires sized { AreSized (M.layout map.now) blobs.now }
     ensures { result
         ≡ entry (table_in (M.layout map.now) (M.slot_count map.now) (M.hold_list map.now) blobs.now) slot cell }
 {

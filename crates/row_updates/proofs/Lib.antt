@@ -1,8 +1,6 @@
 pub mod Each
 pub mod Indexed
 pub mod Logs
-pub mod Lone
-pub mod Operators
 pub mod Rows
 pub mod WorthSoFar
 pub mod RunRows

@@ -6,8 +6,7 @@ use Rattle.expr_lang.specs.declared.fault.EvalFault.{EvalFault}
 use Rattle.expr_lang.specs.declared.fault.EvalFault.TheVariants as eval
 use Rattle.expr_lang.specs.declared.bound.Bound.{Bound}
 use Rattle.expr_lang.specs.Bounds.{bound_term, bound_leaves, bound_rank}
-use Rattle.expr_lang.specs.Terms.{Term, IsWithin}
-use Rattle.expr_lang.specs.Shorts.{short_term}
+use Rattle.expr_lang.specs.Terms.{Term}
 use Rattle.expr_lang.specs.Values.{outcome_of, is_true}
 use Rattle.linearize.specs.Slots.{index_at}
 use Rattle.views.specs.Tables.{Table, leaf_count_of, answer_of, kept_of}
@@ -17,8 +16,6 @@ use Rattle.views.specs.declared.fault.StoreFault.TheVariants as store
 use Rattle.row_updates.specs.declared.fault.UpdateFault.{UpdateFault}
 use Rattle.row_updates.specs.declared.fault.UpdateKind.{UpdateKind}
 use Rattle.row_updates.specs.declared.fault.UpdateKind.TheVariants.{Overflow, DivideByZero, Range, Narrow}
-use Rattle.row_updates.specs.declared.side.Side.{Side}
-use Rattle.row_updates.specs.declared.side.Side.TheVariants as side
 use Rattle.row_updates.specs.declared.update.Assign.{Assign}
 
 -- the number of the leaf that is set, and its new value
@@ -32,17 +29,6 @@ setting_of set = record { leaf = set.leaf; value = bound_term set.value }
 -- the term of a filter, where there is one
 abbrev pub filter_term : Option (Bor Bound) → Option (Term ℕ)
 filter_term filter = option_map (λ bound. bound_term bound.now) filter
-
--- the term of a side, and that of a filter by its side
-abbrev pub side_term : Side → Term ℕ
-side_term (side.Short short) = short_term short
-side_term (side.Long bound) = bound_term bound.now
-
-abbrev pub side_filter : Option Side → Option (Term ℕ)
-side_filter filter = option_map side_term filter
-
-abbrev pub side_setting : ℕ → Side → Setting
-side_setting leaf side = record { leaf = leaf; value = side_term side }
 
 -- one thing after another: after a fault comes nothing
 infixl 10 ◌>>=◌
@@ -134,11 +120,6 @@ counted filter extents rows = do
 pub record IsOver (table : Table) (bound : Bound) : Type 0 where
   pub leaves : bound_leaves bound ≡ leaf_count_of table
   pub rank : bound_rank bound ≡ length table.extents
-
--- the same of a side
-abbrev pub IsSideOver : Table → Side → Type 0
-IsSideOver table (side.Short short) = IsWithin (leaf_count_of table) (length table.extents) (short_term short)
-IsSideOver table (side.Long bound) = IsOver table bound.now
 
 -- a leaf of a view, and an expression that is bound to it
 pub record IsSetOf (table : Table) (set : Assign) : Type 0 where

@@ -13,7 +13,6 @@ use crate::index::put_index;
 use crate::limits::find_limits;
 use crate::run_updates::{ROWS, count_passing};
 use crate::runs::{Run, chain_run};
-use crate::side::side_of;
 use crate::value::passes;
 use expr_lang::Bound;
 use std::sync::ledger::Ledger;
@@ -119,14 +118,13 @@ fn count_between<L: Ledger>(
     ensures stopped { (old : Table) (before : ℕ) → IsCounted old (bound_term filter.now) view.old first before
         → IfErr result (IsCountStopped old (bound_term filter.now) view.new) }
 {
-    let side = side_of(view, filter);
     let extents = view.extents();
     let mut numbers = [0; 4];
     let mut count = 0;
     for row in first..end {
         put_index(&extents, row, &mut numbers);
         let index = &numbers[..extents.rank()];
-        count += u64::from(passes(view, row, index, Some(side), steps)?);
+        count += u64::from(passes(view, row, index, Some(filter), steps)?);
     }
     Ok(count)
 }

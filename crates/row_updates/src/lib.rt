@@ -5,10 +5,8 @@ mod count;
 mod fault;
 mod index;
 mod limits;
-mod one_leaf;
 mod run_updates;
 mod runs;
-mod side;
 mod update;
 mod value;
 

@@ -1,17 +1,16 @@
 // New values of leaves, row by row.
 ghost use Rattle.std.specs.Prelude.{◌≡◌, ◌<◌, ◌≤◌, ◌+◌, ℕ, ℤ, pos, true, is_ok, Ok, OnOk, OnErr, IfOk, IfErr, IfSome, Some, None, if◌then◌else◌, All, [], ◌∷◌, List, length, map, take, drop, slice_index_or, slice_set};
-ghost use Rattle.views.specs.Tables.{Table, leaf_count_of, answer_of, kept_of, after_log, after_stores};
+ghost use Rattle.expr_lang.specs.Bounds.{bound_term};
+ghost use Rattle.views.specs.Tables.{Table, answer_of, kept_of, after_log, after_stores};
 ghost use Rattle.linearize.specs.Slots.{index_at};
-ghost use Rattle.row_updates.specs.Rows.{IsOver, IsSideOver, IsSetOf, Setting, setting_of, side_term, side_setting, filter_term, side_filter, each, store_kind, new_value, with_values, tried_row, updated_row, updated_of};
+ghost use Rattle.row_updates.specs.Rows.{IsOver, IsSetOf, Setting, setting_of, filter_term, each, store_kind, new_value, with_values, tried_row, updated_row, updated_of};
 ghost use Rattle.row_updates.specs.Logs.{value_log, sides_log, stores_log, tried_log, row_log, update_log};
 ghost use Rattle.row_updates.specs.Updated.{AreUpdated, IsStopped};
 
 use crate::fault::{UpdateFault, UpdateKind};
 use crate::index::put_index;
 use crate::limits::find_limits;
-use crate::one_leaf::update_lone;
 use crate::run_updates::update_by_runs;
-use crate::side::{Side, filter_side, side_of};
 use crate::value::{passes, value_of};
 use expr_lang::Bound;
 use std::sync::ledger::Ledger;
@@ -79,34 +78,6 @@ pub(crate) fn update_between<L: Ledger>(
     ensures stopped { (old : Table) → AreUpdated old (filter_term filter.entry) (map setting_of sets.now) view.old first
         → IfErr result (IsStopped old (filter_term filter.entry) (map setting_of sets.now) view.new) }
 {
-    let test = filter_side(view, filter);
-    if sets.len() == 1 {
-        let set = &sets[0];
-        let side = side_of(view, &set.value);
-        return update_lone(view, test, set.leaf, side, first, end, steps);
-    }
-    update_each(view, test, sets, first, end, steps)
-}
-
-// The same of any number of right sides.
-fn update_each<L: Ledger>(
-    view: &mut View,
-    filter: Option<Side>,
-    sets: &[Assign],
-    first: u64,
-    end: u64,
-    steps: &mut Steps<L>,
-) -> Result<(), UpdateFault>
-    requires filter { IfSome filter (IsSideOver view.old) }
-    requires sets { All (IsSetOf view.old) sets.now }
-    requires few { length sets.now ≤ 64 }
-    requires order { first ≤ end }
-    requires rows_in { end ≤ length view.old.rows }
-    ensures done { (old : Table) → AreUpdated old (side_filter filter.entry) (map setting_of sets.now) view.old first
-        → OnOk result (AreUpdated old (side_filter filter.entry) (map setting_of sets.now) view.new end) }
-    ensures stopped { (old : Table) → AreUpdated old (side_filter filter.entry) (map setting_of sets.now) view.old first
-        → IfErr result (IsStopped old (side_filter filter.entry) (map setting_of sets.now) view.new) }
-{
     let extents = view.extents();
     let mut numbers = [0; 4];
     let mut values = [0; 64];
@@ -124,25 +95,25 @@ fn update_row<L: Ledger>(
     view: &mut View,
     row: u64,
     index: &[u64],
-    filter: Option<Side>,
+    filter: Option<&Bound>,
     sets: &[Assign],
     values: &mut [i128; 64],
     steps: &mut Steps<L>,
 ) -> Result<(), UpdateFault>
     requires row_in { row < length view.old.rows }
     requires rank { length index.now ≡ length view.old.extents }
-    requires filter { IfSome filter (IsSideOver view.old) }
+    requires filter { IfSome filter (λ bound. IsOver view.old bound.now) }
     requires sets { All (IsSetOf view.old) sets.now }
     requires few { length sets.now ≤ 64 }
     ensures stored { OnOk result ((new : List ℤ)
-        × (updated_row (answer_of view.old) (kept_of view.old) (side_filter filter.entry) (map setting_of sets.now)
+        × (updated_row (answer_of view.old) (kept_of view.old) (filter_term filter.entry) (map setting_of sets.now)
         row (slice_index_or view.old.rows row []) index.now ≡ Ok new)
-        × (view.new ≡ after_stores view.old (slice_set view.old.rows row new) (row_log (answer_of view.old) (side_filter filter.entry)
+        × (view.new ≡ after_stores view.old (slice_set view.old.rows row new) (row_log (answer_of view.old) (filter_term filter.entry)
         (map setting_of sets.now) row (slice_index_or view.old.rows row []) index.now))) }
-    ensures refused { IfErr result (λ fault. updated_row (answer_of view.old) (kept_of view.old) (side_filter filter.entry) (map setting_of sets.now)
+    ensures refused { IfErr result (λ fault. updated_row (answer_of view.old) (kept_of view.old) (filter_term filter.entry) (map setting_of sets.now)
         row (slice_index_or view.old.rows row []) index.now ≡ Err fault) }
     ensures named { IfErr result (λ fault. fault.row ≡ row) }
-    ensures kept { OnErr result (view.new ≡ after_log view.old (row_log (answer_of view.old) (side_filter filter.entry)
+    ensures kept { OnErr result (view.new ≡ after_log view.old (row_log (answer_of view.old) (filter_term filter.entry)
         (map setting_of sets.now) row (slice_index_or view.old.rows row []) index.now)) }
 {
     if !try_at(view, row, index, filter, sets, values, steps)? {
@@ -174,12 +145,11 @@ pub fn try_row<L: Ledger>(
     ensures same { view.new ≡ after_log view.old (tried_log (answer_of view.old) (filter_term filter.entry)
         (map setting_of sets.now) row (slice_index_or view.old.rows row []) (index_at view.old.extents row)) }
 {
-    let test = filter_side(view, filter);
     let extents = view.extents();
     let mut numbers = [0; 4];
     put_index(&extents, row, &mut numbers);
     let index = &numbers[..extents.rank()];
-    try_at(view, row, index, test, sets, values, steps)
+    try_at(view, row, index, filter, sets, values, steps)
 }
 
 // The same at the index of the row.
@@ -187,22 +157,22 @@ fn try_at<L: Ledger>(
     view: &mut View,
     row: u64,
     index: &[u64],
-    filter: Option<Side>,
+    filter: Option<&Bound>,
     sets: &[Assign],
     values: &mut [i128; 64],
     steps: &mut Steps<L>,
 ) -> Result<bool, UpdateFault>
     requires row_in { row < length view.old.rows }
     requires rank { length index.now ≡ length view.old.extents }
-    requires filter { IfSome filter (IsSideOver view.old) }
+    requires filter { IfSome filter (λ bound. IsOver view.old bound.now) }
     requires sets { All (IsSetOf view.old) sets.now }
     requires few { length sets.now ≤ 64 }
-    ensures tried { IfOk result (λ passed. tried_row (answer_of view.old) (side_filter filter.entry) (map setting_of sets.now)
+    ensures tried { IfOk result (λ passed. tried_row (answer_of view.old) (filter_term filter.entry) (map setting_of sets.now)
         row (slice_index_or view.old.rows row []) index.now ≡ Ok (if passed then Some (take (length sets.now) values.new) else None)) }
-    ensures refused { IfErr result (λ fault. tried_row (answer_of view.old) (side_filter filter.entry) (map setting_of sets.now)
+    ensures refused { IfErr result (λ fault. tried_row (answer_of view.old) (filter_term filter.entry) (map setting_of sets.now)
         row (slice_index_or view.old.rows row []) index.now ≡ Err fault) }
     ensures named { IfErr result (λ fault. fault.row ≡ row) }
-    ensures same { view.new ≡ after_log view.old (tried_log (answer_of view.old) (side_filter filter.entry)
+    ensures same { view.new ≡ after_log view.old (tried_log (answer_of view.old) (filter_term filter.entry)
         (map setting_of sets.now) row (slice_index_or view.old.rows row []) index.now) }
 {
     if !passes(view, row, index, filter, steps)? {
@@ -233,8 +203,7 @@ fn new_values<L: Ledger>(
     ensures same { view.new ≡ after_log view.old (sides_log (answer_of view.old) row (slice_index_or view.old.rows row []) index.now (map setting_of sets.now)) }
 {
     for (place, set) in sets.iter().enumerate() {
-        let side = Side::Long(&set.value);
-        values[place] = new_value(view, row, index, set.leaf, side, steps)?;
+        values[place] = new_value(view, row, index, set, steps)?;
     }
     Ok(())
 }
@@ -245,24 +214,22 @@ fn new_value<L: Ledger>(
     view: &mut View,
     row: u64,
     index: &[u64],
-    leaf: usize,
-    side: Side,
+    set: &Assign,
     steps: &mut Steps<L>,
 ) -> Result<i128, UpdateFault>
     requires row_in { row < length view.old.rows }
     requires rank { length index.now ≡ length view.old.extents }
-    requires inside { leaf < leaf_count_of view.old }
-    requires side { IsSideOver view.old side }
-    ensures value { result ≡ new_value (answer_of view.old) row (slice_index_or view.old.rows row []) index.now (side_setting leaf side.entry) }
+    requires set { IsSetOf view.old set.now }
+    ensures value { result ≡ new_value (answer_of view.old) row (slice_index_or view.old.rows row []) index.now (setting_of set.now) }
     ensures named { IfErr result (λ fault. fault.row ≡ row) }
-    ensures same { view.new ≡ after_log view.old (value_log row (slice_index_or view.old.rows row []) index.now (side_term side.entry)) }
+    ensures same { view.new ≡ after_log view.old (value_log row (slice_index_or view.old.rows row []) index.now (bound_term set.now.value)) }
 {
-    let value = value_of(view, row, index, side, steps)?;
-    match view.fits(leaf, value) {
+    let value = value_of(view, row, index, &set.value, steps)?;
+    match view.fits(set.leaf, value) {
         Ok(()) => Ok(value),
         Err(fault) => Err(UpdateFault {
             row,
-            kind: store_kind(leaf, fault),
+            kind: store_kind(set.leaf, fault),
         }),
     }
 }

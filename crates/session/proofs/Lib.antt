@@ -8,7 +8,6 @@ pub mod CopySteps
 pub mod Indexing
 pub mod Opening
 pub mod Reading
-pub mod Reductions
 pub mod Runs
 pub mod Saving
 pub mod Sets

@@ -3,7 +3,6 @@ pub mod Changes
 pub mod Loads
 pub mod Answers
 pub mod Bounds
-pub mod Columns
 pub mod LoadsLaws
 pub mod Opens
 pub mod Teams

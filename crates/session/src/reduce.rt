@@ -1,22 +1,19 @@
 // `reduce V sum|min|max path` and `reduce V count where ..`.
-ghost use Rattle.std.specs.Prelude.{◌≡◌, ◌<◌, ◌≤◌, ◌+◌, ◌-◌, ◌^◌, OnOk, pos, length, map, take};
-ghost use Rattle.std.specs.List.{range_with_len};
+ghost use Rattle.std.specs.Prelude.{◌≡◌, ◌<◌, OnOk, pos, length};
 ghost use Rattle.expr_lang.specs.Terms.{term_of};
 ghost use Rattle.views.specs.Tables.{leaf_count_of, after_log};
-ghost use Rattle.views.specs.Tallies.{Read};
 ghost use Rattle.worlds.specs.OnView.{done_to};
-ghost use Rattle.worlds.specs.Outcomes.{Goes};
 ghost use Rattle.worlds.specs.Texts.{number_line};
-ghost use Rattle.worlds.specs.Reduce.{reduced, reduction, column, column_log, counting};
+ghost use Rattle.worlds.specs.Reduce.{form_of, reduced, reduction, column, column_log, counting};
 ghost use Rattle.command_checks.specs.Gives.{Gives};
 ghost use Rattle.session.specs.Changes.{left_with};
-ghost use Rattle.session.specs.Columns.{combined, IsSmall};
 
 use crate::numbers::{write_count, write_number};
 use crate::update::update_fault;
 use crate::work::Work;
 use command_checks::{StepFault, bound, leaf_of};
 use expr_lang::Expr;
+use lane_kernels::{Reduction, reduce_leaf};
 use layout_io::Sink;
 use line_grammar::ReduceKind;
 use record_dim::Path;
@@ -115,53 +112,16 @@ fn reduced<L: Ledger>(
     ensures value { Gives (λ value. value) result (reduced kind (column leaf view.old.rows)) }
     ensures read { OnOk result (view.new ≡ after_log view.old (column_log leaf (length view.old.rows))) }
 {
-    match kind {
-        ReduceKind::Sum => Ok(along(view, leaf, kind, 0, 0, steps)),
-        ReduceKind::Min | ReduceKind::Max => {
-            if view.extents().count() == 0 {
-                return Err(StepFault::Command(CommandFault::Empty));
-            }
-            let first = view.get(0, leaf, steps);
-            Ok(along(view, leaf, kind, 1, first, steps))
-        }
-    }
+    reduce_leaf(view, leaf, form_of(kind), steps).ok_or(StepFault::Command(CommandFault::Empty))
 }
 
-// The same, where `value` is that of the rows before `start`.
-fn along<L: Ledger>(
-    view: &mut View,
-    leaf: usize,
-    kind: ReduceKind,
-    start: u64,
-    value: i128,
-    steps: &mut Steps<L>,
-) -> i128
-    requires leaf_in { leaf < leaf_count_of view.old }
-    requires start { start ≤ length view.old.rows }
-    requires before { reduced kind (take start (column leaf view.old.rows)) ≡ Goes value }
-    requires small { IsSmall start value }
-    ensures value { reduced kind (column leaf view.old.rows) ≡ Goes result }
-    ensures read { view.new ≡ after_log view.old (map (λ row. Read row leaf) (range_with_len start (length view.old.rows - start))) }
-{
-    let mut reached = value;
-    for row in start..view.extents().count() {
-        let next = view.get(row, leaf, steps);
-        reached = combined(kind, row, reached, next);
-    }
-    reached
-}
-
-// One value more.
-fn combined(kind: ReduceKind, rows: u64, value: i128, next: i128) -> i128
-    requires few { rows < 2 ^ 24 }
-    requires value { IsSmall rows value }
-    requires next { IsSmall 1 next }
-    ensures value { result ≡ combined kind value next }
-    ensures small { IsSmall (rows + 1) result }
+// What a word asks of numbers.
+fn form_of(kind: ReduceKind) -> Reduction
+    ensures { result ≡ form_of kind }
 {
     match kind {
-        ReduceKind::Sum => value + next,
-        ReduceKind::Min => value.min(next),
-        ReduceKind::Max => value.max(next),
+        ReduceKind::Sum => Reduction::Sum,
+        ReduceKind::Min => Reduction::Least,
+        ReduceKind::Max => Reduction::Greatest,
     }
 }

@@ -1,5 +1,5 @@
 -- The rows of a window grow, so those between two that lie as far apart as their places lie one behind another.
-use Rattle.std.proofs.Common.{◌≡◌, ℕ, zero, suc, ◌+◌, ◌-◌, ◌<◌, ◌≤◌, Bool, true, false, List, [], ◌∷◌, map, get_or, filter, Some, ap, subst, ◌∙◌, arith}
+use Rattle.std.proofs.Common.{◌≡◌, ℕ, zero, suc, ◌+◌, ◌-◌, ◌<◌, ◌≤◌, Bool, true, false, List, [], ◌∷◌, length, map, get_or, filter, Some, ap, subst, ◌∙◌, arith}
 use Rattle.std.specs.Prelude.{slice_get, if◌then◌else◌}
 use Rattle.std.specs.List.{enumerate_from}
 use Rattle.std.proofs.lemmas.Option.{slice_get-get_or, slice_get_within}
@@ -7,7 +7,9 @@ use Rattle.extents.specs.Indices.{indices}
 use Rattle.extents.specs.Windows.{holds}
 use Rattle.extents.specs.WindowLaws.{numbers_of}
 use Rattle.subviews.specs.SubViews.{WindowOf, rows_of}
-use Rattle.subviews.specs.Plans.{IsRun}
+use Rattle.subviews.specs.Plans.{IsRun, IsRunOf}
+use Rattle.subviews.specs.declared.runs.Run.{Run}
+use Rattle.subviews.proofs.Ways.{row_held, row_inside}
 
 -- none is below the first number
 number_low : {X : Type 0} (test : X → Bool) (n : ℕ) (xs : List X) (k r : ℕ) → slice_get (numbers_of test n xs) k ≡ Some r → n + k ≤ r
@@ -68,22 +70,26 @@ run_behind numbers row first count rows run inside = λ k low.
     let same : first + (rows + k) ≡ first + rows + k = omega arith in
     subst (λ (m : ℕ). slice_get numbers m ≡ Some (first + rows + k)) place (run (rows + k) (omega (arith, low, inside)) ∙ ap (λ (m : ℕ). Some m) same)
 
--- with the row before it
-pub run_from : (numbers : List ℕ) (row first next count : ℕ) → slice_get numbers row ≡ Some first → next ≡ first + 1 → IsRun numbers (row + 1) next count → 15 ≤ count → IsRun numbers row first 16
-run_from numbers row first next count at is run long = one where
-  one : (k : ℕ) → k < 16 → slice_get numbers (row + k) ≡ Some (first + k)
-  one zero low =
-      (let place : row ≡ row + 0 = omega arith in
-      let same : first ≡ first + 0 = omega arith in
-      subst (λ (m : ℕ). slice_get numbers m ≡ Some (first + 0)) place (at ∙ ap (λ (m : ℕ). Some m) same))
-  one (suc k) low =
-      (let place : row + 1 + k ≡ row + suc k = omega arith in
-      let same : next + k ≡ first + suc k = omega (arith, is) in
-      subst (λ (m : ℕ). slice_get numbers m ≡ Some (first + suc k)) place (run k (omega (arith, low, long)) ∙ ap (λ (m : ℕ). Some m) same))
-
 -- its first row
 pub run_first : (numbers : List ℕ) (row first count : ℕ) → IsRun numbers row first count → 0 < count → slice_get numbers row ≡ Some first
 run_first numbers row first count run some =
     let place : row + 0 ≡ row = omega arith in
     let same : first + 0 ≡ first = omega arith in
     subst (λ (m : ℕ). slice_get numbers m ≡ Some first) place (run 0 some ∙ ap (λ (m : ℕ). Some m) same)
+
+-- its rows are rows of the array
+pub run_inside : (window : WindowOf) (run : Run) → IsRunOf window run → run.first + run.rows ≤ length (indices window.0)
+run_inside window run is =
+    let last = run.rows - 1 in
+    let low : last < run.rows = omega (arith, is.some) in
+    let below = row_inside window (run.first + last) (row_held window (run.row + last) (run.first + last) (is.each last low)) in
+    omega (arith, is.some, below)
+
+-- a row of the array among them
+pub run_at : (window : WindowOf) (run : Run) (row outer : ℕ) → IsRunOf window run → run.row ≡ row → run.first ≤ outer → outer < run.first + run.rows
+    → slice_get (rows_of window) (row + (outer - run.first)) ≡ Some outer
+run_at window run row outer is here low high =
+    let k = outer - run.first in
+    let at : run.row + k ≡ row + k = ap (λ (n : ℕ). n + k) here in
+    let same : run.first + k ≡ outer = omega (arith, low) in
+    subst (λ (n : ℕ). slice_get (rows_of window) n ≡ Some outer) at (is.each k (omega (arith, low, high)) ∙ ap (λ (n : ℕ). Some n) same)

@@ -1,7 +1,9 @@
+pub mod Back
 pub mod Fronts
 pub mod Growth
+pub mod Near
 pub mod Passes
 pub mod Printed
-pub mod Sixteens
+pub mod AtOnce
 pub mod Values
 pub mod Ways

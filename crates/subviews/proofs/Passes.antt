@@ -1,23 +1,26 @@
--- The two passes of a round, row by row, and rounds one after another.
-use Rattle.std.proofs.Common.{◌≡◌, ℕ, zero, suc, ◌+◌, ◌<◌, ◌≤◌, ℤ, List, [], ◌∷◌, ◌++◌, length, take, get_or, Contains, Result, Ok, Err, Some, refl, ap, sym, subst, ◌∙◌, ⊎_elim, arith}
+-- The two passes of a round, run by run, and rounds one after another.
+use Rattle.std.proofs.Common.{◌≡◌, ℕ, zero, suc, ◌+◌, ◌<◌, ◌≤◌, true, ℤ, pos, List, [], ◌∷◌, ◌++◌, length, map, take, get_or, Contains, Result, Ok, Err, is_ok, Some, refl, ap, sym, subst, ◌∙◌, ⊎_elim, arith}
 use Rattle.std.specs.Prelude.{slice_get}
 use Rattle.std.proofs.lemmas.Bool.{cases_eq, cases_lt}
-use Rattle.std.proofs.lemmas.List.{length-map}
+use Rattle.std.proofs.lemmas.List.{length-map, get_or-map, take-map, take_all}
 use Rattle.std.proofs.lemmas.List.Sums.{fold_more}
 use Rattle.std.proofs.lemmas.Option.{slice_get-get_or, slice_get_within, get_or_from_slice_get}
 use Rattle.extents.specs.Indices.{indices}
 use Rattle.places.specs.Image.{entry}
 use Rattle.places.specs.declared.piece.Hold.{Hold}
+use Rattle.record_dim.specs.declared.leaf_type.LeafType.{LeafType}
 use Rattle.record_dim.specs.Trees.{Fields}
-use Rattle.record_dim.specs.Leaves.{Leaf, leaves, kinds_of}
+use Rattle.record_dim.specs.Leaves.{leaves, kinds_of}
 use Rattle.map_expr.specs.Terms.{Term}
 use Rattle.map_checks.specs.Mappings.{leaf_cells, holds_by}
 use Rattle.kept_tables.specs.declared.mode.StoreMode.{StoreMode}
 use Rattle.piece_bits.specs.Tables.{HasShape, hold_at, with_entry}
-use Rattle.piece_bits.specs.TableLaws.{with_entry_same, with_entry_other}
-use Rattle.views.specs.AnswerLaws.{stays_answer, told_err, told_kept}
+use Rattle.piece_bits.specs.TableLaws.{with_entry_shape, with_entry_same, with_entry_other}
+use Rattle.views.specs.AnswerLaws.{told_err, told_kept, told_ok}
+use Rattle.views.specs.Columns.{column_writes, with_column as with_values}
+use Rattle.views.specs.Runs.{run_of, run_fault, stored_count, with_run}
 use Rattle.views.specs.UncountedLaws.{holds_uncounted}
-use Rattle.views.specs.Stores.{kind_at, store_answer, told, kept_or}
+use Rattle.views.specs.Stores.{Stays, kind_at, store_answer, told, kept_or}
 use Rattle.views.specs.Tallies.{Write, Tally, tallied}
 use Rattle.views.specs.TallyLaws.{after_log-none, after_log-append, after_stores-append, tallied-none, logs_more}
 use Rattle.views.specs.Tables.{Table, IsTable, owners_of, leaf_count_of, leaf_type_of, table_holds, answer_of, kept_of, after_log, after_stores, after_write}
@@ -25,18 +28,34 @@ use Rattle.views.specs.declared.fault.StoreFault.{StoreFault}
 use Rattle.subviews.specs.SubViews.{rows_of}
 use Rattle.subviews.specs.Stencils.{Stencil, values_fault, stencil_value, new_entry, with_column, if_fits, round, next_round, stenciled, term_reads, round_reads, round_writes, round_log, tried_rows, rounds_log, refused_log}
 use Rattle.subviews.specs.declared.fault.StencilFault.{StencilFault}
-use Rattle.subviews.specs.declared.rounds.Plan.{Plan}
-use Rattle.subviews.specs.Plans.{IsBufferOf, IsPlanOf, planned}
+use Rattle.subviews.specs.declared.plan.Plan.{Plan}
+use Rattle.subviews.specs.Plans.{IsBufferOf, IsPlanOf, IsIdle, IsRun, IsFilled, planned}
 use Rattle.subviews.proofs.Fronts.{logs_front, map_front, fits_more, fault_here, column_same}
+use Rattle.subviews.proofs.AtOnce.{AreTaken, are_taken, run_count, run_value, stored_to, none_of_run, one_of_run}
 
 -- ---- a buffer keeps what its view keeps
+
+same_kind : (view buffer : Table) → IsBufferOf view buffer → (leaf : ℕ) → leaf_type_of buffer leaf ≡ leaf_type_of view leaf
+same_kind view buffer is leaf = ap (λ (fields : Fields). kind_at (kinds_of fields) leaf) is.fields
+
+same_hold : (view buffer : Table) → IsBufferOf view buffer → (leaf : ℕ) → hold_at (table_holds buffer) leaf ≡ hold_at (table_holds view) leaf
+same_hold view buffer is leaf =
+    ap (λ (fields : Fields). hold_at (holds_by buffer.mapping fields) leaf) is.fields
+    ∙ ap (λ (holds : List Hold). hold_at holds leaf) (ap (λ (t : Term). holds_by t view.fields) is.mapping ∙ holds_uncounted view.mapping view.fields (leaf_cells (kinds_of view.fields)))
 
 pub same_answer : (view buffer : Table) → IsBufferOf view buffer → (leaf : ℕ) (value : ℤ) → answer_of buffer leaf value ≡ answer_of view leaf value
 same_answer view buffer is leaf value =
     ap (λ (mode : StoreMode). store_answer mode (leaf_type_of buffer leaf) (hold_at (table_holds buffer) leaf) value) is.mode
-    ∙ ap (λ (fields : Fields). store_answer view.mode (kind_at (kinds_of fields) leaf) (hold_at (holds_by buffer.mapping fields) leaf) value) is.fields
-    ∙ ap (λ (holds : List Hold). store_answer view.mode (leaf_type_of view leaf) (hold_at holds leaf) value)
-    (ap (λ (t : Term). holds_by t view.fields) is.mapping ∙ holds_uncounted view.mapping view.fields (leaf_cells (kinds_of view.fields)))
+    ∙ ap (λ (kind : LeafType). store_answer view.mode kind (hold_at (table_holds buffer) leaf) value) (same_kind view buffer is leaf)
+    ∙ ap (λ (hold : Hold). store_answer view.mode (leaf_type_of view leaf) hold value) (same_hold view buffer is leaf)
+
+-- and holds what it holds
+pub same_stays : (view buffer : Table) → IsBufferOf view buffer → (leaf : ℕ) (value : ℤ) → Stays buffer.mode (leaf_type_of buffer leaf) (hold_at (table_holds buffer) leaf) value
+    → Stays view.mode (leaf_type_of view leaf) (hold_at (table_holds view) leaf) value
+same_stays view buffer is leaf value stays =
+    subst (λ (hold : Hold). Stays view.mode (leaf_type_of view leaf) hold value) (same_hold view buffer is leaf)
+    (subst (λ (kind : LeafType). Stays view.mode kind (hold_at (table_holds buffer) leaf) value) (same_kind view buffer is leaf)
+    (subst (λ (mode : StoreMode). Stays mode (leaf_type_of buffer leaf) (hold_at (table_holds buffer) leaf) value) is.mode stays))
 
 -- the answer of the buffer, by what a store of it told
 pub refused_here : (answer : Result ℤ StoreFault) (result : Result Unit StoreFault) (fault : StoreFault) → result ≡ told answer → result ≡ Err fault → answer ≡ Err fault
@@ -48,8 +67,9 @@ taken_here value answer result is taken = told_kept value answer (sym is ∙ tak
 same_but : (table old : Table) (rows : List (List ℤ)) (tally : Tally) → table ≡ record old { rows = rows; tally = tally } → table ≡ record old { rows = table.rows; tally = table.tally }
 same_but table old rows tally is = is ∙ ap (λ (t : Table). record old { rows = t.rows; tally = t.tally }) (sym is)
 
-pub told_taken : (value : ℤ) (answer : Result ℤ StoreFault) (result : Result Unit StoreFault) → result ≡ told answer → answer ≡ Ok value → result ≡ Ok tt
-told_taken value answer result is taken = is ∙ ap told taken
+-- a plan for a table is one for what the table becomes
+pub plan_still : (old view : Table) (plan : Plan) → view.fields ≡ old.fields → view.extents ≡ old.extents → IsPlanOf old.fields old.extents plan → IsPlanOf view.fields view.extents plan
+plan_still old view plan fields extents is = subst (λ (f : Fields). IsPlanOf f view.extents plan) (sym fields) (subst (λ (e : List ℕ). IsPlanOf old.fields e plan) (sym extents) is)
 
 -- ---- the rows of a window, as a loop goes over them
 
@@ -57,22 +77,15 @@ pub outer_at : (numbers : List ℕ) (k outer : ℕ) → slice_get numbers k ≡ 
 outer_at numbers k outer at = get_or_from_slice_get numbers k outer 0 at
 
 -- a row of the window and the leaf of a plan are those of a buffer
-pub buffer_row : (view first buffer : Table) (plan : Plan) (outer : ℕ) → IsPlanOf (leaf_count_of view) view.extents plan → IsBufferOf view first → buffer.extents ≡ first.extents → IsTable buffer
+pub buffer_row : (view first buffer : Table) (plan : Plan) (outer : ℕ) → IsPlanOf view.fields view.extents plan → IsBufferOf view first → buffer.extents ≡ first.extents → IsTable buffer
     → outer < length (indices plan.window.now.0) → outer < length buffer.rows
 buffer_row view first buffer plan outer is like same table below =
     omega (arith, below, table.rows, ap (λ (e : List ℕ). length (indices e)) (same ∙ like.extents ∙ sym is.window))
 
-pub buffer_leaf : (view first buffer : Table) (plan : Plan) → IsPlanOf (leaf_count_of view) view.extents plan → IsBufferOf view first → buffer.fields ≡ first.fields → plan.leaf < leaf_count_of buffer
+pub buffer_leaf : (view first buffer : Table) (plan : Plan) → IsPlanOf view.fields view.extents plan → IsBufferOf view first → buffer.fields ≡ first.fields → plan.leaf < leaf_count_of buffer
 buffer_leaf view first buffer plan is like same = omega (arith, is.inside, ap (λ (f : Fields). length (leaves f)) (same ∙ like.fields))
 
 -- ---- the first pass
-
--- the values of the first so many rows fit, they were read, and the buffer has what is kept of them
-pub record IsFilled (old view first buffer : Table) (plan : Plan) (k : ℕ) : Type 0 where
-  pub fits : values_fault (answer_of old) (planned plan) old.rows (take k (rows_of plan.window.now)) ≡ Ok tt
-  pub read : view ≡ after_log old (round_reads (planned plan) (take k (rows_of plan.window.now)))
-  pub filled : (j : ℕ) → j < k → entry buffer.rows (get_or (rows_of plan.window.now) j 0) plan.leaf ≡ new_entry (answer_of old) (planned plan) old.rows (get_or (rows_of plan.window.now) j 0)
-  pub same : buffer ≡ record first { rows = buffer.rows; tally = buffer.tally }
 
 pub none_filled : (old first : Table) (plan : Plan) → IsFilled old old first first plan 0
 none_filled old first plan = record { fits = refl; read = sym (after_log-none old); filled = λ j low. absurd (omega (arith, low)); same = refl }
@@ -124,9 +137,10 @@ module _ (old view first buffer : Table) (plan : Plan) (k outer : ℕ) (value : 
         read_more after read ∙ ap (λ (n : ℕ). after_log old (round_reads (planned plan) (take (n + 1) numbers))) (sym first.1),
       )
 
-  pub filled_more : (after after' : Table) (kept : ℤ) → answer_of buffer plan.leaf value ≡ Ok kept → IsTable buffer → outer < length buffer.rows → plan.leaf < leaf_count_of buffer
+  pub filled_more : (after after' : Table) (kept : ℤ) (count : ℕ) → answer_of buffer plan.leaf value ≡ Ok kept → HasShape count (leaf_count_of buffer) buffer.rows → outer < count
+      → plan.leaf < leaf_count_of buffer
       → after ≡ after_log view (term_reads (planned plan) outer) → after' ≡ after_write buffer outer plan.leaf value → IsFilled old after first after' plan (k + 1)
-  filled_more after after' kept taken table row_in leaf_in read stored =
+  filled_more after after' kept count taken shape row_in leaf_in read stored =
       let numbers = rows_of plan.window.now in
       let answer = λ (row : ℕ). answer_of old plan.leaf (stencil_value (planned plan) old.rows row) in
       let here = outer_at numbers k outer at in
@@ -141,9 +155,54 @@ module _ (old view first buffer : Table) (plan : Plan) (k outer : ℕ) (value : 
         read = read_more after read;
         filled = λ j low.
             ap (λ (r : List (List ℤ)). entry r (get_or numbers j 0) plan.leaf) rows
-            ∙ entry_more (length buffer.rows) (leaf_count_of buffer) buffer.rows table.shape numbers plan.leaf k outer f here row_in leaf_in so_far.filled j low;
+            ∙ entry_more count (leaf_count_of buffer) buffer.rows shape numbers plan.leaf k outer f here row_in leaf_in so_far.filled j low;
         same = same_but after' first new tally (stored ∙ ap (λ (t : Table). record t { rows = new; tally = tally }) so_far.same);
       }
+
+-- the values of rows one behind another, of which so many are stored at once in the buffer, up to the first that is not taken. Nothing is counted
+module _ (old view first buffer : Table) (plan : Plan) (k place : ℕ) (values : List ℤ) (is : IsBufferOf old first) (so_far : IsFilled old view first buffer plan k) (table : IsTable buffer) (idle : IsIdle view)
+    (leaf_in : plan.leaf < leaf_count_of buffer) (inside : place + length values ≤ length buffer.rows) (run : IsRun (rows_of plan.window.now) k place (length values))
+    (worth : (j : ℕ) → j < length values → get_or values j (pos 0) ≡ stencil_value (planned plan) view.rows (place + j)) where
+  abbrev kept : List ℤ
+  kept = map (kept_of buffer plan.leaf) values
+
+  abbrev stored : ℕ → Table
+  stored m = stored_to buffer plan.leaf place kept m
+
+  next_stored : (m : ℕ) → m < length values → after_write (stored m) (place + m) plan.leaf (get_or values m (pos 0)) ≡ stored (suc m)
+  next_stored m low =
+      ap (λ (v : ℤ). after_stores (stored m) (with_entry (stored m).rows (place + m) plan.leaf v) (Write (place + m) plan.leaf ∷ []))
+      (sym (get_or-map (kept_of buffer plan.leaf) values m (pos 0) (pos 0) low))
+      ∙ one_of_run buffer plan.leaf place kept m (omega (arith, low, length-map values (kept_of buffer plan.leaf))) (omega (arith, low, inside))
+
+  shape : (m : ℕ) → m ≤ length values → HasShape (length buffer.rows) (leaf_count_of buffer) (stored m).rows
+  shape zero low = subst (λ (t : Table). HasShape (length buffer.rows) (leaf_count_of buffer) t.rows) (sym (none_of_run buffer plan.leaf place kept)) table.shape
+  shape (suc m) low =
+      subst (λ (t : Table). HasShape (length buffer.rows) (leaf_count_of buffer) t.rows) (next_stored m (omega (arith, low)))
+      (with_entry_shape (length buffer.rows) (leaf_count_of buffer) (stored m).rows (shape m (omega (arith, low))) (place + m) plan.leaf
+      (kept_of buffer plan.leaf (get_or values m (pos 0))) (omega (arith, low, inside)) leaf_in)
+
+  front : (m : ℕ) → m ≤ length values → ((j : ℕ) → j < m → is_ok (answer_of buffer plan.leaf (get_or values j (pos 0))) ≡ true) → IsFilled old view first (stored m) plan (k + m)
+  front zero low taken =
+      (let none : k ≡ k + 0 = omega arith in
+      subst (λ (n : ℕ). IsFilled old view first (stored 0) plan n) none (subst (λ (t : Table). IsFilled old view first t plan k) (sym (none_of_run buffer plan.leaf place kept)) so_far))
+  front (suc m) low taken =
+      (let value = get_or values m (pos 0) in
+      let answer = answer_of buffer plan.leaf value in
+      let small : m < length values = omega (arith, low) in
+      let next : k + m + 1 ≡ k + suc m = omega arith in
+      let ok = told_kept value answer (told_ok answer (taken m (omega arith))) in
+      subst (λ (n : ℕ). IsFilled old view first (stored (suc m)) plan n) next
+      (filled_more old view first (stored m) plan (k + m) (place + m) value is (front m (omega (arith, low)) (λ j less. taken j (omega (arith, less)))) (run m small) (worth m small)
+      view (stored (suc m)) (kept_or value answer) (length buffer.rows) ok (shape m (omega (arith, low))) (omega (arith, small, inside)) leaf_in
+      (sym (idle (term_reads (planned plan) (place + m)))) (sym (next_stored m small))))
+
+  pub run_filled : (after : Table) (m : ℕ) → m ≡ stored_count (length values) (run_fault plan.leaf values buffer) → after ≡ with_run plan.leaf place values m buffer → IsFilled old view first after plan (k + m)
+  run_filled after m end is =
+      let up_to = subst (AreTaken (answer_of buffer) plan.leaf 0 values) (sym end) (are_taken (answer_of buffer) plan.leaf 0 values (length values) (omega arith)) in
+      subst (λ (t : Table). IsFilled old view first t plan (k + m))
+      (ap (λ (vs : List ℤ). after_stores buffer (with_values plan.leaf place vs buffer.rows) (column_writes plan.leaf place m)) (take-map (kept_of buffer plan.leaf) m values) ∙ sym is)
+      (front m (omega (arith, up_to.few)) (λ j low. up_to.taken j (omega (arith, low))))
 
 -- behind the last row
 pub filled_all : (old view first buffer : Table) (plan : Plan) (k : ℕ) → length (rows_of plan.window.now) ≤ k → IsFilled old view first buffer plan k → (row : ℕ) → Contains (rows_of plan.window.now) row
@@ -163,33 +222,56 @@ pub record IsStored (old view first buffer : Table) (plan : Plan) (k : ℕ) : Ty
 pub none_stored : (old first : Table) (plan : Plan) → IsStored old old first first plan 0
 none_stored old first plan = record { stored = ap (λ (tally : Tally). record old { tally = tally }) (sym (tallied-none (owners_of old) old.tally)); same = refl }
 
-module _ (old view first buffer : Table) (plan : Plan) (k outer : ℕ) (value : ℤ) (is : IsBufferOf old first) (so_far : IsStored old view first buffer plan k)
-    (at : slice_get (rows_of plan.window.now) k ≡ Some outer) (value_is : value ≡ entry buffer.rows outer plan.leaf) where
-  -- a value of the buffer is taken as it is
-  pub taken_as_is : IsTable buffer → outer < length buffer.rows → plan.leaf < leaf_count_of buffer → answer_of view plan.leaf value ≡ Ok value
-  taken_as_is table row_in leaf_in =
-      let stays = stays_answer buffer.mode (leaf_type_of buffer plan.leaf) (hold_at (table_holds buffer) plan.leaf) (entry buffer.rows outer plan.leaf) (table.stays outer plan.leaf row_in (omega (arith, leaf_in, length-map (leaves buffer.fields) (λ (one : Leaf). one.kind)))) in
-      ap (λ (t : Table). answer_of t plan.leaf value) so_far.stored ∙ sym (same_answer old first is plan.leaf value) ∙ sym (ap (λ (t : Table). answer_of t plan.leaf value) so_far.same)
-      ∙ ap (answer_of buffer plan.leaf) value_is ∙ stays ∙ ap (λ (v : ℤ). Ok v) (sym value_is)
+-- one row more
+stored_more : (old view first buffer after : Table) (plan : Plan) (k outer : ℕ) → IsStored old view first buffer plan k → slice_get (rows_of plan.window.now) k ≡ Some outer
+    → after ≡ after_stores view (with_entry view.rows outer plan.leaf (entry first.rows outer plan.leaf)) (Write outer plan.leaf ∷ []) → IsStored old after first buffer plan (k + 1)
+stored_more old view first buffer after plan k outer so_far at stored =
+    let numbers = rows_of plan.window.now in
+    let f : ℕ → ℤ = λ row. entry first.rows row plan.leaf in
+    let here = outer_at numbers k outer at in
+    let small = slice_get_within numbers k outer at in
+    let column = with_column plan.leaf f (take k numbers) old.rows in
+    let writes = round_writes (planned plan) (take k numbers) in
+    record {
+      stored = stored
+          ∙ ap (λ (t : Table). after_stores t (with_entry t.rows outer plan.leaf (f outer)) (Write outer plan.leaf ∷ [])) so_far.stored
+          ∙ after_stores-append old column (with_entry column outer plan.leaf (f outer)) writes (Write outer plan.leaf ∷ [])
+          ∙ ap (λ (r : ℕ). after_stores old (with_entry column r plan.leaf (f r)) (writes ++ Write r plan.leaf ∷ [])) (sym here)
+          ∙ ap (λ (r : List (List ℤ)). after_stores old r (writes ++ Write (get_or numbers k 0) plan.leaf ∷ [])) (sym (fold_more (λ table row. with_entry table row plan.leaf (f row)) old.rows numbers k 0 small))
+          ∙ ap (after_stores old (with_column plan.leaf f (take (k + 1) numbers) old.rows)) (map_front (λ row. Write row plan.leaf) numbers k 0 small);
+      same = so_far.same;
+    }
 
-  pub stored_more : (after after' : Table) → answer_of view plan.leaf value ≡ Ok value → after ≡ after_write view outer plan.leaf value → after' ≡ record buffer { tally = after'.tally }
-      → IsStored old after first after' plan (k + 1)
-  stored_more after after' taken stored read =
-      let numbers = rows_of plan.window.now in
-      let f : ℕ → ℤ = λ row. entry first.rows row plan.leaf in
-      let here = outer_at numbers k outer at in
-      let small = slice_get_within numbers k outer at in
-      let value_is_first : value ≡ f outer = value_is ∙ ap (λ (t : Table). entry t.rows outer plan.leaf) so_far.same in
-      let keeps : kept_of view plan.leaf value ≡ f outer = ap (kept_or value) taken ∙ value_is_first in
-      let column = with_column plan.leaf f (take k numbers) old.rows in
-      let writes = round_writes (planned plan) (take k numbers) in
+-- and rows one behind another, all at once
+module _ (old view first buffer : Table) (plan : Plan) (k place n : ℕ) (so_far : IsStored old view first buffer plan k) (run : IsRun (rows_of plan.window.now) k place n)
+    (inside : place + n ≤ length buffer.rows) (rows : length view.rows ≡ length buffer.rows) where
+  abbrev values : List ℤ
+  values = run_of plan.leaf place n buffer
+
+  stored_front : (m : ℕ) → m ≤ n → IsStored old (stored_to view plan.leaf place values m) first buffer plan (k + m)
+  stored_front zero low =
+      (let none : k ≡ k + 0 = omega arith in
+      subst (λ (i : ℕ). IsStored old (stored_to view plan.leaf place values 0) first buffer plan i) none
+      (subst (λ (t : Table). IsStored old t first buffer plan k) (sym (none_of_run view plan.leaf place values)) so_far))
+  stored_front (suc m) low =
+      (let mid = stored_to view plan.leaf place values m in
+      let small : m < n = omega (arith, low) in
+      let next : k + m + 1 ≡ k + suc m = omega arith in
+      let value : get_or values m (pos 0) ≡ entry first.rows (place + m) plan.leaf =
+      run_value buffer plan.leaf place n inside m small ∙ ap (λ (t : Table). entry t.rows (place + m) plan.leaf) so_far.same in
+      subst (λ (i : ℕ). IsStored old (stored_to view plan.leaf place values (suc m)) first buffer plan i) next
+      (stored_more old mid first buffer (stored_to view plan.leaf place values (suc m)) plan (k + m) (place + m) (stored_front m (omega (arith, low))) (run m small)
+      (sym (one_of_run view plan.leaf place values m (omega (arith, small, run_count buffer plan.leaf place n inside)) (omega (arith, small, inside, rows)))
+      ∙ ap (λ (v : ℤ). after_stores mid (with_entry mid.rows (place + m) plan.leaf v) (Write (place + m) plan.leaf ∷ [])) value)))
+
+  pub run_stored : (after after' : Table) → after ≡ after_stores view (with_values plan.leaf place values view.rows) (column_writes plan.leaf place n) → after' ≡ record buffer { tally = after'.tally }
+      → IsStored old after first after' plan (k + n)
+  run_stored after after' stored read =
+      let all : take n values ≡ values = take_all n values (omega (arith, run_count buffer plan.leaf place n inside)) in
+      let is : after ≡ stored_to view plan.leaf place values n =
+      stored ∙ ap (λ (vs : List ℤ). after_stores view (with_values plan.leaf place vs view.rows) (column_writes plan.leaf place n)) (sym all) in
       record {
-        stored = stored ∙ ap (λ (v : ℤ). after_stores view (with_entry view.rows outer plan.leaf v) (Write outer plan.leaf ∷ [])) keeps
-            ∙ ap (λ (t : Table). after_stores t (with_entry t.rows outer plan.leaf (f outer)) (Write outer plan.leaf ∷ [])) so_far.stored
-            ∙ after_stores-append old column (with_entry column outer plan.leaf (f outer)) writes (Write outer plan.leaf ∷ [])
-            ∙ ap (λ (r : ℕ). after_stores old (with_entry column r plan.leaf (f r)) (writes ++ Write r plan.leaf ∷ [])) (sym here)
-            ∙ ap (λ (r : List (List ℤ)). after_stores old r (writes ++ Write (get_or numbers k 0) plan.leaf ∷ [])) (sym (fold_more (λ table row. with_entry table row plan.leaf (f row)) old.rows numbers k 0 small))
-            ∙ ap (after_stores old (with_column plan.leaf f (take (k + 1) numbers) old.rows)) (map_front (λ row. Write row plan.leaf) numbers k 0 small);
+        stored = is ∙ (stored_front n (omega arith)).stored;
         same = read ∙ ap (λ (t : Table). record t { tally = after'.tally }) so_far.same;
       }
 

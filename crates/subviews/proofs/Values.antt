@@ -10,14 +10,16 @@ use Rattle.extents.specs.Indices.{indices}
 use Rattle.places.specs.Image.{entry}
 use Rattle.record_dim.specs.declared.leaf_type.LeafType.{LeafType}
 use Rattle.record_dim.specs.declared.leaf_type.LeafType.TheVariants.{Bool as Truth, U8, U16, U32, U64, I8, I16, I32, I64}
+use Rattle.record_dim.specs.Leaves.{leaves}
 use Rattle.record_dim.specs.LeafTypes.{IsDeclared}
+use Rattle.record_dim.specs.Trees.{Fields}
 use Rattle.views.specs.StrictLaws.{between_true}
 use Rattle.views.specs.TallyLaws.{after_log-append}
 use Rattle.views.specs.Tables.{Table, after_log, after_read}
 use Rattle.subviews.specs.SubViews.{rows_of}
 use Rattle.subviews.specs.Stencils.{Weighted, weighted, row_from, term_value, term_read, is_weight}
 use Rattle.subviews.specs.declared.term.Term.{Term}
-use Rattle.subviews.specs.declared.rounds.Plan.{Plan}
+use Rattle.subviews.specs.declared.plan.Plan.{Plan}
 use Rattle.subviews.specs.Plans.{IsPlanOf, IsTermOf}
 use Rattle.subviews.proofs.Ways.{row_inside, reach_inside}
 
@@ -35,7 +37,7 @@ abs_high : (z : ℤ) → z ≤ℤ pos (unsigned_abs z)
 abs_high (pos n) = omega (arith, ints)
 abs_high (negsuc n) = omega (arith, ints)
 
-abs_sum : (a b : ℤ) → unsigned_abs (a +ℤ b) ≤ unsigned_abs a + unsigned_abs b
+pub abs_sum : (a b : ℤ) → unsigned_abs (a +ℤ b) ≤ unsigned_abs a + unsigned_abs b
 abs_sum a b = abs_small (a +ℤ b) (unsigned_abs a + unsigned_abs b) (omega (arith, ints, abs_low a, abs_low b)) (omega (arith, ints, abs_high a, abs_high b))
 
 pub weight_small : (weight : ℤ) → is_weight weight ≡ true → unsigned_abs weight ≤ 2 ^ 31
@@ -93,6 +95,16 @@ pub record IsSummed (old view : Table) (plan : Plan) (row place : ℕ) (sum : �
 term_in : (plan : Plan) (place : ℕ) (term : Term) → place < length plan.terms.now → term ≡ get_or plan.terms.now place term → get_or (map weighted plan.terms.now) place (weighted term) ≡ weighted term
 term_in plan place term small is = get_or-map weighted plan.terms.now place term (weighted term) small ∙ ap weighted (sym is)
 
+pub sum_more : (old : Table) (plan : Plan) (row place : ℕ) (sum : ℤ) (term : Term) (value : ℤ) → place < length plan.terms.now → term ≡ get_or plan.terms.now place term
+    → value ≡ entry old.rows (row_from plan.window.now.0 row term.offsets.items) term.leaf → sum ≡ fold (added plan old row) (pos 0) (take place (map weighted plan.terms.now))
+    → sum +ℤ term.weight *ℤ value ≡ fold (added plan old row) (pos 0) (take (place + 1) (map weighted plan.terms.now))
+sum_more old plan row place sum term value small is value_is so_far =
+    let terms = map weighted plan.terms.now in
+    ap (λ (s : ℤ). s +ℤ term.weight *ℤ value) so_far
+    ∙ ap (λ (v : ℤ). fold (added plan old row) (pos 0) (take place terms) +ℤ term.weight *ℤ v) value_is
+    ∙ ap (added plan old row (fold (added plan old row) (pos 0) (take place terms))) (sym (term_in plan place term small is))
+    ∙ sym (fold_more (added plan old row) (pos 0) terms place (weighted term) (omega (arith, small, length-map plan.terms.now weighted)))
+
 pub summed_more : (old view after : Table) (plan : Plan) (row place : ℕ) (sum : ℤ) (term : Term) (at : ℕ) (value : ℤ) (kind : LeafType) → place < length plan.terms.now → term ≡ get_or plan.terms.now place term
     → is_weight term.weight ≡ true → IsDeclared kind value → value ≡ entry view.rows at term.leaf → after ≡ after_read view at term.leaf → at ≡ row_from plan.window.now.0 row term.offsets.items
     → IsSummed old view plan row place sum → IsSummed old after plan row (place + 1) (sum +ℤ term.weight *ℤ value)
@@ -104,10 +116,7 @@ summed_more old view after plan row place sum term at value kind small is light 
     let rows : view.rows ≡ old.rows = ap (λ (t : Table). t.rows) so_far.read in
     let value_is : value ≡ entry old.rows (row_from e row term.offsets.items) term.leaf = reads ∙ ap (λ (r : List (List ℤ)). entry r at term.leaf) rows ∙ ap (λ (n : ℕ). entry old.rows n term.leaf) here in
     record {
-      sums = ap (λ (s : ℤ). s +ℤ term.weight *ℤ value) so_far.sums
-          ∙ ap (λ (v : ℤ). fold (added plan old row) (pos 0) (take place terms) +ℤ term.weight *ℤ v) value_is
-          ∙ ap (added plan old row (fold (added plan old row) (pos 0) (take place terms))) (sym one)
-          ∙ sym (fold_more (added plan old row) (pos 0) terms place (weighted term) within);
+      sums = sum_more old plan row place sum term value small is value_is so_far.sums;
       small = sum_small sum (term.weight *ℤ value) place so_far.small (product_small term.weight value (weight_small term.weight light) (entry_small kind value declared));
       read = last ∙ ap (λ (t : Table). after_read t at term.leaf) so_far.read
           ∙ ap (λ (n : ℕ). after_read (after_log old (map (term_read e row) (take place terms))) n term.leaf) here
@@ -117,9 +126,9 @@ summed_more old view after plan row place sum term at value kind small is light 
     }
 
 -- a term of a plan
-pub plan_term : (leaves : ℕ) (extents : List ℕ) (plan : Plan) (place : ℕ) (term : Term) → IsPlanOf leaves extents plan → place < length plan.terms.now → term ≡ get_or plan.terms.now place term
-    → IsTermOf leaves plan.window.now term
-plan_term leaves extents plan place term is small at = subst (λ (t : Term). IsTermOf leaves plan.window.now t) (sym at) (is.terms place term small)
+pub plan_term : (fields : Fields) (extents : List ℕ) (plan : Plan) (place : ℕ) (term : Term) → IsPlanOf fields extents plan → place < length plan.terms.now → term ≡ get_or plan.terms.now place term
+    → IsTermOf (length (leaves fields)) plan.window.now term
+plan_term fields extents plan place term is small at = subst (λ (t : Term). IsTermOf (length (leaves fields)) plan.window.now t) (sym at) (is.terms place term small)
 
 -- where a term of a plan is read from a row: so far away, and inside the array
 pub record IsReached (plan : Plan) (row place : ℕ) (term : Term) : Type 0 where
@@ -128,11 +137,11 @@ pub record IsReached (plan : Plan) (row place : ℕ) (term : Term) : Type 0 wher
   pub here : row < length (indices plan.window.now.0)
   pub few : length (indices plan.window.now.0) ≤ 2 ^ 24
 
-pub reached : (leaves : ℕ) (extents : List ℕ) (plan : Plan) (row place : ℕ) (term : Term) → IsPlanOf leaves extents plan → Contains (rows_of plan.window.now) row → place < length plan.terms.now
+pub reached : (fields : Fields) (extents : List ℕ) (plan : Plan) (row place : ℕ) (term : Term) → IsPlanOf fields extents plan → Contains (rows_of plan.window.now) row → place < length plan.terms.now
     → term ≡ get_or plan.terms.now place term → IsReached plan row place term
-reached leaves extents plan row place term is held small at = record {
+reached fields extents plan row place term is held small at = record {
   away = subst (λ (t : Term). pos (row_from plan.window.now.0 row t.offsets.items) ≡ pos row +ℤ get_or plan.far place (pos 0)) (sym at) (is.far place term small row held);
-  inside = reach_inside plan.window.now term.offsets.items row (plan_term leaves extents plan place term is small at).reach held;
+  inside = reach_inside plan.window.now term.offsets.items row (plan_term fields extents plan place term is small at).reach held;
   here = row_inside plan.window.now row held;
   few = is.rows;
 }

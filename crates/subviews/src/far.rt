@@ -1,5 +1,5 @@
 // How far away the entries of terms lie, in rows.
-ghost use Rattle.std.specs.Prelude.{◌≡◌, ◌<◌, ◌≤◌, ◌^◌, ℕ, true, pos, length, slice_index_or};
+ghost use Rattle.std.specs.Prelude.{◌≡◌, ◌<◌, ◌≤◌, ◌^◌, ℕ, true, pos, ◌+ℤ◌, ◌<ℤ◌, ◌≤ℤ◌, length, slice_index_or};
 ghost use Rattle.extents.specs.Indices.{indices};
 ghost use Rattle.subviews.specs.SubViews.{rows_of};
 ghost use Rattle.subviews.specs.Stencils.{reaches};
@@ -42,4 +42,15 @@ fn far_of(window: &Window, offsets: &ArrayVec<i64, 4>) -> i64
         index.push((from[dimension] as i64 + offsets[dimension]) as u64);
     }
     extents.row_of(&index) as i64 - first as i64
+}
+
+/// The row so many rows away from another one.
+#[inline(always)]
+pub fn row_away(row: u64, far: i64) -> u64
+    requires here { row < 2 ^ 32 }
+    requires low { pos 0 ≤ℤ (pos row +ℤ far) }
+    requires high { (pos row +ℤ far) <ℤ pos (2 ^ 32) }
+    ensures { pos result ≡ pos row +ℤ far }
+{
+    (row as i64 + far) as u64
 }

@@ -1,13 +1,15 @@
 //! Windows of a view, used as views of their own, and stencils over them.
 #![tactic(auto)]
 
-mod blocks;
 mod far;
 mod fault;
+mod limits;
+mod plan;
 mod print;
 mod rounds;
 mod runs;
 mod sub_view;
+mod sums;
 mod term;
 
 pub use fault::StencilFault;

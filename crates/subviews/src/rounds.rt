@@ -1,17 +1,22 @@
 // Rounds of a stencil over a window.
-ghost use Rattle.std.specs.Prelude.{◌≡◌, ◌<◌, ◌≤◌, ℕ, true, pos, ◌<ℤ◌, int_div, All, Contains, Ok, Err, OnOk, OnErr, IfErr, length, map};
+ghost use Rattle.std.specs.Prelude.{◌≡◌, ◌+◌, ◌<◌, ◌≤◌, ℕ, true, pos, ◌<ℤ◌, int_div, All, Contains, Ok, Err, OnOk, OnErr, IfErr, length, map};
 ghost use Rattle.places.specs.Image.{entry};
-ghost use Rattle.views.specs.Tables.{leaf_count_of, answer_of, after_log, after_stores};
+ghost use Rattle.views.specs.Columns.{column_reads, column_writes, with_column as with_values};
+ghost use Rattle.views.specs.Runs.{run_of};
+ghost use Rattle.views.specs.Tables.{Table, leaf_count_of, answer_of, after_log, after_stores};
 ghost use Rattle.subviews.specs.SubViews.{rows_of};
 ghost use Rattle.subviews.specs.Stencils.{Stencil, weighted, stencil_value, values_fault, new_entry, with_column, round, stenciled, term_reads, round_reads, round_writes, tried_rows, rounds_log, refused_log};
-ghost use Rattle.subviews.specs.Plans.{IsTermOf, IsBufferOf, IsPlanOf, stencil_by, planned};
+ghost use Rattle.subviews.specs.Plans.{IsTermOf, IsBufferOf, IsPlanOf, IsRunOf, IsFilled, stencil_by, planned};
 
-use crate::blocks::{near_pair, store_block};
-use crate::far::all_far;
+use crate::far::{all_far, row_away};
 use crate::fault::StencilFault;
-use crate::runs::Walk;
+use crate::limits::are_near;
+use crate::plan::Plan;
+use crate::runs::{MOST, Run, Walk};
+use crate::sums::sum_run;
 use crate::term::Term;
 use extents::Window;
+use kept_tables::StoreMode;
 use std::sync::ledger::Ledger;
 use steps::Steps;
 use views::{View, laws_of_table};
@@ -51,22 +56,15 @@ pub fn stencil<L: Ledger>(
         terms,
         far: all_far(window, terms),
         divisor: i64::from(divisor),
+        near: are_near(view, terms),
     };
+    let mut values = [0; MOST];
+    let mut read = [0; MOST];
     for _round in 0..rounds {
-        fill(view, buffer, &plan, steps)?;
-        store_back(view, buffer, &plan, steps);
+        fill(view, buffer, &plan, &mut values, &mut read, steps)?;
+        store_back(view, buffer, &plan, &mut values, steps);
     }
     Ok(())
-}
-
-/// A stencil, and how far away each of its terms reads.
-#[derive(Drop)]
-struct Plan<'a> {
-    window: &'a Window,
-    leaf: usize,
-    terms: &'a [Term],
-    far: [i64; 64],
-    divisor: i64,
 }
 
 // Puts what is kept of each value of a round into the buffer. The table stands.
@@ -74,9 +72,11 @@ fn fill<L: Ledger>(
     view: &mut View,
     buffer: &mut View,
     plan: &Plan<'_>,
+    values: &mut [i64; MOST],
+    read: &mut [i64; MOST],
     steps: &mut Steps<L>,
 ) -> Result<(), StencilFault>
-    requires plan { IsPlanOf (leaf_count_of view.old) view.old.extents plan.now }
+    requires plan { IsPlanOf view.old.fields view.old.extents plan.now }
     requires buffer { IsBufferOf view.old buffer.old }
     ensures fits { OnOk result (values_fault (answer_of view.old) (planned plan.now) view.old.rows (rows_of plan.now.window.now) ≡ Ok tt) }
     ensures refused { IfErr result (λ fault. values_fault (answer_of view.old) (planned plan.now) view.old.rows (rows_of plan.now.window.now) ≡ Err fault) }
@@ -88,22 +88,59 @@ fn fill<L: Ledger>(
         → entry buffer.new.rows row plan.now.leaf ≡ new_entry (answer_of view.old) (planned plan.now) view.old.rows row) }
     ensures buffer { buffer.new ≡ record buffer.old { rows = buffer.new.rows; tally = buffer.new.tally } }
 {
+    let count = plan.window.count();
     let mut walk = Walk::new(plan.window);
-    for row in 0..plan.window.count() {
-        laws_of_table(buffer);
-        let outer = walk.outer(plan.window, row);
-        let value = value_at(view, plan, outer, steps);
-        if let Err(fault) = buffer.set(outer, plan.leaf, value, steps) {
-            return Err(StencilFault { row: outer, fault });
+    let mut row = 0;
+    while row < count {
+        let run = walk.next_run(plan.window, row);
+        let done = fill_run(view, buffer, plan, run, values, read, steps);
+        for outer in run.first + done..run.first + run.rows {
+            laws_of_table(buffer);
+            let value = value_at(view, plan, outer, steps);
+            if let Err(fault) = buffer.set(outer, plan.leaf, value, steps) {
+                return Err(StencilFault { row: outer, fault });
+            }
         }
+        row += run.rows;
     }
     Ok(())
+}
+
+// The same of a run, up to the first value that does not fit, where nothing is counted and no sum passes 64 bits. It tells of how many rows.
+fn fill_run<L: Ledger>(
+    view: &mut View,
+    buffer: &mut View,
+    plan: &Plan<'_>,
+    run: Run,
+    values: &mut [i64; MOST],
+    read: &mut [i64; MOST],
+    steps: &mut Steps<L>,
+) -> u64
+    requires plan { IsPlanOf view.old.fields view.old.extents plan.now }
+    requires buffer { IsBufferOf view.old buffer.old }
+    requires run { IsRunOf plan.now.window.now run }
+    ensures few { result ≤ run.rows }
+    ensures same { view.new ≡ view.old }
+    ensures filled { (old first : Table) → IsBufferOf old first → IsFilled old view.old first buffer.old plan.now run.row
+        → IsFilled old view.new first buffer.new plan.now (run.row + result) }
+    ensures buffer { buffer.new ≡ record buffer.old { rows = buffer.new.rows; tally = buffer.new.tally } }
+{
+    if !plan.near || !view.counts_nothing() {
+        return 0;
+    }
+    let sums = &mut values[..run.rows as usize];
+    sum_run(view, plan, run, sums, &mut read[..run.rows as usize], steps);
+    laws_of_table(buffer);
+    match buffer.store_run(plan.leaf, run.first, sums, steps) {
+        Ok(()) => run.rows,
+        Err(fault) => fault.lane as u64,
+    }
 }
 
 // The value of a stencil at a row of its window.
 #[inline(always)]
 fn value_at<L: Ledger>(view: &mut View, plan: &Plan<'_>, row: u64, steps: &mut Steps<L>) -> i128
-    requires plan { IsPlanOf (leaf_count_of view.old) view.old.extents plan.now }
+    requires plan { IsPlanOf view.old.fields view.old.extents plan.now }
     requires row_in { Contains (rows_of plan.now.window.now) row }
     ensures value { result ≡ stencil_value (planned plan.now) view.old.rows row }
     ensures read { view.new ≡ after_log view.old (term_reads (planned plan.now) row) }
@@ -111,7 +148,7 @@ fn value_at<L: Ledger>(view: &mut View, plan: &Plan<'_>, row: u64, steps: &mut S
     laws_of_table(view);
     let mut sum = 0;
     for (place, term) in plan.terms.iter().enumerate() {
-        let at = (row as i64 + plan.far[place]) as u64;
+        let at = row_away(row, plan.far[place]);
         sum += i128::from(term.weight) * view.get(at, term.leaf, steps);
     }
     quotient(sum, plan.divisor)
@@ -129,31 +166,58 @@ fn quotient(sum: i128, divisor: i64) -> i128
     }
 }
 
-// Stores in each row of the window what the buffer holds there, sixteen rows at once where they stand side by side in both.
-fn store_back<L: Ledger>(view: &mut View, buffer: &mut View, plan: &Plan<'_>, steps: &mut Steps<L>)
-    requires plan { IsPlanOf (leaf_count_of view.old) view.old.extents plan.now }
+// Stores in each row of the window what the buffer holds there.
+fn store_back<L: Ledger>(
+    view: &mut View,
+    buffer: &mut View,
+    plan: &Plan<'_>,
+    values: &mut [i64; MOST],
+    steps: &mut Steps<L>,
+)
+    requires plan { IsPlanOf view.old.fields view.old.extents plan.now }
     requires buffer { IsBufferOf view.old buffer.old }
     ensures stored { view.new ≡ after_stores view.old
         (with_column plan.now.leaf (λ row. entry buffer.old.rows row plan.now.leaf) (rows_of plan.now.window.now) view.old.rows)
         (round_writes (planned plan.now) (rows_of plan.now.window.now)) }
     ensures buffer { buffer.new ≡ record buffer.old { tally = buffer.new.tally } }
 {
-    let pair = near_pair(view, buffer, plan.leaf);
     let count = plan.window.count();
     let mut walk = Walk::new(plan.window);
     let mut row = 0;
     while row < count {
-        let outer = walk.outer(plan.window, row);
-        let stored = store_block(view, buffer, plan.leaf, &pair, outer, walk.left());
         laws_of_table(view);
         laws_of_table(buffer);
-        if stored {
-            walk.skip(plan.window, row + 1, 15);
-            row += 16;
-            continue;
+        let run = walk.next_run(plan.window, row);
+        copy_back(view, buffer, plan.leaf, run, values, steps);
+        row += run.rows;
+    }
+}
+
+// Makes a leaf of a view, in the rows of a run, what it is in the buffer, which keeps what the view keeps.
+fn copy_back<L: Ledger>(
+    view: &mut View,
+    buffer: &mut View,
+    leaf: usize,
+    run: Run,
+    values: &mut [i64; MOST],
+    steps: &mut Steps<L>,
+)
+    requires buffer { IsBufferOf view.old buffer.old }
+    requires leaf_in { leaf < leaf_count_of view.old }
+    requires few { run.rows ≤ 256 }
+    requires rows_in { run.first + run.rows ≤ length view.old.rows }
+    ensures stored { view.new ≡ after_stores view.old
+        (with_values leaf run.first (run_of leaf run.first run.rows buffer.old) view.old.rows) (column_writes leaf run.first run.rows) }
+    ensures read { buffer.new ≡ after_log buffer.old (column_reads leaf run.first run.rows) }
+{
+    laws_of_table(view);
+    laws_of_table(buffer);
+    let lows = &mut values[..run.rows as usize];
+    buffer.read_run(leaf, run.first, lows, steps);
+    match view.mode() {
+        StoreMode::Strict => view.put_run(leaf, run.first, lows, steps),
+        StoreMode::Wrap => {
+            let _taken = view.store_run(leaf, run.first, lows, steps);
         }
-        let value = buffer.get(outer, plan.leaf, steps);
-        let _stored = view.set(outer, plan.leaf, value, steps);
-        row += 1;
     }
 }

@@ -2,17 +2,29 @@
 ghost use Rattle.std.specs.Prelude.{◌≡◌, ◌+◌, ◌<◌, ◌≤◌, ◌^◌, ℕ, slice_get, Some, length};
 ghost use Rattle.extents.specs.Indices.{indices};
 ghost use Rattle.subviews.specs.SubViews.{rows_of};
-ghost use Rattle.subviews.specs.Plans.{IsRun, IsWalk};
+ghost use Rattle.subviews.specs.Plans.{IsRun, IsRunOf, IsWalk};
 
 use extents::Window;
 
-/// The rows of a window, one after another. The rows of a run lie one behind another in the array, so that an index is worked out only at its
-/// two ends.
+/// The most rows of a run. Room for their numbers is on the stack.
+pub const MOST: usize = 256;
+
+/// Rows of a window that lie one behind another in the array.
+#[derive(Clone, Copy)]
+pub struct Run {
+    /// Which row of the window the first of them is.
+    pub row: u64,
+    /// Which row of the array that is.
+    pub first: u64,
+    pub rows: u64,
+}
+
+/// The rows of a window, one run after another. An index is worked out only at the two ends of what lies one behind another.
 #[derive(Drop)]
 pub struct Walk {
     /// How many rows of the window share all components but the last, and 1 where there is none.
     width: u64,
-    /// The row of the array that comes next, and how many rows of its run are left.
+    /// The row of the array that comes next, and how many rows lie one behind another from there on.
     next: u64,
     left: u64,
 }
@@ -31,45 +43,23 @@ impl Walk {
         }
     }
 
-    /// The row of the array that is this row of the window, the one behind those before.
-    #[inline(always)]
-    pub fn outer(&mut self, window: &Window, row: u64) -> u64
+    /// The run that begins with this row of the window, the one behind those before.
+    pub fn next_run(&mut self, window: &Window, row: u64) -> Run
         requires walk { IsWalk window.now self.old row }
         requires row_in { row < length (rows_of window.now) }
-        ensures entry { slice_get (rows_of window.now) row ≡ Some result }
-        ensures below { result < length (indices window.now.0) }
-        ensures next { self.new.next ≡ result + 1 }
-        ensures walk { IsWalk window.now self.new (row + 1) }
+        ensures row { result.row ≡ row }
+        ensures run { IsRunOf window.now result }
+        ensures walk { IsWalk window.now self.new (row + result.rows) }
     {
         self.ready(window, row);
-        let outer = self.next;
-        self.next += 1;
-        self.left -= 1;
-        outer
-    }
-
-    /// How many rows of the run are left.
-    #[inline(always)]
-    pub fn left(&self) -> u64
-        ensures { result ≡ self.now.left }
-    {
-        self.left
-    }
-
-    /// Leaves out rows of the run.
-    #[inline(always)]
-    pub fn skip(&mut self, window: &Window, row: u64, rows: u64)
-        requires walk { IsWalk window.now self.old row }
-        requires some { 0 < rows }
-        requires inside { rows ≤ self.old.left }
-        ensures walk { IsWalk window.now self.new (row + rows) }
-    {
+        let first = self.next;
+        let rows = self.left.min(MOST as u64);
         self.next += rows;
         self.left -= rows;
+        Run { row, first, rows }
     }
 
-    // Begins a run where none is left.
-    #[inline(always)]
+    // Begins anew where no row is left.
     fn ready(&mut self, window: &Window, row: u64)
         requires walk { IsWalk window.now self.old row }
         requires row_in { row < length (rows_of window.now) }
@@ -81,8 +71,7 @@ impl Walk {
         }
     }
 
-    // Begins a run at a row.
-    #[inline(always)]
+    // Begins at a row.
     fn begin(&mut self, window: &Window, row: u64)
         requires walk { IsWalk window.now self.old row }
         requires row_in { row < length (rows_of window.now) }

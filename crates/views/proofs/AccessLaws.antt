@@ -13,7 +13,7 @@ use Rattle.blobs.specs.Bits.{bit_of, bit_in}
 use Rattle.piece_bits.specs.CellsLaws.{IsCell, bit_count, apart, read_entry_is, written_table, written_padding, still_laid}
 use Rattle.piece_bits.specs.Scattered.{scattered_pieces}
 use Rattle.piece_bits.specs.Spots.{spots_of, bit_at_spot, AreApart}
-use Rattle.piece_bits.specs.Tables.{AreLaid, hold_at, table_in, with_entry}
+use Rattle.piece_bits.specs.Tables.{AreSized, AreLaid, hold_at, table_in, with_entry}
 use Rattle.piece_bits.specs.Words.{IsField, IsWord, word_bit, word_place, word_pieces, word_signed, word_width}
 use Rattle.piece_bits.specs.WordsLaws.{word_blob, word_room, word_entry, word_held, word_table, word_laid}
 use Rattle.piece_bits.specs.WritesLaws.{AreWritten}
@@ -41,7 +41,7 @@ with_rules {layout} {rows} {cell} {width} {hold} {rules} {short} passed same h =
 module _ {layout : List (List Owner)} {rows : ℕ} (holds : List Hold) (row leaf : ℕ) {rules : List PieceRule} {short : ShortRule} {count : ℕ}
     (laid : IsLaidOut layout rows (map (λ (h : Hold). h.width) holds)) (paired : length holds ≡ count) (row_in : row < rows) (leaf_in : leaf < count)
     (h : IsShortIn layout rows leaf (slice_index (map (λ (h : Hold). h.width) holds) leaf) (hold_at holds leaf) rules short)
-    (start : ℕ) (at : start ≡ start_in short row) (blobs : List (List ℕ)) (are_laid : AreLaid layout blobs) where
+    (start : ℕ) (at : start ≡ start_in short row) (blobs : List (List ℕ)) (sized : AreSized layout blobs) where
   in_holds : leaf < length holds
   in_holds = omega arith
 
@@ -65,25 +65,25 @@ module _ {layout : List (List Owner)} {rows : ℕ} (holds : List Hold) (row leaf
         (word_alone short.word short.field short.blob (start_in short row) rules none ∙ ap (word_pieces short.word short.field short.blob) (sym at)) placed
 
     pub blob_there : short.blob < length blobs
-    blob_there = word_blob short.word short.field short.blob start is_word in_word blobs are_laid h.held.signed
+    blob_there = word_blob short.word short.field short.blob start is_word in_word blobs sized h.held.signed
 
     pub word_there : (bytes : List ℕ) → bytes ≡ get_or blobs short.blob [] → word_bit short.word start + word_width short.word short.field ≤ 8 * length bytes
     word_there bytes is =
         subst (λ (b : List ℕ). word_bit short.word start + word_width short.word short.field ≤ 8 * length b) (sym is)
-        (word_room short.word short.field short.blob start is_word in_word blobs are_laid h.held.signed)
+        (word_room short.word short.field short.blob start is_word in_word blobs sized h.held.signed)
 
     -- what its bits say is the entry
     pub word_read : (bytes : List ℕ) (value : ℤ) → bytes ≡ get_or blobs short.blob []
         → value ≡ decoded (word_signed short.word short.field) (word_width short.word short.field)
         (number (λ k. bit_of bytes (word_place short.word start k)) (word_width short.word short.field)) → value ≡ entry (table_in layout rows holds blobs) row leaf
-    word_read = word_entry short.word short.field short.blob start is_word in_word blobs are_laid h.held.signed
+    word_read = word_entry short.word short.field short.blob start is_word in_word blobs sized h.held.signed
 
     -- what the hold of the leaf holds, so many bits hold
     pub word_holds : (value passed : ℤ) → passed ≡ value → IsIn (hold_at holds leaf).signed (hold_at holds leaf).width value
         → IsIn (word_signed short.word short.field) (word_width short.word short.field) passed
     word_holds value passed same held =
         subst (λ (v : ℤ). IsIn (word_signed short.word short.field) (word_width short.word short.field) v) (sym same)
-        (word_held short.word short.field short.blob start is_word in_word blobs are_laid h.held.signed value held)
+        (word_held short.word short.field short.blob start is_word in_word blobs sized h.held.signed value held)
 
     -- where its bits are those of a value, the entry is this value, and nothing else changed
     module _ (value passed : ℤ) (old new : List ℕ) (held : IsIn (hold_at holds leaf).signed (hold_at holds leaf).width value) (same : passed ≡ value)
@@ -95,10 +95,10 @@ module _ {layout : List (List Owner)} {rows : ℕ} (holds : List Hold) (row leaf
       inside_value k l = inside k l ∙ ap (λ (v : ℤ). bit_at (number (digit v) (word_width short.word short.field)) k) same
 
       pub word_put : table_in layout rows holds (set blobs short.blob new) ≡ with_entry (table_in layout rows holds blobs) row leaf value
-      word_put = word_table short.word short.field short.blob start is_word in_word blobs are_laid h.held.signed value old new held is inside_value before after len
+      word_put = word_table short.word short.field short.blob start is_word in_word blobs sized h.held.signed value old new held is inside_value before after len
 
-      pub word_lies : AreLaid layout (set blobs short.blob new)
-      word_lies = word_laid short.word short.field short.blob start is_word in_word blobs are_laid h.held.signed value old new held is inside_value before after len
+      pub word_lies : AreLaid layout blobs → AreLaid layout (set blobs short.blob new)
+      word_lies = word_laid short.word short.field short.blob start is_word in_word blobs sized h.held.signed value old new held is inside_value before after len
 
   -- it is bytes that stand each by itself
   module _ (scattered : short.word ≡ stored.Scattered) where
@@ -141,7 +141,7 @@ module _ {layout : List (List Owner)} {rows : ℕ} (holds : List Hold) (row leaf
       pub bytes_put : table_in layout rows holds new ≡ with_entry (table_in layout rows holds blobs) row leaf value
       bytes_put = written_table in_bytes blobs new value (number (digit passed) short.field.width) code held all_written.inside all_written.outside
 
-      pub bytes_lie : AreLaid layout new
-      bytes_lie =
+      pub bytes_lie : AreLaid layout blobs → AreLaid layout new
+      bytes_lie are_laid =
           still_laid layout blobs new are_laid written.lengths
           (written_padding in_bytes blobs new value (number (digit passed) short.field.width) code held all_written.inside all_written.outside)

@@ -4,7 +4,6 @@ pub mod StoreLaws
 pub mod ZeroBlobs
 pub mod AccessLaws
 pub mod WideLaws
-pub mod NearLaws
 pub mod Counted
 pub mod TouchLaws
 pub mod RowLaws
@@ -13,8 +12,8 @@ pub mod StoredLaws
 pub mod AllLaws
 pub mod MoveLaws
 pub mod RunMoveLaws
-pub mod NearStoreLaws
-pub mod NearColumnLaws
+pub mod KeptColumns
+pub mod ShownLaws
 pub mod PieceLaws
 pub mod SlotMoveLaws
 pub mod EachLaws

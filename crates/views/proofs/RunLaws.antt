@@ -15,7 +15,7 @@ use Rattle.places.specs.Laws.{IsLaidOut}
 use Rattle.places.specs.declared.piece.Hold.{Hold}
 use Rattle.blobs.specs.Bits.{bit_of}
 use Rattle.piece_rules.specs.declared.rule.PieceRule.{PieceRule}
-use Rattle.piece_bits.specs.Tables.{AreLaid, hold_at, table_in, with_entry}
+use Rattle.piece_bits.specs.Tables.{AreSized, AreLaid, hold_at, table_in, with_entry}
 use Rattle.piece_bits.specs.Words.{word_place, word_width}
 use Rattle.short_rules.specs.Shorts.{start_in, IsShortIn}
 use Rattle.short_rules.specs.Stretches.{stretch_place, IsStretch}
@@ -64,29 +64,29 @@ module _ {layout : List (List Owner)} {slots : ℕ} (holds : List Hold) (leaf ro
   place : (k : ℕ) → k < stretch.rows → stretch_place stretch k ≡ start_in short (row + k)
   place k inside = sym (lies.place k inside)
 
-  module _ (blobs : List (List ℕ)) (are_laid : AreLaid layout blobs) where
+  module _ (blobs : List (List ℕ)) (sized : AreSized layout blobs) where
     pub stretch_blob : short.blob < length blobs
-    stretch_blob = blob_there holds (row + 0) leaf laid paired (row_in 0 lies.some) leaf_in form (stretch_place stretch 0) (place 0 lies.some) blobs are_laid lies.alone
+    stretch_blob = blob_there holds (row + 0) leaf laid paired (row_in 0 lies.some) leaf_in form (stretch_place stretch 0) (place 0 lies.some) blobs sized lies.alone
 
     pub has_room : (bytes : List ℕ) → bytes ≡ get_or blobs short.blob [] → HasRoom short stretch (length bytes)
     has_room bytes is = record {
-      form = is_word holds (row + 0) leaf laid paired (row_in 0 lies.some) leaf_in form (stretch_place stretch 0) (place 0 lies.some) blobs are_laid lies.alone;
+      form = is_word holds (row + 0) leaf laid paired (row_in 0 lies.some) leaf_in form (stretch_place stretch 0) (place 0 lies.some) blobs sized lies.alone;
       digits = lies.digits;
       places = λ k inside. stretch_fits short row most stretch lies k inside (λ j below. form.starts (row + j) (omega (arith, below, rows_in)));
       room = λ k inside.
-          word_there holds (row + k) leaf laid paired (row_in k inside) leaf_in form (stretch_place stretch k) (place k inside) blobs are_laid lies.alone bytes is;
+          word_there holds (row + k) leaf laid paired (row_in k inside) leaf_in form (stretch_place stretch k) (place k inside) blobs sized lies.alone bytes is;
     }
 
     -- what stands there are the entries
     pub stretch_read : (bytes : List ℕ) → bytes ≡ get_or blobs short.blob [] → (k there : ℕ) → k < stretch.rows → row + k ≡ there
         → stretched_at short stretch bytes k ≡ entry (table_in layout slots holds blobs) there leaf
     stretch_read bytes is k there inside at =
-        word_read holds (row + k) leaf laid paired (row_in k inside) leaf_in form (stretch_place stretch k) (place k inside) blobs are_laid lies.alone bytes
+        word_read holds (row + k) leaf laid paired (row_in k inside) leaf_in form (stretch_place stretch k) (place k inside) blobs sized lies.alone bytes
         (stretched_at short stretch bytes k) is refl
         ∙ ap (λ (n : ℕ). entry (table_in layout slots holds blobs) n leaf) at
 
     -- numbers that are put there make a column
-    module _ (kind : LeafType) (lows : List ℤ) (at : ℕ) (old : List ℕ) (from : old ≡ get_or blobs short.blob []) (long : at + stretch.rows ≤ length lows)
+    module _ (are_laid : AreLaid layout blobs) (kind : LeafType) (lows : List ℤ) (at : ℕ) (old : List ℕ) (from : old ≡ get_or blobs short.blob []) (long : at + stretch.rows ≤ length lows)
         (held : (k : ℕ) → k < length lows → IsIn (hold_at holds leaf).signed (hold_at holds leaf).width (raised kind (get_or lows k (pos 0)))) where
       abbrev numbers : List ℤ
       numbers = drop at (map (raised kind) lows)
@@ -120,16 +120,16 @@ module _ {layout : List (List Owner)} {slots : ℕ} (holds : List Hold) (leaf ro
           let width : ℕ = word_width short.word short.field in
           let narrow : width ≤ 64 =
           word_narrow short.word short.field
-          (is_word holds (row + 0) leaf laid paired (row_in 0 lies.some) leaf_in form (stretch_place stretch 0) (place 0 lies.some) blobs are_laid lies.alone) in
+          (is_word holds (row + 0) leaf laid paired (row_in 0 lies.some) leaf_in form (stretch_place stretch 0) (place 0 lies.some) blobs sized lies.alone) in
           let code : number (digit low) width ≡ number (digit value) width = code_raised kind low width narrow put.2.fits in
           let written : (j : ℕ) → j < width → bit_of new (word_place short.word (stretch_place stretch k) j) ≡ bit_at (number (digit value) width) j =
           λ j below. put.2.inside j below ∙ ap (λ (n : ℕ). bit_at n j) code in
           let size : length table ≡ slots = length-map (range_with_len 0 slots) _ ∙ length-range_with_len 0 slots in (
             subst (λ (b : List (List ℕ)). AreLaid layout b) twice
-                (word_lies holds (row + k) leaf laid paired (row_in k inside) leaf_in form (stretch_place stretch k) (place k inside) so_far before.0 lies.alone value value between new
-                (held (at + k) there) refl here written put.2.before put.2.after put.2.len),
+                (word_lies holds (row + k) leaf laid paired (row_in k inside) leaf_in form (stretch_place stretch k) (place k inside) so_far before.0.sized lies.alone value value between new
+                (held (at + k) there) refl here written put.2.before put.2.after put.2.len before.0),
             ap (table_in layout slots holds) (sym twice)
-                ∙ word_put holds (row + k) leaf laid paired (row_in k inside) leaf_in form (stretch_place stretch k) (place k inside) so_far before.0 lies.alone value value between new
+                ∙ word_put holds (row + k) leaf laid paired (row_in k inside) leaf_in form (stretch_place stretch k) (place k inside) so_far before.0.sized lies.alone value value between new
                 (held (at + k) there) refl here written put.2.before put.2.after put.2.len
                 ∙ ap (λ (t : List (List ℤ)). with_entry t (row + k) leaf value) before.1
                 ∙ ap (with_entry (with_column leaf row (take k numbers) table) (row + k) leaf) (number_is k inside)
@@ -172,15 +172,6 @@ run_read leaf first rows old values long inside each =
     get_or_default values k d (pos 0) here ∙ each k below
     ∙ sym (get_or-map low_64 run k (pos 0) d (omega (arith, below, many))
     ∙ ap low_64 (get_or-take (length old) (drop first (column leaf rows)) k (pos 0) below ∙ get_or-drop first (column leaf rows) k (pos 0) ∙ get_or-map (in_leaf leaf) rows (first + k) [] (pos 0) there)))
-
--- a value of a run is that of its row
-pub run_entry : (leaf first count k : ℕ) (rows : List (List ℤ)) → k < count → first + count ≤ length rows → get_or (take count (drop first (column leaf rows))) k (pos 0) ≡ entry rows (first + k) leaf
-run_entry leaf first count k rows below inside =
-    get_or-take count (drop first (column leaf rows)) k (pos 0) below ∙ get_or-drop first (column leaf rows) k (pos 0)
-    ∙ get_or-map (in_leaf leaf) rows (first + k) [] (pos 0) (omega (arith, below, inside))
-
-pub run_length : (leaf first count : ℕ) (rows : List (List ℤ)) → first + count ≤ length rows → length (take count (drop first (column leaf rows))) ≡ count
-run_length leaf first count rows inside = omega (arith, length-take count (drop first (column leaf rows)), length-drop first (column leaf rows), length-map rows (in_leaf leaf), inside)
 
 -- ---- a leaf that holds its type
 

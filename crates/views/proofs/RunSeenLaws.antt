@@ -23,16 +23,15 @@ use Rattle.leaf_runs.specs.Lows.{low_64}
 use Rattle.views.specs.Columns.{column_writes, with_column}
 use Rattle.views.specs.Kept.{IsKept, IsMappingOf, IsTallied, raw_under}
 use Rattle.views.specs.Runs.{raised, run_of, TakesAll}
-use Rattle.views.specs.RunsLaws.{raised_low, raised_all}
+use Rattle.views.specs.RunsLaws.{raised_low, raised_all, run_entry, run_length}
 use Rattle.views.specs.Stores.{Fits, kind_at}
 use Rattle.views.specs.Tables.{Table, IsTable, leaf_count_of, leaf_type_of, table_holds, kept_of, after_log, after_stores}
 use Rattle.views.specs.Tallies.{Tally, tallied}
 use Rattle.views.specs.TallyLaws.{after_log-none}
 use Rattle.views.proofs.KeptLaws.{kind_count}
-use Rattle.views.proofs.NearColumnLaws.{shown_here}
-use Rattle.views.proofs.NearStoreLaws.{kept_column, table_column, seen_column}
+use Rattle.views.proofs.ShownLaws.{shown_here}
+use Rattle.views.proofs.KeptColumns.{kept_column, table_column, seen_column}
 use Rattle.views.proofs.Opened.{seen_from, leaf_seen, some_seen, raw_same, laid_there, idle_seen}
-use Rattle.views.proofs.RunLaws.{run_entry, run_length}
 use Rattle.views.proofs.StoreLaws.{fit_kept, map_same}
 
 -- what holds of each value of a run holds of the first so many

@@ -12,14 +12,23 @@ use Rattle.piece_bits.specs.Words.{word_place, word_signed, word_width}
 use Rattle.piece_bits.specs.declared.field.Field.{Field}
 use Rattle.piece_bits.specs.declared.word.Word.{Word}
 use Rattle.piece_bits.specs.declared.word.Word.TheVariants as stored
-use Rattle.short_rules.specs.Walks.{leads}
+use Rattle.short_rules.specs.Walks.{leads, walks_plain, walks_in_blocks}
 use Rattle.short_rules.specs.Wides.{is_turned_width, IsAsWhole, IsAsTurned, IsWide}
 use Rattle.short_rules.specs.declared.short.ShortRule.{ShortRule}
+use Rattle.short_rules.specs.declared.walk.Walk.{Walk}
+use Rattle.short_rules.specs.declared.walk.Walk.TheVariants as walk
 use Rattle.short_rules.specs.declared.wide.Wide.{Wide}
-pub use Rattle.near_leaves.proofs.Spreads.{plain_leads, blocks_lead}
-use Rattle.views.specs.WideColumns.{IsWideRow, rows_by}
-use Rattle.views.specs.declared.wide.WideWay.{WideWay}
-use Rattle.views.specs.declared.wide.WideWay.TheVariants as way
+
+-- rows that go in one array, or in blocks, have places
+pub plain_leads : (way : Walk) → walks_plain way ≡ true → leads way ≡ true
+plain_leads walk.Plain e = refl
+plain_leads walk.None e = e
+plain_leads _ e = refl
+
+pub blocks_lead : (way : Walk) → walks_in_blocks way ≡ true → leads way ≡ true
+blocks_lead walk.Blocks e = refl
+blocks_lead walk.None e = e
+blocks_lead _ e = refl
 
 -- the bytes of a blob, where those outside of the list have none
 pub bytes_laid : (layout : List (List Owner)) (blobs : List (List ℕ)) (blob : ℕ) → AreLaid layout blobs → 8 * length (get_or blobs blob []) ≡ length (get_or layout blob [])
@@ -93,24 +102,3 @@ turned_is n e =
   where
     same : (n m : ℕ) → nat_eq n m ≡ true → n ≡ m
     same n m e = grind arith
-
--- ---- a row that is read in a way
-
--- those that a short form counts are read so
-pub row_wide : (w : WideWay) {short : ShortRule} {bytes : ℕ} {wide : Wide} → IsWide short bytes wide → (row : ℕ) → row < rows_by w wide → IsWideRow w short bytes row
-row_wide way.Whole is row low = is.whole row low
-row_wide way.Blocks is row low = is.blocks row low
-row_wide way.Turned is row low = is.turned row low
-row_wide way.Field is row low = is.field row low
-
-pub row_leads : (w : WideWay) (short : ShortRule) (bytes row : ℕ) → IsWideRow w short bytes row → leads short.walk ≡ true
-row_leads way.Whole short bytes row is = plain_leads short.walk is.walk
-row_leads way.Blocks short bytes row is = blocks_lead short.walk is.walk
-row_leads way.Turned short bytes row is = plain_leads short.walk is.walk
-row_leads way.Field short bytes row is = plain_leads short.walk is.walk
-
-pub row_alone : (w : WideWay) (short : ShortRule) (bytes row : ℕ) → IsWideRow w short bytes row → short.word ≡ stored.Scattered → ⊥
-row_alone way.Whole short bytes row is = is.word.alone
-row_alone way.Blocks short bytes row is = is.word.alone
-row_alone way.Turned short bytes row is = is.word.alone
-row_alone way.Field short bytes row is = field_alone short.word is.word

@@ -1,5 +1,7 @@
 -- Rows in which a leaf has other values, one after another.
-use Rattle.std.proofs.Common.{◌≡◌, ℕ, zero, suc, ◌+◌, ◌<◌, List, [], ◌∷◌, length, take, set, get_or, ℤ, pos, refl, sym, ap, arith}
+use Rattle.std.proofs.Common.{◌≡◌, ℕ, zero, suc, ◌+◌, ◌<◌, ◌≤◌, List, [], ◌∷◌, length, take, set, get_or, ℤ, pos, refl, sym, ap, arith}
+use Rattle.std.proofs.lemmas.List.{get_or-set_same, get_or-set_other}
+use Rattle.places.specs.Image.{entry}
 use Rattle.piece_bits.specs.Tables.{with_entry}
 use Rattle.views.specs.Columns.{with_column}
 
@@ -28,3 +30,27 @@ entry_more leaf zero (suc lane) (suc at) (value ∷ values) (numbers ∷ rows) i
 entry_more leaf (suc row) lane zero (value ∷ values) (numbers ∷ rows) inside place below = absurd (omega arith)
 entry_more leaf (suc row) lane (suc at) (value ∷ values) (numbers ∷ rows) inside place below =
     ap (λ (more : List (List ℤ)). numbers ∷ more) (entry_more leaf row lane at (value ∷ values) rows inside (omega arith) (omega arith))
+
+-- an entry of the leaf, and one that stands
+pub column_there : (leaf first k row : ℕ) (values : List ℤ) (rows : List (List ℤ)) → row ≡ first + k → k < length values → row < length rows → leaf < length (get_or rows row [])
+    → entry (with_column leaf first values rows) row leaf ≡ get_or values k (pos 0)
+column_there leaf first k row values [] at below inside wide = absurd (omega (arith, inside))
+column_there leaf first k row [] (numbers ∷ rows) at below inside wide = absurd (omega (arith, below))
+column_there leaf zero zero zero (value ∷ values) (numbers ∷ rows) at below inside wide = get_or-set_same numbers leaf value (pos 0) wide
+column_there leaf zero zero (suc row) (value ∷ values) (numbers ∷ rows) at below inside wide = absurd (omega (arith, at))
+column_there leaf zero (suc k) zero (value ∷ values) (numbers ∷ rows) at below inside wide = absurd (omega (arith, at))
+column_there leaf zero (suc k) (suc row) (value ∷ values) (numbers ∷ rows) at below inside wide =
+    column_there leaf zero k row values rows (omega (arith, at)) (omega (arith, below)) (omega (arith, inside)) wide
+column_there leaf (suc first) k zero (value ∷ values) (numbers ∷ rows) at below inside wide = absurd (omega (arith, at))
+column_there leaf (suc first) k (suc row) (value ∷ values) (numbers ∷ rows) at below inside wide =
+    column_there leaf first k row (value ∷ values) rows (omega (arith, at)) below (omega (arith, inside)) wide
+
+pub column_stands : (leaf first row other : ℕ) (values : List ℤ) (rows : List (List ℤ)) → (other ≡ leaf → first ≤ row → ⊥)
+    → entry (with_column leaf first values rows) row other ≡ entry rows row other
+column_stands leaf (suc first) row other values [] apart = refl
+column_stands leaf (suc first) zero other values (numbers ∷ rows) apart = refl
+column_stands leaf (suc first) (suc row) other values (numbers ∷ rows) apart = column_stands leaf first row other values rows (λ same low. apart same (omega (arith, low)))
+column_stands leaf zero row other [] rows apart = refl
+column_stands leaf zero row other (value ∷ values) [] apart = refl
+column_stands leaf zero zero other (value ∷ values) (numbers ∷ rows) apart = get_or-set_other numbers leaf other value (pos 0) (λ same. apart same (omega arith))
+column_stands leaf zero (suc row) other (value ∷ values) (numbers ∷ rows) apart = column_stands leaf zero row other values rows (λ same low. apart same (omega arith))

@@ -15,9 +15,6 @@ pub mod ColumnsLaws
 pub mod Moves
 pub mod MovesLaws
 pub mod UncountedLaws
-pub mod NearStores
-pub mod NearStoresLaws
-pub mod WideColumns
 pub mod Pieces
 pub mod SpanLaws
 pub mod CutLaws

@@ -1,14 +1,16 @@
 -- Many rows of one leaf at once.
-use Rattle.std.specs.Prelude.{ℕ, ℤ, pos, List, map, take, drop, nat_le, Option, Some, None, Result, Ok, Err, if◌then◌else◌}
+use Rattle.std.specs.Prelude.{ℕ, ◌+◌, ◌≡◌, ◌<◌, ◌≤◌, ℤ, pos, List, map, take, drop, nat_le, Option, Some, None, Result, Ok, Err, if◌then◌else◌}
 use Rattle.std.specs.Int.{cast_unsigned, div_ceil}
 use mir.Syntax.{w64}
 use Rattle.record_dim.specs.LeafTypes.{width_of, IsDeclared}
 use Rattle.record_dim.specs.declared.leaf_type.LeafType.{LeafType}
 use Rattle.record_dim.specs.declared.leaf_type.LeafType.TheVariants.{U64}
 use Rattle.piece_bits.specs.Tables.{hold_at}
+use Rattle.places.specs.Image.{entry}
 use Rattle.views.specs.Columns.{column, column_writes, with_column, first_lane_fault}
 use Rattle.views.specs.Stores.{Fits}
-use Rattle.views.specs.Tables.{Table, leaf_type_of, table_holds, after_stores, answer_of, kept_of}
+use Rattle.views.specs.Tables.{Table, leaf_type_of, table_holds, after_log, after_stores, answer_of, kept_of}
+use Rattle.views.specs.Tallies.{Access}
 use Rattle.views.specs.declared.fault.LaneFault.{LaneFault}
 
 -- the values of a leaf in so many rows from one on
@@ -50,3 +52,12 @@ raised _ low = low
 -- a leaf takes each value of its type as it is
 abbrev pub TakesAll : Table → ℕ → Type 0
 TakesAll table leaf = (value : ℤ) → IsDeclared (leaf_type_of table leaf) value → Fits (leaf_type_of table leaf) (hold_at (table_holds table) leaf) value
+
+-- no access to a table is counted
+abbrev pub CountsNothing : Table → Type 0
+CountsNothing table = (log : List Access) → after_log table log ≡ table
+
+-- in so many rows from one on the entries of the first so many leaves are those of another table, and the rows before them stand
+pub record AreRowsMoved (done first count : ℕ) (source old new : List (List ℤ)) : Type 0 where
+  pub moved : (row leaf : ℕ) → first ≤ row → row < first + count → leaf < done → entry new row leaf ≡ entry source row leaf
+  pub stands : (row leaf : ℕ) → row < first → entry new row leaf ≡ entry old row leaf

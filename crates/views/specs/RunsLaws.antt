@@ -1,12 +1,23 @@
--- Values of a leaf and their low bits.
-use Rattle.std.proofs.Common.{◌≡◌, ℕ, ◌^◌, ◌<◌, ℤ, pos, negsuc, neg_ℤ, ◌≤ℤ◌, ◌<ℤ◌, List, [], ◌∷◌, length, map, get_or, zero, suc, FitsSigned, w64, refl, ap, ◌∙◌, arith}
+-- Values of a leaf and their low bits, and runs of rows.
+use Rattle.std.proofs.Common.{◌≡◌, ⊎_elim, Bool, true, false, if◌then◌else◌, ℕ, ◌+◌, ◌-◌, ◌^◌, ◌<◌, ◌≤◌, ℤ, pos, negsuc, neg_ℤ, ◌≤ℤ◌, ◌<ℤ◌, List, [], ◌∷◌, length, map, take, drop, get_or, zero, suc, FitsSigned, w64, refl, sym, ap, ◌∙◌, subst, arith}
+use Rattle.std.specs.Int.{div_ceil}
+use Rattle.std.specs.Prelude.{nat_le}
+use Rattle.std.proofs.lemmas.Bool.{cases_lt}
+use Rattle.std.proofs.lemmas.Grind.{div_ceil_times}
 use Rattle.std.proofs.lemmas.Int.{ints, of_z-to_z}
-use Rattle.record_dim.specs.LeafTypes.{IsDeclared}
+use Rattle.std.proofs.lemmas.List.{length-map, length-take, length-drop, get_or-map, get_or-take, get_or-drop}
+use Rattle.record_dim.specs.LeafTypes.{width_of, IsDeclared}
 use Rattle.record_dim.specs.declared.leaf_type.LeafType.{LeafType}
 use Rattle.record_dim.specs.declared.leaf_type.LeafType.TheVariants as kinds
 use Rattle.leaf_runs.specs.Lows.{low_64, IsWithin64}
 use Rattle.leaf_runs.specs.LowsLaws.{low_same}
-use Rattle.views.specs.Runs.{raised}
+use Rattle.places.specs.Image.{entry}
+use Rattle.views.specs.Columns.{in_leaf, column, with_column}
+use Rattle.views.specs.ColumnsLaws.{column_there, column_stands}
+use Rattle.views.specs.MovesLaws.{with_rows}
+use Rattle.views.specs.Runs.{raised, run_steps, AreRowsMoved, CountsNothing}
+use Rattle.views.specs.Tables.{Table, after_stores}
+use Rattle.views.specs.Tallies.{Access}
 
 -- a value of any leaf has 64 bits
 pub declared_within : (kind : LeafType) (value : ℤ) → IsDeclared kind value → IsWithin64 value
@@ -68,3 +79,69 @@ raised_all kind [] each = refl
 raised_all kind (value ∷ values) each =
     ap (λ (v : ℤ). v ∷ map (raised kind) (map low_64 values)) (raised_low kind value (each zero (omega arith)))
     ∙ ap (λ (rest : List ℤ). value ∷ rest) (raised_all kind values (λ k l. each (suc k) (omega (arith, l))))
+
+-- ---- the values of a leaf in a run of rows
+
+-- a value of a run is that of its row
+pub run_entry : (leaf first count k : ℕ) (rows : List (List ℤ)) → k < count → first + count ≤ length rows → get_or (take count (drop first (column leaf rows))) k (pos 0) ≡ entry rows (first + k) leaf
+run_entry leaf first count k rows below inside =
+    get_or-take count (drop first (column leaf rows)) k (pos 0) below ∙ get_or-drop first (column leaf rows) k (pos 0)
+    ∙ get_or-map (in_leaf leaf) rows (first + k) [] (pos 0) (omega (arith, below, inside))
+
+pub run_length : (leaf first count : ℕ) (rows : List (List ℤ)) → first + count ≤ length rows → length (take count (drop first (column leaf rows))) ≡ count
+run_length leaf first count rows inside = omega (arith, length-take count (drop first (column leaf rows)), length-drop first (column leaf rows), length-map rows (in_leaf leaf), inside)
+
+-- the steps of a run are no more than its rows
+pub steps_few : (kind : LeafType) (rows : ℕ) → run_steps kind rows ≤ rows
+steps_few kind rows = few (nat_le (width_of kind) 32) where
+  few : (narrow : Bool) → div_ceil rows (if narrow then 16 else 8) ≤ rows
+  few true = omega (arith, (div_ceil_times rows 16 (omega arith)).1)
+  few false = omega (arith, (div_ceil_times rows 8 (omega arith)).1)
+
+-- ---- a run of rows, leaf after leaf
+
+pub no_leaf_moved : (first count : ℕ) (source old : List (List ℤ)) → AreRowsMoved 0 first count source old old
+no_leaf_moved first count source old = record { moved = λ row leaf low high few. absurd (omega (arith, few)); stands = λ row leaf below. refl }
+
+-- a leaf more
+pub leaf_moved : (leaf first count : ℕ) (source old now : List (List ℤ)) → first + count ≤ length now → first + count ≤ length source
+    → ((row : ℕ) → row < length now → leaf < length (get_or now row [])) → AreRowsMoved leaf first count source old now
+    → AreRowsMoved (leaf + 1) first count source old (with_column leaf first (take count (drop first (column leaf source))) now)
+leaf_moved leaf first count source old now inside from wide so_far =
+    let values : List ℤ = take count (drop first (column leaf source)) in
+    record {
+      moved = λ row other low high few.
+          ⊎_elim (λ (less : other < leaf).
+          column_stands leaf first row other values now (λ same l. let none : ⊥ = absurd (omega (arith, same, less)) in none) ∙ so_far.moved row other low high less)
+          (λ (more : leaf ≤ other).
+          let same : other ≡ leaf = omega (arith, few, more) in
+          let k : ℕ = row - first in
+          let at : first + k ≡ row = omega (arith, low) in
+          let below : k < count = omega (arith, at, high) in
+          let there : row < length now = omega (arith, high, inside) in
+          ap (entry (with_column leaf first values now) row) same
+          ∙ column_there leaf first k row values now (sym at) (omega (arith, below, run_length leaf first count source from)) there (wide row there)
+          ∙ run_entry leaf first count k source below from ∙ ap (λ (n : ℕ). entry source n leaf) at ∙ ap (entry source row) (sym same))
+          (cases_lt other leaf);
+      stands = λ row other below.
+          column_stands leaf first row other values now (λ same low. let none : ⊥ = absurd (omega (arith, below, low)) in none) ∙ so_far.stands row other below;
+    }
+
+-- ---- run after run
+
+-- the rows before one are those of another table
+abbrev pub AreBefore : ℕ → ℕ → List (List ℤ) → List (List ℤ) → Type 0
+AreBefore leaves first source new = (row leaf : ℕ) → row < first → leaf < leaves → entry new row leaf ≡ entry source row leaf
+
+pub run_more : (leaves first count : ℕ) (source now new : List (List ℤ)) → AreBefore leaves first source now → AreRowsMoved leaves first count source now new
+    → AreBefore leaves (first + count) source new
+run_more leaves first count source now new so_far run row leaf below leaf_in =
+    ⊎_elim (λ (less : row < first). run.stands row leaf less ∙ so_far row leaf less leaf_in) (λ (more : first ≤ row). run.moved row leaf more below leaf_in) (cases_lt row first)
+
+-- ---- a table that counts nothing
+
+pub stores_quiet : (old now : Table) (rows : List (List ℤ)) (log : List Access) → CountsNothing old → now ≡ with_rows old now.rows → after_stores now rows log ≡ with_rows old rows
+stores_quiet old now rows log nothing same = ap (λ (t : Table). after_stores t rows log) same ∙ ap (λ (t : Table). with_rows t rows) (nothing log)
+
+pub nothing_after : (old now : Table) → CountsNothing old → now ≡ with_rows old now.rows → CountsNothing now
+nothing_after old now nothing same = subst CountsNothing (sym same) (λ log. ap (λ (t : Table). with_rows t now.rows) (nothing log))

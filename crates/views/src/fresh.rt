@@ -9,7 +9,7 @@ ghost use Rattle.views.specs.Tallies.{blob_lengths, granules_for};
 
 use crate::view::BlobList;
 use blobs::Blob;
-use instrument::{Counts, Heat, HeatFault};
+use instrument::{Counts, Heat, HeatFault, are_few};
 use map_any::MapExpr;
 use places::Mapping;
 use std::alloc::{AllocError as NoMemory, Global};
@@ -69,6 +69,24 @@ pub fn new_heat<M: Mapping>(
             Ok(Some(Heat::new(alloc, granule, lengths.as_slice())?))
         }
         None => Ok(None),
+    }
+}
+
+/// Whether a mapping's blobs have at most 2^24 granules, where the expression counts accesses by granule.
+pub fn has_few_granules<M: Mapping>(
+    alloc: Global,
+    mapping: &M,
+    expr: &MapExpr,
+) -> Result<bool, NoMemory>
+    requires { bad_number (term_of expr.now) ≡ None }
+    ensures few { IfOk result (λ few. few ≡ nat_le (granules_for (term_of expr.now) (M.layout mapping.now)) (2 ^ 24)) }
+{
+    match granule_of(expr) {
+        Some(granule) => {
+            let lengths = blob_lengths(alloc, mapping)?;
+            Ok(are_few(granule, lengths.as_slice()))
+        }
+        None => Ok(true),
     }
 }
 

@@ -4,7 +4,7 @@ ghost use Rattle.record_dim.specs.LeafTypes.{IsDeclared, IsIn};
 ghost use Rattle.places.specs.Image.{entry};
 ghost use Rattle.map_any.specs.Counters.{is_counted};
 ghost use Rattle.map_any.specs.Maps.{term_of_map};
-ghost use Rattle.piece_bits.specs.Tables.{AreLaid, hold_at, table_in};
+ghost use Rattle.piece_bits.specs.Tables.{AreSized, AreLaid, hold_at, table_in};
 ghost use Rattle.leaf_runs.specs.Lows.{low_64};
 ghost use Rattle.views.specs.Columns.{with_column};
 ghost use Rattle.views.specs.Kept.{HasSign};
@@ -18,8 +18,8 @@ use map_any::AnyMap;
 use places::{Mapping, laws_of};
 use record_dim::LeafType;
 
-/// Reads the values of a leaf in as many rows as there is room for, from one on, each as 64 bits with a sign, where its rows lie in stretches,
-/// and says whether it did. A mapping that counts has none.
+/// Reads the raw numbers that blobs hold of a leaf in as many rows as there is room for, from one on, each by its low 64 bits, read with a
+/// sign, where the rows lie in stretches, and says whether it did. The padding of the blobs may be anything. A mapping that counts has none.
 pub fn read_rows(
     mapping: &AnyMap,
     blobs: &[Blob],
@@ -29,7 +29,7 @@ pub fn read_rows(
 ) -> bool
     requires leaf_in { leaf < length (⟦<AnyMap as Mapping>⟧.cell_list mapping.now) }
     requires rows_in { first + length values.old ≤ ⟦<AnyMap as Mapping>⟧.slot_count mapping.now }
-    requires laid { AreLaid (⟦<AnyMap as Mapping>⟧.layout mapping.now) blobs.now }
+    requires sized { AreSized (⟦<AnyMap as Mapping>⟧.layout mapping.now) blobs.now }
     ensures count { length values.new ≡ length values.old }
     ensures values { result ≡ true → (k : ℕ) → k < length values.old → slice_index_or values.new k (pos 0) ≡ low_64 (entry (table_in (⟦<AnyMap as Mapping>⟧.layout mapping.now)
         (⟦<AnyMap as Mapping>⟧.slot_count mapping.now) (⟦<AnyMap as Mapping>⟧.hold_list mapping.now) blobs.now) (first + k) leaf) }

@@ -13,7 +13,7 @@ files    other files, as a dict from names to bytes
 make     a shell script that makes big files in the folder of the case
 by_hand  what is printed stands in due alone, since the model would take too long
 words    the words of the program, where they are not those that run the script
-into     what takes the output in place of a pipe, as /dev/full: the run ends with 4, and nothing is taken of what is due
+into     what takes the output in place of a file, as /dev/full: the run ends with 4, and nothing is taken of what is due
 room     how many KiB of the output are taken: the run ends with 4, and so much is taken of what is due
 memory   how many KiB of memory the program has: the run ends with 5, and nothing is due
 """

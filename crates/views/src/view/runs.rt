@@ -80,6 +80,27 @@ impl View {
         self.store_each(leaf, first, values)
     }
 
+    /// Makes the values of a leaf in as many rows, from one on, those of which these are the low 64 bits, read with a sign, each of which it
+    /// takes. It takes as many steps as `read_run`.
+    pub fn put_run<L: Ledger>(
+        &mut self,
+        leaf: usize,
+        first: u64,
+        lows: &[i64],
+        steps: &mut Steps<L>,
+    )
+        requires leaf_in { leaf < leaf_count_of self.old }
+        requires rows_in { first + length lows.now ≤ length self.old.rows }
+        requires fits { (k : ℕ) → k < length lows.now → Fits (leaf_type_of self.old leaf) (hold_at (table_holds self.old) leaf)
+            (raised (leaf_type_of self.old leaf) (slice_index_or lows.now k (pos 0))) }
+        ensures stored { self.new ≡ after_stores self.old (with_column leaf first (map (raised (leaf_type_of self.old leaf)) lows.now) self.old.rows)
+            (column_writes leaf first (length lows.now)) }
+        ensures steps { steps.new ≡ steps.old + run_steps (leaf_type_of self.old leaf) (length lows.now) }
+    {
+        self.count_run(leaf, lows.len(), steps);
+        self.put_lows(leaf, first, lows);
+    }
+
     /// Makes the values of a leaf in as many rows as the buffer has room for, from one on, those of another view of the same type, each of
     /// which it takes. It takes the steps of a read and of a store. The buffer holds anything afterwards.
     pub fn copy_run<L: Ledger>(

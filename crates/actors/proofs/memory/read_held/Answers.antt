@@ -17,8 +17,8 @@ use Rattle.views.specs.Tables.{owners_of, leaf_types_of, table_holds, leaf_count
 use Rattle.actors.proofs.Laws.{leaf_count, raw_here, one_held, all_held}
 use Rattle.actors.proofs.memory.read_held.Goals as goal
 
-pub raw_entry-raw-requires-clause-cell_in : goal.raw_entry-raw-requires-clause-cell_in
-raw_entry-raw-requires-clause-cell_in c =
+pub read_entry-raw-requires-clause-cell_in : goal.read_entry-raw-requires-clause-cell_in
+read_entry-raw-requires-clause-cell_in c =
     omega (arith, ap (λ (cells : List Cell). length cells) c.map.ensures.cells, length-leaf_cells (leaf_types_of c.args.view.now), leaf_count c.args.view.now, c.loop-leaf.invariant.count, c.requires.values)
 
 pub loop-leaf-preserved : goal.loop-leaf-preserved
@@ -26,7 +26,7 @@ loop-leaf-preserved c =
     let table = c.args.view.now in
     let blobs = c.args.blobs.now in
     let leaf = c.loop-leaf.leaf in
-    let raw = c.raw_entry-raw.result in
+    let raw = c.read_entry-raw.result in
     let raw_fits : SFits w128 raw = search rules in
     let fits : SFits w128 c.declared.result = search rules in
     let raw_is = raw_here table _ _ _ blobs c.args.row leaf c.laws_of_view.ensures.lawful.is_table.rows c.map.ensures.layout c.map.ensures.slots c.map.ensures.holds in
@@ -34,7 +34,7 @@ loop-leaf-preserved c =
     let kind : kind_at (leaf_types_of table) leaf ≡ c.leaf_type.result =
     ap (λ (f : Fields). kind_at (kinds_of f) leaf) (sym c.schema.ensures.value) ∙ get_or_from_slice_get _ leaf c.leaf_type.result Truth c.leaf_type.ensures in
     let is : c.declared.result ≡ declared (kind_at (leaf_types_of table) leaf) there =
-    c.declared.ensures ∙ ap (λ (v : ℤ). declared c.leaf_type.result v) (to_z-of_z w128 raw raw_fits ∙ c.raw_entry-raw.ensures ∙ raw_is)
+    c.declared.ensures ∙ ap (λ (v : ℤ). declared c.leaf_type.result v) (to_z-of_z w128 raw raw_fits ∙ c.read_entry-raw.ensures ∙ raw_is)
     ∙ ap (λ (k : LeafType). declared k there) (sym kind) in
     let small : leaf < length c.loop-leaf.values = omega arith in
     let long : length c.loop-leaf.values ≡ leaf_count_of table = c.loop-leaf.invariant.count ∙ c.requires.values in

@@ -1,17 +1,19 @@
 use Rattle.std.proofs.Common.{rules, arith, ◌≡◌, ◌<◌, ◌+◌, ◌∙◌, [], ℕ, List, Err, length, map, get_or, subst, sym, ap}
 use Rattle.extents.specs.Indices.{indices}
 use Rattle.linearize.specs.Slots.{index_at}
-use Rattle.row_updates.specs.Logs.{row_log}
+use Rattle.row_updates.specs.Logs.{update_log}
 use Rattle.row_updates.specs.Rows.{filter_term, setting_of, updated_row}
 use Rattle.views.specs.Tables.{Table, answer_of, kept_of, after_log}
 use Rattle.actor_steps.specs.Jobs.{job_of}
-use Rattle.actors.specs.declared.fault.ActorFault.TheVariants.{Update}
+use Rattle.actors.specs.declared.fault.ActorFault.TheVariants.{Update, NoMemory}
 use Rattle.actors.specs.Rows.{IsPlanOf, ArePlans}
 use Rattle.actors.specs.Updates.{IsUpdatedRow}
 use Rattle.views.specs.Tallies.{reads_in}
 use Rattle.actors.proofs.Marks.{no_plans, one_plan}
-use Rattle.actors.proofs.Tried.{none_tried, one_tried, stop_tried}
+use Rattle.actors.proofs.Tried.{none_tried, one_read, one_tried, stop_tried}
+use Rattle.actors.proofs.plan.plan_rows.Given as given
 use Rattle.actors.proofs.plan.plan_rows.Goals as goal
+use Rattle.actors.proofs.plan.plan_rows.Goals.{After-plan_row}
 
 pub loop-row-init : goal.loop-row-init
 loop-row-init g c =
@@ -22,6 +24,19 @@ loop-row-init g c =
       plans = subst (ArePlans (job_of c.args.view.now filter sets) 0) (sym c.new-plans.ensures.items) (no_plans (job_of c.args.view.now filter sets));
     }
 
+-- the row that is tried is one of the view
+inside : (g : given.Over) (c : After-plan_row g) → c.loop-row.row < length c.args.view.now.rows
+inside g c =
+    let rows : length (indices c.extents.result) ≡ length c.args.view.now.rows = ap (λ (e : List ℕ). length (indices e)) c.extents.ensures.value ∙ sym c.extents.ensures.table.rows in
+    omega arith
+
+-- what was read up to and with it
+read : (g : given.Over) (c : After-plan_row g)
+    → c.plan_row.new.view ≡ after_log c.args.view.now (reads_in (update_log c.args.view.now (filter_term c.args.filter) (map setting_of c.args.sets.now) (c.loop-row.row + 1)))
+read g c =
+    one_read c.args.view.now (filter_term c.args.filter) (map setting_of c.args.sets.now) c.loop-row.view c.plan_row.new.view c.loop-row.row c.loop-row.invariant.tried
+    c.plan_row.ensures.read
+
 pub returns-in_err-plan_row-clause-refused : goal.returns-in_err-plan_row-clause-refused
 returns-in_err-plan_row-clause-refused g c =
     let view = c.args.view.now in
@@ -31,10 +46,21 @@ returns-in_err-plan_row-clause-refused g c =
     let tried = c.loop-row.invariant.tried in
     let fault = c.in_err-plan_row.field-0.0 in
     let is : c.from_residual.result ≡ Err (Update fault) = search rules in
-    let rows : length (indices c.extents.result) ≡ length view.rows = ap (λ (e : List ℕ). length (indices e)) c.extents.ensures.value ∙ sym c.extents.ensures.table.rows in
-    let small : row < length view.rows = omega arith in
+    let small = inside g ((goal.at.returns-in_err-plan_row-clause-refused g c).After-plan_row) in
     let stop = subst (λ (t : Table). updated_row (answer_of t) (kept_of t) filter sets row (get_or t.rows row []) (index_at t.extents row) ≡ Err fault) tried.read c.in_err-plan_row.ensures.refused in
     rw is (stop_tried view filter sets c.loop-row.view row (length view.rows) fault small tried stop)
+
+pub returns-in_err-plan_row-clause-so_far : goal.returns-in_err-plan_row-clause-so_far
+returns-in_err-plan_row-clause-so_far g c =
+    let is : c.from_residual.result ≡ Err (Update c.in_err-plan_row.field-0.0) = search rules in
+    rw (is, c.in_err-plan_row.ensures.named) (read g ((goal.at.returns-in_err-plan_row-clause-so_far g c).After-plan_row))
+
+pub returns-in_err-push-clause-so_far : goal.returns-in_err-push-clause-so_far
+returns-in_err-push-clause-so_far g c =
+    let here = (goal.at.returns-in_err-push-clause-so_far g c).After-plan_row in
+    let is : c.from_residual-in_err-push.result ≡ Err NoMemory = search rules in
+    let small = inside g here in
+    rw is (c.loop-row.row + 1, omega arith, read g here)
 
 pub loop-row-preserved : goal.loop-row-preserved
 loop-row-preserved g c =
@@ -47,9 +73,8 @@ loop-row-preserved g c =
     let tried = c.loop-row.invariant.tried in
     let plan = c.in_ok-plan_row.field-0 in
     let updated = subst (λ (t : Table). IsUpdatedRow (updated_row (answer_of t) (kept_of t) filter sets row (get_or t.rows row []) (index_at t.extents row))) tried.read c.in_ok-plan_row.ensures.updated in
-    let read = c.plan_row.ensures.read ∙ ap (λ (t : Table). after_log here (reads_in (row_log (answer_of t) filter sets row (get_or t.rows row []) (index_at t.extents row)))) tried.read in
     let planned = subst (λ (t : Table). IsPlanOf (job_of t filter sets) row plan) tried.read c.in_ok-plan_row.ensures.planned in
     record {
-      tried = one_tried view filter sets here c.plan_row.new.view row tried updated read;
+      tried = one_tried view filter sets here c.plan_row.new.view row tried updated (read g ((goal.at.loop-row-preserved g c).After-plan_row));
       plans = subst (ArePlans job (row + 1)) (sym c.in_ok-push.ensures.items) (one_plan job row c.loop-row.plans.items plan c.loop-row.invariant.plans planned);
     }

@@ -1,21 +1,23 @@
-use Rattle.std.proofs.Common.{◌≡◌, ◌+◌, ◌*◌, ℕ, List, length, map, get_or, take, sum_by, sym, ap, ◌∙◌, arith}
+use Rattle.std.proofs.Common.{◌≡◌, ◌+◌, ◌*◌, ℕ, List, length, get_or, take, sum_by, sym, ap, ◌∙◌, arith}
 use Rattle.std.specs.List.{list_any}
 use Rattle.std.specs.Prelude.{◌==◌, []}
 use Rattle.std.proofs.lemmas.List.{length-map, get_or_read}
 use Rattle.std.proofs.lemmas.List.Sums.{sum_by_more}
+use Rattle.extents.specs.Indices.{indices}
 use Rattle.places.specs.declared.piece.Hold.{Hold}
 use Rattle.advisor.specs.declared.pass.Pass.{Pass}
 use Rattle.advisor.specs.Touched.{touched}
 use Rattle.advisor.specs.TouchedLaws.{touched_alike}
 use Rattle.advisor.specs.Passes.{reads, leaves_in}
+use Rattle.advisor.proofs.RuledLaws.{layout_in, widths_in}
 use Rattle.advisor.proofs.costs.part_cost.Goals as goal
 
 pub loop-pass-preserved : goal.loop-pass-preserved
-loop-pass-preserved g c =
-    let m = c.args.mapping.now in
-    let layout = g.M.Mapping.layout m in
-    let holds = g.M.Mapping.hold_list m in
-    let widths : List ℕ = map (λ (h : Hold). h.width) holds in
+loop-pass-preserved c =
+    let m = c.args.map.now in
+    let layout = layout_in m in
+    let holds = m.mapping.plan.holds in
+    let widths : List ℕ = widths_in m in
     let leaves = leaves_in c.args.cells.now in
     let passes = c.args.passes.now in
     let none : Pass = record { leaves = []; times = 0 } in
@@ -23,7 +25,7 @@ loop-pass-preserved g c =
     let pass : c.pass-item.result ≡ get_or passes c.loop-pass.pass-index none = get_or_read passes c.loop-pass.pass-index c.pass-item.result c.loop-pass-test.true c.pass-item.is none in
     let wanted = λ (p : Pass) (cell : ℕ). reads p (get_or leaves cell 0) in
     let same : touched (λ cell. list_any (λ other. other == cell) c.in_ok-read.read.items) c.args.granule layout ≡ touched (wanted c.pass-item.result) c.args.granule layout =
-    touched_alike layout (g.M.Mapping.slot_count m) widths c.laws_of.ensures.lawful (λ cell. list_any (λ other. other == cell) c.in_ok-read.read.items) (wanted c.pass-item.result)
+    touched_alike layout (length (indices m.mapping.extents)) widths c.laws_of.ensures.lawful (λ cell. list_any (λ other. other == cell) c.in_ok-read.read.items) (wanted c.pass-item.result)
     (λ cell l. c.in_ok-read.ensures.read cell (omega (arith, l, many, c.laws_of.ensures.paired, c.requires.cells))) c.args.granule in
     let count : c.in_ok-granules.granules ≡ touched (wanted c.pass-item.result) c.args.granule layout =
     c.in_ok-granules.ensures.value ∙ ap (λ (xs : List ℕ). touched (λ cell. list_any (λ other. other == cell) xs) c.args.granule layout) c.as_slice.ensures.value ∙ same in

@@ -1,9 +1,10 @@
 use Rattle.std.proofs.Common.{◌≡◌, ◌≤◌, ◌*◌, ◌^◌, take}
 use Rattle.advisor.specs.Passes.{part_cost, leaves_in}
+use Rattle.advisor.proofs.RuledLaws.{layout_in}
 use Rattle.advisor.proofs.costs.part_cost.Given as goal
 
 abbrev pub invariant-loop-pass : goal.invariant-loop-pass
-invariant-loop-pass g l = record {
-  value : l.cost ≡ part_cost (take l.pass-index l.passes) l.granule (leaves_in l.cells) (g.M.Mapping.layout l.mapping);
+invariant-loop-pass l = record {
+  value : l.cost ≡ part_cost (take l.pass-index l.passes) l.granule (leaves_in l.cells) (layout_in l.map);
   most : l.cost ≤ l.pass-index * 2 ^ 56;
 }

@@ -18,7 +18,7 @@ use Rattle.advisor.proofs.listed.whole_candidate.Goals as goal
 pub returns-clause-priced : goal.returns-clause-priced
 returns-clause-priced c =
     let v = c.args.view.now in
-    let m = c.in_ok-map.map in
+    let m = c.in_ok-map.map.mapping in
     let kinds = leaf_types_of v in
     let term = term_of c.args.expr.now in
     let passes = c.args.price.now.passes.now in

@@ -1,23 +1,45 @@
-use Rattle.std.proofs.Common.{◌≡◌, ◌+◌, ◌*◌, ◌<◌, min, ℕ, sym, ap, ◌∙◌, arith}
+use Rattle.std.proofs.Common.{◌≡◌, ◌+◌, ◌*◌, ◌%◌, ◌/◌, ◌<◌, ℕ, sym, ap, ◌∙◌, subst, arith}
 use Rattle.std.specs.Prelude.{◌||◌}
-use Rattle.advisor.specs.Steady.{is_run_touched}
-use Rattle.advisor.proofs.SteadyLaws.{run_begins, run_ends, touched_more}
-use Rattle.advisor.proofs.WarmLaws.{warmed_more}
+use Rattle.std.proofs.lemmas.Nat.{div-add-mod', mod_below}
+use Rattle.instrument.specs.Counters.{heat_counts, IsInside}
+use Rattle.piece_rules.specs.PieceRules.{piece_in}
+use Rattle.advisor.specs.Steady.{IsSteady, is_run_touched}
+use Rattle.advisor.proofs.SteadyLaws.{part_steady, touched_more}
+use Rattle.advisor.proofs.WarmLaws.{warmed_inside, warmed_more}
 use Rattle.advisor.proofs.runs.touch_rule.Goals as goal
 
-pub loop-run-preserved : goal.loop-run-preserved
-loop-run-preserved c =
+pub touch_run-requires-clause-steady : goal.touch_run-requires-clause-steady
+touch_run-requires-clause-steady c =
+    let rule = c.args.rule.now in
+    let wide = 8 * c.args.granule in
+    let most = c.run_of-most.result in
+    let slot = c.args.start + c.loop-done.done in
+    let count = c.min-slots.result in
+    let same : c.loop-done.heat.granule ≡ c.args.granule = c.loop-done.invariant.warmed.granule ∙ c.requires.granule in
+    let inside : slot % most < most = mod_below slot most c.run_of-most.ensures.some in
+    let part : IsSteady wide rule (slot / most * most + slot % most) count =
+    part_steady wide rule (slot / most * most) most (slot % most) count (c.run_of-most.ensures.steady (slot / most) most (omega arith)) (omega (arith, inside, c.min-slots.ensures)) in
+    subst (λ (g : ℕ). IsSteady (8 * g) rule slot count) (sym same) (subst (λ (n : ℕ). IsSteady wide rule n count) (div-add-mod' slot most) part)
+
+pub touch_run-requires-clause-inside : goal.touch_run-requires-clause-inside
+touch_run-requires-clause-inside c = λ k low.
+    let done = c.loop-done.done in
+    let slot = c.args.start + done + k in
+    let at : c.args.start + (done + k) ≡ slot = omega arith in
+    warmed_inside c.loop-done.invariant.warmed (piece_in c.args.rule.now slot)
+    (subst (λ (n : ℕ). IsInside (heat_counts c.args.heat.now) (piece_in c.args.rule.now n)) at (c.requires.inside (done + k) (omega (arith, low, c.min-slots.ensures))))
+
+pub loop-done-preserved : goal.loop-done-preserved
+loop-done-preserved c =
     let granule = c.args.granule in
     let rule = c.args.rule.now in
-    let slots = c.args.slots in
-    let most = c.run_of-most.result in
-    let run = c.loop-run.run in
-    let count = c.min.result in
-    let low : run * most < slots = run_begins slots most run c.run_of-most.ensures.some (omega (arith, c.loop-run-test.true, c.div_ceil-run-end.ensures)) in
-    let begins : run * most ≡ min (run * most) slots = omega (arith, low) in
-    let total : run * most + count ≡ min ((run + 1) * most) slots = omega (arith, begins, c.min.ensures, run_ends slots most run low) in
-    let same : granule ≡ c.loop-run.heat.granule = sym (c.loop-run.invariant.granule ∙ c.requires.granule) in
-    warmed_more c.loop-run.invariant c.touch_run.ensures (λ blob at.
-    touched_more granule rule (run * most) count (min ((run + 1) * most) slots) total blob at
-    ∙ ap (λ (n : ℕ). is_run_touched granule rule 0 n blob at || is_run_touched granule rule (run * most) count blob at) begins
-    ∙ ap (λ (g : ℕ). is_run_touched granule rule 0 (min (run * most) slots) blob at || is_run_touched g rule (run * most) count blob at) same)
+    let start = c.args.start in
+    let done = c.loop-done.done in
+    let count = c.min-slots.result in
+    let same : granule ≡ c.loop-done.heat.granule = sym (c.loop-done.invariant.warmed.granule ∙ c.requires.granule) in
+    record {
+      low = omega (arith, c.min-slots.ensures, c.loop-done-test.true);
+      warmed = warmed_more c.loop-done.invariant.warmed c.touch_run.ensures (λ blob at.
+          touched_more granule rule start done count blob at
+          ∙ ap (λ (g : ℕ). is_run_touched granule rule start done blob at || is_run_touched g rule (start + done) count blob at) same);
+    }

@@ -1,8 +1,14 @@
-use Rattle.std.proofs.Common.{◌*◌, min}
+use Rattle.std.proofs.Common.{◌≤◌, ◌-◌}
 use Rattle.instrument.specs.Counters.{heat_counts}
 use Rattle.advisor.specs.Steady.{is_run_touched}
 use Rattle.advisor.specs.Warm.{IsWarmed}
 use Rattle.advisor.proofs.runs.touch_rule.Given as goal
 
-abbrev pub invariant-loop-run : goal.invariant-loop-run
-invariant-loop-run l = IsWarmed (heat_counts l.initial.heat) (heat_counts l.heat) (is_run_touched l.granule l.rule 0 (min (l.run * l.most) l.slots))
+abbrev pub invariant-loop-done : goal.invariant-loop-done
+invariant-loop-done l = record {
+  low : l.done ≤ l.count;
+  warmed : IsWarmed (heat_counts l.initial.heat) (heat_counts l.heat) (is_run_touched l.granule l.rule l.start l.done);
+}
+
+abbrev pub decreases-loop-done : goal.decreases-loop-done
+decreases-loop-done l = l.count - l.done

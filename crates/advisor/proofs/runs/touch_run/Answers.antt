@@ -32,7 +32,7 @@ touch-requires c =
     let pieces : c.push.new.self.items ≡ long_piece rule c.args.start c.args.count ∷ [] =
     c.push.ensures.items ∙ ap (λ (xs : List Piece). xs ++ (record c.piece-first.result { bits = c.piece-last.result.bit + c.from.result - c.piece-first.result.bit }) ∷ []) c.new-pieces.ensures
     ∙ ap (λ (p : Piece). p ∷ []) one in
-    let counted = inside-counted (long_inside heat rule c.args.start c.args.count ends (c.requires.inside (c.args.start + (c.args.count - 1)) (omega (arith, c.requires.some)))) in
+    let counted = inside-counted (long_inside heat rule c.args.start c.args.count ends (c.requires.inside (c.args.count - 1) (omega (arith, c.requires.some)))) in
     subst (λ (xs : List Piece). All (IsCounted heat) xs) (sym pieces) (λ k d low. (let first : k ≡ 0 = omega (arith, low) in
     subst (λ (n : ℕ). IsCounted heat (slice_index_or (long_piece rule c.args.start c.args.count ∷ []) n d)) (sym first) counted))
 
@@ -48,7 +48,7 @@ returns c =
     c.push.ensures.items ∙ ap (λ (xs : List Piece). xs ++ (record c.piece-first.result { bits = c.piece-last.result.bit + c.from.result - c.piece-first.result.bit }) ∷ []) c.new-pieces.ensures
     ∙ ap (λ (p : Piece). p ∷ []) one in
     let after : heat_counts c.touch.new.self ≡ heated_by (long ∷ []) heat = c.touch.ensures ∙ ap (λ (xs : List Piece). heated_by xs heat) pieces in
-    let first = c.requires.inside (start + (count - 1)) (omega (arith, c.requires.some)) in
+    let first = c.requires.inside (count - 1) (omega (arith, c.requires.some)) in
     subst (λ (h : HeatCounts). IsWarmed heat h (is_run_touched heat.granule rule start count)) (sym after)
     (warmed_alike (heated_warmed (long ∷ []) heat) (λ blob at.
     or_false (is_in_granule heat.granule blob at long) ∙ long_touches heat.granule rule start count c.args.heat.now.some c.requires.steady c.requires.some first.some blob at))

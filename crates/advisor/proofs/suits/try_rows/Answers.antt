@@ -1,35 +1,36 @@
-use Rattle.std.proofs.Common.{◌≡◌, ◌<◌, [], ℕ, List, get_or, take, length, sym, ap, ◌∙◌, arith}
-use Rattle.extents.specs.Indices.{indices}
-use Rattle.views.specs.Tables.{Table}
+use Rattle.std.proofs.Common.{◌≡◌, ℕ, All, length, map, take, drop, sym, ap, ◌∙◌, subst, refl, arith, length-append, length-drop}
+use Rattle.std.proofs.lemmas.List.{length-take-le}
+use Rattle.views.specs.Tables.{Table, leaf_count_of, after_log}
+use Rattle.views.specs.Tallies.{Read}
 use Rattle.views.specs.TallyLaws.{after_log-none}
-use Rattle.advisor.proofs.Tried.{row_read, row_tried, trials_now, none_tried}
+use Rattle.advisor.specs.Trials.{IsTrial, rows_accesses, tried_all}
+use Rattle.advisor.proofs.Tried.{trials_now}
+use Rattle.advisor.proofs.TriedRuns.{none_tried, run_read, run_tried}
 use Rattle.advisor.proofs.suits.try_rows.Goals as goal
 
-pub loop-row-init : goal.loop-row-init
-loop-row-init g c = record { size = c.requires.each; view = sym (after_log-none c.args.view.now); trials = sym (none_tried c.args.view.now.mode c.args.trials.now) }
+pub loop-first-init : goal.loop-first-init
+loop-first-init g c = record { low = omega arith; size = refl; view = sym (after_log-none c.args.view.now); trials = sym (none_tried c.args.view.now.mode c.args.trials.now) }
 
-pub try_row-requires-clause-inside : goal.try_row-requires-clause-inside
-try_row-requires-clause-inside g c =
-    let v = c.args.view.now in
-    let each = trials_now v.fields v.mode (take c.loop-row.row v.rows) c.args.trials.now c.loop-row.trials c.requires.trials c.loop-row.invariant.trials in
-    λ k d l. (let is = each k d l in omega (arith, is.inside, c.loop-row.invariant.size, c.read_row.auto.values))
+pub try_run-requires-clause-trials : goal.try_run-requires-clause-trials
+try_run-requires-clause-trials g c =
+    let seen = c.args.view.now in
+    subst (λ (t : Table). All (IsTrial t.fields) c.loop-first.trials) (sym c.loop-first.invariant.view)
+    (trials_now seen.fields seen.mode (take c.loop-first.first seen.rows) c.args.trials.now c.loop-first.trials c.requires c.loop-first.invariant.trials)
 
-pub try_row-requires-clause-holds : goal.try_row-requires-clause-holds
-try_row-requires-clause-holds g c =
-    let v = c.args.view.now in
-    let each = trials_now v.fields v.mode (take c.loop-row.row v.rows) c.args.trials.now c.loop-row.trials c.requires.trials c.loop-row.invariant.trials in
-    λ k d l. (each k d l).hold
-
-pub loop-row-preserved : goal.loop-row-preserved
-loop-row-preserved g c =
-    let v = c.args.view.now in
-    let row = c.loop-row.row in
-    let count : length (indices c.extents.result) ≡ length v.rows = ap (λ (e : List ℕ). length (indices e)) c.extents.ensures.value ∙ sym c.extents.ensures.table.rows in
-    let small : row < length v.rows = omega (arith, count, c.count-row-end.ensures.rows) in
-    let read : c.read_row.new.values ≡ get_or v.rows row [] = c.read_row.ensures.read ∙ ap (λ (table : Table). get_or table.rows row []) c.loop-row.invariant.view in
+pub loop-first-preserved : goal.loop-first-preserved
+loop-first-preserved g c =
+    let seen = c.args.view.now in
+    let now = c.loop-first.view in
+    let first = c.loop-first.first in
+    let rows = c.min-rows.result in
+    let buffer = c.loop-first.buffer in
+    let so_far = c.loop-first.invariant in
+    let long : length (take rows buffer) ≡ rows = length-take-le rows buffer (omega (arith, so_far.size, c.min-rows.ensures)) in
     record {
-      size = omega (arith, c.loop-row.invariant.size, c.read_row.auto.values);
-      view = row_read v c.loop-row.view c.read_row.new.self row c.read_row.ensures.same c.loop-row.invariant.view;
-      trials = row_tried v.mode v.rows row c.args.trials.now c.loop-row.trials c.try_row.new.trials c.mode-mode.result c.read_row.new.values small
-          c.try_row.ensures c.mode-mode.ensures read c.loop-row.invariant.trials;
+      low = omega (arith, c.min-rows.ensures, c.loop-first-test.true);
+      size = omega (arith, length-append c.try_run.new.buffer (drop rows buffer), length-drop rows buffer, c.try_run.ensures.count, long, so_far.size, c.min-rows.ensures);
+      view = run_read seen now c.try_run.new.view first rows so_far.view (c.try_run.ensures.read ∙ ap (λ (n : ℕ). after_log now (rows_accesses Read (leaf_count_of now) first n)) long);
+      trials = run_tried seen.mode seen.rows first rows c.args.trials.now c.loop-first.trials c.try_run.new.trials so_far.trials
+          (c.try_run.ensures.tried ∙ ap (λ (n : ℕ). map (tried_all now.mode (take n (drop first now.rows))) c.loop-first.trials) long
+          ∙ ap (λ (t : Table). map (tried_all t.mode (take rows (drop first t.rows))) c.loop-first.trials) so_far.view);
     }

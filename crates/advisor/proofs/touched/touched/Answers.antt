@@ -1,18 +1,21 @@
-use Rattle.std.proofs.Common.{◌≡◌, ◌≤◌, ◌^◌, Bool, ℕ, List, [], refl, sym, ap, ◌∙◌, subst, arith}
+use Rattle.std.proofs.Common.{◌≡◌, ◌≤◌, ◌^◌, Bool, ℕ, List, [], ◌∷◌, length, refl, sym, ap, ◌∙◌, subst, arith}
+use Rattle.std.specs.Prelude.{◌==◌}
 use Rattle.std.specs.List.{list_any}
+use Rattle.std.proofs.lemmas.Bool.{eqb-true}
 use Rattle.std.proofs.lemmas.List.{take_all}
 use Rattle.std.proofs.lemmas.List.Folds.{list_any_more}
 use Rattle.instrument.specs.Counters.{HeatCounts, heat_counts, no_heat, granules_in}
 use Rattle.views.specs.Kept.{HasGranules}
 use Rattle.views.specs.Tallies.{blob_lengths}
-use Rattle.advisor.specs.Touched.{holds_cell}
+use Rattle.advisor.specs.Touched.{holds_cell, touched}
 use Rattle.advisor.specs.Warm.{IsWarmed}
-use Rattle.advisor.proofs.WarmLaws.{cold_granules, warmed_none, warmed_more, warm_touched}
+use Rattle.advisor.proofs.RuledLaws.{layout_in}
+use Rattle.advisor.proofs.WarmLaws.{cold_granules, none_touched, warmed_none, warmed_more, warm_touched}
 use Rattle.advisor.proofs.touched.touched.Goals as goal
 
 pub loop-cell-init : goal.loop-cell-init
-loop-cell-init g c =
-    let layout = g.M.Mapping.layout c.args.mapping.now in
+loop-cell-init c =
+    let layout = layout_in c.args.map.now in
     let start = no_heat c.args.granule (blob_lengths layout) in
     let zero : heat_counts c.in-Ok.heat ≡ start = c.in-Ok.ensures.zero ∙ ap (no_heat c.args.granule) (c.as_slice.ensures.value ∙ c.in_ok-lengths.ensures) in
     let Before : ℕ → ℕ → Bool = λ blob at. list_any (λ cell. holds_cell layout c.args.granule cell blob at) [] in
@@ -22,11 +25,11 @@ loop-cell-init g c =
     }
 
 pub touch_cell-requires-clause-granule : goal.touch_cell-requires-clause-granule
-touch_cell-requires-clause-granule g c = c.loop-cell.invariant.warmed.granule
+touch_cell-requires-clause-granule c = c.loop-cell.invariant.warmed.granule
 
 pub loop-cell-preserved : goal.loop-cell-preserved
-loop-cell-preserved g c =
-    let layout = g.M.Mapping.layout c.args.mapping.now in
+loop-cell-preserved c =
+    let layout = layout_in c.args.map.now in
     record {
       warmed = warmed_more c.loop-cell.invariant.warmed c.touch_cell.ensures.warmed (λ blob at.
           list_any_more (λ cell. holds_cell layout c.args.granule cell blob at) c.args.cells.now c.loop-cell.cell-index 0 (omega arith));
@@ -34,13 +37,13 @@ loop-cell-preserved g c =
     }
 
 pub warm_granules-requires-clause-few : goal.warm_granules-requires-clause-few
-warm_granules-requires-clause-few g c =
-    let layout = g.M.Mapping.layout c.args.mapping.now in
+warm_granules-requires-clause-few c =
+    let layout = layout_in c.args.map.now in
     subst (λ (n : ℕ). granules_in n (blob_lengths layout) ≤ 2 ^ 24) (sym c.loop-cell.invariant.warmed.granule) c.requires.few
 
 pub returns-clause-value : goal.returns-clause-value
-returns-clause-value g c =
-    let layout = g.M.Mapping.layout c.args.mapping.now in
+returns-clause-value c =
+    let layout = layout_in c.args.map.now in
     let granule = c.args.granule in
     let start = no_heat granule (blob_lengths layout) in
     let heat = heat_counts c.loop-cell.heat in
@@ -48,3 +51,14 @@ returns-clause-value g c =
     ∙ warm_touched layout granule c.args.cells.now heat c.loop-cell.invariant.granules
     (subst (λ (cells : List ℕ). IsWarmed start heat (λ blob at. list_any (λ cell. holds_cell layout granule cell blob at) cells))
     (take_all c.loop-cell.cell-index c.args.cells.now (omega arith)) c.loop-cell.invariant.warmed)
+
+empty : (xs : List ℕ) → length xs ≡ 0 → xs ≡ []
+empty [] e = refl
+empty (x ∷ xs) e = absurd (omega (arith, e))
+
+pub returns-then-is_empty-clause-value : goal.returns-then-is_empty-clause-value
+returns-then-is_empty-clause-value c =
+    let cells = c.args.cells.now in
+    let layout = layout_in c.args.map.now in
+    let none : cells ≡ [] = empty cells (eqb-true (length cells) 0 (sym c.is_empty.ensures ∙ c.if-is_empty.true)) in
+    sym (ap (λ (cs : List ℕ). touched (λ cell. list_any (λ other. other == cell) cs) c.args.granule layout) none ∙ none_touched c.args.granule layout)

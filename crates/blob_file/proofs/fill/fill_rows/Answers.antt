@@ -1,67 +1,120 @@
-use Rattle.std.proofs.Common.{rules, arith, ◌≡◌, ◌+◌, ◌<◌, ◌≤◌, ◌∙◌, ℕ, List, [], length, get_or, set, Err, sym, ap, subst}
+use Rattle.std.proofs.Common.{rules, ◌≡◌, ◌+◌, ◌-◌, ◌*◌, ◌<◌, ◌≤◌, ◌∙◌, ⊎_elim, inl, inr, ℕ, ℤ, List, length, take, drop, Err, refl, sym, ap, subst, arith}
+use Rattle.std.specs.Prelude.{◌⊎◌}
+use Rattle.std.proofs.lemmas.Bool.{cases_lt}
+use Rattle.std.proofs.lemmas.List.{length-append, length-drop, length-take-le}
 use Rattle.extents.specs.Indices.{indices}
-use Rattle.views.specs.Stores.{kept_row, kept_rows}
-use Rattle.views.specs.Tables.{kept_of, leaf_count_of, after_stores}
-use Rattle.views.specs.Tallies.{Write, row_accesses, all_accesses}
-use Rattle.blob_file.specs.Files.{Header}
-use Rattle.blob_file.specs.Filling.{IsTakenRow}
-use Rattle.blob_file.specs.Opened.{raw_in, leaf_count}
+use Rattle.views.specs.Runs.{AreRowsMoved, CountsNothing}
+use Rattle.views.specs.RunsLaws.{run_more}
+use Rattle.views.specs.Stores.{kept_rows}
+use Rattle.piece_bits.specs.Tables.{HasShape}
+use Rattle.views.specs.Tables.{Table, kept_of, leaf_count_of, leaf_types_of, table_holds, after_stores}
+use Rattle.views.specs.Tallies.{Write, all_accesses}
+use Rattle.views.specs.TallyLaws.{after_log-none}
+use Rattle.blob_file.specs.Filling.{run_writes, AreTaken}
+use Rattle.blob_file.specs.Opened.{raw_in}
 use Rattle.blob_file.specs.Saving.{header_of}
-use Rattle.blob_file.proofs.Filled.{raw_rows, none_filled, row_filled, all_filled, row_refused, rows_stay, header_stays, steps_more}
+use Rattle.blob_file.proofs.Filled.{all_kept, run_logged, run_steps_more}
 use Rattle.blob_file.proofs.fill.fill_rows.Goals as goal
 
-pub loop-row-init : goal.loop-row-init
-loop-row-init g c = record {
-  filled = none_filled (raw_in (header_of c.args.view.now) c.args.blobs.now) c.args.view.now;
-  values = search rules;
+pub loop-first-init : goal.loop-first-init
+loop-first-init g c = record {
+  same = sym (after_log-none c.args.view.now);
+  inside = omega arith;
+  before = λ row leaf below. absurd (omega (arith, below));
+  taken = λ leaf few row low high. absurd (omega (arith, high));
+  lows = refl;
   steps = omega arith;
 }
 
-pub loop-row-preserved : goal.loop-row-preserved
-loop-row-preserved g c =
-    let table = c.args.view.now in
-    let raw = raw_in (header_of table) c.args.blobs.now in
-    let rows : length (indices c.extents.result) ≡ length table.rows = ap (λ (e : List ℕ). length (indices e)) c.extents.ensures.value ∙ sym c.extents.ensures.table.rows in
-    let all : length raw ≡ length table.rows = raw_rows (header_of table) c.args.blobs.now ∙ sym c.extents.ensures.table.rows in
-    let small : c.loop-row.row < length raw = omega (arith, c.loop-row-test.true, c.count-row-end.ensures.rows, rows, all) in
-    let same : header_of c.loop-row.view ≡ header_of table = header_stays raw table c.loop-row.view c.loop-row.row c.loop-row.invariant.filled in
-    let taken = subst (λ (h : Header). IsTakenRow c.loop-row.view (get_or (raw_in h c.args.blobs.now) c.loop-row.row [])) same c.in_ok-fill_row.ensures.taken in
-    let stored = subst (λ (h : Header). c.fill_row.new.view ≡ after_stores c.loop-row.view (set c.loop-row.view.rows c.loop-row.row (kept_row (kept_of c.loop-row.view) (get_or (raw_in h c.args.blobs.now) c.loop-row.row [])))
-    (row_accesses Write (leaf_count_of c.loop-row.view) c.loop-row.row)) same c.in_ok-fill_row.ensures.stored in
-    let more = subst (λ (h : Header). c.fill_row.new.steps ≡ c.loop-row.steps + leaf_count h) same c.in_ok-fill_row.ensures.steps in
+pub loop-first-preserved : goal.loop-first-preserved
+loop-first-preserved g c =
+    let old : Table = c.args.view.now in
+    let now : Table = c.loop-first.view in
+    let new : Table = c.fill_run.new.view in
+    let blobs : List (List ℕ) = c.args.blobs.now in
+    let raw : List (List ℤ) = raw_in (header_of old) blobs in
+    let kept : List (List ℤ) = kept_rows (kept_of old) raw in
+    let leaves : ℕ = leaf_count_of old in
+    let first : ℕ = c.loop-first.first in
+    let rows : ℕ = c.min-rows.result in
+    let held = c.loop-first.invariant in
+    let done = c.in_ok-fill_run.ensures in
+    let long : length (take rows c.loop-first.lows) ≡ rows = length-take-le rows c.loop-first.lows (omega (arith, held.lows, c.rows_at_once-most.ensures.few)) in
+    let taken : AreTaken leaves first rows old raw =
+    subst (λ (t : Table). AreTaken (leaf_count_of t) first rows t (raw_in (header_of t) blobs)) held.same
+    (subst (λ (n : ℕ). AreTaken (leaf_count_of now) first n now (raw_in (header_of now) blobs)) long done.taken) in
+    let stored : AreRowsMoved leaves first rows kept now.rows new.rows =
+    subst (λ (t : Table). AreRowsMoved (leaf_count_of t) first rows (kept_rows (kept_of t) (raw_in (header_of t) blobs)) now.rows new.rows) held.same
+    (subst (λ (n : ℕ). AreRowsMoved (leaf_count_of now) first n (kept_rows (kept_of now) (raw_in (header_of now) blobs)) now.rows new.rows) long done.stored) in
+    let same : new ≡ after_stores now new.rows (run_writes leaves first rows) =
+    done.same ∙ ap (λ (n : ℕ). after_stores now new.rows (run_writes (leaf_count_of now) first n)) long
+    ∙ ap (λ (t : Table). after_stores now new.rows (run_writes (leaf_count_of t) first rows)) held.same in
+    let steps : c.fill_run.new.steps ≡ c.loop-first.steps + rows * leaves =
+    done.steps ∙ ap (λ (n : ℕ). c.loop-first.steps + n * leaf_count_of now) long ∙ ap (λ (t : Table). c.loop-first.steps + rows * leaf_count_of t) held.same in
+    let quiet : (rows ≡ 1) ⊎ CountsNothing old =
+    ⊎_elim (λ (one : c.rows_at_once-most.result ≡ 1). inl (omega (arith, one))) (λ (nothing : CountsNothing old). inr nothing) c.rows_at_once-most.ensures.quiet in
     record {
-      filled = row_filled raw table c.loop-row.view c.fill_row.new.view c.loop-row.row small all c.loop-row.invariant.filled taken stored;
-      values = c.fill_row.ensures.count ∙ c.loop-row.invariant.values;
-      steps = steps_more c.args.steps.now c.loop-row.steps c.fill_row.new.steps c.loop-row.row (leaf_count_of table) c.loop-row.invariant.steps more;
+      same = run_logged old now new leaves first rows quiet held.same same;
+      inside = omega arith;
+      before = run_more leaves first rows kept now.rows new.rows held.before stored;
+      taken = λ leaf few row low high.
+          ⊎_elim (λ (less : row < first). held.taken leaf few row low (omega (arith, less))) (λ (more : first ≤ row). taken leaf few row more (omega (arith, high))) (cases_lt row first);
+      lows = omega (arith, length-append c.fill_run.new.lows (drop rows c.loop-first.lows), length-drop rows c.loop-first.lows, c.fill_run.ensures.count, long, held.lows, c.rows_at_once-most.ensures.few);
+      steps = run_steps_more c.args.steps.now c.loop-first.steps c.fill_run.new.steps first rows leaves held.steps steps;
     }
 
-pub fill_row-requires-clause-row_in : goal.fill_row-requires-clause-row_in
-fill_row-requires-clause-row_in g c =
-    let table = c.args.view.now in
-    let raw = raw_in (header_of table) c.args.blobs.now in
-    let rows : length (indices c.extents.result) ≡ length table.rows = ap (λ (e : List ℕ). length (indices e)) c.extents.ensures.value ∙ sym c.extents.ensures.table.rows in
-    let all : length raw ≡ length table.rows = raw_rows (header_of table) c.args.blobs.now ∙ sym c.extents.ensures.table.rows in
-    let low : c.loop-row.row ≤ length raw = omega (arith, c.loop-row-test.true, c.count-row-end.ensures.rows, rows, all) in
-    omega (arith, c.loop-row-test.true, c.count-row-end.ensures.rows, rows, rows_stay raw table c.loop-row.view c.loop-row.row low all c.loop-row.invariant.filled)
+pub fill_run-requires-clause-rows_in : goal.fill_run-requires-clause-rows_in
+fill_run-requires-clause-rows_in g c =
+    let old : Table = c.args.view.now in
+    let now : Table = c.loop-first.view in
+    let rows : length (indices c.extents.result) ≡ length old.rows = ap (λ (e : List ℕ). length (indices e)) c.extents.ensures.value ∙ sym c.extents.ensures.table.rows in
+    let many : length now.rows ≡ length old.rows =
+    c.laws_of_table.ensures.table.rows ∙ ap (λ (t : Table). length (indices t.extents)) c.loop-first.invariant.same ∙ sym c.extents.ensures.table.rows in
+    let long : length (take c.min-rows.result c.loop-first.lows) ≡ c.min-rows.result =
+    length-take-le c.min-rows.result c.loop-first.lows (omega (arith, c.loop-first.invariant.lows, c.rows_at_once-most.ensures.few)) in
+    omega (arith, many, rows, long, c.count-count.ensures.rows)
 
-pub returns-in_err-fill_row-clause-refused : goal.returns-in_err-fill_row-clause-refused
-returns-in_err-fill_row-clause-refused g c =
-    let table = c.args.view.now in
-    let raw = raw_in (header_of table) c.args.blobs.now in
-    let rows : length (indices c.extents.result) ≡ length table.rows = ap (λ (e : List ℕ). length (indices e)) c.extents.ensures.value ∙ sym c.extents.ensures.table.rows in
-    let small : c.loop-row.row < length table.rows = omega (arith, c.loop-row-test.true, c.count-row-end.ensures.rows, rows) in
-    let told = c.in_err-fill_row.ensures.refused in
-    let same : header_of c.loop-row.view ≡ header_of table = header_stays raw table c.loop-row.view c.loop-row.row c.loop-row.invariant.filled in
-    let refused = subst (λ (h : Header). IsTakenRow c.loop-row.view (get_or (raw_in h c.args.blobs.now) c.loop-row.row []) → ⊥) same told.1 in
-    let is : c.from_residual.result ≡ Err c.in_err-fill_row.field-0.0 = search rules in
-    rw is (told.0, row_refused raw table c.loop-row.view c.loop-row.row small c.loop-row.invariant.filled refused)
+pub returns-in_err-fill_run-clause-refused : goal.returns-in_err-fill_run-clause-refused
+returns-in_err-fill_run-clause-refused g c =
+    let old : Table = c.args.view.now in
+    let now : Table = c.loop-first.view in
+    let blobs : List (List ℕ) = c.args.blobs.now in
+    let first : ℕ = c.loop-first.first in
+    let rows : ℕ = c.min-rows.result in
+    let held = c.loop-first.invariant in
+    let told = c.in_err-fill_run.ensures.refused in
+    let all_rows : length (indices c.extents.result) ≡ length old.rows = ap (λ (e : List ℕ). length (indices e)) c.extents.ensures.value ∙ sym c.extents.ensures.table.rows in
+    let long : length (take rows c.loop-first.lows) ≡ rows = length-take-le rows c.loop-first.lows (omega (arith, held.lows, c.rows_at_once-most.ensures.few)) in
+    let is : c.from_residual.result ≡ Err c.in_err-fill_run.field-0.0 = search rules in
+    rw is (
+      told.0,
+      λ all.
+          told.1 (subst (λ (n : ℕ). AreTaken (leaf_count_of now) first n now (raw_in (header_of now) blobs)) (sym long)
+          (subst (λ (t : Table). AreTaken (leaf_count_of t) first rows t (raw_in (header_of t) blobs)) (sym held.same)
+          (λ leaf few row low high. all row leaf (omega (arith, high, all_rows, c.count-count.ensures.rows)) few))),
+    )
 
 pub returns-clause-stored : goal.returns-clause-stored
 returns-clause-stored g c =
-    let table = c.args.view.now in
-    let raw = raw_in (header_of table) c.args.blobs.now in
-    let rows : length (indices c.extents.result) ≡ length table.rows = ap (λ (e : List ℕ). length (indices e)) c.extents.ensures.value ∙ sym c.extents.ensures.table.rows in
-    let all : length raw ≡ length table.rows = raw_rows (header_of table) c.args.blobs.now ∙ sym c.extents.ensures.table.rows in
-    let end : c.loop-row.row ≡ length table.rows = omega (arith, rows) in
-    subst (λ (n : ℕ). c.loop-row.view ≡ after_stores table (kept_rows (kept_of table) raw) (all_accesses Write (leaf_count_of table) n)) end
-    (all_filled raw table c.loop-row.view c.loop-row.row (omega (arith, end, all)) all c.loop-row.invariant.filled)
+    let old : Table = c.args.view.now in
+    let now : Table = c.loop-first.view in
+    let raw : List (List ℤ) = raw_in (header_of old) c.args.blobs.now in
+    let kept : List (List ℤ) = kept_rows (kept_of old) raw in
+    let leaves : ℕ = leaf_count_of old in
+    let held = c.loop-first.invariant in
+    let is = c.extents.ensures.table in
+    let rows : length (indices c.extents.result) ≡ length old.rows = ap (λ (e : List ℕ). length (indices e)) c.extents.ensures.value ∙ sym is.rows in
+    let end : c.loop-first.first ≡ length old.rows = omega (arith, rows, c.count-count.ensures.rows, held.inside, c.loop-first-test.false) in
+    let many : length now.rows ≡ length old.rows = c.laws_of_table-2.ensures.table.rows ∙ ap (λ (t : Table). length (indices t.extents)) held.same ∙ sym is.rows in
+    let wide : HasShape (length now.rows) leaves now.rows = subst (λ (t : Table). HasShape (length now.rows) (leaf_count_of t) now.rows) held.same c.laws_of_table-2.ensures.table.shape in
+    let paired : length (table_holds old) ≡ length (leaf_types_of old) =
+    subst (λ (t : Table). length (table_holds t) ≡ length (leaf_types_of t)) held.same c.laws_of_table-2.ensures.paired in
+    held.same
+    ∙ ap (λ (r : List (List ℤ)). after_stores old r (all_accesses Write leaves c.loop-first.first)) (all_kept old c.args.blobs.now is paired now.rows c.loop-first.first wide many (omega (arith, end)) held.before)
+    ∙ ap (λ (n : ℕ). after_stores old kept (all_accesses Write leaves n)) end
+
+pub returns-clause-taken : goal.returns-clause-taken
+returns-clause-taken g c = λ row leaf l m.
+    let is = c.extents.ensures.table in
+    let rows : length (indices c.extents.result) ≡ length c.args.view.now.rows = ap (λ (e : List ℕ). length (indices e)) c.extents.ensures.value ∙ sym is.rows in
+    c.loop-first.invariant.taken leaf m row (omega arith) (omega (arith, l, rows, c.count-count.ensures.rows, c.loop-first-test.false))

@@ -1,13 +1,23 @@
-use Rattle.std.proofs.Common.{◌≡◌, ◌+◌, ◌*◌, length}
-use Rattle.views.specs.Tables.{leaf_count_of}
+-- the rows so far have their numbers
+use Rattle.std.proofs.Common.{◌≡◌, ◌+◌, ◌-◌, ◌*◌, ◌≤◌, length}
+use Rattle.views.specs.RunsLaws.{AreBefore}
+use Rattle.views.specs.Stores.{kept_rows}
+use Rattle.views.specs.Tables.{kept_of, leaf_count_of, after_stores}
+use Rattle.views.specs.Tallies.{Write, all_accesses}
+use Rattle.blob_file.specs.Filling.{AreTaken}
 use Rattle.blob_file.specs.Opened.{raw_in}
 use Rattle.blob_file.specs.Saving.{header_of}
-use Rattle.blob_file.proofs.Filled.{IsFilled}
 use Rattle.blob_file.proofs.fill.fill_rows.Given as goal
 
-abbrev pub invariant-loop-row : goal.invariant-loop-row
-invariant-loop-row g l = record {
-  filled : IsFilled (raw_in (header_of l.initial.view) l.blobs) l.initial.view l.view l.row;
-  values : length l.values ≡ leaf_count_of l.initial.view;
-  steps : l.steps ≡ l.initial.steps + l.row * leaf_count_of l.initial.view;
+abbrev pub invariant-loop-first : goal.invariant-loop-first
+invariant-loop-first g l = record {
+  same : l.view ≡ after_stores l.initial.view l.view.rows (all_accesses Write (leaf_count_of l.initial.view) l.first);
+  inside : l.first ≤ l.count;
+  before : AreBefore (leaf_count_of l.initial.view) l.first (kept_rows (kept_of l.initial.view) (raw_in (header_of l.initial.view) l.blobs)) l.view.rows;
+  taken : AreTaken (leaf_count_of l.initial.view) 0 l.first l.initial.view (raw_in (header_of l.initial.view) l.blobs);
+  lows : length l.lows ≡ 256;
+  steps : l.steps ≡ l.initial.steps + l.first * leaf_count_of l.initial.view;
 }
+
+abbrev pub decreases-loop-first : goal.decreases-loop-first
+decreases-loop-first g l = l.count - l.first

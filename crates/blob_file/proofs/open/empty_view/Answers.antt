@@ -1,43 +1,83 @@
-use Rattle.std.proofs.Common.{rules, ◌≡◌, ◌∙◌, List, None, Err, inr, map, sym, ap}
+use Rattle.std.proofs.Common.{rules, ◌≡◌, ◌*◌, ◌∙◌, ℕ, List, None, Some, Err, inr, length, map, sym, ap, arith}
+use Rattle.std.specs.Prelude.{sum_by}
 use Rattle.extents.specs.declared.words.ExtentWord.{ExtentWord}
 use Rattle.extents.specs.Shapes.{bad_shape, bad_extents, extent_of}
+use Rattle.places.specs.Layout.{Owner}
 use Rattle.record_dim.specs.Leaves.{first_fault}
 use Rattle.record_dim.specs.Schemas.{schema_fields}
 use Rattle.record_dim.specs.Trees.{tree_of, Record}
+use Rattle.blob_file.specs.Files.{owners_by}
+use Rattle.blob_file.specs.Headers.{CanLie}
+use Rattle.blob_file.specs.Opened.{with_header}
+use Rattle.blob_file.specs.Parts.{header_in}
 use Rattle.blob_file.specs.declared.fault.FileFault.TheVariants as fault
-use Rattle.blob_file.proofs.Lies.{on_both, shaped_by, ranged_by, can_by, none_by}
-use Rattle.blob_file.proofs.Refused.{refused_if}
+use Rattle.blob_file.proofs.Lies.{fit_by, shaped_by, ranged_by, can_by, none_by, same_owners}
+use Rattle.blob_file.proofs.Refused.{no_layout, no_length, refused, starved, on_ok}
 use Rattle.blob_file.proofs.open.empty_view.Goals as goal
+use Rattle.blob_file.proofs.open.empty_view.Goals.{In_ok-bytes}
+
+pub returns-in_err-schema-clause-refused : goal.returns-in_err-schema-clause-refused
+returns-in_err-schema-clause-refused c =
+    let header = c.args.header in
+    let told = with_header (Some (header_in header, c.args.body.now)) in
+    let is : c.from_residual.result ≡ Err c.in_err-schema.field-0.0 = search rules in
+    rw is (refused told fault.Layout c.in_err-schema.field-0.0
+    (λ none. no_layout (header_in header) c.args.body.now (λ can. none (fit_by header.dim c.requires.kind can.fit))) c.in_err-schema.ensures.refused)
 
 pub returns-in_err-extents-clause-refused : goal.returns-in_err-extents-clause-refused
 returns-in_err-extents-clause-refused c =
     let header = c.args.header in
+    let told = with_header (Some (header_in header, c.args.body.now)) in
     let words : c.as_slice.result.now ≡ header.words = search rules in
     let is : c.from_residual-in_err-extents.result ≡ Err c.in_err-extents.field-0.0 = search rules in
-    rw is (inr (
-      c.in_err-extents.ensures.refused.0,
-      λ can.
-          c.in_err-extents.ensures.refused.1 (ap bad_shape words ∙ shaped_by header c.requires.plain can)
-          (ap (λ (w : List ExtentWord). bad_extents w None) words ∙ ranged_by header c.requires.plain can),
-    ))
+    rw is (refused told fault.Layout c.in_err-extents.field-0.0
+    (λ none. no_layout (header_in header) c.args.body.now (λ can.
+    none (ap bad_shape words ∙ shaped_by header c.requires.plain can)
+    (ap (λ (w : List ExtentWord). bad_extents w None) words ∙ ranged_by header c.requires.plain can)))
+    (inr c.in_err-extents.ensures.refused))
 
-pub returns-clause-lies : goal.returns-clause-lies
-returns-clause-lies c =
+pub returns-in_err-bytes-clause-refused : goal.returns-in_err-bytes-clause-refused
+returns-in_err-bytes-clause-refused c =
     let header = c.args.header in
+    let told = with_header (Some (header_in header, c.args.body.now)) in
     let words : c.as_slice.result.now ≡ header.words = search rules in
     let fields = schema_fields c.in_ok-schema.schema in
-    let made : Record fields ≡ tree_of header.dim = c.in_ok-schema.ensures.made in
     let are : c.in_ok-extents.extents ≡ map (extent_of 0) header.words = c.in_ok-extents.ensures.extents ∙ ap (map (extent_of 0)) words in
-    let fit : first_fault (tree_of header.dim) ≡ None = c.in_ok-schema.ensures.fit in
+    let is : c.from_residual-in_err-bytes.result ≡ Err c.in_err-bytes.field-0.0 = search rules in
+    rw is (refused told fault.Layout c.in_err-bytes.field-0.0
+    (λ none. no_layout (header_in header) c.args.body.now (none_by header c.requires.plain fields c.in_ok-extents.extents c.in_ok-schema.ensures.made are none)) c.in_err-bytes.ensures.refused)
+
+-- a view can be made
+can : (c : In_ok-bytes) → CanLie (header_in c.args.header)
+can c =
+    let header = c.args.header in
+    let words : c.as_slice.result.now ≡ header.words = search rules in
+    let are : c.in_ok-extents.extents ≡ map (extent_of 0) header.words = c.in_ok-extents.ensures.extents ∙ ap (map (extent_of 0)) words in
     let shaped : bad_shape header.words ≡ None = sym (ap bad_shape words) ∙ c.in_ok-extents.ensures.shaped in
     let ranged : bad_extents header.words None ≡ None = sym (ap (λ (w : List ExtentWord). bad_extents w None) words) ∙ c.in_ok-extents.ensures.ranged in
-    on_both c.made.result (λ mapped within. can_by header c.requires.plain fields c.in_ok-extents.extents made are fit shaped ranged mapped within) c.made.ensures.mapped c.made.ensures.within
+    can_by header c.requires.plain (schema_fields c.in_ok-schema.schema) c.in_ok-extents.extents c.in_ok-schema.ensures.made are c.in_ok-schema.ensures.fit shaped ranged
+    c.in_ok-bytes.ensures.mapped c.in_ok-bytes.ensures.within
 
-pub returns-clause-refused : goal.returns-clause-refused
-returns-clause-refused c =
+-- and has so many bytes
+bits : (c : In_ok-bytes) → 8 * c.in_ok-bytes.bytes ≡ sum_by (length {A = Owner}) (owners_by (header_in c.args.header))
+bits c =
     let header = c.args.header in
     let words : c.as_slice.result.now ≡ header.words = search rules in
-    let fields = schema_fields c.in_ok-schema.schema in
-    let made : Record fields ≡ tree_of header.dim = c.in_ok-schema.ensures.made in
     let are : c.in_ok-extents.extents ≡ map (extent_of 0) header.words = c.in_ok-extents.ensures.extents ∙ ap (map (extent_of 0)) words in
-    refused_if c.made.result fault.Layout (λ none. none_by header c.requires.plain fields c.in_ok-extents.extents made are none) c.made.ensures.refused
+    c.in_ok-bytes.ensures.bytes
+    ∙ ap (sum_by (length {A = Owner})) (same_owners header c.requires.plain (schema_fields c.in_ok-schema.schema) c.in_ok-extents.extents c.in_ok-schema.ensures.made are)
+
+pub returns-then-body-bytes-clause-refused : goal.returns-then-body-bytes-clause-refused
+returns-then-body-bytes-clause-refused c =
+    let at = (goal.at.returns-then-body-bytes-clause-refused c).In_ok-bytes in
+    let header = header_in c.args.header in
+    inr (no_length header c.args.body.now (can at) (λ same. c.if-body-bytes.true (let equal : length c.args.body.now ≡ c.in_ok-bytes.bytes = omega (arith, same, bits at) in equal)))
+
+pub returns-clause-lies : goal.returns-clause-lies
+returns-clause-lies c = on_ok c.zeros.result (can (goal.at.returns-clause-lies c).In_ok-bytes)
+
+pub returns-clause-sized : goal.returns-clause-sized
+returns-clause-sized c = on_ok c.zeros.result (let same : 8 * length c.args.body.now ≡ 8 * c.in_ok-bytes.bytes = omega arith in same ∙ bits (goal.at.returns-clause-sized c).In_ok-bytes)
+
+pub returns-clause-refused : goal.returns-clause-refused
+returns-clause-refused c = starved (with_header (Some (header_in c.args.header, c.args.body.now))) c.zeros.result c.zeros.ensures.refused

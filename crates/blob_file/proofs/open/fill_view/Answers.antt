@@ -1,21 +1,16 @@
-use Rattle.std.proofs.Common.{rules, ◌≡◌, ◌∙◌, ◌*◌, ℕ, length, sym, ap, subst}
-use Rattle.std.specs.Prelude.{sum_by}
-use Rattle.places.specs.Layout.{Owner}
+use Rattle.std.proofs.Common.{rules, ◌≡◌, ◌∙◌, sym, ap, subst, Result}
 use Rattle.views.specs.Tables.{owners_of}
 use Rattle.views.specs.Tallies.{blob_lengths}
 use Rattle.blob_file.specs.Opened.{cut, with_body, with_blobs, IsReadInto, Saved}
 use Rattle.blob_file.specs.Saving.{header_of}
 use Rattle.blob_file.specs.declared.fault.FileFault.{FileFault}
-use Rattle.std.proofs.Common.{Result}
 use Rattle.blob_file.proofs.Fills.{body_is}
 use Rattle.blob_file.proofs.open.fill_view.Goals as goal
 
 pub returns-clause-read : goal.returns-clause-read
 returns-clause-read g c =
     let table = c.args.view.now in
-    let long : length c.args.body.now ≡ c.blob_bytes.result = search rules in
-    let sized : 8 * length c.args.body.now ≡ sum_by (length {A = Owner}) (owners_of table) = ap (λ (n : ℕ). 8 * n) long ∙ c.blob_bytes.ensures.sum in
     let cuts : c.as_slice.result.now ≡ cut (blob_lengths (owners_of table)) c.args.body.now = c.as_slice.ensures.value ∙ (rw c.map-2.ensures.layout at c.in_ok-blobs.ensures.cut) in
     let told : with_body (header_of table) c.args.body.now ≡ with_blobs (header_of table) c.as_slice.result.now =
-    body_is (header_of table) c.args.body.now sized ∙ ap (with_blobs (header_of table)) (sym cuts) in
+    body_is (header_of table) c.args.body.now c.requires.sized ∙ ap (with_blobs (header_of table)) (sym cuts) in
     subst (λ (t : Result Saved FileFault). IsReadInto t c.fill_from.new.view c.fill_from.result) (sym told) c.fill_from.ensures.read

@@ -1,11 +1,14 @@
-use Rattle.std.proofs.Common.{rules, ◌≡◌, ◌∙◌, drop, Some, Ok, Err, Result, inr, sym, ap, subst}
+use Rattle.std.proofs.Common.{rules, ◌≡◌, ◌∙◌, drop, length, Some, Ok, Err, Result, inr, sym, ap, subst}
+use Rattle.std.specs.Prelude.{sum_by}
+use Rattle.places.specs.Layout.{Owner}
+use Rattle.views.specs.Tables.{Table, owners_of}
 use Rattle.blob_file.specs.Opened.{Saved, header_at, with_body, opened, empty_table, IsRead}
 use Rattle.blob_file.specs.Parts.{header_in}
 use Rattle.blob_file.specs.Saving.{header_of}
 use Rattle.blob_file.specs.declared.fault.FileFault.{FileFault}
 use Rattle.blob_file.specs.declared.fault.FileFault.TheVariants as fault
 use Rattle.blob_file.proofs.Opens.{read_is_file}
-use Rattle.blob_file.proofs.Refused.{no_magic, no_header, no_layout, body_told, refused}
+use Rattle.blob_file.proofs.Refused.{no_magic, no_header, header_told, body_told, refused}
 use Rattle.blob_file.proofs.open.read_file.Goals as goal
 
 pub returns-in_default-clause-read : goal.returns-in_default-clause-read
@@ -26,12 +29,15 @@ returns-in_err-view-clause-read g c =
     let header = header_in c.in_ok-header.header in
     let found : header_at (drop 8 bytes) ≡ Some (header, c.in_ok-header.body.now) = sym (ap header_at c.in-Some.ensures.1) ∙ c.in_ok-header.ensures.found in
     let is : c.from_residual-in_err-view.result ≡ Err c.in_err-view.field-0.0 = search rules in
-    rw is (refused (opened bytes) fault.Layout c.in_err-view.field-0.0 (λ none. no_layout bytes begins header c.in_ok-header.body.now found none) c.in_err-view.ensures.refused)
+    rw is (subst (λ (t : Result Saved FileFault). IsRead t (Err c.in_err-view.field-0.0)) (sym (header_told bytes begins header c.in_ok-header.body.now found)) c.in_err-view.ensures.refused)
 
 pub fill_view-requires : goal.fill_view-requires
 fill_view-requires g c =
     let made = c.in_ok-view.ensures.made in
-    record { empty = made ∙ ap empty_table (sym (ap header_of made)) }
+    record {
+      empty = made ∙ ap empty_table (sym (ap header_of made));
+      sized = c.in_ok-view.ensures.sized ∙ sym (ap (λ (t : Table). sum_by (length {A = Owner}) (owners_of t)) made);
+    }
 
 pub returns-in-Ok : goal.returns-in-Ok
 returns-in-Ok g c =

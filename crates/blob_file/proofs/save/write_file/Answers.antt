@@ -3,33 +3,29 @@ use Rattle.layout_io.specs.Writing.{Wrote, Stopped}
 use Rattle.blob_file.specs.Files.{record_text, view_text}
 use Rattle.blob_file.specs.Saving.{header_of}
 use Rattle.blob_file.specs.declared.fault.SaveEnd.TheVariants.{Failed}
-use Rattle.blob_file.proofs.SavedFile.{both_short, file_text}
+use Rattle.blob_file.proofs.SavedFile.{file_text}
 use Rattle.blob_file.proofs.save.write_file.Goals as goal
 
 pub returns-in_err-put_file-clause-saved : goal.returns-in_err-put_file-clause-saved
 returns-in_err-put_file-clause-saved g c =
     let table = c.args.view.now in
-    let first = c.as_bytes-first.result.now in
-    let second = c.as_bytes-second.result.now in
+    let first = c.as_bytes.result.now in
+    let second = c.as_bytes-2.result.now in
     let one : first ≡ record_text (header_of table) = search rules in
     let two : second ≡ view_text (header_of table) = search rules in
-    let few : length first ≤ 4096 = search rules in
-    let less : length second ≤ 4096 = search rules in
     let is : c.from_residual-in_err-put_file.result ≡ Err Failed = search rules in
     rw is (
-      both_short table first second one two few less,
+      c.in_ok-record.ensures.short,
       subst (λ (text : List ℕ). Stopped g.K.Sink.taken g.K.Sink.faults c.args.sink.now c.put_file.new.sink text) (file_text table first second one two) c.in_err-put_file.ensures,
     )
 
 pub returns-clause-saved : goal.returns-clause-saved
 returns-clause-saved g c =
     let table = c.args.view.now in
-    let first = c.as_bytes-first.result.now in
-    let second = c.as_bytes-second.result.now in
+    let first = c.as_bytes.result.now in
+    let second = c.as_bytes-2.result.now in
     let one : first ≡ record_text (header_of table) = search rules in
-    let two : second ≡ view_text (header_of table) = search rules in
-    let few : length first ≤ 4096 = search rules in
-    let less : length second ≤ 4096 = search rules in (
-      both_short table first second one two few less,
+    let two : second ≡ view_text (header_of table) = search rules in (
+      c.in_ok-record.ensures.short,
       subst (λ (text : List ℕ). Wrote g.K.Sink.taken g.K.Sink.faults c.args.sink.now c.put_file.new.sink text) (file_text table first second one two) c.in_ok-put_file.ensures,
     )

@@ -1,4 +1,4 @@
-use Rattle.std.proofs.Common.{rules, ◌≡◌, ◌*ℤ◌, ◌+ℤ◌, ℤ, pos, Some, length, get_or, take, drop, map, to_z, of_z, w64, SFits, refl, sym, ap, subst, ◌∙◌}
+use Rattle.std.proofs.Common.{rules, ◌≡◌, ◌*ℤ◌, ◌+ℤ◌, ℤ, pos, Some, length, take, drop, map, to_z, of_z, w64, SFits, refl, sym, ap, subst, ◌∙◌}
 use Rattle.std.specs.Int.{int_min, int_max}
 use Rattle.std.specs.List.{count_by}
 use Rattle.std.specs.Option.{unwrap_or}
@@ -10,7 +10,8 @@ use Rattle.views.specs.Columns.{column}
 use Rattle.lane_kernels.specs.Kernels.{IsNarrow, compares}
 use Rattle.lane_kernels.specs.Runs.{fault_in, AreNext}
 use Rattle.lane_kernels.specs.declared.kernel.Kernel.TheVariants.{Sum, Least, Greatest, CountWhere}
-use Rattle.lane_kernels.proofs.Numbers.{narrow_rows, sum_more, extreme_more, same_min, same_max, least_of, greatest_of, count_more, sums_fit, count_fits, count_whole}
+use Rattle.lane_kernels.specs.declared.reduce.Reduction.TheVariants as form
+use Rattle.lane_kernels.proofs.Numbers.{narrow_rows, reduced_more, narrow_sums_fit, count_more, count_fits, count_whole}
 use Rattle.lane_kernels.proofs.Stores.{axpy_taken, clamp_taken, rows_read_alone}
 use Rattle.lane_kernels.proofs.rows.on_rows.Given as given
 use Rattle.lane_kernels.proofs.rows.on_rows.Goals as goal
@@ -57,14 +58,11 @@ returns-in-Clamp-clause-taken g c =
     rw c.in-Clamp.is (clamp_taken c.args.view.now c.read_rows-in-Clamp.new.view c.store_rows-in-Clamp.new.view c.in-Clamp.x lo hi c.args.row (length c.args.values.now) xs c.clamp.new.values (fault_in c.store_rows-in-Clamp.result)
     c.read_rows-in-Clamp.ensures.same c.read_rows-in-Clamp.ensures.values made c.requires.rows.inside c.store_rows-in-Clamp.ensures.fault c.store_rows-in-Clamp.ensures.stored)
 
-pub sum-requires : goal.sum-requires
-sum-requires g c =
-    let x = c.in-Sum.x in
-    let rows = c.args.view.now.rows in
-    let fits : SFits w64 c.unwrap_or.result = search rules in
-    let start : to_z w64 (of_z w64 c.unwrap_or.result) ≡ unwrap_or c.args.number (pos 0) = to_z-of_z w64 c.unwrap_or.result fits ∙ c.unwrap_or.ensures in
-    let next : AreNext c.args.view.now.rows (Sum x) c.args.row (length c.args.values.now) c.args.number = rw c.in-Sum.is at c.requires.rows in
-    rw (start, c.read_rows-in-Sum.ensures.values) (sums_fit x rows c.args.row (length c.args.values.now) c.args.number c.requires.few c.read_rows-in-Sum.ensures.narrow next)
+pub with_more-requires : goal.with_more-requires
+with_more-requires g c =
+    let n = length c.args.values.now in
+    let next : AreNext c.args.view.now.rows (Sum c.in-Sum.x) c.args.row n c.args.number = rw c.in-Sum.is at c.requires.rows in
+    rw c.read_rows-in-Sum.ensures.values (narrow_sums_fit c.in-Sum.x c.args.view.now.rows c.args.row n c.args.number c.requires.few c.read_rows-in-Sum.ensures.narrow next)
 
 pub returns-in-Sum-clause-taken : goal.returns-in-Sum-clause-taken
 returns-in-Sum-clause-taken g c =
@@ -72,13 +70,11 @@ returns-in-Sum-clause-taken g c =
 
 pub returns-in-Sum-clause-number : goal.returns-in-Sum-clause-number
 returns-in-Sum-clause-number g c =
+    let n = length c.args.values.now in
     let x = c.in-Sum.x in
-    let fits : SFits w64 c.unwrap_or.result = search rules in
-    let sum : SFits w64 c.sum.result = search rules in
-    let next : AreNext c.args.view.now.rows (Sum x) c.args.row (length c.args.values.now) c.args.number = rw c.in-Sum.is at c.requires.rows in
-    rw (c.in-Sum.is, to_z-of_z w64 c.sum.result sum)
-    (sum_more x c.args.view.now.rows c.args.row (length c.args.values.now) c.args.number c.read_rows-in-Sum.new.values (to_z w64 (of_z w64 c.unwrap_or.result)) c.sum.result next c.read_rows-in-Sum.ensures.values
-    (to_z-of_z w64 c.unwrap_or.result fits ∙ c.unwrap_or.ensures) c.sum.ensures)
+    let next : AreNext c.args.view.now.rows (Sum x) c.args.row n c.args.number = rw c.in-Sum.is at c.requires.rows in
+    rw c.in-Sum.is (reduced_more (Sum x) form.Sum x c.args.view.now.rows c.args.row n c.args.number c.with_more.result c.read_rows-in-Sum.new.values (record { gives = λ rows. refl }) next
+    c.read_rows-in-Sum.ensures.values c.with_more.ensures)
 
 pub returns-in-Least-clause-taken : goal.returns-in-Least-clause-taken
 returns-in-Least-clause-taken g c =
@@ -94,46 +90,38 @@ returns-in-CountWhere-clause-taken g c =
 
 pub returns-in-Least-clause-number : goal.returns-in-Least-clause-number
 returns-in-Least-clause-number g c =
+    let n = length c.args.values.now in
     let x = c.in-Least.x in
-    let values = c.read_rows-in-Least.new.values in
-    let head : SFits w64 (get_or values 0 (pos 0)) = search rules in
-    let fits : SFits w64 c.unwrap_or-in-Least.result = search rules in
-    let found : SFits w64 c.least.result = search rules in
-    let next : AreNext c.args.view.now.rows (Least x) c.args.row (length c.args.values.now) c.args.number = rw c.in-Least.is at c.requires.rows in
-    rw (c.in-Least.is, to_z-of_z w64 c.least.result found)
-    (extreme_more int_min (Least x) x c.args.view.now.rows c.args.row (length c.args.values.now) c.args.number values (to_z w64 (of_z w64 c.unwrap_or-in-Least.result)) c.least.result same_min (least_of x) next
-    c.read_rows-in-Least.ensures.values (to_z-of_z w64 c.unwrap_or-in-Least.result fits ∙ c.unwrap_or-in-Least.ensures ∙ ap (unwrap_or c.args.number) (to_z-of_z w64 (get_or values 0 (pos 0)) head)) c.least.ensures)
+    let next : AreNext c.args.view.now.rows (Least x) c.args.row n c.args.number = rw c.in-Least.is at c.requires.rows in
+    rw c.in-Least.is (reduced_more (Least x) form.Least x c.args.view.now.rows c.args.row n c.args.number c.with_more-in-Least.result c.read_rows-in-Least.new.values (record { gives = λ rows. refl }) next
+    c.read_rows-in-Least.ensures.values c.with_more-in-Least.ensures)
 
 pub returns-in-Greatest-clause-number : goal.returns-in-Greatest-clause-number
 returns-in-Greatest-clause-number g c =
+    let n = length c.args.values.now in
     let x = c.in-Greatest.x in
-    let values = c.read_rows-in-Greatest.new.values in
-    let head : SFits w64 (get_or values 0 (pos 0)) = search rules in
-    let fits : SFits w64 c.unwrap_or-in-Greatest.result = search rules in
-    let found : SFits w64 c.greatest.result = search rules in
-    let next : AreNext c.args.view.now.rows (Greatest x) c.args.row (length c.args.values.now) c.args.number = rw c.in-Greatest.is at c.requires.rows in
-    rw (c.in-Greatest.is, to_z-of_z w64 c.greatest.result found)
-    (extreme_more int_max (Greatest x) x c.args.view.now.rows c.args.row (length c.args.values.now) c.args.number values (to_z w64 (of_z w64 c.unwrap_or-in-Greatest.result)) c.greatest.result same_max (greatest_of x) next
-    c.read_rows-in-Greatest.ensures.values (to_z-of_z w64 c.unwrap_or-in-Greatest.result fits ∙ c.unwrap_or-in-Greatest.ensures ∙ ap (unwrap_or c.args.number) (to_z-of_z w64 (get_or values 0 (pos 0)) head)) c.greatest.ensures)
+    let next : AreNext c.args.view.now.rows (Greatest x) c.args.row n c.args.number = rw c.in-Greatest.is at c.requires.rows in
+    rw c.in-Greatest.is (reduced_more (Greatest x) form.Greatest x c.args.view.now.rows c.args.row n c.args.number c.with_more-in-Greatest.result c.read_rows-in-Greatest.new.values (record { gives = λ rows. refl }) next
+    c.read_rows-in-Greatest.ensures.values c.with_more-in-Greatest.ensures)
 
 -- a count
 next_is : (g : given.Over) (c : goal.After-count g) → AreNext c.args.view.now.rows (CountWhere c.in-CountWhere.x c.in-CountWhere.op c.in-CountWhere.c) c.args.row (length c.args.values.now) c.args.number
 next_is g c = rw c.in-CountWhere.is at c.requires.rows
 
 whole : (g : given.Over) (c : goal.After-count g)
-    → to_z w64 (of_z w64 c.unwrap_or-in-CountWhere.result) +ℤ to_z w64 c.count.result
+    → to_z w64 (of_z w64 c.unwrap_or.result) +ℤ to_z w64 c.count.result
     ≡ unwrap_or c.args.number (pos 0) +ℤ pos (count_by (λ value. compares c.in-CountWhere.op value c.in-CountWhere.c) (column c.in-CountWhere.x (take (length c.args.values.now) (drop c.args.row c.args.view.now.rows))))
 whole g c =
     let op = c.in-CountWhere.op in
     let constant = c.in-CountWhere.c in
-    let fits : SFits w64 c.unwrap_or-in-CountWhere.result = search rules in
+    let fits : SFits w64 c.unwrap_or.result = search rules in
     let small : SFits w64 constant = search rules in
     let counted = c.count.ensures ∙ ap (λ (k : ℤ). count_by (λ value. compares op value k) c.read_rows-in-CountWhere.new.values) (to_z-of_z w64 constant small)
     ∙ ap (count_by (λ value. compares op value constant)) c.read_rows-in-CountWhere.ensures.values in
-    count_whole c.in-CountWhere.x op constant c.args.view.now.rows c.args.row (length c.args.values.now) c.args.number (to_z w64 (of_z w64 c.unwrap_or-in-CountWhere.result)) c.count.result c.requires.few (next_is g c)
-    (to_z-of_z w64 c.unwrap_or-in-CountWhere.result fits ∙ c.unwrap_or-in-CountWhere.ensures) counted
+    count_whole c.in-CountWhere.x op constant c.args.view.now.rows c.args.row (length c.args.values.now) c.args.number (to_z w64 (of_z w64 c.unwrap_or.result)) c.count.result c.requires.few (next_is g c)
+    (to_z-of_z w64 c.unwrap_or.result fits ∙ c.unwrap_or.ensures) counted
 
-sum_fits : (g : given.Over) (c : goal.After-count g) → SFits w64 (to_z w64 (of_z w64 c.unwrap_or-in-CountWhere.result) +ℤ to_z w64 c.count.result)
+sum_fits : (g : given.Over) (c : goal.After-count g) → SFits w64 (to_z w64 (of_z w64 c.unwrap_or.result) +ℤ to_z w64 c.count.result)
 sum_fits g c =
     subst (SFits w64) (sym (whole g c))
     (count_fits c.in-CountWhere.x c.in-CountWhere.op c.in-CountWhere.c c.args.view.now.rows c.args.row (length c.args.values.now) c.args.number c.requires.few (next_is g c))
@@ -143,6 +131,6 @@ overflow_add-result g c = sum_fits g c
 
 pub returns-in-CountWhere-clause-number : goal.returns-in-CountWhere-clause-number
 returns-in-CountWhere-clause-number g c =
-    rw (c.in-CountWhere.is, to_z-of_z w64 (to_z w64 (of_z w64 c.unwrap_or-in-CountWhere.result) +ℤ to_z w64 c.count.result) (sum_fits g c))
+    rw (c.in-CountWhere.is, to_z-of_z w64 (to_z w64 (of_z w64 c.unwrap_or.result) +ℤ to_z w64 c.count.result) (sum_fits g c))
     (ap (λ (z : ℤ). Some z) (whole g c)
     ∙ count_more c.in-CountWhere.x c.in-CountWhere.op c.in-CountWhere.c c.args.view.now.rows c.args.row (length c.args.values.now) c.args.number (next_is g c))

@@ -1,7 +1,9 @@
 use Rattle.std.proofs.Common.{◌≡◌, ◌∙◌, ℕ, List, length, sym, ap, subst, arith}
 use Rattle.extents.specs.Indices.{indices}
-use Rattle.layout_copy.specs.RowRuns.{AllTake, CountsNothing}
-use Rattle.layout_copy.proofs.RowRuns.{nothing_after, alike_after, all_before}
+use Rattle.views.specs.Runs.{CountsNothing}
+use Rattle.views.specs.RunsLaws.{nothing_after}
+use Rattle.layout_copy.specs.RowRuns.{AllTake}
+use Rattle.layout_copy.proofs.RowRuns.{alike_after, all_before}
 use Rattle.layout_copy.proofs.row_runs.copy_row_runs.Goals as goal
 
 pub copy_leaves-requires-clause-alike : goal.copy_leaves-requires-clause-alike

@@ -4,7 +4,7 @@ use Rattle.std.proofs.lemmas.Int.{to_z-of_z}
 use Rattle.places.specs.declared.piece.Piece.{Piece}
 use Rattle.places.specs.declared.piece.Hold.{Hold}
 use Rattle.places.specs.Laws.{IsLocated}
-use Rattle.piece_bits.specs.CellsLaws.{IsCell, some_bits, few_bits, bit_count, read_small, read_entry_is}
+use Rattle.piece_bits.specs.CellsLaws.{IsCell, some_bits, few_bits, bit_count, within, read_small, read_entry_is}
 use Rattle.piece_bits.proofs.entry.read_entry.Given as given
 use Rattle.piece_bits.proofs.entry.read_entry.Goals as goal
 use Rattle.piece_bits.proofs.entry.read_entry.Goals.{After-as_slice, After-read_pieces}
@@ -23,6 +23,9 @@ at g c =
           subst (λ (ps : List Piece). IsLocated (g.M.Mapping.layout m) c.args.slot c.args.cell (slice_index (map (λ (h : Hold). h.width) (g.M.Mapping.hold_list m)) c.args.cell) ps)
           (sym c.as_slice.ensures.value) c.locate-pieces.ensures;
     }
+
+pub read_pieces-requires-clause-within : goal.read_pieces-requires-clause-within
+read_pieces-requires-clause-within g c = within (at g c) c.args.blobs.now c.requires.sized
 
 pub read_pieces-requires-clause-few : goal.read_pieces-requires-clause-few
 read_pieces-requires-clause-few g c = omega (arith, few_bits (at g c), bit_count (at g c))

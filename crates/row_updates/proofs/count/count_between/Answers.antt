@@ -19,7 +19,7 @@ returns-in_err-passes-clause-stopped g c = λ old before so_far.
     let rows : length c.loop-row.view.rows ≡ length c.args.view.now.rows = ap (λ (t : Table). length t.rows) kept.still in
     let small : c.loop-row.row < length c.loop-row.view.rows = omega (arith, rows) in
     rw is (count_ended old c.loop-row.view c.passes.new.view (bound_term c.args.filter.now) c.loop-row.row (before + c.loop-row.count) c.in_err-passes.field-0.0 small here
-    (sym (rw (index, c.side_of-side.ensures.term) at c.in_err-passes.ensures.value)) c.in_err-passes.ensures.named (rw (index, c.side_of-side.ensures.term) at c.passes.ensures.same))
+    (sym (rw index at c.in_err-passes.ensures.value)) c.in_err-passes.ensures.named (rw index at c.passes.ensures.same))
 
 pub loop-row-preserved : goal.loop-row-preserved
 loop-row-preserved g c =
@@ -32,8 +32,8 @@ loop-row-preserved g c =
       counted = λ old before so_far.
           let sum : before + (c.loop-row.count + c.from.result) ≡ (before + c.loop-row.count) + c.from.result = omega arith in
           rw sum (row_counted old c.loop-row.view c.passes.new.view (bound_term c.args.filter.now) c.loop-row.row (before + c.loop-row.count) c.from.result c.in_ok-passes.field-0
-          (kept.counted old before so_far) (sym (rw (index, c.side_of-side.ensures.term) at c.in_ok-passes.ensures.value)) c.from.ensures
-          (rw (index, c.side_of-side.ensures.term) at c.passes.ensures.same));
+          (kept.counted old before so_far) (sym (rw index at c.in_ok-passes.ensures.value)) c.from.ensures
+          (rw index at c.passes.ensures.same));
     }
 
 pub returns-clause-done : goal.returns-clause-done

@@ -5,14 +5,14 @@ use Rattle.views.specs.declared.fault.StoreFault.{StoreFault}
 use Rattle.row_updates.specs.declared.fault.UpdateFault.{UpdateFault}
 use Rattle.row_updates.specs.declared.fault.UpdateKind.{UpdateKind}
 use Rattle.row_updates.specs.Logs.{value_log}
-use Rattle.row_updates.specs.Rows.{side_setting, in_row, store_kind, ◌>>=◌}
+use Rattle.row_updates.specs.Rows.{setting_of, in_row, store_kind, ◌>>=◌}
 use Rattle.row_updates.proofs.Rows.{value_tested}
 use Rattle.row_updates.proofs.update.new_value.Goals as goal
 
 pub returns-in-Ok-clause-value : goal.returns-in-Ok-clause-value
 returns-in-Ok-clause-value g c =
     let value = c.in_ok-value.value in
-    let set = side_setting c.args.leaf c.args.side in
+    let set = setting_of c.args.set.now in
     let row = get_or c.args.view.now.rows c.args.row [] in
     let fits : FitsSigned w128 value = search rules in
     let gives = rw (to_z-of_z w128 value fits) at c.fits.ensures in
@@ -23,7 +23,7 @@ returns-in-Ok-clause-value g c =
 pub returns-in-Err-clause-value : goal.returns-in-Err-clause-value
 returns-in-Err-clause-value g c =
     let value = c.in_ok-value.value in
-    let set = side_setting c.args.leaf c.args.side in
+    let set = setting_of c.args.set.now in
     let row = get_or c.args.view.now.rows c.args.row [] in
     let fits : FitsSigned w128 value = search rules in
     let gives = rw (to_z-of_z w128 value fits) at c.fits.ensures in

@@ -1,6 +1,6 @@
 use Rattle.std.proofs.Common.{rules, ◌≡◌, ◌∙◌, Err, length, map, get_or, [], ap, sym}
 use Rattle.views.specs.Tables.{Table, answer_of, after_log}
-use Rattle.row_updates.specs.Rows.{side_filter, setting_of}
+use Rattle.row_updates.specs.Rows.{filter_term, setting_of}
 use Rattle.row_updates.specs.Logs.{filter_log, sides_log}
 use Rattle.row_updates.proofs.Logs.{log_more, tried_log_left, tried_log_fault, tried_log_done}
 use Rattle.row_updates.proofs.Rows.{tried_left, tried_stop, tried_done}
@@ -8,21 +8,21 @@ use Rattle.row_updates.proofs.update.try_at.Goals as goal
 
 pub returns-then-not-branch-clause-tried : goal.returns-then-not-branch-clause-tried
 returns-then-not-branch-clause-tried g c =
-    let filter = side_filter c.args.filter in
+    let filter = filter_term c.args.filter in
     let view = c.args.view.now in
     let test = rw c.if-not-branch.true at c.in_ok-passes.ensures.value in
     tried_left (answer_of view) filter (map setting_of c.args.sets.now) c.args.row (get_or view.rows c.args.row []) c.args.index.now test
 
 pub returns-then-not-branch-clause-same : goal.returns-then-not-branch-clause-same
 returns-then-not-branch-clause-same g c =
-    let filter = side_filter c.args.filter in
+    let filter = filter_term c.args.filter in
     let view = c.args.view.now in
     let test = rw c.if-not-branch.true at c.in_ok-passes.ensures.value in
     c.passes.ensures.same ∙ ap (after_log view) (sym (tried_log_left (answer_of view) filter (map setting_of c.args.sets.now) c.args.row (get_or view.rows c.args.row []) c.args.index.now test))
 
 pub returns-in_err-passes-clause-same : goal.returns-in_err-passes-clause-same
 returns-in_err-passes-clause-same g c =
-    let filter = side_filter c.args.filter in
+    let filter = filter_term c.args.filter in
     let view = c.args.view.now in
     let test = c.in_err-passes.ensures.value in
     c.passes.ensures.same ∙ ap (after_log view) (sym (tried_log_fault (answer_of view) filter (map setting_of c.args.sets.now) c.args.row (get_or view.rows c.args.row []) c.args.index.now c.in_err-passes.field-0.0 test))
@@ -32,7 +32,7 @@ new_values-requires-clause-rank g c = c.requires.rank ∙ ap (λ (s : Table). le
 
 pub returns-in_err-new_values-clause-refused : goal.returns-in_err-new_values-clause-refused
 returns-in_err-new_values-clause-refused g c =
-    let filter = side_filter c.args.filter in
+    let filter = filter_term c.args.filter in
     let view = c.args.view.now in
     let is : c.from_residual-in_err-new_values.result ≡ Err c.in_err-new_values.field-0.0 = search rules in
     let test = rw c.if-not-branch.false at c.in_ok-passes.ensures.value in
@@ -41,7 +41,7 @@ returns-in_err-new_values-clause-refused g c =
 
 pub returns-in_err-new_values-clause-same : goal.returns-in_err-new_values-clause-same
 returns-in_err-new_values-clause-same g c =
-    let filter = side_filter c.args.filter in
+    let filter = filter_term c.args.filter in
     let sets = map setting_of c.args.sets.now in
     let view = c.args.view.now in
     let row = get_or view.rows c.args.row [] in
@@ -52,7 +52,7 @@ returns-in_err-new_values-clause-same g c =
 
 pub returns-clause-tried : goal.returns-clause-tried
 returns-clause-tried g c =
-    let filter = side_filter c.args.filter in
+    let filter = filter_term c.args.filter in
     let view = c.args.view.now in
     let test = rw c.if-not-branch.false at c.in_ok-passes.ensures.value in
     let all = rw c.passes.ensures.same at c.in_ok-new_values.ensures.values in
@@ -60,7 +60,7 @@ returns-clause-tried g c =
 
 pub returns-clause-same : goal.returns-clause-same
 returns-clause-same g c =
-    let filter = side_filter c.args.filter in
+    let filter = filter_term c.args.filter in
     let sets = map setting_of c.args.sets.now in
     let view = c.args.view.now in
     let row = get_or view.rows c.args.row [] in

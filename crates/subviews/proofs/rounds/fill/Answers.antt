@@ -1,56 +1,106 @@
-use Rattle.std.proofs.Common.{rules, arith, FitsSigned, ap}
+use Rattle.std.proofs.Common.{rules, arith, ◌≡◌, ◌+◌, ◌-◌, ◌<◌, ◌≤◌, ℕ, length, FitsSigned, ap, sym, subst}
 use Rattle.std.specs.Int.{w128}
 use Rattle.std.proofs.lemmas.Int.{to_z-of_z}
 use Rattle.views.specs.Tables.{Table, answer_of, kept_of}
+use Rattle.subviews.specs.Plans.{IsFilled}
+use Rattle.subviews.proofs.Growth.{run_at, run_inside}
 use Rattle.subviews.proofs.Passes.{none_filled, refused_here, taken_here, fill_stopped, filled_more, filled_all, buffer_row, buffer_leaf}
-use Rattle.subviews.proofs.Ways.{row_held}
+use Rattle.subviews.proofs.Ways.{row_held, row_inside}
 use Rattle.subviews.proofs.rounds.fill.Goals as goal
 
 pub loop-row-init : goal.loop-row-init
-loop-row-init g c = (none_filled c.args.view.now c.args.buffer.now c.args.plan.now, c.new-walk.ensures)
+loop-row-init g c = record { filled = none_filled c.args.view.now c.args.buffer.now c.args.plan.now; walk = c.new-walk.ensures }
+
+pub loop-outer-init : goal.loop-outer-init
+loop-outer-init g c =
+    let plan = c.args.plan.now in
+    let run = c.next_run-run.result in
+    let done = c.fill_run-done.result in
+    let place : run.row + done ≡ c.loop-row.row + (run.first + done - run.first) = omega (arith, c.next_run-run.ensures.row) in
+    let before : IsFilled c.args.view.now c.loop-row.view c.args.buffer.now c.loop-row.buffer plan run.row =
+    subst (λ (n : ℕ). IsFilled c.args.view.now c.loop-row.view c.args.buffer.now c.loop-row.buffer plan n) (sym c.next_run-run.ensures.row) c.loop-row.invariant.filled in
+    record {
+      low = omega arith;
+      high = omega (arith, c.fill_run-done.ensures.few);
+      filled = subst (λ (n : ℕ). IsFilled c.args.view.now c.fill_run-done.new.view c.args.buffer.now c.fill_run-done.new.buffer plan n) place
+          (c.fill_run-done.ensures.filled c.args.view.now c.args.buffer.now c.requires.buffer before);
+    }
 
 pub value_at-value-requires-clause-row_in : goal.value_at-value-requires-clause-row_in
-value_at-value-requires-clause-row_in g c = row_held c.args.plan.now.window.now c.loop-row.row c.outer-outer.result c.outer-outer.ensures.entry
+value_at-value-requires-clause-row_in g c =
+    let window = c.args.plan.now.window.now in
+    let run = c.next_run-run.result in
+    let outer = c.loop-outer.outer in
+    row_held window (c.loop-row.row + (outer - run.first)) outer
+    (run_at window run c.loop-row.row outer c.next_run-run.ensures.run c.next_run-run.ensures.row c.loop-outer.invariant.low c.loop-outer-test.true)
+
+pub overflow_add-outer-end : goal.overflow_add-outer-end
+overflow_add-outer-end g c = omega (arith, run_inside c.args.plan.now.window.now c.next_run-run.result c.next_run-run.ensures.run, c.requires.plan.rows)
+
+pub overflow_step-outer : goal.overflow_step-outer
+overflow_step-outer g c =
+    omega (arith, c.fill_run-done.ensures.few, run_inside c.args.plan.now.window.now c.next_run-run.result c.next_run-run.ensures.run, c.requires.plan.rows)
+
+pub set-requires-clause-row_in : goal.set-requires-clause-row_in
+set-requires-clause-row_in g c =
+    let plan = c.args.plan.now in
+    let below = run_inside plan.window.now c.next_run-run.result c.next_run-run.ensures.run in
+    buffer_row c.args.view.now c.args.buffer.now c.loop-outer.buffer plan c.loop-outer.outer c.requires.plan c.requires.buffer (ap (λ (t : Table). t.extents) c.loop-outer.invariant.filled.same)
+    c.laws_of_table.ensures.table (omega (arith, c.loop-outer-test.true, below))
 
 pub returns-in-Err-clause-refused : goal.returns-in-Err-clause-refused
 returns-in-Err-clause-refused g c =
     let plan = c.args.plan.now in
+    let run = c.next_run-run.result in
+    let outer = c.loop-outer.outer in
     let value = c.value_at-value.result in
     let fits : FitsSigned w128 value = search rules in
     let answer = rw (to_z-of_z w128 value fits) at c.set.ensures.answer in
-    (fill_stopped c.args.view.now c.loop-row.view c.args.buffer.now c.loop-row.buffer plan c.loop-row.row c.outer-outer.result value c.requires.buffer c.loop-row.invariant.0 c.outer-outer.ensures.entry c.value_at-value.ensures.value
-    c.value_at-value.new.view c.in-Err.fault (refused_here (answer_of c.loop-row.buffer plan.leaf value) c.set.result c.in-Err.fault answer c.in-Err.is) c.value_at-value.ensures.read).0
+    let at = run_at plan.window.now run c.loop-row.row outer c.next_run-run.ensures.run c.next_run-run.ensures.row c.loop-outer.invariant.low c.loop-outer-test.true in
+    (fill_stopped c.args.view.now c.loop-outer.view c.args.buffer.now c.loop-outer.buffer plan (c.loop-row.row + (outer - run.first)) outer value c.requires.buffer c.loop-outer.invariant.filled at
+    c.value_at-value.ensures.value c.value_at-value.new.view c.in-Err.fault (refused_here (answer_of c.loop-outer.buffer plan.leaf value) c.set.result c.in-Err.fault answer c.in-Err.is) c.value_at-value.ensures.read).0
 
 pub returns-in-Err-clause-so_far : goal.returns-in-Err-clause-so_far
 returns-in-Err-clause-so_far g c =
     let plan = c.args.plan.now in
+    let run = c.next_run-run.result in
+    let outer = c.loop-outer.outer in
     let value = c.value_at-value.result in
     let fits : FitsSigned w128 value = search rules in
     let answer = rw (to_z-of_z w128 value fits) at c.set.ensures.answer in
-    (fill_stopped c.args.view.now c.loop-row.view c.args.buffer.now c.loop-row.buffer plan c.loop-row.row c.outer-outer.result value c.requires.buffer c.loop-row.invariant.0 c.outer-outer.ensures.entry c.value_at-value.ensures.value
-    c.value_at-value.new.view c.in-Err.fault (refused_here (answer_of c.loop-row.buffer plan.leaf value) c.set.result c.in-Err.fault answer c.in-Err.is) c.value_at-value.ensures.read).1
+    let at = run_at plan.window.now run c.loop-row.row outer c.next_run-run.ensures.run c.next_run-run.ensures.row c.loop-outer.invariant.low c.loop-outer-test.true in
+    (fill_stopped c.args.view.now c.loop-outer.view c.args.buffer.now c.loop-outer.buffer plan (c.loop-row.row + (outer - run.first)) outer value c.requires.buffer c.loop-outer.invariant.filled at
+    c.value_at-value.ensures.value c.value_at-value.new.view c.in-Err.fault (refused_here (answer_of c.loop-outer.buffer plan.leaf value) c.set.result c.in-Err.fault answer c.in-Err.is) c.value_at-value.ensures.read).1
 
-pub loop-row-preserved : goal.loop-row-preserved
-loop-row-preserved g c =
+pub loop-outer-preserved : goal.loop-outer-preserved
+loop-outer-preserved g c =
     let plan = c.args.plan.now in
     let old = c.args.view.now in
     let first = c.args.buffer.now in
-    let buffer = c.loop-row.buffer in
-    let outer = c.outer-outer.result in
+    let buffer = c.loop-outer.buffer in
+    let run = c.next_run-run.result in
+    let outer = c.loop-outer.outer in
+    let k : ℕ = c.loop-row.row + (outer - run.first) in
     let value = c.value_at-value.result in
+    let so_far = c.loop-outer.invariant.filled in
     let table = c.laws_of_table.ensures.table in
-    let same = c.loop-row.invariant.0.same in
-    let row_in = buffer_row old first buffer plan outer c.requires.plan c.requires.buffer (ap (λ (t : Table). t.extents) same) table c.outer-outer.ensures.below in
-    let leaf_in = buffer_leaf old first buffer plan c.requires.plan c.requires.buffer (ap (λ (t : Table). t.fields) same) in
+    let at = run_at plan.window.now run c.loop-row.row outer c.next_run-run.ensures.run c.next_run-run.ensures.row c.loop-outer.invariant.low c.loop-outer-test.true in
+    let below = row_inside plan.window.now outer (row_held plan.window.now k outer at) in
+    let row_in = buffer_row old first buffer plan outer c.requires.plan c.requires.buffer (ap (λ (t : Table). t.extents) so_far.same) table below in
+    let leaf_in = buffer_leaf old first buffer plan c.requires.plan c.requires.buffer (ap (λ (t : Table). t.fields) so_far.same) in
     let fits : FitsSigned w128 value = search rules in
     let answer = rw (to_z-of_z w128 value fits) at c.set.ensures.answer in
     let stored = rw (c.in_default.is, to_z-of_z w128 value fits) at c.set.ensures.stored in
-    let taken = taken_here value (answer_of buffer plan.leaf value) c.set.result answer c.in_default.is in (
-      filled_more old c.loop-row.view first buffer plan c.loop-row.row outer value c.requires.buffer c.loop-row.invariant.0 c.outer-outer.ensures.entry c.value_at-value.ensures.value
-          c.value_at-value.new.view c.set.new.self (kept_of buffer plan.leaf value) taken table row_in leaf_in c.value_at-value.ensures.read stored,
-      c.outer-outer.ensures.walk,
-    )
+    let taken = taken_here value (answer_of buffer plan.leaf value) c.set.result answer c.in_default.is in
+    let next : k + 1 ≡ c.loop-row.row + (outer + 1 - run.first) = omega (arith, c.loop-outer.invariant.low) in
+    record {
+      low = omega (arith, c.loop-outer.invariant.low);
+      high = omega (arith, c.loop-outer-test.true);
+      filled = subst (λ (n : ℕ). IsFilled old c.value_at-value.new.view first c.set.new.self plan n) next
+          (filled_more old c.loop-outer.view first buffer plan k outer value c.requires.buffer so_far at c.value_at-value.ensures.value
+          c.value_at-value.new.view c.set.new.self (kept_of buffer plan.leaf value) (length buffer.rows) taken table.shape row_in leaf_in c.value_at-value.ensures.read stored);
+    }
 
 pub returns-clause-filled : goal.returns-clause-filled
 returns-clause-filled g c =
-    filled_all c.args.view.now c.loop-row.view c.args.buffer.now c.loop-row.buffer c.args.plan.now c.loop-row.row (omega (arith, c.count-row-end.ensures.rows, c.loop-row-test.false)) c.loop-row.invariant.0
+    filled_all c.args.view.now c.loop-row.view c.args.buffer.now c.loop-row.buffer c.args.plan.now c.loop-row.row (omega (arith, c.count-count.ensures.rows, c.loop-row-test.false)) c.loop-row.invariant.filled

@@ -1,5 +1,5 @@
-use Rattle.std.proofs.Common.{◌-◌, IfSome}
-use Rattle.subviews.specs.Plans.{IsNearPair, IsWalk}
+use Rattle.std.proofs.Common.{◌-◌}
+use Rattle.subviews.specs.Plans.{IsWalk}
 use Rattle.subviews.proofs.Passes.{IsStored}
 use Rattle.subviews.proofs.rounds.store_back.Given as goal
 
@@ -7,7 +7,6 @@ abbrev pub invariant-loop-row : goal.invariant-loop-row
 invariant-loop-row g l = record {
   stored : IsStored l.initial.view l.view l.initial.buffer l.buffer l.plan l.row;
   walk : IsWalk l.plan.window.now l.walk l.row;
-  near : IfSome l.pair (IsNearPair l.view l.buffer l.plan.leaf);
 }
 
 abbrev pub decreases-loop-row : goal.decreases-loop-row

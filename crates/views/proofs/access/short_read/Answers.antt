@@ -8,14 +8,14 @@ use Rattle.views.proofs.access.short_read.Goals as goal
 pub bounds-blobs-short : goal.bounds-blobs-short
 bounds-blobs-short c =
     blob_there c.args.map.now.holds c.args.row c.args.leaf c.laws_of.ensures.lawful c.laws_of.ensures.paired c.requires.row_in c.requires.leaf_in
-    (c.short-rule.ensures.form c.in_ok-start.ensures.some) c.in_ok-start.start c.in_ok-start.ensures.start c.args.blobs.now c.requires.laid
+    (c.short-rule.ensures.form c.in_ok-start.ensures.some) c.in_ok-start.start c.in_ok-start.ensures.start c.args.blobs.now c.requires.laid.sized
     c.in_default.not-Scattered
 
 pub offset_bounds-blobs-short : goal.offset_bounds-blobs-short
 offset_bounds-blobs-short c =
     let low : c.short-rule.result.now.short.blob < length c.args.blobs.now =
     blob_there c.args.map.now.holds c.args.row c.args.leaf c.laws_of.ensures.lawful c.laws_of.ensures.paired c.requires.row_in c.requires.leaf_in
-    (c.short-rule.ensures.form c.in_ok-start.ensures.some) c.in_ok-start.start c.in_ok-start.ensures.start c.args.blobs.now c.requires.laid
+    (c.short-rule.ensures.form c.in_ok-start.ensures.some) c.in_ok-start.start c.in_ok-start.ensures.start c.args.blobs.now c.requires.laid.sized
     c.in_default.not-Scattered in
     omega arith
 
@@ -23,7 +23,7 @@ blob : (c : goal.After-read_word) → c.index-blobs-short.result ≡ get_or c.ar
 blob c =
     let low : c.short-rule.result.now.short.blob < length c.args.blobs.now =
     blob_there c.args.map.now.holds c.args.row c.args.leaf c.laws_of.ensures.lawful c.laws_of.ensures.paired c.requires.row_in c.requires.leaf_in
-    (c.short-rule.ensures.form c.in_ok-start.ensures.some) c.in_ok-start.start c.in_ok-start.ensures.start c.args.blobs.now c.requires.laid
+    (c.short-rule.ensures.form c.in_ok-start.ensures.some) c.in_ok-start.start c.in_ok-start.ensures.start c.args.blobs.now c.requires.laid.sized
     c.in_default.not-Scattered in
     get_or_read c.args.blobs.now c.short-rule.result.now.short.blob c.index-blobs-short.result low c.index-blobs-short.is []
 
@@ -31,18 +31,18 @@ pub read_word-requires : goal.read_word-requires
 read_word-requires c =
     let low : c.short-rule.result.now.short.blob < length c.args.blobs.now =
     blob_there c.args.map.now.holds c.args.row c.args.leaf c.laws_of.ensures.lawful c.laws_of.ensures.paired c.requires.row_in c.requires.leaf_in
-    (c.short-rule.ensures.form c.in_ok-start.ensures.some) c.in_ok-start.start c.in_ok-start.ensures.start c.args.blobs.now c.requires.laid
+    (c.short-rule.ensures.form c.in_ok-start.ensures.some) c.in_ok-start.start c.in_ok-start.ensures.start c.args.blobs.now c.requires.laid.sized
     c.in_default.not-Scattered in
     let there : c.index-blobs-short.result ≡ get_or c.args.blobs.now c.short-rule.result.now.short.blob [] =
     get_or_read c.args.blobs.now c.short-rule.result.now.short.blob c.index-blobs-short.result low c.index-blobs-short.is [] in
     record {
       form =
           is_word c.args.map.now.holds c.args.row c.args.leaf c.laws_of.ensures.lawful c.laws_of.ensures.paired c.requires.row_in c.requires.leaf_in
-          (c.short-rule.ensures.form c.in_ok-start.ensures.some) c.in_ok-start.start c.in_ok-start.ensures.start c.args.blobs.now c.requires.laid
+          (c.short-rule.ensures.form c.in_ok-start.ensures.some) c.in_ok-start.start c.in_ok-start.ensures.start c.args.blobs.now c.requires.laid.sized
           c.in_default.not-Scattered;
       within =
           word_there c.args.map.now.holds c.args.row c.args.leaf c.laws_of.ensures.lawful c.laws_of.ensures.paired c.requires.row_in c.requires.leaf_in
-          (c.short-rule.ensures.form c.in_ok-start.ensures.some) c.in_ok-start.start c.in_ok-start.ensures.start c.args.blobs.now c.requires.laid
+          (c.short-rule.ensures.form c.in_ok-start.ensures.some) c.in_ok-start.start c.in_ok-start.ensures.start c.args.blobs.now c.requires.laid.sized
           c.in_default.not-Scattered c.index-blobs-short.result there;
     }
 
@@ -51,13 +51,13 @@ returns-in_default-clause-value c =
     let fits : SFits w128 c.read_word.result = search rules in
     to_z-of_z w128 c.read_word.result fits
     ∙ word_read c.args.map.now.holds c.args.row c.args.leaf c.laws_of.ensures.lawful c.laws_of.ensures.paired c.requires.row_in c.requires.leaf_in
-    (c.short-rule.ensures.form c.in_ok-start.ensures.some) c.in_ok-start.start c.in_ok-start.ensures.start c.args.blobs.now c.requires.laid
+    (c.short-rule.ensures.form c.in_ok-start.ensures.some) c.in_ok-start.start c.in_ok-start.ensures.start c.args.blobs.now c.requires.laid.sized
     c.in_default.not-Scattered c.index-blobs-short.result c.read_word.result (blob c) c.read_word.ensures
 
 pub read_scattered-requires-clause-wide : goal.read_scattered-requires-clause-wide
 read_scattered-requires-clause-wide c =
     bytes_wide c.args.map.now.holds c.args.row c.args.leaf c.laws_of.ensures.lawful c.laws_of.ensures.paired c.requires.row_in c.requires.leaf_in
-    (with_rules c.as_slice.result.now c.as_slice.ensures.value (c.short-rule.ensures.form c.in_ok-start.ensures.some)) c.in_ok-start.start c.in_ok-start.ensures.start c.args.blobs.now c.requires.laid
+    (with_rules c.as_slice.result.now c.as_slice.ensures.value (c.short-rule.ensures.form c.in_ok-start.ensures.some)) c.in_ok-start.start c.in_ok-start.ensures.start c.args.blobs.now c.requires.laid.sized
     c.in-Scattered.is
 
 pub returns-in-Scattered-clause-value : goal.returns-in-Scattered-clause-value
@@ -65,7 +65,7 @@ returns-in-Scattered-clause-value c =
     let fits : SFits w128 c.read_scattered.result = search rules in
     to_z-of_z w128 c.read_scattered.result fits
     ∙ bytes_read c.args.map.now.holds c.args.row c.args.leaf c.laws_of.ensures.lawful c.laws_of.ensures.paired c.requires.row_in c.requires.leaf_in
-    (with_rules c.as_slice.result.now c.as_slice.ensures.value (c.short-rule.ensures.form c.in_ok-start.ensures.some)) c.in_ok-start.start c.in_ok-start.ensures.start c.args.blobs.now c.requires.laid
+    (with_rules c.as_slice.result.now c.as_slice.ensures.value (c.short-rule.ensures.form c.in_ok-start.ensures.some)) c.in_ok-start.start c.in_ok-start.ensures.start c.args.blobs.now c.requires.laid.sized
     c.in-Scattered.is c.read_scattered.result c.read_scattered.ensures
 
 pub returns-in_default-clause-sign : goal.returns-in_default-clause-sign

@@ -14,7 +14,7 @@ pub index_mut-requires : goal.index_mut-requires
 index_mut-requires c =
     let low : c.short-rule.result.now.short.blob < length c.args.blobs.now.items =
     blob_there c.args.map.now.holds c.args.row c.args.leaf c.laws_of.ensures.lawful c.laws_of.ensures.paired c.requires.row_in c.requires.leaf_in
-    (c.short-rule.ensures.form c.in-Some.ensures.some) c.in-Some.start c.in-Some.ensures.start c.args.blobs.now.items c.requires.laid
+    (c.short-rule.ensures.form c.in-Some.ensures.some) c.in-Some.start c.in-Some.ensures.start c.args.blobs.now.items c.requires.laid.sized
     c.in_default-word.not-Scattered in
     grind (arith, common_steps, low)
 
@@ -23,27 +23,27 @@ blob : (c : After-index_mut) → c.index_mut.result.now ≡ get_or c.args.blobs.
 blob c =
     let low : c.short-rule.result.now.short.blob < length c.args.blobs.now.items =
     blob_there c.args.map.now.holds c.args.row c.args.leaf c.laws_of.ensures.lawful c.laws_of.ensures.paired c.requires.row_in c.requires.leaf_in
-    (c.short-rule.ensures.form c.in-Some.ensures.some) c.in-Some.start c.in-Some.ensures.start c.args.blobs.now.items c.requires.laid
+    (c.short-rule.ensures.form c.in-Some.ensures.some) c.in-Some.start c.in-Some.ensures.start c.args.blobs.now.items c.requires.laid.sized
     c.in_default-word.not-Scattered in
     c.index_mut.ensures.value ∙ get_or_default c.args.blobs.now.items c.short-rule.result.now.short.blob _ [] low
 
 pub write_word-requires-clause-form : goal.write_word-requires-clause-form
 write_word-requires-clause-form c =
     is_word c.args.map.now.holds c.args.row c.args.leaf c.laws_of.ensures.lawful c.laws_of.ensures.paired c.requires.row_in c.requires.leaf_in
-    (c.short-rule.ensures.form c.in-Some.ensures.some) c.in-Some.start c.in-Some.ensures.start c.args.blobs.now.items c.requires.laid
+    (c.short-rule.ensures.form c.in-Some.ensures.some) c.in-Some.start c.in-Some.ensures.start c.args.blobs.now.items c.requires.laid.sized
     c.in_default-word.not-Scattered
 
 pub write_word-requires-clause-within : goal.write_word-requires-clause-within
 write_word-requires-clause-within c =
     word_there c.args.map.now.holds c.args.row c.args.leaf c.laws_of.ensures.lawful c.laws_of.ensures.paired c.requires.row_in c.requires.leaf_in
-    (c.short-rule.ensures.form c.in-Some.ensures.some) c.in-Some.start c.in-Some.ensures.start c.args.blobs.now.items c.requires.laid
+    (c.short-rule.ensures.form c.in-Some.ensures.some) c.in-Some.start c.in-Some.ensures.start c.args.blobs.now.items c.requires.laid.sized
     c.in_default-word.not-Scattered c.index_mut.result.now (blob (goal.at.write_word-requires-clause-within c).After-index_mut)
 
 pub write_word-requires-clause-held : goal.write_word-requires-clause-held
 write_word-requires-clause-held c =
     let fits : SFits w128 c.args.value = search rules in
     word_holds c.args.map.now.holds c.args.row c.args.leaf c.laws_of.ensures.lawful c.laws_of.ensures.paired c.requires.row_in c.requires.leaf_in
-    (c.short-rule.ensures.form c.in-Some.ensures.some) c.in-Some.start c.in-Some.ensures.start c.args.blobs.now.items c.requires.laid
+    (c.short-rule.ensures.form c.in-Some.ensures.some) c.in-Some.start c.in-Some.ensures.start c.args.blobs.now.items c.requires.laid.sized
     c.in_default-word.not-Scattered c.args.value _ (to_z-of_z w128 c.args.value fits) c.requires.held
 
 pub returns-in_default-word-clause-table : goal.returns-in_default-word-clause-table
@@ -51,7 +51,7 @@ returns-in_default-word-clause-table c = λ wrote.
     let fits : SFits w128 c.args.value = search rules in
     let put = c.write_word.ensures in
     word_put c.args.map.now.holds c.args.row c.args.leaf c.laws_of.ensures.lawful c.laws_of.ensures.paired c.requires.row_in c.requires.leaf_in
-    (c.short-rule.ensures.form c.in-Some.ensures.some) c.in-Some.start c.in-Some.ensures.start c.args.blobs.now.items c.requires.laid
+    (c.short-rule.ensures.form c.in-Some.ensures.some) c.in-Some.start c.in-Some.ensures.start c.args.blobs.now.items c.requires.laid.sized
     c.in_default-word.not-Scattered c.args.value _ c.index_mut.result.now c.write_word.new.blob c.requires.held (to_z-of_z w128 c.args.value fits)
     (blob (goal.at.returns-in_default-word-clause-table c).After-index_mut) put.inside put.before put.after put.len
 
@@ -60,32 +60,32 @@ returns-in_default-word-clause-still_laid c = λ wrote.
     let fits : SFits w128 c.args.value = search rules in
     let put = c.write_word.ensures in
     word_lies c.args.map.now.holds c.args.row c.args.leaf c.laws_of.ensures.lawful c.laws_of.ensures.paired c.requires.row_in c.requires.leaf_in
-    (c.short-rule.ensures.form c.in-Some.ensures.some) c.in-Some.start c.in-Some.ensures.start c.args.blobs.now.items c.requires.laid
+    (c.short-rule.ensures.form c.in-Some.ensures.some) c.in-Some.start c.in-Some.ensures.start c.args.blobs.now.items c.requires.laid.sized
     c.in_default-word.not-Scattered c.args.value _ c.index_mut.result.now c.write_word.new.blob c.requires.held (to_z-of_z w128 c.args.value fits)
-    (blob (goal.at.returns-in_default-word-clause-still_laid c).After-index_mut) put.inside put.before put.after put.len
+    (blob (goal.at.returns-in_default-word-clause-still_laid c).After-index_mut) put.inside put.before put.after put.len c.requires.laid
 
 pub write_scattered-requires-clause-wide : goal.write_scattered-requires-clause-wide
 write_scattered-requires-clause-wide c =
     bytes_wide c.args.map.now.holds c.args.row c.args.leaf c.laws_of.ensures.lawful c.laws_of.ensures.paired c.requires.row_in c.requires.leaf_in
-    (with_rules c.as_slice.result.now c.as_slice.ensures.value (c.short-rule.ensures.form c.in-Some.ensures.some)) c.in-Some.start c.in-Some.ensures.start c.args.blobs.now.items c.requires.laid
+    (with_rules c.as_slice.result.now c.as_slice.ensures.value (c.short-rule.ensures.form c.in-Some.ensures.some)) c.in-Some.start c.in-Some.ensures.start c.args.blobs.now.items c.requires.laid.sized
     c.in-Scattered.is
 
 pub write_scattered-requires-clause-apart : goal.write_scattered-requires-clause-apart
 write_scattered-requires-clause-apart c =
     bytes_apart c.args.map.now.holds c.args.row c.args.leaf c.laws_of.ensures.lawful c.laws_of.ensures.paired c.requires.row_in c.requires.leaf_in
-    (with_rules c.as_slice.result.now c.as_slice.ensures.value (c.short-rule.ensures.form c.in-Some.ensures.some)) c.in-Some.start c.in-Some.ensures.start c.args.blobs.now.items c.requires.laid
+    (with_rules c.as_slice.result.now c.as_slice.ensures.value (c.short-rule.ensures.form c.in-Some.ensures.some)) c.in-Some.start c.in-Some.ensures.start c.args.blobs.now.items c.requires.laid.sized
     c.in-Scattered.is
 
 pub returns-in-Scattered-clause-table : goal.returns-in-Scattered-clause-table
 returns-in-Scattered-clause-table c = λ wrote.
     let fits : SFits w128 c.args.value = search rules in
     bytes_put c.args.map.now.holds c.args.row c.args.leaf c.laws_of.ensures.lawful c.laws_of.ensures.paired c.requires.row_in c.requires.leaf_in
-    (with_rules c.as_slice.result.now c.as_slice.ensures.value (c.short-rule.ensures.form c.in-Some.ensures.some)) c.in-Some.start c.in-Some.ensures.start c.args.blobs.now.items c.requires.laid
+    (with_rules c.as_slice.result.now c.as_slice.ensures.value (c.short-rule.ensures.form c.in-Some.ensures.some)) c.in-Some.start c.in-Some.ensures.start c.args.blobs.now.items c.requires.laid.sized
     c.in-Scattered.is c.write_scattered.new.blobs.items c.args.value _ c.requires.held (to_z-of_z w128 c.args.value fits) c.write_scattered.ensures
 
 pub returns-in-Scattered-clause-still_laid : goal.returns-in-Scattered-clause-still_laid
 returns-in-Scattered-clause-still_laid c = λ wrote.
     let fits : SFits w128 c.args.value = search rules in
     bytes_lie c.args.map.now.holds c.args.row c.args.leaf c.laws_of.ensures.lawful c.laws_of.ensures.paired c.requires.row_in c.requires.leaf_in
-    (with_rules c.as_slice.result.now c.as_slice.ensures.value (c.short-rule.ensures.form c.in-Some.ensures.some)) c.in-Some.start c.in-Some.ensures.start c.args.blobs.now.items c.requires.laid
-    c.in-Scattered.is c.write_scattered.new.blobs.items c.args.value _ c.requires.held (to_z-of_z w128 c.args.value fits) c.write_scattered.ensures
+    (with_rules c.as_slice.result.now c.as_slice.ensures.value (c.short-rule.ensures.form c.in-Some.ensures.some)) c.in-Some.start c.in-Some.ensures.start c.args.blobs.now.items c.requires.laid.sized
+    c.in-Scattered.is c.write_scattered.new.blobs.items c.args.value _ c.requires.held (to_z-of_z w128 c.args.value fits) c.write_scattered.ensures c.requires.laid

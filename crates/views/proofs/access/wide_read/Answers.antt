@@ -20,7 +20,7 @@ pub bounds-blobs-short : goal.bounds-blobs-short
 bounds-blobs-short c =
     let w = (wide_seen c.requires.laid c.short-rule.ensures.wide).whole c.args.row c.if-row-rule.true in
     blob_there c.args.map.now.holds c.args.row c.args.leaf c.laws_of.ensures.lawful c.laws_of.ensures.paired c.requires.row_in c.requires.leaf_in
-    (c.short-rule.ensures.form (plain_leads c.short-rule.result.now.short.walk w.walk)) c.plain_start-start.result c.plain_start-start.ensures c.args.blobs.now c.requires.laid
+    (c.short-rule.ensures.form (plain_leads c.short-rule.result.now.short.walk w.walk)) c.plain_start-start.result c.plain_start-start.ensures c.args.blobs.now c.requires.laid.sized
     w.word.alone
 
 pub offset_bounds-blobs-short : goal.offset_bounds-blobs-short
@@ -28,7 +28,7 @@ offset_bounds-blobs-short c =
     let w = (wide_seen c.requires.laid c.short-rule.ensures.wide).whole c.args.row c.if-row-rule.true in
     let low : c.short-rule.result.now.short.blob < length c.args.blobs.now =
     blob_there c.args.map.now.holds c.args.row c.args.leaf c.laws_of.ensures.lawful c.laws_of.ensures.paired c.requires.row_in c.requires.leaf_in
-    (c.short-rule.ensures.form (plain_leads c.short-rule.result.now.short.walk w.walk)) c.plain_start-start.result c.plain_start-start.ensures c.args.blobs.now c.requires.laid
+    (c.short-rule.ensures.form (plain_leads c.short-rule.result.now.short.walk w.walk)) c.plain_start-start.result c.plain_start-start.ensures c.args.blobs.now c.requires.laid.sized
     w.word.alone in
     omega arith
 
@@ -37,7 +37,7 @@ whole_wide-requires-clause-room c =
     let w = (wide_seen c.requires.laid c.short-rule.ensures.wide).whole c.args.row c.if-row-rule.true in
     let low : c.short-rule.result.now.short.blob < length c.args.blobs.now =
     blob_there c.args.map.now.holds c.args.row c.args.leaf c.laws_of.ensures.lawful c.laws_of.ensures.paired c.requires.row_in c.requires.leaf_in
-    (c.short-rule.ensures.form (plain_leads c.short-rule.result.now.short.walk w.walk)) c.plain_start-start.result c.plain_start-start.ensures c.args.blobs.now c.requires.laid
+    (c.short-rule.ensures.form (plain_leads c.short-rule.result.now.short.walk w.walk)) c.plain_start-start.result c.plain_start-start.ensures c.args.blobs.now c.requires.laid.sized
     w.word.alone in
     let there : c.index-blobs-short.result ≡ get_or c.args.blobs.now c.short-rule.result.now.short.blob [] =
     get_or_read c.args.blobs.now c.short-rule.result.now.short.blob c.index-blobs-short.result low c.index-blobs-short.is [] in
@@ -48,14 +48,14 @@ returns-then-row-rule-clause-value c =
     let w = (wide_seen c.requires.laid c.short-rule.ensures.wide).whole c.args.row c.if-row-rule.true in
     let low : c.short-rule.result.now.short.blob < length c.args.blobs.now =
     blob_there c.args.map.now.holds c.args.row c.args.leaf c.laws_of.ensures.lawful c.laws_of.ensures.paired c.requires.row_in c.requires.leaf_in
-    (c.short-rule.ensures.form (plain_leads c.short-rule.result.now.short.walk w.walk)) c.plain_start-start.result c.plain_start-start.ensures c.args.blobs.now c.requires.laid
+    (c.short-rule.ensures.form (plain_leads c.short-rule.result.now.short.walk w.walk)) c.plain_start-start.result c.plain_start-start.ensures c.args.blobs.now c.requires.laid.sized
     w.word.alone in
     let there : c.index-blobs-short.result ≡ get_or c.args.blobs.now c.short-rule.result.now.short.blob [] =
     get_or_read c.args.blobs.now c.short-rule.result.now.short.blob c.index-blobs-short.result low c.index-blobs-short.is [] in
     let fits : SFits w128 c.whole_wide.result = search rules in
     to_z-of_z w128 c.whole_wide.result fits
     ∙ word_read c.args.map.now.holds c.args.row c.args.leaf c.laws_of.ensures.lawful c.laws_of.ensures.paired c.requires.row_in c.requires.leaf_in
-    (c.short-rule.ensures.form (plain_leads c.short-rule.result.now.short.walk w.walk)) c.plain_start-start.result c.plain_start-start.ensures c.args.blobs.now c.requires.laid
+    (c.short-rule.ensures.form (plain_leads c.short-rule.result.now.short.walk w.walk)) c.plain_start-start.result c.plain_start-start.ensures c.args.blobs.now c.requires.laid.sized
     w.word.alone c.index-blobs-short.result c.whole_wide.result there
     (c.whole_wide.ensures ∙ said_whole c.short-rule.result.now.short.word c.short-rule.result.now.short.field c.index-blobs-short.result c.plain_start-start.result w.word)
 
@@ -83,7 +83,7 @@ pub bounds-blobs-short-then-row-rule-2 : goal.bounds-blobs-short-then-row-rule-2
 bounds-blobs-short-then-row-rule-2 c =
     let w = (wide_seen c.requires.laid c.short-rule.ensures.wide).blocks c.args.row c.if-row-rule-2.true in
     blob_there c.args.map.now.holds c.args.row c.args.leaf c.laws_of.ensures.lawful c.laws_of.ensures.paired c.requires.row_in c.requires.leaf_in
-    (c.short-rule.ensures.form (blocks_lead c.short-rule.result.now.short.walk w.walk)) c.block_start-start.result c.block_start-start.ensures c.args.blobs.now c.requires.laid
+    (c.short-rule.ensures.form (blocks_lead c.short-rule.result.now.short.walk w.walk)) c.block_start-start.result c.block_start-start.ensures c.args.blobs.now c.requires.laid.sized
     w.word.alone
 
 pub offset_bounds-blobs-short-then-row-rule-2 : goal.offset_bounds-blobs-short-then-row-rule-2
@@ -91,7 +91,7 @@ offset_bounds-blobs-short-then-row-rule-2 c =
     let w = (wide_seen c.requires.laid c.short-rule.ensures.wide).blocks c.args.row c.if-row-rule-2.true in
     let low : c.short-rule.result.now.short.blob < length c.args.blobs.now =
     blob_there c.args.map.now.holds c.args.row c.args.leaf c.laws_of.ensures.lawful c.laws_of.ensures.paired c.requires.row_in c.requires.leaf_in
-    (c.short-rule.ensures.form (blocks_lead c.short-rule.result.now.short.walk w.walk)) c.block_start-start.result c.block_start-start.ensures c.args.blobs.now c.requires.laid
+    (c.short-rule.ensures.form (blocks_lead c.short-rule.result.now.short.walk w.walk)) c.block_start-start.result c.block_start-start.ensures c.args.blobs.now c.requires.laid.sized
     w.word.alone in
     omega arith
 
@@ -100,7 +100,7 @@ whole_wide-requires-then-row-rule-2-clause-room c =
     let w = (wide_seen c.requires.laid c.short-rule.ensures.wide).blocks c.args.row c.if-row-rule-2.true in
     let low : c.short-rule.result.now.short.blob < length c.args.blobs.now =
     blob_there c.args.map.now.holds c.args.row c.args.leaf c.laws_of.ensures.lawful c.laws_of.ensures.paired c.requires.row_in c.requires.leaf_in
-    (c.short-rule.ensures.form (blocks_lead c.short-rule.result.now.short.walk w.walk)) c.block_start-start.result c.block_start-start.ensures c.args.blobs.now c.requires.laid
+    (c.short-rule.ensures.form (blocks_lead c.short-rule.result.now.short.walk w.walk)) c.block_start-start.result c.block_start-start.ensures c.args.blobs.now c.requires.laid.sized
     w.word.alone in
     let there : c.index-blobs-short-then-row-rule-2.result ≡ get_or c.args.blobs.now c.short-rule.result.now.short.blob [] =
     get_or_read c.args.blobs.now c.short-rule.result.now.short.blob c.index-blobs-short-then-row-rule-2.result low c.index-blobs-short-then-row-rule-2.is [] in
@@ -111,14 +111,14 @@ returns-then-row-rule-2-clause-value c =
     let w = (wide_seen c.requires.laid c.short-rule.ensures.wide).blocks c.args.row c.if-row-rule-2.true in
     let low : c.short-rule.result.now.short.blob < length c.args.blobs.now =
     blob_there c.args.map.now.holds c.args.row c.args.leaf c.laws_of.ensures.lawful c.laws_of.ensures.paired c.requires.row_in c.requires.leaf_in
-    (c.short-rule.ensures.form (blocks_lead c.short-rule.result.now.short.walk w.walk)) c.block_start-start.result c.block_start-start.ensures c.args.blobs.now c.requires.laid
+    (c.short-rule.ensures.form (blocks_lead c.short-rule.result.now.short.walk w.walk)) c.block_start-start.result c.block_start-start.ensures c.args.blobs.now c.requires.laid.sized
     w.word.alone in
     let there : c.index-blobs-short-then-row-rule-2.result ≡ get_or c.args.blobs.now c.short-rule.result.now.short.blob [] =
     get_or_read c.args.blobs.now c.short-rule.result.now.short.blob c.index-blobs-short-then-row-rule-2.result low c.index-blobs-short-then-row-rule-2.is [] in
     let fits : SFits w128 c.whole_wide-then-row-rule-2.result = search rules in
     to_z-of_z w128 c.whole_wide-then-row-rule-2.result fits
     ∙ word_read c.args.map.now.holds c.args.row c.args.leaf c.laws_of.ensures.lawful c.laws_of.ensures.paired c.requires.row_in c.requires.leaf_in
-    (c.short-rule.ensures.form (blocks_lead c.short-rule.result.now.short.walk w.walk)) c.block_start-start.result c.block_start-start.ensures c.args.blobs.now c.requires.laid
+    (c.short-rule.ensures.form (blocks_lead c.short-rule.result.now.short.walk w.walk)) c.block_start-start.result c.block_start-start.ensures c.args.blobs.now c.requires.laid.sized
     w.word.alone c.index-blobs-short-then-row-rule-2.result c.whole_wide-then-row-rule-2.result there
     (c.whole_wide-then-row-rule-2.ensures ∙ said_whole c.short-rule.result.now.short.word c.short-rule.result.now.short.field c.index-blobs-short-then-row-rule-2.result c.block_start-start.result w.word)
 
@@ -146,7 +146,7 @@ pub bounds-blobs-short-then-row-rule-3 : goal.bounds-blobs-short-then-row-rule-3
 bounds-blobs-short-then-row-rule-3 c =
     let w = (wide_seen c.requires.laid c.short-rule.ensures.wide).turned c.args.row c.if-row-rule-3.true in
     blob_there c.args.map.now.holds c.args.row c.args.leaf c.laws_of.ensures.lawful c.laws_of.ensures.paired c.requires.row_in c.requires.leaf_in
-    (c.short-rule.ensures.form (plain_leads c.short-rule.result.now.short.walk w.walk)) c.plain_start-start-then-row-rule-3.result c.plain_start-start-then-row-rule-3.ensures c.args.blobs.now c.requires.laid
+    (c.short-rule.ensures.form (plain_leads c.short-rule.result.now.short.walk w.walk)) c.plain_start-start-then-row-rule-3.result c.plain_start-start-then-row-rule-3.ensures c.args.blobs.now c.requires.laid.sized
     w.word.alone
 
 pub offset_bounds-blobs-short-then-row-rule-3 : goal.offset_bounds-blobs-short-then-row-rule-3
@@ -154,7 +154,7 @@ offset_bounds-blobs-short-then-row-rule-3 c =
     let w = (wide_seen c.requires.laid c.short-rule.ensures.wide).turned c.args.row c.if-row-rule-3.true in
     let low : c.short-rule.result.now.short.blob < length c.args.blobs.now =
     blob_there c.args.map.now.holds c.args.row c.args.leaf c.laws_of.ensures.lawful c.laws_of.ensures.paired c.requires.row_in c.requires.leaf_in
-    (c.short-rule.ensures.form (plain_leads c.short-rule.result.now.short.walk w.walk)) c.plain_start-start-then-row-rule-3.result c.plain_start-start-then-row-rule-3.ensures c.args.blobs.now c.requires.laid
+    (c.short-rule.ensures.form (plain_leads c.short-rule.result.now.short.walk w.walk)) c.plain_start-start-then-row-rule-3.result c.plain_start-start-then-row-rule-3.ensures c.args.blobs.now c.requires.laid.sized
     w.word.alone in
     omega arith
 
@@ -166,7 +166,7 @@ turned_wide-requires-clause-room c =
     let w = (wide_seen c.requires.laid c.short-rule.ensures.wide).turned c.args.row c.if-row-rule-3.true in
     let low : c.short-rule.result.now.short.blob < length c.args.blobs.now =
     blob_there c.args.map.now.holds c.args.row c.args.leaf c.laws_of.ensures.lawful c.laws_of.ensures.paired c.requires.row_in c.requires.leaf_in
-    (c.short-rule.ensures.form (plain_leads c.short-rule.result.now.short.walk w.walk)) c.plain_start-start-then-row-rule-3.result c.plain_start-start-then-row-rule-3.ensures c.args.blobs.now c.requires.laid
+    (c.short-rule.ensures.form (plain_leads c.short-rule.result.now.short.walk w.walk)) c.plain_start-start-then-row-rule-3.result c.plain_start-start-then-row-rule-3.ensures c.args.blobs.now c.requires.laid.sized
     w.word.alone in
     let there : c.index-blobs-short-then-row-rule-3.result ≡ get_or c.args.blobs.now c.short-rule.result.now.short.blob [] =
     get_or_read c.args.blobs.now c.short-rule.result.now.short.blob c.index-blobs-short-then-row-rule-3.result low c.index-blobs-short-then-row-rule-3.is [] in
@@ -177,14 +177,14 @@ returns-then-row-rule-3-clause-value c =
     let w = (wide_seen c.requires.laid c.short-rule.ensures.wide).turned c.args.row c.if-row-rule-3.true in
     let low : c.short-rule.result.now.short.blob < length c.args.blobs.now =
     blob_there c.args.map.now.holds c.args.row c.args.leaf c.laws_of.ensures.lawful c.laws_of.ensures.paired c.requires.row_in c.requires.leaf_in
-    (c.short-rule.ensures.form (plain_leads c.short-rule.result.now.short.walk w.walk)) c.plain_start-start-then-row-rule-3.result c.plain_start-start-then-row-rule-3.ensures c.args.blobs.now c.requires.laid
+    (c.short-rule.ensures.form (plain_leads c.short-rule.result.now.short.walk w.walk)) c.plain_start-start-then-row-rule-3.result c.plain_start-start-then-row-rule-3.ensures c.args.blobs.now c.requires.laid.sized
     w.word.alone in
     let there : c.index-blobs-short-then-row-rule-3.result ≡ get_or c.args.blobs.now c.short-rule.result.now.short.blob [] =
     get_or_read c.args.blobs.now c.short-rule.result.now.short.blob c.index-blobs-short-then-row-rule-3.result low c.index-blobs-short-then-row-rule-3.is [] in
     let fits : SFits w128 c.turned_wide.result = search rules in
     to_z-of_z w128 c.turned_wide.result fits
     ∙ word_read c.args.map.now.holds c.args.row c.args.leaf c.laws_of.ensures.lawful c.laws_of.ensures.paired c.requires.row_in c.requires.leaf_in
-    (c.short-rule.ensures.form (plain_leads c.short-rule.result.now.short.walk w.walk)) c.plain_start-start-then-row-rule-3.result c.plain_start-start-then-row-rule-3.ensures c.args.blobs.now c.requires.laid
+    (c.short-rule.ensures.form (plain_leads c.short-rule.result.now.short.walk w.walk)) c.plain_start-start-then-row-rule-3.result c.plain_start-start-then-row-rule-3.ensures c.args.blobs.now c.requires.laid.sized
     w.word.alone c.index-blobs-short-then-row-rule-3.result c.turned_wide.result there
     (c.turned_wide.ensures ∙ said_turned c.short-rule.result.now.short.word c.short-rule.result.now.short.field c.index-blobs-short-then-row-rule-3.result c.plain_start-start-then-row-rule-3.result w.word)
 
@@ -212,7 +212,7 @@ pub bounds-blobs-short-then-row-rule-4 : goal.bounds-blobs-short-then-row-rule-4
 bounds-blobs-short-then-row-rule-4 c =
     let w = (wide_seen c.requires.laid c.short-rule.ensures.wide).field c.args.row c.if-row-rule-4.true in
     blob_there c.args.map.now.holds c.args.row c.args.leaf c.laws_of.ensures.lawful c.laws_of.ensures.paired c.requires.row_in c.requires.leaf_in
-    (c.short-rule.ensures.form (plain_leads c.short-rule.result.now.short.walk w.walk)) c.plain_start-start-then-row-rule-4.result c.plain_start-start-then-row-rule-4.ensures c.args.blobs.now c.requires.laid
+    (c.short-rule.ensures.form (plain_leads c.short-rule.result.now.short.walk w.walk)) c.plain_start-start-then-row-rule-4.result c.plain_start-start-then-row-rule-4.ensures c.args.blobs.now c.requires.laid.sized
     (field_alone c.short-rule.result.now.short.word w.word)
 
 pub offset_bounds-blobs-short-then-row-rule-4 : goal.offset_bounds-blobs-short-then-row-rule-4
@@ -220,7 +220,7 @@ offset_bounds-blobs-short-then-row-rule-4 c =
     let w = (wide_seen c.requires.laid c.short-rule.ensures.wide).field c.args.row c.if-row-rule-4.true in
     let low : c.short-rule.result.now.short.blob < length c.args.blobs.now =
     blob_there c.args.map.now.holds c.args.row c.args.leaf c.laws_of.ensures.lawful c.laws_of.ensures.paired c.requires.row_in c.requires.leaf_in
-    (c.short-rule.ensures.form (plain_leads c.short-rule.result.now.short.walk w.walk)) c.plain_start-start-then-row-rule-4.result c.plain_start-start-then-row-rule-4.ensures c.args.blobs.now c.requires.laid
+    (c.short-rule.ensures.form (plain_leads c.short-rule.result.now.short.walk w.walk)) c.plain_start-start-then-row-rule-4.result c.plain_start-start-then-row-rule-4.ensures c.args.blobs.now c.requires.laid.sized
     (field_alone c.short-rule.result.now.short.word w.word) in
     omega arith
 
@@ -232,7 +232,7 @@ field_wide-requires-clause-room c =
     let w = (wide_seen c.requires.laid c.short-rule.ensures.wide).field c.args.row c.if-row-rule-4.true in
     let low : c.short-rule.result.now.short.blob < length c.args.blobs.now =
     blob_there c.args.map.now.holds c.args.row c.args.leaf c.laws_of.ensures.lawful c.laws_of.ensures.paired c.requires.row_in c.requires.leaf_in
-    (c.short-rule.ensures.form (plain_leads c.short-rule.result.now.short.walk w.walk)) c.plain_start-start-then-row-rule-4.result c.plain_start-start-then-row-rule-4.ensures c.args.blobs.now c.requires.laid
+    (c.short-rule.ensures.form (plain_leads c.short-rule.result.now.short.walk w.walk)) c.plain_start-start-then-row-rule-4.result c.plain_start-start-then-row-rule-4.ensures c.args.blobs.now c.requires.laid.sized
     (field_alone c.short-rule.result.now.short.word w.word) in
     let there : c.index-blobs-short-then-row-rule-4.result ≡ get_or c.args.blobs.now c.short-rule.result.now.short.blob [] =
     get_or_read c.args.blobs.now c.short-rule.result.now.short.blob c.index-blobs-short-then-row-rule-4.result low c.index-blobs-short-then-row-rule-4.is [] in
@@ -243,14 +243,14 @@ returns-then-row-rule-4-clause-value c =
     let w = (wide_seen c.requires.laid c.short-rule.ensures.wide).field c.args.row c.if-row-rule-4.true in
     let low : c.short-rule.result.now.short.blob < length c.args.blobs.now =
     blob_there c.args.map.now.holds c.args.row c.args.leaf c.laws_of.ensures.lawful c.laws_of.ensures.paired c.requires.row_in c.requires.leaf_in
-    (c.short-rule.ensures.form (plain_leads c.short-rule.result.now.short.walk w.walk)) c.plain_start-start-then-row-rule-4.result c.plain_start-start-then-row-rule-4.ensures c.args.blobs.now c.requires.laid
+    (c.short-rule.ensures.form (plain_leads c.short-rule.result.now.short.walk w.walk)) c.plain_start-start-then-row-rule-4.result c.plain_start-start-then-row-rule-4.ensures c.args.blobs.now c.requires.laid.sized
     (field_alone c.short-rule.result.now.short.word w.word) in
     let there : c.index-blobs-short-then-row-rule-4.result ≡ get_or c.args.blobs.now c.short-rule.result.now.short.blob [] =
     get_or_read c.args.blobs.now c.short-rule.result.now.short.blob c.index-blobs-short-then-row-rule-4.result low c.index-blobs-short-then-row-rule-4.is [] in
     let fits : SFits w128 c.field_wide.result = search rules in
     to_z-of_z w128 c.field_wide.result fits
     ∙ word_read c.args.map.now.holds c.args.row c.args.leaf c.laws_of.ensures.lawful c.laws_of.ensures.paired c.requires.row_in c.requires.leaf_in
-    (c.short-rule.ensures.form (plain_leads c.short-rule.result.now.short.walk w.walk)) c.plain_start-start-then-row-rule-4.result c.plain_start-start-then-row-rule-4.ensures c.args.blobs.now c.requires.laid
+    (c.short-rule.ensures.form (plain_leads c.short-rule.result.now.short.walk w.walk)) c.plain_start-start-then-row-rule-4.result c.plain_start-start-then-row-rule-4.ensures c.args.blobs.now c.requires.laid.sized
     (field_alone c.short-rule.result.now.short.word w.word) c.index-blobs-short-then-row-rule-4.result c.field_wide.result there
     (c.field_wide.ensures ∙ said_field c.short-rule.result.now.short.word c.short-rule.result.now.short.field c.index-blobs-short-then-row-rule-4.result c.plain_start-start-then-row-rule-4.result w.word)
 

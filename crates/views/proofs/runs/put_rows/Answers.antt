@@ -41,7 +41,7 @@ pub index_mut-requires : goal.index_mut-requires
 index_mut-requires c =
     let low : c.short.result.now.short.blob < length c.loop-done.blobs.items =
     stretch_blob c.args.mapping.now.holds c.args.leaf (c.args.first + c.loop-done.done) (length c.args.lows.now - c.loop-done.done) c.in-Some.stretch c.laws_of.ensures.lawful c.laws_of.ensures.paired c.requires.leaf_in
-    (c.short.ensures.form c.in-Some.ensures.leads) c.in-Some.ensures (omega (arith, c.requires.rows_in)) c.loop-done.blobs.items c.loop-done.invariant.laid in
+    (c.short.ensures.form c.in-Some.ensures.leads) c.in-Some.ensures (omega (arith, c.requires.rows_in)) c.loop-done.blobs.items c.loop-done.invariant.laid.sized in
     grind (arith, common_steps, low)
 
 -- what stood in the blob
@@ -49,13 +49,13 @@ blob : (c : After-index_mut) → c.index_mut.result.now ≡ get_or c.loop-done.b
 blob c =
     let low : c.short.result.now.short.blob < length c.loop-done.blobs.items =
     stretch_blob c.args.mapping.now.holds c.args.leaf (c.args.first + c.loop-done.done) (length c.args.lows.now - c.loop-done.done) c.in-Some.stretch c.laws_of.ensures.lawful c.laws_of.ensures.paired c.requires.leaf_in
-    (c.short.ensures.form c.in-Some.ensures.leads) c.in-Some.ensures (omega (arith, c.requires.rows_in)) c.loop-done.blobs.items c.loop-done.invariant.laid in
+    (c.short.ensures.form c.in-Some.ensures.leads) c.in-Some.ensures (omega (arith, c.requires.rows_in)) c.loop-done.blobs.items c.loop-done.invariant.laid.sized in
     c.index_mut.ensures.value ∙ get_or_default c.loop-done.blobs.items c.short.result.now.short.blob _ [] low
 
 pub put_stretch-requires-clause-room : goal.put_stretch-requires-clause-room
 put_stretch-requires-clause-room c =
     has_room c.args.mapping.now.holds c.args.leaf (c.args.first + c.loop-done.done) (length c.args.lows.now - c.loop-done.done) c.in-Some.stretch c.laws_of.ensures.lawful c.laws_of.ensures.paired c.requires.leaf_in
-    (c.short.ensures.form c.in-Some.ensures.leads) c.in-Some.ensures (omega (arith, c.requires.rows_in)) c.loop-done.blobs.items c.loop-done.invariant.laid c.index_mut.result.now
+    (c.short.ensures.form c.in-Some.ensures.leads) c.in-Some.ensures (omega (arith, c.requires.rows_in)) c.loop-done.blobs.items c.loop-done.invariant.laid.sized c.index_mut.result.now
     (blob (goal.at.put_stretch-requires-clause-room c).After-index_mut)
 
 pub loop-done-preserved : goal.loop-done-preserved
@@ -69,7 +69,7 @@ loop-done-preserved c =
     let long : done + stretch.rows ≤ length lows = omega (arith, c.in-Some.ensures.few) in
     let put =
     are_put c.args.mapping.now.holds leaf (first + done) (length lows - done) stretch c.laws_of.ensures.lawful c.laws_of.ensures.paired c.requires.leaf_in
-    (c.short.ensures.form c.in-Some.ensures.leads) c.in-Some.ensures (omega (arith, c.requires.rows_in)) c.loop-done.blobs.items c.loop-done.invariant.laid
+    (c.short.ensures.form c.in-Some.ensures.leads) c.in-Some.ensures (omega (arith, c.requires.rows_in)) c.loop-done.blobs.items c.loop-done.invariant.laid.sized c.loop-done.invariant.laid
     kind lows done c.index_mut.result.now (blob (goal.at.loop-done-preserved c).After-index_mut) long c.requires.held stretch.rows c.put_stretch.new.blob (omega arith) c.put_stretch.ensures in
     record {
       inside = long;

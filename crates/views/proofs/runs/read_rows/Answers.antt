@@ -25,13 +25,13 @@ stretch-requires-clause-starts c = λ lead k below.
 pub bounds-blobs-short : goal.bounds-blobs-short
 bounds-blobs-short c =
     stretch_blob c.args.mapping.now.holds c.args.leaf (c.args.first + c.loop-done.done) (length c.loop-done.values - c.loop-done.done) c.in-Some.stretch c.laws_of.ensures.lawful c.laws_of.ensures.paired c.requires.leaf_in
-    (c.short.ensures.form c.in-Some.ensures.leads) c.in-Some.ensures (omega (arith, c.requires.rows_in, c.loop-done.invariant.count)) c.args.blobs.now c.requires.laid
+    (c.short.ensures.form c.in-Some.ensures.leads) c.in-Some.ensures (omega (arith, c.requires.rows_in, c.loop-done.invariant.count)) c.args.blobs.now c.requires.sized
 
 pub offset_bounds-blobs-short : goal.offset_bounds-blobs-short
 offset_bounds-blobs-short c =
     let low : c.short.result.now.short.blob < length c.args.blobs.now =
     stretch_blob c.args.mapping.now.holds c.args.leaf (c.args.first + c.loop-done.done) (length c.loop-done.values - c.loop-done.done) c.in-Some.stretch c.laws_of.ensures.lawful c.laws_of.ensures.paired c.requires.leaf_in
-    (c.short.ensures.form c.in-Some.ensures.leads) c.in-Some.ensures (omega (arith, c.requires.rows_in, c.loop-done.invariant.count)) c.args.blobs.now c.requires.laid in
+    (c.short.ensures.form c.in-Some.ensures.leads) c.in-Some.ensures (omega (arith, c.requires.rows_in, c.loop-done.invariant.count)) c.args.blobs.now c.requires.sized in
     omega arith
 
 -- what stands in the blob
@@ -39,13 +39,13 @@ blob : (c : After-index-blobs-short) → c.index-blobs-short.result ≡ get_or c
 blob c =
     let low : c.short.result.now.short.blob < length c.args.blobs.now =
     stretch_blob c.args.mapping.now.holds c.args.leaf (c.args.first + c.loop-done.done) (length c.loop-done.values - c.loop-done.done) c.in-Some.stretch c.laws_of.ensures.lawful c.laws_of.ensures.paired c.requires.leaf_in
-    (c.short.ensures.form c.in-Some.ensures.leads) c.in-Some.ensures (omega (arith, c.requires.rows_in, c.loop-done.invariant.count)) c.args.blobs.now c.requires.laid in
+    (c.short.ensures.form c.in-Some.ensures.leads) c.in-Some.ensures (omega (arith, c.requires.rows_in, c.loop-done.invariant.count)) c.args.blobs.now c.requires.sized in
     get_or_read c.args.blobs.now c.short.result.now.short.blob c.index-blobs-short.result low c.index-blobs-short.is []
 
 pub read_stretch-requires-clause-room : goal.read_stretch-requires-clause-room
 read_stretch-requires-clause-room c =
     has_room c.args.mapping.now.holds c.args.leaf (c.args.first + c.loop-done.done) (length c.loop-done.values - c.loop-done.done) c.in-Some.stretch c.laws_of.ensures.lawful c.laws_of.ensures.paired c.requires.leaf_in
-    (c.short.ensures.form c.in-Some.ensures.leads) c.in-Some.ensures (omega (arith, c.requires.rows_in, c.loop-done.invariant.count)) c.args.blobs.now c.requires.laid c.index-blobs-short.result
+    (c.short.ensures.form c.in-Some.ensures.leads) c.in-Some.ensures (omega (arith, c.requires.rows_in, c.loop-done.invariant.count)) c.args.blobs.now c.requires.sized c.index-blobs-short.result
     (blob (goal.at.read_stretch-requires-clause-room c).After-index-blobs-short)
 
 pub loop-done-preserved : goal.loop-done-preserved
@@ -66,7 +66,7 @@ loop-done-preserved c =
           ap (λ (n : ℕ). get_or c.read_stretch.new.values n (pos 0)) there ∙ c.read_stretch.ensures.each (k - done) inside
           ∙ ap low_64
           (stretch_read c.args.mapping.now.holds c.args.leaf (first + done) (length c.loop-done.values - done) stretch c.laws_of.ensures.lawful c.laws_of.ensures.paired c.requires.leaf_in
-          (c.short.ensures.form c.in-Some.ensures.leads) c.in-Some.ensures (omega (arith, c.requires.rows_in, c.loop-done.invariant.count)) c.args.blobs.now c.requires.laid
+          (c.short.ensures.form c.in-Some.ensures.leads) c.in-Some.ensures (omega (arith, c.requires.rows_in, c.loop-done.invariant.count)) c.args.blobs.now c.requires.sized
           c.index-blobs-short.result bytes (k - done) (first + k) inside row))
           (cases_lt k done);
       leads = λ some. c.in-Some.ensures.leads;

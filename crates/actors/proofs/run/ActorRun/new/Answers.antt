@@ -1,9 +1,11 @@
-use Rattle.std.proofs.Common.{◌≡◌, ◌∙◌, ℕ, List, get_or, sym, ap, subst}
+use Rattle.std.proofs.Common.{◌≡◌, ◌∙◌, ℕ, List, Err, length, get_or, sym, ap, subst, rules, arith}
 use Rattle.record_dim.specs.Schemas.{schema_fields}
 use Rattle.map_expr.specs.Terms.{term_of}
 use Rattle.row_updates.specs.Rows.{filter_term}
 use Rattle.views.specs.Tables.{Table}
+use Rattle.views.specs.TallyLaws.{after_log-none}
 use Rattle.actor_steps.specs.Jobs.{memory_of, fresh_of}
+use Rattle.actors.specs.declared.fault.ActorFault.TheVariants.{NoMemory}
 use Rattle.actors.specs.Kept.{table_at, run_of, IsRun}
 use Rattle.actors.specs.Runs.{uncounted}
 use Rattle.actors.proofs.Begins.{table_same, run_begun, run_kept}
@@ -55,3 +57,13 @@ returns-clause-begun g c =
     let actors = c.in_ok-actors.actors.items in
     ap (λ (cuts : List ℕ). run_of (table g d) filter sets cuts memory actors) c.in_ok-cuts.ensures.items
     ∙ run_begun view filter sets c.args.cuts.now memory actors (c.in_ok-memory.ensures ∙ ap memory_of c.in_ok-plans.ensures.read) (team g d) (table g d) (found g d)
+
+pub returns-in_err-found-clause-so_far : goal.returns-in_err-found-clause-so_far
+returns-in_err-found-clause-so_far g c =
+    let is : c.from_residual.result ≡ Err NoMemory = search rules in
+    rw is (0, omega arith, sym (after_log-none c.args.view.now))
+
+pub returns-in_err-cuts-clause-so_far : goal.returns-in_err-cuts-clause-so_far
+returns-in_err-cuts-clause-so_far g c =
+    let is : c.from_residual-in_err-cuts.result ≡ Err NoMemory = search (rules, c.from_residual-in_err-cuts.ensures) in
+    rw is (length c.args.view.now.rows, omega arith, c.in_ok-plans.ensures.read)

@@ -5,7 +5,7 @@ use Rattle.leaf_runs.specs.Lows.{low_64}
 use Rattle.views.specs.Columns.{column_writes, with_column}
 use Rattle.views.specs.Runs.{run_of, run_steps}
 use Rattle.views.specs.Tables.{leaf_type_of, after_stores}
-use Rattle.views.proofs.RunLaws.{run_length}
+use Rattle.views.specs.RunsLaws.{run_length}
 use Rattle.views.proofs.RunSeenLaws.{copied_fits, copied_raised}
 use Rattle.views.proofs.view.View.copy_run.Goals as goal
 use Rattle.views.proofs.view.View.copy_run.Goals.{After-read_run}

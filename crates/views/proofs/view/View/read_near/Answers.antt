@@ -17,8 +17,8 @@ read_rows-requires-clause-rows_in c =
     let a = c.self.inside in
     omega (arith, c.requires.rows_in, c.self.invariant.0.slots_are, rows_seen a.schema a.extents a.expr a.blobs.items c.self.invariant.1 c.args.self.now c.self.view_is)
 
-pub read_rows-requires-clause-laid : goal.read_rows-requires-clause-laid
-read_rows-requires-clause-laid c = laid_here c.self.invariant.0 c.as_slice.result.now c.self.inside.blobs.items c.as_slice.ensures.value c.self.invariant.1.laid
+pub read_rows-requires-clause-sized : goal.read_rows-requires-clause-sized
+read_rows-requires-clause-sized c = (laid_here c.self.invariant.0 c.as_slice.result.now c.self.inside.blobs.items c.as_slice.ensures.value c.self.invariant.1.laid).sized
 
 pub returns-clause-values : goal.returns-clause-values
 returns-clause-values c = λ done.

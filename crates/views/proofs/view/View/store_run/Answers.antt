@@ -7,8 +7,8 @@ use Rattle.views.specs.RunsLaws.{raised_same}
 use Rattle.views.specs.Stores.{Fits, kind_at, told}
 use Rattle.views.specs.Tables.{answer_of, kept_of, leaf_type_of, table_holds, after_stores}
 use Rattle.views.specs.declared.fault.LaneFault.{LaneFault}
-use Rattle.views.proofs.NearColumnLaws.{shown_there}
-use Rattle.views.proofs.NearStoreLaws.{none_refused}
+use Rattle.views.proofs.ShownLaws.{shown_there}
+use Rattle.views.proofs.KeptColumns.{none_refused}
 use Rattle.views.proofs.Opened.{cell_count, leaf_seen, some_seen}
 use Rattle.views.proofs.StoreLaws.{fit_answer, fit_kept, map_same}
 use Rattle.views.proofs.view.View.store_run.Goals as goal

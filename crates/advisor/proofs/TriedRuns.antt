@@ -1,0 +1,207 @@
+-- Runs of rows whose values are read and tried leaf by leaf.
+use Rattle.std.proofs.Common.{◌≡◌, ℕ, ◌+◌, ◌<◌, ◌≤◌, Bool, true, false, ℤ, pos, List, [], ◌∷◌, ◌++◌, All, length, map, get_or, take, drop, refl, sym, ap, ◌∙◌, ⊎_elim, subst, arith}
+use Rattle.std.specs.Prelude.{◌==◌, ◌&&◌, ◌||◌, not, nat_lt, if◌then◌else◌}
+use Rattle.std.specs.List.{list_all, flat_map, range_with_len}
+use Rattle.std.proofs.Math.Path.{fun_ext}
+use Rattle.std.proofs.Math.Seq.{take-add}
+use Rattle.std.proofs.lemmas.Bool.{cases_lt, lt-ltb, le-ltb, eq-eqb, ne_eqb}
+use Rattle.std.proofs.lemmas.Grind.{flat_map-append}
+use Rattle.std.proofs.lemmas.List.{length-map, length-take, get_or-map, get_or-take, get_or-drop, take-map, drop-map}
+use Rattle.std.proofs.lemmas.List.Elements.{All-map}
+use Rattle.std.proofs.lemmas.List.Concat.{flat_map-cons, flat_map_single}
+use Rattle.std.proofs.lemmas.List.Folds.{list_all-append, list_all-map}
+use Rattle.std.proofs.lemmas.Simd.{map-map}
+use Rattle.record_dim.specs.LeafTypes.{IsDeclared}
+use Rattle.record_dim.specs.Leaves.{Leaf, leaves}
+use Rattle.record_dim.specs.Trees.{Fields}
+use Rattle.record_dim.specs.declared.leaf_type.LeafType.{LeafType}
+use Rattle.places.specs.Image.{entry}
+use Rattle.places.specs.Layout.{Owner}
+use Rattle.piece_bits.specs.Tables.{hold_at}
+use Rattle.kept_tables.specs.EntryLaws.{stays_declared}
+use Rattle.kept_tables.specs.declared.mode.StoreMode.{StoreMode}
+use Rattle.leaf_runs.specs.Lows.{low_64}
+use Rattle.views.specs.Columns.{in_leaf, column_reads}
+use Rattle.views.specs.OrderLaws.{tallied-kinds}
+use Rattle.views.specs.Runs.{raised, run_of}
+use Rattle.views.specs.RunsLaws.{raised_all}
+use Rattle.views.specs.Tables.{Table, IsTable, owners_of, leaf_count_of, leaf_type_of, leaf_types_of, table_holds, after_log}
+use Rattle.views.specs.Tallies.{Access, Read, Tally, tallied, row_accesses, all_accesses}
+use Rattle.views.specs.TallyLaws.{after_log-none, after_log-append, accesses_more}
+use Rattle.advisor.specs.Suits.{stays}
+use Rattle.advisor.specs.Trials.{IsTrial, rows_accesses, takes, tried_all, all_lows_stay, tried_leaf}
+use Rattle.advisor.specs.declared.trials.Trial.{Trial}
+use Rattle.advisor.proofs.Cheapest.{same_images}
+use Rattle.advisor.proofs.SteadyLaws.{range_cut}
+
+-- ---- accesses
+
+-- none of each row
+no_leaf : (rows : List ℕ) → flat_map (row_accesses Read 0) rows ≡ []
+no_leaf [] = refl
+no_leaf (row ∷ rows) = flat_map-cons (row_accesses Read 0) row rows ∙ no_leaf rows
+
+pub none_read : (seen : Table) (first count : ℕ) → seen ≡ after_log seen (rows_accesses Read 0 first count)
+none_read seen first count = sym (ap (after_log seen) (no_leaf (range_with_len first count)) ∙ after_log-none seen)
+
+-- a leaf more: the order of accesses carries no meaning
+leaf_tallied : (layout : List (List Owner)) (tally : Tally) (leaf : ℕ) (rows : List ℕ)
+    → tallied layout tally (flat_map (row_accesses Read leaf) rows ++ map (λ row. Read row leaf) rows) ≡ tallied layout tally (flat_map (row_accesses Read (leaf + 1)) rows)
+leaf_tallied layout tally leaf rows =
+    ap (λ (log : List Access). tallied layout tally (flat_map (row_accesses Read leaf) rows ++ log)) (sym (flat_map_single (λ (row : ℕ). Read row leaf) rows))
+    ∙ sym (tallied-kinds layout tally (row_accesses Read leaf) (λ row. Read row leaf ∷ []) rows)
+    ∙ ap (λ (logs : ℕ → List Access). tallied layout tally (flat_map logs rows)) (fun_ext (λ row. sym (accesses_more (Read row) leaf)))
+
+pub leaf_read : (seen now new : Table) (leaf first count : ℕ) → now ≡ after_log seen (rows_accesses Read leaf first count) → new ≡ after_log now (column_reads leaf first count)
+    → new ≡ after_log seen (rows_accesses Read (leaf + 1) first count)
+leaf_read seen now new leaf first count so read =
+    read ∙ ap (λ (table : Table). after_log table (column_reads leaf first count)) so
+    ∙ after_log-append seen (rows_accesses Read leaf first count) (column_reads leaf first count)
+    ∙ ap (λ (tally : Tally). record seen { tally = tally }) (leaf_tallied (owners_of seen) seen.tally leaf (range_with_len first count))
+
+-- a run more
+pub run_read : (seen now new : Table) (first count : ℕ) → now ≡ after_log seen (all_accesses Read (leaf_count_of seen) first) → new ≡ after_log now (rows_accesses Read (leaf_count_of now) first count)
+    → new ≡ after_log seen (all_accesses Read (leaf_count_of seen) (first + count))
+run_read seen now new first count so read =
+    let logs = row_accesses Read (leaf_count_of seen) in
+    let begins : 0 + first ≡ first = omega arith in
+    read ∙ ap (λ (table : Table). after_log table (rows_accesses Read (leaf_count_of table) first count)) so
+    ∙ after_log-append seen (all_accesses Read (leaf_count_of seen) first) (rows_accesses Read (leaf_count_of seen) first count)
+    ∙ ap (after_log seen)
+    (sym (ap (flat_map logs) (range_cut 0 first count) ∙ flat_map-append logs (range_with_len 0 first) (range_with_len (0 + first) count)
+    ∙ ap (λ (n : ℕ). flat_map logs (range_with_len 0 first) ++ flat_map logs (range_with_len n count)) begins))
+
+-- ---- trials
+
+with_stays : Trial → Bool → Trial
+with_stays trial stays = record trial { stays = stays }
+
+and_all : (b : Bool) → (b && true) ≡ b
+and_all true = refl
+and_all false = refl
+
+-- no row
+pub none_tried : (mode : StoreMode) (trials : List Trial) → map (tried_all mode []) trials ≡ trials
+unfolding with_stays
+none_tried mode [] = refl
+none_tried mode (trial ∷ trials) = ap (λ (b : Bool). with_stays trial b ∷ map (tried_all mode []) trials) (and_all trial.stays) ∙ ap (λ (ts : List Trial). trial ∷ ts) (none_tried mode trials)
+
+and_more : (a b c : Bool) → ((a && b) && c) ≡ (a && (b && c))
+and_more true b c = refl
+and_more false b c = refl
+
+tried_more : (mode : StoreMode) (rows more : List (List ℤ)) (trial : Trial) → tried_all mode more (tried_all mode rows trial) ≡ tried_all mode (rows ++ more) trial
+unfolding with_stays
+tried_more mode rows more trial =
+    ap (with_stays trial)
+    (and_more trial.stays (list_all (takes mode trial) rows) (list_all (takes mode trial) more) ∙ ap (λ b. trial.stays && b) (sym (list_all-append (takes mode trial) rows more)))
+
+-- a run more
+pub run_tried : (mode : StoreMode) (rows : List (List ℤ)) (first count : ℕ) (before now new : List Trial) → now ≡ map (tried_all mode (take first rows)) before
+    → new ≡ map (tried_all mode (take count (drop first rows))) now → new ≡ map (tried_all mode (take (first + count) rows)) before
+run_tried mode rows first count before now new so step =
+    step ∙ ap (map (tried_all mode (take count (drop first rows)))) so
+    ∙ map-map (tried_all mode (take count (drop first rows))) (tried_all mode (take first rows)) before
+    ∙ ap (λ (f : Trial → Trial). map f before) (fun_ext (tried_more mode (take first rows) (take count (drop first rows))))
+    ∙ ap (λ (some : List (List ℤ)). map (tried_all mode some) before) (sym (take-add first count rows))
+
+-- those of the leaves before one are tried
+abbrev pub tried_to : StoreMode → List (List ℤ) → ℕ → Trial → Trial
+tried_to mode rows leaf trial = if nat_lt trial.leaf leaf then tried_all mode rows trial else trial
+
+pub none_to : (mode : StoreMode) (rows : List (List ℤ)) (trials : List Trial) → trials ≡ map (tried_to mode rows 0) trials
+none_to mode rows [] = refl
+none_to mode rows (trial ∷ trials) =
+    let low : nat_lt trial.leaf 0 ≡ false = le-ltb trial.leaf 0 (omega arith) in
+    ap (λ (b : Bool). (if b then tried_all mode rows trial else trial) ∷ trials) (sym low) ∙ ap (λ (ts : List Trial). tried_to mode rows 0 trial ∷ ts) (none_to mode rows trials)
+
+pub all_to : (fields : Fields) (mode : StoreMode) (rows : List (List ℤ)) (count : ℕ) (trials : List Trial) → All (IsTrial fields) trials → length (leaves fields) ≤ count
+    → map (tried_to mode rows count) trials ≡ map (tried_all mode rows) trials
+all_to fields mode rows count trials each all =
+    same_images (tried_to mode rows count) (tried_all mode rows) trials (λ k d l.
+    (let trial = get_or trials k d in
+    let is : IsTrial fields trial = each k d l in
+    ap (λ (b : Bool). if b then tried_all mode rows trial else trial) (lt-ltb trial.leaf count (omega (arith, is.inside, all)))))
+
+-- they are of what they were of
+is_still : (fields : Fields) (mode : StoreMode) (rows : List (List ℤ)) (trial : Trial) (low : Bool) → IsTrial fields trial → IsTrial fields (if low then tried_all mode rows trial else trial)
+is_still fields mode rows trial true is = record { inside = is.inside; kind_is = is.kind_is; hold = is.hold }
+is_still fields mode rows trial false is = is
+
+pub trials_to : (fields : Fields) (mode : StoreMode) (rows : List (List ℤ)) (leaf : ℕ) (before now : List Trial) → All (IsTrial fields) before → now ≡ map (tried_to mode rows leaf) before
+    → All (IsTrial fields) now
+trials_to fields mode rows leaf before now each so =
+    subst (λ (ts : List Trial). All (IsTrial fields) ts) {x = map (tried_to mode rows leaf) before} (sym so)
+    (All-map (IsTrial fields) (tried_to mode rows leaf) before (λ k d l. is_still fields mode rows (get_or before k d) (nat_lt (get_or before k d).leaf leaf) (each k d l)))
+
+module _ (mode : StoreMode) (rows : List (List ℤ)) (leaf : ℕ) (lows : List ℤ) (trial : Trial)
+    (same : trial.leaf ≡ leaf → all_lows_stay mode trial lows ≡ list_all (takes mode trial) rows) where
+  abbrev after : Bool → Trial → Trial
+  after is some = with_stays some (some.stays && (not is || all_lows_stay mode some lows))
+
+  abbrev either : Bool → Trial
+  either is = if is then tried_all mode rows trial else trial
+
+  -- a leaf more
+  one_tried : tried_leaf mode leaf lows (tried_to mode rows leaf trial) ≡ tried_to mode rows (leaf + 1) trial
+  unfolding with_stays
+  one_tried =
+      ⊎_elim
+      (λ (less : trial.leaf < leaf).
+      (let other : (trial.leaf == leaf) ≡ false = ne_eqb trial.leaf leaf (λ e. omega (arith, less, e)) in
+      ap (λ (b : Bool). tried_leaf mode leaf lows (either b)) (lt-ltb trial.leaf leaf less) ∙ ap (λ (b : Bool). after b (tried_all mode rows trial)) other
+      ∙ ap (with_stays trial) (and_all (tried_all mode rows trial).stays) ∙ sym (ap either (lt-ltb trial.leaf (leaf + 1) (omega (arith, less))))))
+      (λ (more : leaf ≤ trial.leaf).
+      (let now = ap (λ (b : Bool). tried_leaf mode leaf lows (either b)) (le-ltb trial.leaf leaf more) in
+      ⊎_elim
+      (λ (here : trial.leaf < leaf + 1).
+      (let is : trial.leaf ≡ leaf = omega (arith, here, more) in
+      now ∙ ap (λ (b : Bool). after b trial) (eq-eqb trial.leaf leaf is) ∙ ap (λ (b : Bool). with_stays trial (trial.stays && b)) (same is)
+      ∙ sym (ap either (lt-ltb trial.leaf (leaf + 1) here))))
+      (λ (later : leaf + 1 ≤ trial.leaf).
+      (let other : (trial.leaf == leaf) ≡ false = ne_eqb trial.leaf leaf (λ e. omega (arith, later, e)) in
+      now ∙ ap (λ (b : Bool). after b trial) other ∙ ap (with_stays trial) (and_all trial.stays) ∙ sym (ap either (le-ltb trial.leaf (leaf + 1) later))))
+      (cases_lt trial.leaf (leaf + 1))))
+      (cases_lt trial.leaf leaf)
+
+-- the low bits of a run of a leaf say whether its values stay
+module _ (table : Table) (is : IsTable table) (leaf first count : ℕ) (leaf_in : leaf < leaf_count_of table) (rows_in : first + count ≤ length table.rows)
+    (lows : List ℤ) (read : lows ≡ map low_64 (run_of leaf first count table)) where
+  abbrev part : List (List ℤ)
+  part = take count (drop first table.rows)
+
+  abbrev kind : LeafType
+  kind = leaf_type_of table leaf
+
+  run_is : run_of leaf first count table ≡ map (in_leaf leaf) part
+  run_is = ap (take count) (drop-map (in_leaf leaf) first table.rows) ∙ take-map (in_leaf leaf) count (drop first table.rows)
+
+  declared : (k : ℕ) → k < length (map (in_leaf leaf) part) → IsDeclared kind (get_or (map (in_leaf leaf) part) k (pos 0))
+  declared k low =
+      let inside : k < length part = omega (arith, low, length-map part (in_leaf leaf)) in
+      let near : k < count = omega (arith, inside, length-take count (drop first table.rows)) in
+      let typed : leaf < length (leaf_types_of table) = omega (arith, leaf_in, length-map (leaves table.fields) (λ (one : Leaf). one.kind)) in
+      let value : get_or (map (in_leaf leaf) part) k (pos 0) ≡ entry table.rows (first + k) leaf =
+      get_or-map (in_leaf leaf) part k [] (pos 0) inside ∙ ap (in_leaf leaf) (get_or-take count (drop first table.rows) k [] near ∙ get_or-drop first table.rows k []) in
+      subst (IsDeclared kind) (sym value)
+      (stays_declared table.mode kind (hold_at (table_holds table) leaf) (entry table.rows (first + k) leaf) (is.stays (first + k) leaf (omega (arith, near, rows_in)) typed))
+
+  pub lows_stay : (mode : StoreMode) (trial : Trial) → IsTrial table.fields trial → trial.leaf ≡ leaf → all_lows_stay mode trial lows ≡ list_all (takes mode trial) part
+  lows_stay mode trial tried same =
+      let test : ℤ → Bool = stays mode trial.kind trial.hold in
+      let kinds : trial.kind ≡ kind = tried.kind_is ∙ ap (leaf_type_of table) same in
+      ap (all_lows_stay mode trial) (read ∙ ap (map low_64) run_is)
+      ∙ sym (list_all-map test (raised trial.kind) (map low_64 (map (in_leaf leaf) part)))
+      ∙ ap (λ (k : LeafType). list_all test (map (raised k) (map low_64 (map (in_leaf leaf) part)))) kinds
+      ∙ ap (list_all test) (raised_all kind (map (in_leaf leaf) part) declared)
+      ∙ list_all-map test (in_leaf leaf) part
+      ∙ ap (λ (n : ℕ). list_all (λ row. test (in_leaf n row)) part) (sym same)
+
+  -- so trials of the leaf are tried
+  pub leaf_tried : (mode : StoreMode) (before now new : List Trial) → All (IsTrial table.fields) before → now ≡ map (tried_to mode part leaf) before → new ≡ map (tried_leaf mode leaf lows) now
+      → new ≡ map (tried_to mode part (leaf + 1)) before
+  leaf_tried mode before now new each so step =
+      step ∙ ap (map (tried_leaf mode leaf lows)) so
+      ∙ map-map (tried_leaf mode leaf lows) (tried_to mode part leaf) before
+      ∙ same_images (λ trial. tried_leaf mode leaf lows (tried_to mode part leaf trial)) (tried_to mode part (leaf + 1)) before
+      (λ k d l. one_tried mode part leaf lows (get_or before k d) (lows_stay mode (get_or before k d) (each k d l)))

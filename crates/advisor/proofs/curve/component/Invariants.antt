@@ -1,0 +1,6 @@
+use Rattle.std.proofs.Common.{◌≡◌, ◌-◌}
+use Rattle.advisor.specs.Curve.{gathered}
+use Rattle.advisor.proofs.curve.component.Given as goal
+
+abbrev pub invariant-loop-digit : goal.invariant-loop-digit
+invariant-loop-digit l = l.component ≡ gathered l.rank (l.rank - 1 - l.d) l.slot l.digit

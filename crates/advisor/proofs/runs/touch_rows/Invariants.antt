@@ -1,0 +1,14 @@
+use Rattle.std.proofs.Common.{◌≤◌, ◌-◌}
+use Rattle.instrument.specs.Counters.{heat_counts}
+use Rattle.advisor.specs.Steady.{are_rows_touched}
+use Rattle.advisor.specs.Warm.{IsWarmed}
+use Rattle.advisor.proofs.runs.touch_rows.Given as goal
+
+abbrev pub invariant-loop-slot : goal.invariant-loop-slot
+invariant-loop-slot l = record {
+  low : l.slot ≤ l.slots;
+  warmed : IsWarmed (heat_counts l.initial.heat) (heat_counts l.heat) (are_rows_touched l.granule l.rule.order l.extents l.rule.pieces.items 0 l.slot);
+}
+
+abbrev pub decreases-loop-slot : goal.decreases-loop-slot
+decreases-loop-slot l = l.slots - l.slot

@@ -1,0 +1,13 @@
+use Rattle.std.proofs.Common.{◌≡◌, length, map, take, drop}
+use Rattle.views.specs.Tables.{after_log}
+use Rattle.views.specs.Tallies.{Read}
+use Rattle.advisor.specs.Trials.{rows_accesses}
+use Rattle.advisor.proofs.TriedRuns.{tried_to}
+use Rattle.advisor.proofs.suits.try_run.Given as goal
+
+abbrev pub invariant-loop-leaf : goal.invariant-loop-leaf
+invariant-loop-leaf g l = record {
+  size : length l.buffer ≡ length l.initial.buffer;
+  view : l.view ≡ after_log l.initial.view (rows_accesses Read l.leaf l.first (length l.initial.buffer));
+  trials : l.trials ≡ map (tried_to l.initial.view.mode (take (length l.initial.buffer) (drop l.first l.initial.view.rows)) l.leaf) l.initial.trials;
+}

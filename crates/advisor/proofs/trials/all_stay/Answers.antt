@@ -1,0 +1,28 @@
+use Rattle.std.proofs.Common.{rules, ◌≡◌, Bool, pos, get_or, SFits, w64, sym, ap, ◌∙◌}
+use Rattle.std.specs.Prelude.{◌&&◌}
+use Rattle.std.proofs.lemmas.Int.{to_z-of_z}
+use Rattle.std.proofs.lemmas.List.Folds.{list_all_at, list_all_more}
+use Rattle.advisor.specs.Trials.{low_stays}
+use Rattle.advisor.proofs.trials.all_stay.Goals as goal
+use Rattle.advisor.proofs.trials.all_stay.Goals.{After-low_stays}
+
+-- the answer for a value
+answer : (c : After-low_stays) → low_stays c.args.mode c.args.trial (get_or c.args.lows.now c.loop-low.low-index (pos 0)) ≡ c.low_stays.result
+answer c =
+    let low = get_or c.args.lows.now c.loop-low.low-index (pos 0) in
+    let fit : SFits w64 low = search rules in
+    sym (c.low_stays.ensures ∙ ap (low_stays c.args.mode c.args.trial) (to_z-of_z w64 low fit))
+
+pub returns-then-not-low_stays : goal.returns-then-not-low_stays
+returns-then-not-low_stays c =
+    sym (list_all_at (low_stays c.args.mode c.args.trial) c.args.lows.now c.loop-low.low-index (pos 0) c.loop-low-test.true
+    (answer (goal.at.returns-then-not-low_stays c).After-low_stays ∙ c.if-not-low_stays.true))
+
+pub loop-low-preserved : goal.loop-low-preserved
+loop-low-preserved c =
+    let test = low_stays c.args.mode c.args.trial in
+    let lows = c.args.lows.now in
+    let at = c.loop-low.low-index in
+    list_all_more test lows at (pos 0) c.loop-low-test.true
+    ∙ ap (λ (b : Bool). b && test (get_or lows at (pos 0))) c.loop-low.invariant
+    ∙ answer (goal.at.loop-low-preserved c).After-low_stays ∙ c.if-not-low_stays.false

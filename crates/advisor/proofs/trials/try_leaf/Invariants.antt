@@ -1,0 +1,6 @@
+use Rattle.std.proofs.Common.{◌≡◌, ◌++◌, take, drop, map}
+use Rattle.advisor.specs.Trials.{tried_leaf}
+use Rattle.advisor.proofs.trials.try_leaf.Given as goal
+
+abbrev pub invariant-loop-trial : goal.invariant-loop-trial
+invariant-loop-trial l = l.trials ≡ map (tried_leaf l.mode l.leaf l.lows) (take l.trial-index l.initial.trials) ++ drop l.trial-index l.initial.trials

@@ -1,0 +1,6 @@
+use Rattle.std.proofs.Common.{◌≡◌, ◌<◌, ℕ, true, get_or, pos}
+use Rattle.record_dim.specs.LeafTypes.{IsDeclared}
+use Rattle.blob_file.proofs.fill.are_declared.Given as goal
+
+abbrev pub invariant-loop-low : goal.invariant-loop-low
+invariant-loop-low l = l.all ≡ true → (k : ℕ) → k < l.low-index → IsDeclared l.fn.kind (get_or l.lows k (pos 0))

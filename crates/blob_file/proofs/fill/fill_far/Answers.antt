@@ -1,0 +1,127 @@
+use Rattle.std.proofs.Common.{rules, ◌≡◌, ◌+◌, ◌-◌, ◌<◌, ◌≤◌, ◌∙◌, ⊎_elim, ℕ, ℤ, List, pos, get_or, length, take, take_all, is_ok, true, Ok, Err, Result, FitsSigned, to_z, of_z, refl, sym, ap, subst, arith}
+use Rattle.std.specs.Int.{w128}
+use Rattle.std.proofs.lemmas.Bool.{cases_lt}
+use Rattle.std.proofs.lemmas.Int.{to_z-of_z}
+use Rattle.extents.specs.Indices.{indices}
+use Rattle.places.specs.Image.{entry}
+use Rattle.places.specs.declared.piece.Cell.{Cell}
+use Rattle.views.specs.AnswerLaws.{told_same}
+use Rattle.views.specs.Columns.{column_writes, with_column}
+use Rattle.views.specs.ColumnsLaws.{length-with_column}
+use Rattle.views.specs.RunsLaws.{run_length}
+use Rattle.views.specs.Stores.{kept_rows, told}
+use Rattle.views.specs.Tables.{Table, answer_of, kept_of, leaf_count_of, after_stores}
+use Rattle.views.specs.declared.fault.StoreFault.{StoreFault}
+use Rattle.views.proofs.RunStoreLaws.{value_more}
+use Rattle.views.proofs.StoredLaws.{nothing_stored}
+use Rattle.blob_file.specs.Filling.{kept_run}
+use Rattle.blob_file.specs.Opened.{raw_in}
+use Rattle.blob_file.specs.Saving.{header_of}
+use Rattle.blob_file.specs.declared.fault.FileFault.TheVariants.{Contents}
+use Rattle.blob_file.proofs.Filled.{raw_is, cell_count, run_kept, kept_long}
+use Rattle.blob_file.proofs.fill.fill_far.Goals as goal
+use Rattle.blob_file.proofs.fill.fill_far.Goals.{In-loop-k, After-set}
+use Rattle.blob_file.proofs.fill.fill_far.Given.{Over}
+
+pub loop-k-init : goal.loop-k-init
+loop-k-init g c = record {
+  stored = nothing_stored c.args.leaf c.args.first c.args.view.now (kept_run c.args.leaf c.args.first c.args.rows c.args.view.now (raw_in (header_of c.args.view.now) c.args.blobs.now));
+  taken = λ row low high. absurd (omega (arith, low, high));
+  steps = omega arith;
+}
+
+-- no row is gone
+rows_stay : (g : Over) (c : In-loop-k g) → length c.loop-k.view.rows ≡ length c.args.view.now.rows
+rows_stay g c =
+    ap (λ (t : Table). length t.rows) c.loop-k.invariant.stored.stored ∙ length-with_column c.args.leaf c.args.first _ c.args.view.now.rows
+
+pub overflow_add-row : goal.overflow_add-row
+overflow_add-row g c =
+    let rows : length (indices c.extents.result) ≡ length c.args.view.now.rows = ap (λ (e : List ℕ). length (indices e)) c.extents.ensures.value ∙ sym c.extents.ensures.table.rows in
+    omega (arith, rows, c.count-rows.ensures.rows, c.count-rows.ensures.few, c.requires.rows_in)
+
+pub read_entry-value-requires-clause-slot_in : goal.read_entry-value-requires-clause-slot_in
+read_entry-value-requires-clause-slot_in g c =
+    let here : length (indices c.loop-k.view.extents) ≡ length (indices c.args.view.now.extents) = ap (λ (t : Table). length (indices t.extents)) c.loop-k.invariant.stored.stored in
+    omega (arith, c.map.ensures.slots, here, c.laws_of_table.ensures.table.rows, c.requires.rows_in)
+
+pub read_entry-value-requires-clause-cell_in : goal.read_entry-value-requires-clause-cell_in
+read_entry-value-requires-clause-cell_in g c =
+    let here : leaf_count_of c.loop-k.view ≡ leaf_count_of c.args.view.now = ap leaf_count_of c.loop-k.invariant.stored.stored in
+    omega (arith, ap (λ (cells : List Cell). length cells) c.map.ensures.cells, cell_count c.loop-k.view, here, c.requires.leaf_in)
+
+pub set-requires-clause-row_in : goal.set-requires-clause-row_in
+set-requires-clause-row_in g c = omega (arith, rows_stay g (goal.at.set-requires-clause-row_in g c).In-loop-k, c.requires.rows_in)
+
+-- the number that is read
+number : (g : Over) (c : After-set g) → to_z w128 (of_z w128 c.read_entry-value.result) ≡ entry (raw_in (header_of c.args.view.now) c.args.blobs.now) (c.args.first + c.loop-k.k) c.args.leaf
+number g c =
+    let fits : FitsSigned w128 c.read_entry-value.result = search rules in
+    to_z-of_z w128 c.read_entry-value.result fits ∙ c.read_entry-value.ensures
+    ∙ ap (λ (t : List (List ℤ)). entry t (c.args.first + c.loop-k.k) c.args.leaf)
+    (raw_is c.loop-k.view c.args.blobs.now _ _ _ c.map.ensures.layout c.map.ensures.slots c.map.ensures.holds
+    ∙ ap (λ (t : Table). raw_in (header_of t) c.args.blobs.now) c.loop-k.invariant.stored.stored)
+
+-- and the answer to its store
+answer : (g : Over) (c : After-set g) → c.set.result ≡ told (answer_of c.args.view.now c.args.leaf (entry (raw_in (header_of c.args.view.now) c.args.blobs.now) (c.args.first + c.loop-k.k) c.args.leaf))
+answer g c =
+    c.set.ensures.answer ∙ ap (λ (v : ℤ). told (answer_of c.loop-k.view c.args.leaf v)) (number g c)
+    ∙ ap (λ (t : Table). told (answer_of t c.args.leaf (entry (raw_in (header_of c.args.view.now) c.args.blobs.now) (c.args.first + c.loop-k.k) c.args.leaf))) c.loop-k.invariant.stored.stored
+
+pub loop-k-preserved : goal.loop-k-preserved
+loop-k-preserved g c =
+    let at = (goal.at.loop-k-preserved g c).After-set in
+    let old : Table = c.args.view.now in
+    let leaf : ℕ = c.args.leaf in
+    let first : ℕ = c.args.first in
+    let k : ℕ = c.loop-k.k in
+    let raw : List (List ℤ) = raw_in (header_of old) c.args.blobs.now in
+    let is = c.laws_of_table.ensures.table in
+    let paired = c.laws_of_table.ensures.paired in
+    let long : length (kept_run leaf first c.args.rows old raw) ≡ c.args.rows =
+    run_length leaf first c.args.rows (kept_rows (kept_of old) raw) (omega (arith, kept_long old c.args.blobs.now is paired, c.requires.rows_in)) in
+    let ok : c.set.result ≡ Ok tt = search rules in
+    let taken : is_ok (answer_of old leaf (entry raw (first + k) leaf)) ≡ true =
+    sym (told_same (answer_of old leaf (entry raw (first + k) leaf))) ∙ ap (λ (r : Result Unit StoreFault). is_ok r) (sym (answer g at) ∙ ok) in
+    let kept : kept_of c.loop-k.view leaf (to_z w128 (of_z w128 c.read_entry-value.result)) ≡ get_or (kept_run leaf first c.args.rows old raw) k (pos 0) =
+    ap (kept_of c.loop-k.view leaf) (number g at) ∙ ap (λ (t : Table). kept_of t leaf (entry raw (first + k) leaf)) c.loop-k.invariant.stored.stored
+    ∙ sym (run_kept old c.args.blobs.now is paired leaf first c.args.rows k c.loop-k-test.true c.requires.rows_in c.requires.leaf_in) in
+    record {
+      stored = value_more leaf first k (first + k) old c.loop-k.view c.set.new.self (kept_run leaf first c.args.rows old raw) _ c.loop-k.invariant.stored
+          (omega (arith, long)) (omega (arith, c.requires.rows_in)) refl kept c.in_ok-set.ensures.stored;
+      taken = λ row low high.
+          ⊎_elim (λ (before : row < first + k). c.loop-k.invariant.taken row low before)
+          (λ (here : first + k ≤ row).
+          let same : first + k ≡ row = omega (arith, here, high) in
+          subst (λ (n : ℕ). is_ok (answer_of old leaf (entry raw n leaf)) ≡ true) same taken)
+          (cases_lt row (first + k));
+      steps = omega arith;
+    }
+
+pub returns-in_err-set-clause-refused : goal.returns-in_err-set-clause-refused
+returns-in_err-set-clause-refused g c =
+    let at = (goal.at.returns-in_err-set-clause-refused g c).After-set in
+    let old : Table = c.args.view.now in
+    let raw : List (List ℤ) = raw_in (header_of old) c.args.blobs.now in
+    let value : ℤ = entry raw (c.args.first + c.loop-k.k) c.args.leaf in
+    let is : c.from_residual.result ≡ Err Contents = search (c.from_residual.ensures, rules) in
+    let no : c.set.result ≡ Err c.in_err-set.field-0.0 = search rules in
+    rw is (
+      refl,
+      λ all.
+          (let yes : is_ok (answer_of old c.args.leaf value) ≡ true = all (c.args.first + c.loop-k.k) (omega arith) (omega arith) in
+          let clash : is_ok c.set.result ≡ true = ap (λ (r : Result Unit StoreFault). is_ok r) (answer g at) ∙ told_same (answer_of old c.args.leaf value) ∙ yes in
+          absurd (let none = rw no at clash in cc none)),
+    )
+
+pub returns-clause-stored : goal.returns-clause-stored
+returns-clause-stored g c =
+    let old : Table = c.args.view.now in
+    let kept : List ℤ = kept_run c.args.leaf c.args.first c.args.rows old (raw_in (header_of old) c.args.blobs.now) in
+    let end : c.loop-k.k ≡ c.args.rows = omega arith in
+    let long : length kept ≡ c.args.rows =
+    run_length c.args.leaf c.args.first c.args.rows (kept_rows (kept_of old) (raw_in (header_of old) c.args.blobs.now))
+    (omega (arith, kept_long old c.args.blobs.now c.laws_of_table.ensures.table c.laws_of_table.ensures.paired, c.requires.rows_in)) in
+    c.loop-k.invariant.stored.stored
+    ∙ ap (λ (n : ℕ). after_stores old (with_column c.args.leaf c.args.first (take n kept) old.rows) (column_writes c.args.leaf c.args.first n)) end
+    ∙ ap (λ (values : List ℤ). after_stores old (with_column c.args.leaf c.args.first values old.rows) (column_writes c.args.leaf c.args.first c.args.rows)) (take_all c.args.rows kept (omega (arith, long)))

@@ -1,0 +1,43 @@
+use Rattle.std.proofs.Common.{rules, ◌≡◌, ◌+◌, ◌<◌, ◌∙◌, ℕ, ℤ, List, true, length, map, get_or, pos, refl, sym, ap, subst, arith}
+use Rattle.std.proofs.lemmas.Option.{get_or_from_slice_get}
+use Rattle.record_dim.specs.declared.leaf_type.LeafType.{LeafType}
+use Rattle.record_dim.specs.declared.leaf_type.LeafType.TheVariants.{Bool as Truth}
+use Rattle.piece_bits.specs.Tables.{hold_at}
+use Rattle.views.specs.Columns.{column_writes, with_column}
+use Rattle.views.specs.Runs.{raised, run_steps}
+use Rattle.views.specs.Stores.{Fits}
+use Rattle.views.specs.Tables.{Table, leaf_type_of, leaf_types_of, table_holds, after_stores}
+use Rattle.blob_file.specs.Filling.{kept_run, AreFitting, IsTakenLeaf}
+use Rattle.blob_file.specs.Opened.{raw_in}
+use Rattle.blob_file.specs.Saving.{header_of}
+use Rattle.blob_file.proofs.Filled.{fitting_taken, fitting_kept}
+use Rattle.blob_file.proofs.fill.fill_leaf.Goals as goal
+
+pub returns-clause-taken : goal.returns-clause-taken
+returns-clause-taken g c =
+    let old : Table = c.args.view.now in
+    subst (λ (n : ℕ). IsTakenLeaf c.args.leaf c.args.first n old (raw_in (header_of old) c.args.blobs.now)) c.read_fitting.ensures.count
+    (fitting_taken old c.args.blobs.now c.schema.ensures.table c.schema.ensures.paired c.args.leaf c.args.first c.read_fitting.new.lows c.requires.leaf_in (c.if-not-read_fitting.ensures.fitting refl))
+
+pub returns-clause-stored : goal.returns-clause-stored
+returns-clause-stored g c =
+    let old : Table = c.args.view.now in
+    let leaf : ℕ = c.args.leaf in
+    let first : ℕ = c.args.first in
+    let lows : List ℤ = c.read_fitting.new.lows in
+    let raw : List (List ℤ) = raw_in (header_of old) c.args.blobs.now in
+    let kept : map (raised (leaf_type_of old leaf)) lows ≡ kept_run leaf first (length lows) old raw =
+    fitting_kept old c.args.blobs.now c.schema.ensures.table c.schema.ensures.paired leaf first lows c.requires.leaf_in (c.if-not-read_fitting.ensures.fitting refl)
+    (omega (arith, c.read_fitting.ensures.count, c.requires.rows_in)) in
+    c.put_run.ensures.stored
+    ∙ ap (λ (values : List ℤ). after_stores old (with_column leaf first values old.rows) (column_writes leaf first (length lows))) kept
+    ∙ ap (λ (n : ℕ). after_stores old (with_column leaf first (kept_run leaf first n old raw) old.rows) (column_writes leaf first n)) c.read_fitting.ensures.count
+
+pub returns-clause-steps : goal.returns-clause-steps
+returns-clause-steps g c =
+    let old : Table = c.args.view.now in
+    let kind_is : leaf_type_of old c.args.leaf ≡ c.leaf_type-kind.result =
+    get_or_from_slice_get (leaf_types_of old) c.args.leaf c.leaf_type-kind.result Truth (rw c.schema.ensures.value at c.leaf_type-kind.ensures) in
+    let run : run_steps (leaf_type_of old c.args.leaf) (length c.read_fitting.new.lows) ≡ run_steps c.leaf_type-kind.result (length c.read_fitting.new.lows) =
+    ap (λ (kind : LeafType). run_steps kind (length c.read_fitting.new.lows)) kind_is in
+    omega (arith, c.put_run.ensures.steps, c.count_rest.ensures, run, c.read_fitting.ensures.count)

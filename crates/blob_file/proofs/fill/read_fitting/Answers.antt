@@ -1,0 +1,81 @@
+use Rattle.std.proofs.Common.{rules, ◌≡◌, ◌+◌, ◌<◌, ◌≤◌, ◌∙◌, ℕ, ℤ, List, true, false, pos, get_or, length, map, refl, sym, ap, subst, arith}
+use Rattle.std.proofs.lemmas.List.{length-map}
+use Rattle.std.proofs.lemmas.Option.{get_or_from_slice_get}
+use Rattle.record_dim.specs.LeafTypes.{is_signed, IsDeclared, IsIn}
+use Rattle.record_dim.specs.Leaves.{Leaf, leaves}
+use Rattle.record_dim.specs.declared.leaf_type.LeafType.{LeafType}
+use Rattle.record_dim.specs.declared.leaf_type.LeafType.TheVariants.{Bool as Truth}
+use Rattle.extents.specs.Indices.{indices}
+use Rattle.places.specs.Image.{entry}
+use Rattle.places.specs.Laws.{IsLaidOut}
+use Rattle.places.specs.declared.piece.Cell.{Cell}
+use Rattle.places.specs.declared.piece.Hold.{Hold}
+use Rattle.map_checks.specs.LeafCells.{kinds_are}
+use Rattle.piece_bits.specs.CellsLaws.{hold_widths}
+use Rattle.piece_bits.specs.Tables.{hold_at}
+use Rattle.leaf_runs.specs.Lows.{low_64}
+use Rattle.views.specs.Runs.{raised}
+use Rattle.views.specs.RunsLaws.{raised_low}
+use Rattle.views.specs.Stores.{kind_at}
+use Rattle.views.specs.Tables.{leaf_count_of, leaf_type_of, leaf_types_of, owners_of, table_holds}
+use Rattle.blob_file.specs.Opened.{raw_in}
+use Rattle.blob_file.specs.Saving.{header_of}
+use Rattle.blob_file.proofs.Contents.{raw_range}
+use Rattle.blob_file.proofs.Filled.{raw_is, cell_count}
+use Rattle.blob_file.proofs.fill.read_fitting.Goals as goal
+use Rattle.blob_file.proofs.fill.read_fitting.Goals.{After-hold, After-leaf_type}
+
+pub read_rows-requires-clause-leaf_in : goal.read_rows-requires-clause-leaf_in
+read_rows-requires-clause-leaf_in c = omega (arith, ap (λ (cells : List Cell). length cells) c.map-map.ensures.cells, cell_count c.args.view.now, c.requires.leaf_in)
+
+pub read_rows-requires-clause-rows_in : goal.read_rows-requires-clause-rows_in
+read_rows-requires-clause-rows_in c = omega (arith, c.map-map.ensures.slots, c.laws_of_table.ensures.table.rows, c.requires.rows_in)
+
+-- the leaf is one of the types
+in_kinds : (c : After-leaf_type) → c.args.leaf < length (leaf_types_of c.args.view.now)
+in_kinds c = omega (arith, c.requires.leaf_in, length-map (leaves c.args.view.now.fields) (λ (one : Leaf). one.kind))
+
+-- its hold has 1 to 64 bits
+widths : (c : After-hold) → (1 ≤ c.hold.result.width) × (c.hold.result.width ≤ 64)
+widths c =
+    let table = c.args.view.now in
+    let laid : IsLaidOut (owners_of table) (length (indices table.extents)) (map (λ (h : Hold). h.width) (table_holds table)) = rw (c.map-map.ensures.layout, c.map-map.ensures.slots, c.map-map.ensures.holds) at c.laws_of.ensures.lawful in
+    hold_widths (owners_of table) (length (indices table.extents)) (table_holds table) laid c.args.leaf c.hold.result
+    (omega (arith, c.requires.leaf_in, length-map (leaves table.fields) (λ (one : Leaf). one.kind), c.laws_of_table.ensures.paired)) (rw c.map-map.ensures.holds at c.hold.ensures)
+
+pub returns-clause-fitting : goal.returns-clause-fitting
+returns-clause-fitting c = λ yes k l.
+    let table = c.args.view.now in
+    let blobs = c.args.blobs.now in
+    let leaf : ℕ = c.args.leaf in
+    let row : ℕ = c.args.first + k in
+    let kind : LeafType = leaf_type_of table leaf in
+    let raw : ℤ = entry (raw_in (header_of table) blobs) row leaf in
+    let below : k < length c.args.lows.now = omega (arith, l, c.read_rows.ensures.count) in
+    let inside : row < length (indices table.extents) = omega (arith, below, c.laws_of_table.ensures.table.rows, c.requires.rows_in) in
+    let laid : IsLaidOut (owners_of table) (length (indices table.extents)) (map (λ (h : Hold). h.width) (table_holds table)) = rw (c.map-map.ensures.layout, c.map-map.ensures.slots, c.map-map.ensures.holds) at c.laws_of.ensures.lawful in
+    let kind_is : kind ≡ c.leaf_type.result = get_or_from_slice_get (leaf_types_of table) leaf c.leaf_type.result Truth (rw c.schema.ensures.value at c.leaf_type.ensures) in
+    let hold_is : hold_at (table_holds table) leaf ≡ c.hold.result = get_or_from_slice_get (table_holds table) leaf c.hold.result (record { signed = false; width = 0 }) (rw c.map-map.ensures.holds at c.hold.ensures) in
+    let held : IsIn (hold_at (table_holds table) leaf).signed (hold_at (table_holds table) leaf).width raw =
+    raw_range (header_of table) laid c.laws_of_table.ensures.paired blobs row leaf inside (in_kinds (goal.at.returns-clause-fitting c).After-leaf_type) in
+    let low : get_or c.read_rows.new.values k (pos 0) ≡ low_64 raw =
+    c.if-not-read_rows.ensures.values refl k below
+    ∙ ap (λ (t : List (List ℤ)). low_64 (entry t row leaf)) (raw_is table blobs _ _ _ c.map-map.ensures.layout c.map-map.ensures.slots c.map-map.ensures.holds) in
+    let declared : IsDeclared kind raw =
+    subst (λ (t : LeafType). IsDeclared t raw) (sym kind_is) (c.are_declared.ensures yes k l raw (subst (λ (h : Hold). IsIn h.signed h.width raw) hold_is held) low) in
+    (record { declared = declared; held = held }, ap (raised kind) low ∙ raised_low kind raw declared)
+
+pub are_declared-requires-clause-some : goal.are_declared-requires-clause-some
+are_declared-requires-clause-some c = (widths (goal.at.are_declared-requires-clause-some c).After-hold).0
+
+pub are_declared-requires-clause-narrow : goal.are_declared-requires-clause-narrow
+are_declared-requires-clause-narrow c = (widths (goal.at.are_declared-requires-clause-narrow c).After-hold).1
+
+pub are_declared-requires-clause-sign : goal.are_declared-requires-clause-sign
+are_declared-requires-clause-sign c =
+    let table = c.args.view.now in
+    let leaf : ℕ = c.args.leaf in
+    let kind_is : kind_at (leaf_types_of table) leaf ≡ c.leaf_type.result = get_or_from_slice_get (leaf_types_of table) leaf c.leaf_type.result Truth (rw c.schema.ensures.value at c.leaf_type.ensures) in
+    let hold_is : hold_at c.map-map.result.now.holds leaf ≡ c.hold.result = get_or_from_slice_get c.map-map.result.now.holds leaf c.hold.result (record { signed = false; width = 0 }) c.hold.ensures in
+    let kinds : map (λ (cell : Cell). cell.kind) _ ≡ leaf_types_of table = kinds_are _ (leaf_types_of table) c.map-map.ensures.cells in
+    sym (ap (λ (h : Hold). h.signed) hold_is) ∙ c.if-not-read_rows.ensures.sign refl ∙ ap (λ (ks : List LeafType). is_signed (kind_at ks leaf)) kinds ∙ ap is_signed kind_is

@@ -1,0 +1,11 @@
+use Rattle.std.proofs.Common.{◌≡◌, ◌+◌, length}
+use Rattle.csv.specs.declared.parser.State.TheVariants as st
+use Rattle.csv_rows.specs.Datasets.{records_of}
+use Rattle.csv_rows.specs.Readers.{record_count}
+use Rattle.csv_rows.proofs.count.count_rows.Given as goal
+
+abbrev pub invariant-loop-rest : goal.invariant-loop-rest
+invariant-loop-rest l = l.records + record_count st.StartRecord l.text ≡ length (records_of l.bytes)
+
+abbrev pub decreases-loop-rest : goal.decreases-loop-rest
+decreases-loop-rest l = record_count st.StartRecord l.text

@@ -1,0 +1,6 @@
+use Rattle.std.proofs.Common.{◌≡◌, map, take}
+use Rattle.views.specs.Runs.{raised}
+use Rattle.lane_kernels.proofs.reduce.raise.Given as goal
+
+abbrev pub invariant-loop-at : goal.invariant-loop-at
+invariant-loop-at l = take l.at l.values ≡ map (raised l.kind) (take l.at l.lows)

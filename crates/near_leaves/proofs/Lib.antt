@@ -1,4 +1,0 @@
-pub mod Lanes
-pub mod Spreads
-pub mod Nears
-pub mod Puts

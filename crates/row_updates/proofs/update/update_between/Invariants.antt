@@ -1,0 +1,14 @@
+use Rattle.std.proofs.Common.{◌≡◌, map, length}
+use Rattle.row_updates.specs.Rows.{filter_term, setting_of}
+use Rattle.row_updates.specs.Updated.{AreUpdated}
+use Rattle.views.specs.Tables.{Table}
+use Rattle.row_updates.proofs.update.update_between.Given as goal
+
+abbrev pub invariant-loop-row : goal.invariant-loop-row
+invariant-loop-row g l =
+    let sets = map setting_of l.sets in
+    record {
+      still : l.view ≡ record l.initial.view { rows = l.view.rows; tally = l.view.tally };
+      count : length l.view.rows ≡ length l.initial.view.rows;
+      updated : (old : Table) → AreUpdated old (filter_term l.filter) sets l.initial.view l.first → AreUpdated old (filter_term l.filter) sets l.view l.row;
+    }

@@ -1,0 +1,6 @@
+use Rattle.std.proofs.Common.{◌≡◌, ◌*◌, ◌≤◌, ◌^◌, take}
+use Rattle.subviews.specs.Plans.{all_weights}
+use Rattle.subviews.proofs.limits.total_weight.Given as goal
+
+abbrev pub invariant-loop-term : goal.invariant-loop-term
+invariant-loop-term l = (l.total ≡ all_weights (take l.term-index l.terms)) × (l.total ≤ l.term-index * 2 ^ 31)

@@ -1,0 +1,10 @@
+use Rattle.std.proofs.Common.{◌≡◌, ℕ, ◌<◌, ◌≤◌, length, get_or, pos}
+use Rattle.std.specs.Prelude.{int_div}
+use Rattle.subviews.proofs.sums.divide.Given as goal
+
+abbrev pub invariant-loop-k : goal.invariant-loop-k
+invariant-loop-k l = record {
+  long : length l.sums ≡ length l.fn.sums;
+  done : (i : ℕ) → i < l.k → get_or l.sums i (pos 0) ≡ int_div (get_or l.fn.sums i (pos 0)) l.divisor;
+  rest : (i : ℕ) → l.k ≤ i → get_or l.sums i (pos 0) ≡ get_or l.fn.sums i (pos 0);
+}

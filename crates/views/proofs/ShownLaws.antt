@@ -1,0 +1,47 @@
+-- What a view and its mapping say of the same layout.
+use Rattle.std.proofs.Common.{◌≡◌, ℕ, List, length, map, sym, ap, ◌∙◌, subst}
+use Rattle.record_dim.specs.Leaves.{kinds_of}
+use Rattle.record_dim.specs.Schemas.{schema_fields}
+use Rattle.record_dim.specs.declared.schema.Schema.{Schema}
+use Rattle.record_dim.specs.declared.leaf_type.LeafType.{LeafType}
+use Rattle.places.specs.Layout.{Owner}
+use Rattle.places.specs.declared.piece.Cell.{Cell}
+use Rattle.places.specs.declared.piece.Hold.{Hold}
+use Rattle.map_expr.specs.Terms.{Term, term_of}
+use Rattle.map_expr.specs.declared.expr.MapExpr.{MapExpr}
+use Rattle.map_checks.specs.LeafCells.{kinds_are}
+use Rattle.kept_tables.specs.declared.mode.StoreMode.{StoreMode}
+use Rattle.views.specs.Kept.{IsKept, IsMappingOf}
+use Rattle.views.specs.Tables.{Table, leaf_types_of, owners_of, table_holds}
+use Rattle.views.specs.Tallies.{Tally}
+use Rattle.views.proofs.Opened.{seen_from, rows_seen}
+
+same_place : (P : List (List Owner) → ℕ → List LeafType → List Hold → Type 0) {layout there : List (List Owner)} {slots rows : ℕ} {kinds types : List LeafType} {holds stored : List Hold}
+    → layout ≡ there → slots ≡ rows → kinds ≡ types → holds ≡ stored → P layout slots kinds holds → P there rows types stored
+same_place P {layout} {there} {slots} {rows} {kinds} {types} {holds} {stored} one two three four is =
+    subst (λ (h : List Hold). P there rows types h) four
+    (subst (λ (k : List LeafType). P there rows k holds) three
+    (subst (λ (n : ℕ). P there n kinds holds) two
+    (subst (λ (l : List (List Owner)). P l slots kinds holds) one is)))
+
+module _ {mode : StoreMode} (schema : Schema) (extents : List ℕ) (expr : MapExpr) (blobs : List (List ℕ)) (kept : IsKept mode (term_of expr) extents (schema_fields schema) blobs) {tally : Tally} (seen : Table)
+    (is : seen_from mode schema extents expr blobs tally ≡ seen) {mapped : Term} {inside : List ℕ} {layout : List (List Owner)} {slots : ℕ} {cells : List Cell} {holds : List Hold}
+    (mapping : IsMappingOf (term_of expr) extents (schema_fields schema) mapped inside layout slots cells holds) where
+  layouts : layout ≡ owners_of seen
+  layouts = mapping.layout_is ∙ ap (λ (t : Table). owners_of t) is
+
+  rows_are : slots ≡ length seen.rows
+  rows_are = mapping.slots_are ∙ sym (rows_seen schema extents expr blobs kept seen is)
+
+  types : map (λ cell. cell.kind) cells ≡ leaf_types_of seen
+  types = kinds_are cells (kinds_of (schema_fields schema)) mapping.cells_are ∙ ap (λ (t : Table). leaf_types_of t) is
+
+  stored : holds ≡ table_holds seen
+  stored = mapping.holds_are ∙ ap (λ (t : Table). table_holds t) is
+
+  module _ (P : List (List Owner) → ℕ → List LeafType → List Hold → Type 0) where
+    pub shown_there : P layout slots (map (λ cell. cell.kind) cells) holds → P (owners_of seen) (length seen.rows) (leaf_types_of seen) (table_holds seen)
+    shown_there = same_place P layouts rows_are types stored
+
+    pub shown_here : P (owners_of seen) (length seen.rows) (leaf_types_of seen) (table_holds seen) → P layout slots (map (λ cell. cell.kind) cells) holds
+    shown_here = same_place P (sym layouts) (sym rows_are) (sym types) (sym stored)
