@@ -3,7 +3,7 @@ use Rattle.std.specs.Prelude.{ℕ, ◌≡◌, ℤ, List, [], length, map, slice_
 use Rattle.expr_lang.specs.Terms.{Term}
 use Rattle.places.specs.Laws.{IsLaidOut}
 use Rattle.piece_bits.specs.Tables.{AreLaid, table_in}
-use Rattle.kept_tables.specs.Modes.{declared_table}
+use Rattle.piece_bits.specs.Modes.{declared_table}
 use Rattle.views.specs.Tables.{Table, IsTable, owners_of, leaf_types_of, table_holds}
 use Rattle.row_updates.specs.Rows.{Setting, updated_of}
 use Rattle.actor_steps.specs.Confluence.{State}

@@ -10,9 +10,9 @@ use Rattle.places.specs.Laws.{IsLaidOut}
 use Rattle.places.specs.declared.piece.Hold.{Hold}
 use Rattle.blobs.specs.Bits.{bit_in}
 use Rattle.piece_bits.specs.Tables.{HasShape, hold_at, table_in}
-use Rattle.kept_tables.specs.Modes.{kind_at, declared_table, Stays}
-use Rattle.kept_tables.specs.EntryLaws.{stays_kept}
-use Rattle.kept_tables.specs.ImageLaws.{image_table}
+use Rattle.piece_bits.specs.Modes.{kind_at, declared_table, Stays}
+use Rattle.piece_bits.specs.EntryLaws.{stays_kept}
+use Rattle.piece_bits.specs.ImageLaws.{image_table}
 use Rattle.views.specs.Tables.{Table, owners_of, leaf_types_of, table_holds, leaf_count_of, answer_of, kept_of}
 use Rattle.views.specs.AnswerLaws.{answer_stays}
 use Rattle.row_updates.specs.Rows.{Setting, updated_of}

@@ -13,9 +13,9 @@ use Rattle.places.specs.OwnedLaws.{owned_is}
 use Rattle.places.specs.declared.piece.Hold.{Hold}
 use Rattle.piece_bits.specs.Tables.{HasShape, hold_at, table_in}
 use Rattle.piece_bits.specs.TableLaws.{table_shape, entry_is}
-use Rattle.kept_numbers.specs.Kept.{declared, held}
-use Rattle.kept_tables.specs.Modes.{kind_at}
-use Rattle.kept_tables.specs.TableLaws.{declared_shape, declared_entry}
+use Rattle.piece_bits.specs.Kept.{declared, held}
+use Rattle.piece_bits.specs.Modes.{kind_at}
+use Rattle.piece_bits.specs.KeptTableLaws.{declared_shape, declared_entry}
 use Rattle.blobs.specs.Bits.{bit_in}
 use Rattle.actor_steps.specs.Micro.{Job, row_in}
 

@@ -13,7 +13,7 @@ pub use Rattle.places.specs.Touched.{is_bit_of}
 use Rattle.places.specs.Writes.{written}
 use Rattle.places.specs.declared.piece.Hold.{Hold}
 use Rattle.piece_bits.specs.Tables.{table_in}
-use Rattle.kept_tables.specs.Modes.{declared_table}
+use Rattle.piece_bits.specs.Modes.{declared_table}
 use Rattle.views.specs.Stores.{Keeping}
 use Rattle.row_updates.specs.Rows.{Setting}
 pub use Rattle.actor_steps.specs.declared.place.Place.{Place}

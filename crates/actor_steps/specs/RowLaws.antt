@@ -12,8 +12,8 @@ use Rattle.places.specs.Laws.{IsLaidOut}
 use Rattle.places.specs.Writes.{written}
 use Rattle.blobs.specs.Bits.{bit_in}
 use Rattle.piece_bits.specs.Tables.{AreSized, HasShape, hold_at}
-use Rattle.kept_numbers.specs.Kept.{declared, kept}
-use Rattle.kept_tables.specs.Modes.{kind_at}
+use Rattle.piece_bits.specs.Kept.{declared, kept}
+use Rattle.piece_bits.specs.Modes.{kind_at}
 use Rattle.row_updates.specs.Rows.{Setting}
 use Rattle.actor_steps.specs.ConfluenceLaws.{Each, made_all, loaded_all, made_all-append, loaded_all-append}
 use Rattle.actor_steps.specs.Micro.{Place, Job, Micro, Fetch, Registers, row_in, row_of, value_on, number_in, stored, loaded, places_of, lets_through, filter_reads, set_reads, reads_of, is_in, read_leaves, fetches, stores_of, row_steps}

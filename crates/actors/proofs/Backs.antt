@@ -10,7 +10,7 @@ use Rattle.expr_lang.specs.declared.fault.EvalFault.{EvalFault}
 use Rattle.linearize.specs.Slots.{index_at}
 use Rattle.places.specs.Image.{entry}
 use Rattle.piece_bits.specs.Tables.{AreSized, hold_at, table_in, with_entry}
-use Rattle.kept_tables.specs.Modes.{declared_table}
+use Rattle.piece_bits.specs.Modes.{declared_table}
 use Rattle.views.specs.AnswerLaws.{stays_answer}
 use Rattle.actor_steps.specs.Agree.{IsLawful}
 use Rattle.actor_steps.specs.AgreeLaws.{memory_is, rows_read}

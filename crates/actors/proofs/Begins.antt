@@ -6,8 +6,8 @@ use Rattle.expr_lang.specs.Terms.{Term}
 use Rattle.extents.specs.Indices.{indices}
 use Rattle.map_expr.specs.Terms.{Term as Shape}
 use Rattle.piece_bits.specs.Tables.{AreSized, table_in}
-use Rattle.kept_tables.specs.Modes.{declared_table}
-use Rattle.kept_tables.specs.declared.mode.StoreMode.{StoreMode}
+use Rattle.piece_bits.specs.Modes.{declared_table}
+use Rattle.piece_bits.specs.declared.mode.StoreMode.{StoreMode}
 use Rattle.row_updates.specs.declared.update.Assign.{Assign}
 use Rattle.row_updates.specs.Rows.{setting_of, updated_of, IsSetOf}
 use Rattle.views.specs.Tables.{Table, owners_of, leaf_types_of, table_holds}

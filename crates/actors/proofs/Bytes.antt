@@ -16,8 +16,8 @@ use Rattle.blobs.specs.BytesLaws.{bit_of_byte}
 use Rattle.piece_bits.specs.CellsLaws.{IsCell, bit_count}
 use Rattle.piece_bits.specs.LocatedLaws.{spot_count, spot_owned}
 use Rattle.piece_bits.specs.Spots.{spots_of, spot_at, bit_at_spot, IsOutside}
-use Rattle.kept_numbers.specs.Kept.{held}
-use Rattle.kept_numbers.specs.KeptLaws.{held_digit}
+use Rattle.piece_bits.specs.Kept.{held}
+use Rattle.piece_bits.specs.KeptLaws.{held_digit}
 use Rattle.actor_steps.specs.declared.place.Place.{Place}
 use Rattle.actor_steps.specs.Micro.{byte_at, with_byte, with_bits_of}
 use Rattle.actors.specs.Rows.{HasByte}

@@ -9,8 +9,8 @@ use Rattle.places.specs.Laws.{IsLaidOut}
 use Rattle.places.specs.Layout.{Owner}
 use Rattle.places.specs.declared.piece.Hold.{Hold}
 use Rattle.piece_bits.specs.Tables.{table_in}
-use Rattle.kept_numbers.specs.Kept.{declared}
-use Rattle.kept_tables.specs.Modes.{kind_at}
+use Rattle.piece_bits.specs.Kept.{declared}
+use Rattle.piece_bits.specs.Modes.{kind_at}
 use Rattle.views.specs.Tables.{Table, IsTable, owners_of, leaf_types_of, table_holds, leaf_count_of}
 use Rattle.actor_steps.specs.Agree.{IsLawful}
 use Rattle.actor_steps.specs.HeldLaws.{row_in-at, length-row_in}

@@ -4,7 +4,7 @@ use Rattle.record_dim.specs.Trees.{Fields}
 use Rattle.expr_lang.specs.Terms.{Term}
 use Rattle.map_expr.specs.Terms.{Term as Shape}
 use Rattle.piece_bits.specs.Tables.{AreSized}
-use Rattle.kept_tables.specs.declared.mode.StoreMode.{StoreMode}
+use Rattle.piece_bits.specs.declared.mode.StoreMode.{StoreMode}
 use Rattle.views.specs.Kept.{table_under}
 use Rattle.views.specs.Tables.{Table, owners_of}
 use Rattle.row_updates.specs.declared.update.Assign.{Assign}

@@ -1,6 +1,6 @@
 -- Rows that blobs hold, and what an update asks of a row.
 use Rattle.std.specs.Prelude.{ℕ, ◌≡◌, ◌<◌, Bool, true, false, ℤ, pos, List, [], ◌∷◌, length, slice_index_or, slice_set}
-use Rattle.kept_tables.specs.Modes.{declared_table}
+use Rattle.piece_bits.specs.Modes.{declared_table}
 use Rattle.piece_bits.specs.Tables.{table_in}
 use Rattle.row_updates.specs.Rows.{Setting}
 use Rattle.actor_steps.specs.declared.place.Place.{Place}

@@ -14,9 +14,9 @@ use actor_steps::schedules_agree;
 use actor_tasks::AskingRows;
 use blobs::Blob;
 use expr_lang::Bound;
+use record_dim::Steps;
 use row_updates::Assign;
 use std::sync::ledger::Ledger;
-use steps::Steps;
 use views::View;
 
 /// Stores each leaf that is set of each row that the filter lets through, as a memory has it, which is that of the plain update. The plans

@@ -11,8 +11,7 @@ ghost use Rattle.actors.specs.Rows.{row_held, HasByte};
 
 use actor_steps::Place;
 use blobs::Blob;
-use kept_numbers::{declared, held};
-use piece_bits::{encode, read_entry, write_pieces};
+use piece_bits::{declared, encode, held, read_entry, write_pieces};
 use places::{Mapping, laws_of};
 use std::alloc::{AllocError as NoMemory, Global};
 use views::{BlobList, View, laws_of_table};

@@ -9,9 +9,9 @@ ghost use Rattle.actor_steps.specs.Micro.{number_in};
 ghost use Rattle.actors.specs.Rows.{marked};
 
 use expr_lang::{Bound, Row, eval};
+use record_dim::Steps;
 use std::marker::Brand;
 use std::sync::ledger::{Blank, Ledger};
-use steps::Steps;
 use views::{View, laws_of_table};
 
 // The numbers of a row, and for each leaf whether it was read.

@@ -17,10 +17,10 @@ use crate::noted::value_at;
 use actor_tasks::{AskingRows, Asks};
 use blobs::Blob;
 use expr_lang::Bound;
+use record_dim::Steps;
 use row_updates::{Assign, UpdateFault, try_row};
 use std::alloc::Global;
 use std::sync::ledger::Ledger;
-use steps::Steps;
 use views::View;
 
 /// What an update asks of each row of a view.

@@ -23,12 +23,11 @@ use blobs::Blob;
 use expr_lang::Bound;
 use extents::Extents;
 use map_expr::MapExpr;
-use record_dim::Schema;
+use record_dim::{Schema, Steps};
 use row_updates::Assign;
 use std::alloc::Global;
 use std::marker::Model;
 use std::sync::ledger::Ledger;
-use steps::Steps;
 use views::{BlobList, StoreMode, View};
 
 /// An update of a view whose rows are split among actors. It keeps copies of the view's schema, extents, expression, mode and blobs as they were

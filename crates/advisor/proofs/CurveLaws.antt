@@ -18,7 +18,7 @@ use Rattle.linearize.specs.MortonLaws.{bit_at-interleaved, bit_at-component}
 use Rattle.linearize.specs.Slots.{interleaved, row_at, slot_count, index_at}
 use Rattle.linearize.specs.SlotsLaws.{index_at_inside, row_at-slot_at, row_at-slot_of, slot_at-row_at}
 use Rattle.map_any.proofs.SlotRows.{has_rows}
-use Rattle.short_rules.proofs.StretchLaws.{twos_divide}
+use Rattle.piece_bits.proofs.StretchLaws.{twos_divide}
 use Rattle.advisor.specs.Curve.{component, gathered, has_row, HasRoom, IsOutside}
 
 -- ---- the digits of a component

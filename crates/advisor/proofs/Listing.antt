@@ -14,16 +14,7 @@ use Rattle.advisor.specs.Judged.{fault_at, fault_or, first_fault}
 pub built_uncounted : (term : Term) → IsBuiltTerm term → IsBuiltTerm (uncounted term)
 built_uncounted (Count inner) built = built_uncounted inner built
 built_uncounted (Heat granule inner) built = built_uncounted inner built
-built_uncounted (Aos form order) built = built
-built_uncounted (Soa form order) built = built
-built_uncounted (Aosoa lanes order) built = built
-built_uncounted (BitAos width entries order) built = built
-built_uncounted (BitSoa width entries order) built = built
-built_uncounted (Split path first rest) built = built
-built_uncounted (Byteswap inner) built = built
-built_uncounted (Bytesplit inner) built = built
-built_uncounted (Change from to inner) built = built
-built_uncounted (Named name) built = built
+built_uncounted other built = built
 
 -- the first fault from an expression on
 module _ {X : Type 0} (judge : Term → Result Unit MakeMap) (f : X → Term) (xs : List X) where

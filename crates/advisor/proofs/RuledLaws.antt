@@ -6,8 +6,8 @@ use Rattle.places.specs.Layout.{Owner}
 use Rattle.places.specs.declared.piece.Hold.{Hold}
 use Rattle.map_expr.specs.Terms.{term_of}
 use Rattle.map_checks.specs.Mappings.{layout_of}
-use Rattle.map_plans.specs.Ruled.{IsRuleOf}
-use Rattle.map_plans.specs.declared.rule.Rule.{Rule}
+use Rattle.map_checks.specs.Ruled.{IsRuleOf}
+use Rattle.map_checks.specs.declared.rule.Rule.{Rule}
 use Rattle.advisor.specs.declared.mapped.RuledMap.{RuledMap}
 
 abbrev pub layout_in : RuledMap → List (List Owner)

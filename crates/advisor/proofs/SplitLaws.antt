@@ -94,16 +94,11 @@ not_false false e = refl
 counts_none : (term : Term) → has_counter term ≡ false → counts_once true true term ≡ true
 counts_none (Count inner) e = cc
 counts_none (Heat granule inner) e = cc
-counts_none (Aos form order) e = refl
-counts_none (Soa form order) e = refl
-counts_none (Aosoa lanes order) e = refl
-counts_none (BitAos width entries order) e = refl
-counts_none (BitSoa width entries order) e = refl
 counts_none (Split path first rest) e = ap not e
 counts_none (Byteswap inner) e = ap not e
 counts_none (Bytesplit inner) e = ap not e
 counts_none (Change from to inner) e = ap not e
-counts_none (Named name) e = refl
+counts_none other e = refl
 
 module _ (path : List PathStep) (first rest : Term) (fields : Fields) (cells : List Cell) where
   abbrev under : List Cell

@@ -11,8 +11,8 @@ use Rattle.extents.specs.declared.order.Order.{Order}
 use Rattle.places.specs.Touched.{is_in_granule}
 use Rattle.places.specs.declared.piece.Piece.{Piece}
 use Rattle.instrument.specs.Counters.{HeatCounts, IsInside}
-use Rattle.piece_rules.specs.PieceRules.{begin_in, piece_in}
-use Rattle.piece_rules.specs.declared.rule.PieceRule.{PieceRule}
+use Rattle.places.specs.PieceRules.{begin_in, piece_in}
+use Rattle.places.specs.declared.rule.PieceRule.{PieceRule}
 use Rattle.advisor.specs.Curve.{has_row}
 use Rattle.advisor.specs.Steady.{IsSteady, HasSteps, is_run_touched, are_rows_touched, long_piece}
 use Rattle.advisor.specs.TouchedLaws.{same_tests}

@@ -14,10 +14,10 @@ use Rattle.places.specs.Layout.{Owner}
 use Rattle.places.specs.Laws.{IsLaidOut, IsLocated, IsPiece}
 use Rattle.places.specs.Touched.{is_in_granule, is_hot}
 use Rattle.places.specs.TouchedLaws.{touched_hot as pieces_hot}
-use Rattle.piece_rules.specs.PieceRules.{piece_in, pieces_in}
-use Rattle.piece_rules.specs.declared.rule.PieceRule.{PieceRule}
-use Rattle.map_plans.specs.Ruled.{IsRuleOf}
-use Rattle.map_plans.specs.declared.rule.Rule.{Rule}
+use Rattle.places.specs.PieceRules.{piece_in, pieces_in}
+use Rattle.places.specs.declared.rule.PieceRule.{PieceRule}
+use Rattle.map_checks.specs.Ruled.{IsRuleOf}
+use Rattle.map_checks.specs.declared.rule.Rule.{Rule}
 use Rattle.instrument.specs.Counters.{HeatCounts, IsInside}
 use Rattle.views.specs.Kept.{HasGranules}
 use Rattle.views.specs.CountLaws.{piece_inside}

@@ -12,14 +12,14 @@ use Rattle.record_dim.specs.Trees.{Fields}
 use Rattle.record_dim.specs.declared.leaf_type.LeafType.{LeafType}
 use Rattle.record_dim.specs.LeafTypes.{least_of, greatest_of, least_in, greatest_in}
 use Rattle.places.specs.declared.piece.Hold.{Hold}
-use Rattle.kept_tables.specs.declared.mode.StoreMode.TheVariants.{Strict}
+use Rattle.piece_bits.specs.declared.mode.StoreMode.TheVariants.{Strict}
 use Rattle.views.specs.Stores.{is_between}
 use Rattle.views.specs.declared.fault.StoreFault.{StoreFault}
 use Rattle.views.specs.declared.fault.StoreFault.TheVariants.{Range, Narrow}
 use Rattle.views.specs.Columns.{in_leaf}
 use Rattle.views.specs.Tables.{Table, leaf_count_of, leaf_type_of}
 use Rattle.advisor.specs.Suits.{keeps, stays, leaf_stays, all_stay, suits}
-use Rattle.kept_tables.specs.declared.mode.StoreMode.{StoreMode}
+use Rattle.piece_bits.specs.declared.mode.StoreMode.{StoreMode}
 use Rattle.piece_bits.specs.Tables.{hold_at}
 use Rattle.map_expr.specs.Terms.{term_of}
 use Rattle.advisor.specs.declared.candidate.Candidate.{Candidate}

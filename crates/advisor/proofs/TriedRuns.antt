@@ -18,9 +18,9 @@ use Rattle.record_dim.specs.declared.leaf_type.LeafType.{LeafType}
 use Rattle.places.specs.Image.{entry}
 use Rattle.places.specs.Layout.{Owner}
 use Rattle.piece_bits.specs.Tables.{hold_at}
-use Rattle.kept_tables.specs.EntryLaws.{stays_declared}
-use Rattle.kept_tables.specs.declared.mode.StoreMode.{StoreMode}
-use Rattle.leaf_runs.specs.Lows.{low_64}
+use Rattle.piece_bits.specs.EntryLaws.{stays_declared}
+use Rattle.piece_bits.specs.declared.mode.StoreMode.{StoreMode}
+use Rattle.piece_bits.specs.Lows.{low_64}
 use Rattle.views.specs.Columns.{in_leaf, column_reads}
 use Rattle.views.specs.OrderLaws.{tallied-kinds}
 use Rattle.views.specs.Runs.{raised, run_of}

@@ -4,8 +4,8 @@ use Rattle.std.specs.List.{list_any, range_with_len}
 use Rattle.extents.specs.declared.order.Order.{Order}
 use Rattle.places.specs.Touched.{is_in_granule}
 use Rattle.places.specs.declared.piece.Piece.{Piece}
-use Rattle.piece_rules.specs.PieceRules.{begin_in, piece_in}
-use Rattle.piece_rules.specs.declared.rule.PieceRule.{PieceRule}
+use Rattle.places.specs.PieceRules.{begin_in, piece_in}
+use Rattle.places.specs.declared.rule.PieceRule.{PieceRule}
 use Rattle.advisor.specs.Curve.{has_row}
 
 -- of so many slots from this one on each begins at most so many bits behind the one before it, and none before it

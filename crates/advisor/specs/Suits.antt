@@ -7,7 +7,7 @@ use Rattle.places.specs.declared.piece.Hold.{Hold}
 use Rattle.piece_bits.specs.Tables.{hold_at}
 use Rattle.map_expr.specs.Terms.{Term}
 use Rattle.map_checks.specs.Mappings.{holds_by}
-use Rattle.kept_tables.specs.declared.mode.StoreMode.{StoreMode}
+use Rattle.piece_bits.specs.declared.mode.StoreMode.{StoreMode}
 use Rattle.views.specs.Columns.{column}
 use Rattle.views.specs.Stores.{store_answer}
 use Rattle.views.specs.Tables.{Table, leaf_count_of, leaf_type_of}

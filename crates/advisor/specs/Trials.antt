@@ -5,8 +5,8 @@ use Rattle.record_dim.specs.Trees.{Fields}
 use Rattle.record_dim.specs.Leaves.{leaves, kinds_of}
 use Rattle.places.specs.declared.piece.Hold.{Hold}
 use Rattle.piece_bits.specs.Tables.{hold_at}
-use Rattle.kept_tables.specs.Modes.{kind_at}
-use Rattle.kept_tables.specs.declared.mode.StoreMode.{StoreMode}
+use Rattle.piece_bits.specs.Modes.{kind_at}
+use Rattle.piece_bits.specs.declared.mode.StoreMode.{StoreMode}
 use Rattle.views.specs.Columns.{in_leaf}
 use Rattle.views.specs.Runs.{raised}
 use Rattle.views.specs.Tallies.{Access, row_accesses}

@@ -1,8 +1,8 @@
 ghost use Rattle.std.specs.Prelude.{◌≡◌};
 ghost use Rattle.advisor.specs.declared.advice.AdviseFault.TheVariants.{NoMemory};
 
-use lists::Sequence;
 use map_expr::{BadMapping, MapExpr};
+use record_dim::Sequence;
 use std::alloc::{AllocError, AllocFailed};
 use thiserror::Error;
 

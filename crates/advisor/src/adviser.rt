@@ -19,9 +19,9 @@ use crate::price::Price;
 use crate::splits::push_splits;
 use crate::suits::suiting;
 use map_expr::{MapExpr, MapExprList};
+use record_dim::Steps;
 use std::alloc::{AllocError as NoMemory, Global};
 use std::sync::ledger::Ledger;
-use steps::Steps;
 use views::View;
 
 /// What each of these expressions costs a view, in granules of so many bytes that the passes touch, and the cheapest that suits its

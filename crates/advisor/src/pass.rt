@@ -1,4 +1,4 @@
-use lists::Sequence;
+use record_dim::Sequence;
 
 /// Numbers of leaves.
 pub type LeafList = Sequence<usize>;

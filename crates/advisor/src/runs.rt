@@ -2,7 +2,7 @@
 ghost use Rattle.std.specs.Prelude.{ℕ, ◌≡◌, ◌+◌, ◌-◌, ◌*◌, ◌<◌, ◌≤◌, ◌^◌, All, true};
 ghost use Rattle.linearize.specs.Slots.{slot_count};
 ghost use Rattle.instrument.specs.Counters.{heat_counts, IsInside};
-ghost use Rattle.piece_rules.specs.PieceRules.{piece_in};
+ghost use Rattle.places.specs.PieceRules.{piece_in};
 ghost use Rattle.advisor.specs.Curve.{has_row};
 ghost use Rattle.advisor.specs.Steady.{IsSteady, HasSteps, is_run_touched, are_slots_touched, are_rows_touched};
 ghost use Rattle.advisor.specs.Warm.{IsWarmed};
@@ -10,9 +10,8 @@ ghost use Rattle.advisor.specs.Warm.{IsWarmed};
 use crate::curve::run_from;
 use extents::Extents;
 use instrument::Heat;
-use map_plans::{Rule, slots_of};
-use piece_rules::PieceRule;
-use places::{Piece, Pieces};
+use map_checks::{Rule, slots_of};
+use places::{Piece, PieceRule, Pieces};
 
 /// Touches the granules that hold a bit of a cell with this rule in the slot of a row.
 pub fn touch_rows(heat: &mut Heat, granule: u32, rule: &Rule, extents: &Extents)

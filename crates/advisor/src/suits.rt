@@ -9,9 +9,9 @@ ghost use Rattle.advisor.specs.Trials.{IsTrial, IsFresh, HasTrials, rows_accesse
 
 use crate::candidate::Candidate;
 use crate::trials::{Trial, none_failed, trials_of, try_leaf};
+use record_dim::Steps;
 use std::alloc::{AllocError as NoMemory, Global};
 use std::sync::ledger::Ledger;
-use steps::Steps;
 use views::View;
 
 // The most rows whose values are read at once. They lie on the stack.

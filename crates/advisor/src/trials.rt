@@ -9,9 +9,8 @@ ghost use Rattle.advisor.specs.Suits.{stays};
 ghost use Rattle.advisor.specs.Trials.{IsTrial, IsFresh, has_trial, HasTrials, low_stays, all_lows_stay, tried_leaf, has_not_failed, none_failed};
 
 use crate::candidate::Candidate;
-use kept_numbers::kept;
-use kept_tables::StoreMode;
 use map_checks::hold_at;
+use piece_bits::{StoreMode, kept};
 use places::Hold;
 use record_dim::{LeafType, Schema};
 use std::alloc::{AllocError as NoMemory, Global};

@@ -8,10 +8,10 @@ use crate::form::Form;
 use crate::table::{read_rounds, write_rounds};
 use crate::tables::flat_view;
 use layout_copy::{CopyFault, copy};
+use record_dim::Steps;
 use std::alloc::Global;
 use std::marker::Brand;
 use std::sync::ledger::{Blank, Ledger};
-use steps::Steps;
 use views::View;
 
 /// A table of so many rows of one form that is copied to one of another form, and then again so many times.

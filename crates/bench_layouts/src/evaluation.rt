@@ -5,10 +5,10 @@ use crate::fault::BenchFault;
 use crate::formula::formula;
 use crate::sample::Sample;
 use expr_lang::{Bound, EvalFault, eval};
+use record_dim::Steps;
 use std::alloc::Global;
 use std::marker::Brand;
 use std::sync::ledger::{Blank, Ledger};
-use steps::Steps;
 
 /// The sum of `(x * 2 + y) * z - w` over so many rows.
 pub fn total(alloc: Global, rows: u32) -> Result<i128, BenchFault> {

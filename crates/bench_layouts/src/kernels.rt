@@ -10,10 +10,10 @@ use crate::form::Form;
 use crate::table::write_rounds;
 use crate::tables::flat_view;
 use lane_kernels::{Compare, Kernel, KernelFault, run_lanes};
+use record_dim::Steps;
 use std::alloc::Global;
 use std::marker::Brand;
 use std::sync::ledger::{Blank, Ledger};
-use steps::Steps;
 use views::View;
 
 /// A kernel over the leaves b and c of the record.

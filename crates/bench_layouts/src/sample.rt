@@ -1,6 +1,6 @@
 use expr_lang::Row;
+use record_dim::Steps;
 use std::sync::ledger::Ledger;
-use steps::Steps;
 
 /// A row of the leaves x, y, z and w.
 #[derive(Clone, Copy, Debug)]

@@ -4,10 +4,10 @@ ghost use Rattle.bench_layouts.specs.Tables.{measured_fields, IsMeasured};
 use crate::fault::BenchFault;
 use crate::tables::table_view;
 use crate::work::Work;
+use record_dim::Steps;
 use std::alloc::Global;
 use std::marker::Brand;
 use std::sync::ledger::{Blank, Ledger};
-use steps::Steps;
 use views::{StoreFault, View};
 
 /// The sum of all that is read of a table after it was written.

@@ -21,14 +21,14 @@ use Rattle.piece_bits.specs.Tables.{HasShape, hold_at}
 use Rattle.piece_bits.specs.TableLaws.{table_shape}
 use Rattle.piece_bits.specs.EntriesLaws.{entry_in}
 use Rattle.piece_bits.specs.CellsLaws.{bit_in_lt}
-use Rattle.kept_numbers.specs.Kept.{declared, held}
-use Rattle.kept_numbers.specs.KeptLaws.{low_same, declared_same, kept_declared}
-use Rattle.kept_tables.specs.declared.mode.StoreMode.{StoreMode}
-use Rattle.kept_tables.specs.declared.mode.StoreMode.TheVariants.{Strict, Wrap}
-use Rattle.kept_tables.specs.Modes.{kind_at, Fits, Stays}
-use Rattle.kept_tables.specs.EntryLaws.{fitting_held}
-use Rattle.kept_tables.specs.TableLaws.{declared_shape, declared_entry}
-use Rattle.kept_tables.specs.ImageLaws.{image_raw, image_table}
+use Rattle.piece_bits.specs.Kept.{declared, held}
+use Rattle.piece_bits.specs.KeptLaws.{low_same, declared_same, kept_declared}
+use Rattle.piece_bits.specs.declared.mode.StoreMode.{StoreMode}
+use Rattle.piece_bits.specs.declared.mode.StoreMode.TheVariants.{Strict, Wrap}
+use Rattle.piece_bits.specs.Modes.{kind_at, Fits, Stays}
+use Rattle.piece_bits.specs.EntryLaws.{fitting_held}
+use Rattle.piece_bits.specs.KeptTableLaws.{declared_shape, declared_entry}
+use Rattle.piece_bits.specs.ImageLaws.{image_raw, image_table}
 use Rattle.views.specs.declared.fault.StoreFault.{StoreFault}
 use Rattle.views.specs.declared.fault.StoreFault.TheVariants.{Range, Narrow}
 use Rattle.views.specs.Stores.{Answer, is_between, store_answer}

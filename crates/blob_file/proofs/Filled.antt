@@ -19,9 +19,9 @@ use Rattle.map_checks.specs.Mappings.{holds_by, leaf_cells}
 use Rattle.blobs.specs.Bits.{bit_in}
 use Rattle.piece_bits.specs.TableLaws.{table_shape, tables_same}
 use Rattle.piece_bits.specs.Tables.{HasShape, hold_at, table_in}
-use Rattle.kept_tables.specs.EntryLaws.{fitting_stays}
-use Rattle.leaf_runs.specs.Lows.{low_64}
-use Rattle.leaf_runs.specs.LowsLaws.{low_same}
+use Rattle.piece_bits.specs.EntryLaws.{fitting_stays}
+use Rattle.piece_bits.specs.Lows.{low_64}
+use Rattle.piece_bits.specs.LowsLaws.{low_same}
 use Rattle.views.specs.AnswerLaws.{stays_answer}
 use Rattle.views.specs.Columns.{column_writes, with_column}
 use Rattle.views.specs.Runs.{raised, AreRowsMoved, CountsNothing}

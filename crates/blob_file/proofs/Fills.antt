@@ -16,12 +16,12 @@ use Rattle.places.specs.Image.{entry}
 use Rattle.extents.specs.Indices.{indices}
 use Rattle.piece_bits.specs.Tables.{HasShape, hold_at}
 use Rattle.piece_bits.specs.TableLaws.{tables_same}
-use Rattle.kept_numbers.specs.Kept.{declared}
-use Rattle.kept_numbers.specs.KeptLaws.{low_same, declared_same}
-use Rattle.kept_tables.specs.declared.mode.StoreMode.{StoreMode}
-use Rattle.kept_tables.specs.declared.mode.StoreMode.TheVariants.{Strict, Wrap}
-use Rattle.kept_tables.specs.Modes.{kind_at, Fits}
-use Rattle.kept_tables.specs.TableLaws.{declared_shape, declared_entry}
+use Rattle.piece_bits.specs.Kept.{declared}
+use Rattle.piece_bits.specs.KeptLaws.{low_same, declared_same}
+use Rattle.piece_bits.specs.declared.mode.StoreMode.{StoreMode}
+use Rattle.piece_bits.specs.declared.mode.StoreMode.TheVariants.{Strict, Wrap}
+use Rattle.piece_bits.specs.Modes.{kind_at, Fits}
+use Rattle.piece_bits.specs.KeptTableLaws.{declared_shape, declared_entry}
 use Rattle.views.specs.StrictLaws.{stored_fits}
 use Rattle.views.specs.Stores.{Keeping, is_between, store_answer, kept_or, kept_row, kept_rows}
 use Rattle.views.specs.Tables.{Table, owners_of, table_holds, leaf_count_of, kept_of, after_stores}

@@ -45,53 +45,9 @@ plain_is new shown e words wrap term =
 -- lines that define no record
 pub no_define : (line : Line) → ((name : List ℕ) (dim : Dim) → line ≡ lines.Define name dim → ⊥) → fields_told (Some (sentence_of line)) ≡ None
 no_define (lines.Define name dim) other = absurd (other name dim refl)
-no_define lines.Blank other = refl
-no_define (lines.Mapping name expr) other = refl
-no_define (lines.View name schema words wrap expr) other = refl
-no_define (lines.Load name schema words wrap expr file) other = refl
-no_define (lines.Assign view index path value) other = refl
-no_define (lines.Update view filter sets) other = refl
-no_define (lines.Actors view filter sets cuts seed turns) other = refl
-no_define (lines.Kernel view kernel lanes) other = refl
-no_define (lines.Reduce view kind path) other = refl
-no_define (lines.Count view filter) other = refl
-no_define (lines.Copy source target) other = refl
-no_define (lines.Relayout view expr) other = refl
-no_define (lines.Print view) other = refl
-no_define (lines.Counts view) other = refl
-no_define (lines.Heat view) other = refl
-no_define (lines.Layout view) other = refl
-no_define (lines.Drop view) other = refl
-no_define (lines.Bytes view blob) other = refl
-no_define (lines.SaveView view) other = refl
-no_define (lines.OpenFile name file) other = refl
-no_define (lines.Advise view granule passes maps splits) other = refl
-no_define (lines.PrintWindow view window) other = refl
-no_define (lines.Stencil view window path terms divisor rounds) other = refl
+no_define rest other = refl
 
 -- and lines that make no view
 pub no_shown : (line : Line) → ((name schema : List ℕ) (words : List ExtentWord) (wrap : Bool) (expr : MapExpr) → line ≡ lines.View name schema words wrap expr → ⊥) → new_told (Some (sentence_of line)) ≡ None
 no_shown (lines.View name schema words wrap expr) other = absurd (other name schema words wrap expr refl)
-no_shown lines.Blank other = refl
-no_shown (lines.Define name dim) other = refl
-no_shown (lines.Mapping name expr) other = refl
-no_shown (lines.Load name schema words wrap expr file) other = refl
-no_shown (lines.Assign view index path value) other = refl
-no_shown (lines.Update view filter sets) other = refl
-no_shown (lines.Actors view filter sets cuts seed turns) other = refl
-no_shown (lines.Kernel view kernel lanes) other = refl
-no_shown (lines.Reduce view kind path) other = refl
-no_shown (lines.Count view filter) other = refl
-no_shown (lines.Copy source target) other = refl
-no_shown (lines.Relayout view expr) other = refl
-no_shown (lines.Print view) other = refl
-no_shown (lines.Counts view) other = refl
-no_shown (lines.Heat view) other = refl
-no_shown (lines.Layout view) other = refl
-no_shown (lines.Drop view) other = refl
-no_shown (lines.Bytes view blob) other = refl
-no_shown (lines.SaveView view) other = refl
-no_shown (lines.OpenFile name file) other = refl
-no_shown (lines.Advise view granule passes maps splits) other = refl
-no_shown (lines.PrintWindow view window) other = refl
-no_shown (lines.Stencil view window path terms divisor rounds) other = refl
+no_shown rest other = refl

@@ -16,8 +16,8 @@ use Rattle.extents.specs.declared.words.ExtentWord.{ExtentWord}
 use Rattle.extents.specs.declared.words.ExtentWord.TheVariants.{Fixed, Rows}
 use Rattle.extents.specs.Shapes.{extent_of, is_rows}
 use Rattle.record_dim.specs.Trees.{Fields, Single, Record, Array}
-use Rattle.kept_tables.specs.declared.mode.StoreMode.{StoreMode}
-use Rattle.kept_tables.specs.declared.mode.StoreMode.TheVariants.{Strict, Wrap}
+use Rattle.piece_bits.specs.declared.mode.StoreMode.{StoreMode}
+use Rattle.piece_bits.specs.declared.mode.StoreMode.TheVariants.{Strict, Wrap}
 use Rattle.blob_file.specs.Files.{Header, four_bytes, two_lines, is_wrap, record_line, view_line, record_text, view_text, header_text, IsShort}
 use Rattle.blob_file.specs.Headers.{is_nameless, HasLine, HasLines}
 use Rattle.blob_file.specs.Opened.{same_bytes, line_at, line_told, fields_told, is_plain, new_told, mode_by, with_record, header_told, behind_first, behind_size, header_at}

@@ -13,7 +13,7 @@ use Rattle.record_dim.specs.Leaves.{leaves}
 use Rattle.map_expr.specs.Terms.{Term}
 use Rattle.map_checks.specs.Mappings.{layout_by}
 use Rattle.piece_bits.specs.Tables.{zeros}
-use Rattle.kept_tables.specs.declared.mode.StoreMode.{StoreMode}
+use Rattle.piece_bits.specs.declared.mode.StoreMode.{StoreMode}
 use Rattle.views.specs.Tables.{Table, owners_of, leaf_count_of}
 use Rattle.views.specs.Tallies.{no_tally}
 use Rattle.blob_file.specs.Opened.{empty_table}

@@ -9,8 +9,8 @@ use Rattle.line_grammar.specs.declared.version.Version.{Version}
 use Rattle.line_grammar.specs.declared.version.Version.TheVariants.{Two}
 use Rattle.line_writer.specs.Texts.{canonical}
 use Rattle.extents.specs.declared.words.ExtentWord.TheVariants.{Fixed}
-use Rattle.kept_tables.specs.declared.mode.StoreMode.{StoreMode}
-use Rattle.kept_tables.specs.declared.mode.StoreMode.TheVariants.{Strict, Wrap}
+use Rattle.piece_bits.specs.declared.mode.StoreMode.{StoreMode}
+use Rattle.piece_bits.specs.declared.mode.StoreMode.TheVariants.{Strict, Wrap}
 use Rattle.places.specs.Layout.{Owner}
 use Rattle.places.specs.Image.{bit_held, image}
 use Rattle.record_dim.specs.Trees.{Fields, Record}

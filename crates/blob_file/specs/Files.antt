@@ -9,8 +9,8 @@ use Rattle.map_checks.specs.Mappings.{layout_by, holds_by}
 use Rattle.places.specs.Layout.{Owner}
 use Rattle.places.specs.Image.{image}
 use Rattle.piece_bits.specs.Tables.{HasShape}
-use Rattle.kept_tables.specs.declared.mode.StoreMode.{StoreMode}
-use Rattle.kept_tables.specs.declared.mode.StoreMode.TheVariants.{Strict, Wrap}
+use Rattle.piece_bits.specs.declared.mode.StoreMode.{StoreMode}
+use Rattle.piece_bits.specs.declared.mode.StoreMode.TheVariants.{Strict, Wrap}
 use Rattle.views.specs.Stores.{AllStay}
 use Rattle.layout_io.specs.Writing.{joined}
 use Rattle.instrument.specs.BlobTexts.{bytes_of}

@@ -7,11 +7,6 @@ use Rattle.blob_file.specs.Headers.{is_nameless}
 
 -- they have a layout
 pub nameless_built : (term : Term) → is_nameless term ≡ true → IsBuiltTerm term
-nameless_built (Aos form order) e = tt
-nameless_built (Soa form order) e = tt
-nameless_built (Aosoa lanes order) e = tt
-nameless_built (BitAos width fields order) e = tt
-nameless_built (BitSoa width fields order) e = tt
 nameless_built (Split path first rest) e =
     let names = and_parts (is_nameless first) (is_nameless rest) e in
     (nameless_built first names.0, nameless_built rest names.1)
@@ -21,3 +16,4 @@ nameless_built (Change from to inner) e = nameless_built inner e
 nameless_built (Count inner) e = nameless_built inner e
 nameless_built (Heat granule inner) e = nameless_built inner e
 nameless_built (Named name) e = absurd (false≢true e)
+nameless_built other e = tt

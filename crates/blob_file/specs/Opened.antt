@@ -8,9 +8,9 @@ use Rattle.record_dim.specs.Trees.{Fields, Record}
 use Rattle.record_dim.specs.Leaves.{leaves, kinds_of}
 use Rattle.map_checks.specs.Mappings.{holds_by}
 use Rattle.piece_bits.specs.Tables.{hold_at, zeros}
-use Rattle.kept_tables.specs.Modes.{kind_at}
-use Rattle.kept_tables.specs.declared.mode.StoreMode.{StoreMode}
-use Rattle.kept_tables.specs.declared.mode.StoreMode.TheVariants.{Strict, Wrap}
+use Rattle.piece_bits.specs.Modes.{kind_at}
+use Rattle.piece_bits.specs.declared.mode.StoreMode.{StoreMode}
+use Rattle.piece_bits.specs.declared.mode.StoreMode.TheVariants.{Strict, Wrap}
 use Rattle.line_grammar.specs.Sentences.{New, Sentence, Define, View, deepest}
 use Rattle.line_grammar.specs.declared.version.Version.TheVariants.{Two}
 use Rattle.line_writer.specs.Texts.{canonical}

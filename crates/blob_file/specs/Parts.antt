@@ -2,7 +2,7 @@
 use Rattle.std.specs.Prelude.{ℕ, List, map, codes}
 use Rattle.extents.specs.Shapes.{extent_of}
 use Rattle.record_dim.specs.Trees.{Tree, Fields, Record, End, tree_of}
-use Rattle.kept_tables.specs.declared.mode.StoreMode.{StoreMode}
+use Rattle.piece_bits.specs.declared.mode.StoreMode.{StoreMode}
 use Rattle.map_expr.specs.Terms.{Term, term_of}
 use Rattle.blob_file.specs.Files.{Header}
 use Rattle.blob_file.specs.Opened.{mode_by}

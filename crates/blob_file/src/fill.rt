@@ -1,7 +1,7 @@
 // The rows of a view, stored by the raw numbers that blobs hold.
 ghost use Rattle.std.specs.Prelude.{ℕ, ℤ, ◌≡◌, ◌⊎◌, ◌+◌, ◌*◌, ◌<◌, ◌≤◌, pos, true, IfErr, OnOk, OnErr, length, slice_index_or};
 ghost use Rattle.record_dim.specs.LeafTypes.{is_signed, IsDeclared, IsIn};
-ghost use Rattle.leaf_runs.specs.Lows.{low_64};
+ghost use Rattle.piece_bits.specs.Lows.{low_64};
 ghost use Rattle.piece_bits.specs.Tables.{AreSized, hold_at};
 ghost use Rattle.views.specs.Columns.{column_writes, with_column};
 ghost use Rattle.views.specs.Runs.{run_steps, AreRowsMoved, CountsNothing};
@@ -17,9 +17,8 @@ use crate::fault::FileFault;
 use blobs::Blob;
 use piece_bits::read_entry;
 use places::{Hold, Mapping, laws_of};
-use record_dim::LeafType;
+use record_dim::{LeafType, Steps};
 use std::sync::ledger::Ledger;
-use steps::Steps;
 use views::{View, laws_of_table, read_rows};
 
 // The most rows that are stored leaf after leaf. Their numbers lie on the stack, and the records of both sides stay in the cache.

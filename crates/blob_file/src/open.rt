@@ -25,10 +25,9 @@ use blobs::Blob;
 use extents::{ExtentWord, Extents, Shape};
 use map_expr::MapExpr;
 use places::laws_of;
-use record_dim::{Dim, MakeSchema, Schema};
+use record_dim::{Dim, MakeSchema, Schema, Steps};
 use std::alloc::Global;
 use std::sync::ledger::Ledger;
-use steps::Steps;
 use views::{MakeView, StoreMode, View, bytes_for, laws_of_table};
 
 /// The view of which bytes are the file. It has counted one write of each leaf of each row, and nothing else. The refusals come in the order

@@ -8,8 +8,7 @@ ghost use Rattle.blob_file.specs.Files.{is_wrap, record_text, view_text};
 ghost use Rattle.blob_file.specs.Saving.{header_of};
 
 use extents::{ExtentWord, Extents};
-use lists::Sequence;
-use record_dim::{Name, Text};
+use record_dim::{Name, Sequence, Text};
 use schema_lang::{ExtentWords, Line, write_line};
 use std::alloc::{AllocError as NoMemory, Global};
 use views::{StoreMode, View};

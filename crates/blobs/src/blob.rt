@@ -10,10 +10,10 @@ use crate::lease::Lease;
 use crate::memory::{release, reserve};
 use byteorder::{ByteOrder, LittleEndian};
 use core::slots::Slots;
+use record_dim::Steps;
 use std::alloc::{AllocError as NoMemory, Global};
 use std::marker::Model;
 use std::sync::ledger::Ledger;
-use steps::Steps;
 
 /// The most bytes that one allocation has.
 const MAX_BYTES: usize = isize::MAX as usize;

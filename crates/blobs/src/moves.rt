@@ -2,8 +2,8 @@ ghost use Rattle.std.specs.Prelude.{◌≡◌, ◌+◌, ◌≤◌, length};
 ghost use Rattle.blobs.specs.Moves.{IsMoved, blocks};
 
 use crate::blob::Blob;
+use record_dim::Steps;
 use std::sync::ledger::Ledger;
-use steps::Steps;
 
 /// The most bytes that are moved in one step.
 const BLOCK_BYTES: usize = 64;

@@ -5,8 +5,8 @@ use Rattle.views.specs.Tables.{Table}
 use Rattle.worlds.specs.Outcomes.{Outcome, Goes, Faults, CannotRead, ◌>>=◌, quiet, refused_if, refused_by, ok_or, some_or}
 use Rattle.worlds.specs.Worlds.{World}
 use Rattle.worlds.specs.declared.fault.CommandFault.{CommandFault}
-use Rattle.c_calls.specs.Answers as answer
-use Rattle.c_calls.specs.Answers.{Answer}
+use Rattle.c_lines.specs.Answers as answer
+use Rattle.c_lines.specs.Answers.{Answer}
 use Rattle.c_lines.specs.Agreement.{Agrees, IsCause, IsLeft}
 use Rattle.c_lines.specs.Told.{told, refusal_of}
 

@@ -21,9 +21,9 @@ use Rattle.worlds.specs.Step.{step}
 use Rattle.worlds.specs.Tables.{live_bits, made}
 use Rattle.worlds.specs.Worlds.{World, Entry, found, replaced, same_name}
 use Rattle.worlds.specs.declared.fault.CommandFault.TheVariants.{Narrow}
-use Rattle.c_calls.specs.Answers as answer
-use Rattle.c_calls.specs.Answers.{Answer}
-use Rattle.c_calls.specs.declared.refusal.TextOf.TheVariants.{First}
+use Rattle.c_lines.specs.Answers as answer
+use Rattle.c_lines.specs.Answers.{Answer}
+use Rattle.c_lines.specs.declared.refusal.TextOf.TheVariants.{First}
 use Rattle.c_lines.specs.Agreement.{Agrees, CopiesAgree, IsCause, IsLeft, KernelsAgree, LayoutsAgree, both_left}
 use Rattle.c_lines.specs.Copies.{target_after, told_rows, was_copied}
 use Rattle.c_lines.specs.KernelLines.{Fitted, left_by, number_told, run_left}

@@ -19,7 +19,7 @@ use Rattle.worlds.specs.Tables.{made, resolved}
 use Rattle.worlds.specs.View.{named, new_table, view, with_view}
 use Rattle.worlds.specs.Worlds.{World, added, found, same_name}
 use Rattle.worlds.specs.declared.fault.CommandFault.TheVariants.{TooBig}
-use Rattle.c_calls.specs.declared.refusal.TextOf.TheVariants.{First, Second}
+use Rattle.c_lines.specs.declared.refusal.TextOf.TheVariants.{First, Second}
 use Rattle.c_lines.specs.Agreement.{Agrees, IsCause, IsLeft, DatasetsAgree, LoadsAgree, ViewsAgree, both_steps, fields_for, world_with}
 use Rattle.c_lines.specs.Lines as lines
 use Rattle.c_lines.specs.Lines.{described, line_told, with_dataset}

@@ -5,9 +5,9 @@ use Rattle.worlds.specs.Outcomes.{Outcome, Goes, Faults, CannotRead}
 use Rattle.command_checks.specs.Gives.{Gives}
 use Rattle.command_checks.specs.declared.fault.StepFault.{StepFault}
 use Rattle.command_checks.specs.declared.fault.StepFault.TheVariants as step
-use Rattle.c_calls.specs.Answers.{Answer, Tells, ◌>>=◌}
-use Rattle.c_calls.specs.declared.refusal.Refusal.{Refusal}
-use Rattle.c_calls.specs.declared.refusal.Refusal.TheVariants.{NoMemory}
+use Rattle.c_lines.specs.Answers.{Answer, Tells, ◌>>=◌}
+use Rattle.c_lines.specs.declared.refusal.Refusal.{Refusal}
+use Rattle.c_lines.specs.declared.refusal.Refusal.TheVariants.{NoMemory}
 use Rattle.c_lines.specs.Told.{told}
 use Rattle.c_lines.specs.Steps.{answered}
 

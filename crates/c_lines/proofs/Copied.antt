@@ -6,7 +6,7 @@ use Rattle.layout_copy.specs.declared.fault.CopyFault.TheVariants as copy
 use Rattle.views.specs.Tables.{Table, answer_of, leaf_count_of, after_log}
 use Rattle.views.specs.TallyLaws.{after_log-none}
 use Rattle.command_checks.specs.AlikeLaws.{alike, not_alike}
-use Rattle.c_calls.specs.declared.refusal.Refusal.TheVariants.{Mismatch, Narrow}
+use Rattle.c_lines.specs.declared.refusal.Refusal.TheVariants.{Mismatch, Narrow}
 use Rattle.c_lines.specs.Copies.{was_copied}
 
 pub was_done : (source old new : Table) → IsCopied source old new (Ok tt) → Ok tt ≡ was_copied source old

@@ -6,7 +6,7 @@ use Rattle.csv_rows.specs.Datasets.{◌>>=◌, Leaf, Place, columns_named, colum
 use Rattle.csv_rows.specs.Loads.{dataset_of}
 use Rattle.csv_rows.specs.declared.fault.RowFault.{RowFault}
 use Rattle.csv_rows.specs.declared.fault.RowFault.TheVariants.{NoMemory}
-use Rattle.kept_tables.specs.declared.mode.StoreMode.{StoreMode}
+use Rattle.piece_bits.specs.declared.mode.StoreMode.{StoreMode}
 use Rattle.places.specs.declared.piece.Hold.{Hold}
 use Rattle.record_dim.specs.declared.leaf_type.LeafType.{LeafType}
 use Rattle.views.specs.Stores.{store_answer}

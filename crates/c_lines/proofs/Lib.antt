@@ -7,3 +7,5 @@ pub mod Datasets
 pub mod PlainTests
 pub mod AgreeingViews
 pub mod AgreeingChanges
+pub mod BlobBytes
+pub mod Parts

@@ -15,10 +15,10 @@ use Rattle.worlds.specs.Outcomes.{Outcome, Goes, Faults, CannotRead, ◌>>=◌}
 use Rattle.worlds.specs.Tables.{made, resolved, shaped, mode_by}
 use Rattle.worlds.specs.View.{Named, named, new_table}
 use Rattle.worlds.specs.Worlds.{World, empty, added}
-use Rattle.c_calls.specs.Answers as answer
-use Rattle.c_calls.specs.Answers.{Answer, Tells}
-use Rattle.c_calls.specs.declared.refusal.Refusal.{Refusal}
-use Rattle.c_calls.specs.declared.refusal.Refusal.TheVariants.{TooBig}
+use Rattle.c_lines.specs.Answers as answer
+use Rattle.c_lines.specs.Answers.{Answer, Tells}
+use Rattle.c_lines.specs.declared.refusal.Refusal.{Refusal}
+use Rattle.c_lines.specs.declared.refusal.Refusal.TheVariants.{TooBig}
 use Rattle.c_lines.specs.Lines.{filled_as, with_dataset, zeros_for}
 use Rattle.c_lines.specs.Told.{told, refusal_of}
 use Rattle.c_lines.proofs.Answering.{Refuses, refused_then, told_goes}

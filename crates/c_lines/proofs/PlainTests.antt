@@ -6,7 +6,7 @@ use Rattle.extents.specs.Shapes.{bad_shape, bad_extents, extents_for}
 use Rattle.extents.specs.declared.words.BadExtents.{BadExtents}
 use Rattle.extents.specs.declared.words.ExtentWord.{ExtentWord}
 use Rattle.expr_lang.specs.Binding.{leaf_number}
-use Rattle.kept_tables.specs.declared.mode.StoreMode.{StoreMode}
+use Rattle.piece_bits.specs.declared.mode.StoreMode.{StoreMode}
 use Rattle.line_grammar.specs.Sentences.{New}
 use Rattle.line_grammar.specs.declared.line.KernelText.{KernelText}
 use Rattle.line_grammar.specs.declared.line.KernelText.TheVariants as text

@@ -8,7 +8,7 @@ use Rattle.line_grammar.specs.Sentences.{Sentence, deepest}
 use Rattle.line_grammar.specs.declared.version.Version.TheVariants.{Two}
 use Rattle.schema_lang.specs.LineOf.{line_of}
 use Rattle.map_expr.specs.Terms.{Term}
-use Rattle.kept_tables.specs.declared.mode.StoreMode.{StoreMode}
+use Rattle.piece_bits.specs.declared.mode.StoreMode.{StoreMode}
 use Rattle.views.specs.Tables.{Table, answer_of}
 use Rattle.worlds.specs.Names.{nameless}
 use Rattle.worlds.specs.Outcomes.{Outcome, Goes, Faults, CannotRead}
@@ -17,11 +17,11 @@ use Rattle.worlds.specs.declared.fault.CommandFault.{CommandFault}
 use Rattle.worlds.specs.declared.fault.CommandFault.TheVariants as fault
 use Rattle.command_checks.specs.AlikeLaws.{alike}
 use Rattle.command_checks.specs.declared.fault.StepFault.{StepFault}
-use Rattle.c_calls.specs.Answers.{Answer, Tells, TellsLeft, ◌>>=◌}
-use Rattle.c_calls.specs.declared.refusal.Refusal.{Refusal}
-use Rattle.c_calls.specs.declared.refusal.Refusal.TheVariants.{Narrow}
-use Rattle.c_calls.specs.declared.refusal.TextOf.{TextOf}
-use Rattle.c_calls.specs.declared.refusal.TextOf.TheVariants.{First}
+use Rattle.c_lines.specs.Answers.{Answer, Tells, TellsLeft, ◌>>=◌}
+use Rattle.c_lines.specs.declared.refusal.Refusal.{Refusal}
+use Rattle.c_lines.specs.declared.refusal.Refusal.TheVariants.{Narrow}
+use Rattle.c_lines.specs.declared.refusal.TextOf.{TextOf}
+use Rattle.c_lines.specs.declared.refusal.TextOf.TheVariants.{First}
 use Rattle.c_lines.specs.Copies.{was_copied, source_after, target_after, told_rows}
 use Rattle.c_lines.specs.Lines.{line_told, shallow}
 use Rattle.c_lines.specs.Relaid.{after_relaid, mapping_told, relaid, whole_told, zeros_told}
@@ -67,61 +67,12 @@ plain_line which text = ⊎_elim
     (cases_Bool (nat_lt 4096 (length text)))
 
 plain_mapping : (sentence : Sentence) → Plain (mapping_told sentence)
-plain_mapping line.Blank = λ table. refl
-plain_mapping (line.Define a b) = λ table. refl
-plain_mapping (line.Mapping a b) = λ table. refl
-plain_mapping (line.View a) = λ table. refl
-plain_mapping (line.Load a b) = λ table. refl
-plain_mapping (line.Assign a b c d) = λ table. refl
-plain_mapping (line.Update a b c) = λ table. refl
-plain_mapping (line.Actors a b c d e f) = λ table. refl
-plain_mapping (line.Kernel a b c) = λ table. refl
-plain_mapping (line.Reduce a b c) = λ table. refl
-plain_mapping (line.Count a b) = λ table. refl
-plain_mapping (line.Copy a b) = λ table. refl
 plain_mapping (line.Relayout a b) = tt
-plain_mapping (line.Show a b) = λ table. refl
-plain_mapping (line.Drop a) = λ table. refl
-plain_mapping (line.Bytes a b) = λ table. refl
-plain_mapping (line.Save a) = λ table. refl
-plain_mapping (line.Open a b) = λ table. refl
-plain_mapping (line.Advise a b c d e) = λ table. refl
-plain_mapping (line.PrintWindow a b) = λ table. refl
-plain_mapping (line.Stencil a b c d e f) = λ table. refl
+plain_mapping other = λ table. refl
 
 plain_fault : (fault : CommandFault) (table : Table) → after_relaid (Err (refusal_of fault)) table ≡ table
 plain_fault (fault.Syntax a) table = refl
-plain_fault fault.TooDeep table = refl
-plain_fault fault.LineTooLong table = refl
-plain_fault fault.BadVersion table = refl
-plain_fault fault.ScriptTooLong table = refl
-plain_fault fault.TooBig table = refl
-plain_fault fault.BadIndex table = refl
-plain_fault fault.BadWindow table = refl
-plain_fault fault.Empty table = refl
-plain_fault fault.Mismatch table = refl
-plain_fault fault.NotCounted table = refl
-plain_fault fault.TooManyViews table = refl
-plain_fault (fault.Unknown a) table = refl
-plain_fault (fault.Taken a) table = refl
-plain_fault (fault.Twice a) table = refl
-plain_fault (fault.MissingColumn a) table = refl
-plain_fault (fault.ColumnTwice a) table = refl
-plain_fault (fault.BadRecord a) table = refl
-plain_fault (fault.BadExtents a) table = refl
-plain_fault (fault.BadMapping a) table = refl
-plain_fault (fault.BadKernel a) table = refl
-plain_fault (fault.BadFile a) table = refl
-plain_fault (fault.BadActors a) table = refl
-plain_fault (fault.BadStencil a) table = refl
-plain_fault (fault.BadAdvice a) table = refl
-plain_fault (fault.SharedByte a b) table = refl
-plain_fault (fault.ShortRow a b) table = refl
-plain_fault (fault.Number a b) table = refl
-plain_fault (fault.Range a b) table = refl
-plain_fault (fault.Narrow a b) table = refl
-plain_fault (fault.Overflow a) table = refl
-plain_fault (fault.DivideByZero a) table = refl
+plain_fault other table = refl
 
 plain_told : {A : Type 0} (outcome : Outcome A) → Plain (told outcome)
 plain_told (Goes given) = tt

@@ -2,7 +2,7 @@
 use Rattle.std.specs.Prelude.{ℕ, ◌≡◌, ◌+◌, ◌*◌, ◌^◌, ◌≤◌, Bool, false, List, [], Some, unwrap_or, Ok, Err}
 use Rattle.layout_io.specs.Files.{File, file_of}
 use Rattle.record_dim.specs.Trees.{Tree, Fields, End}
-use Rattle.kept_tables.specs.declared.mode.StoreMode.{StoreMode}
+use Rattle.piece_bits.specs.declared.mode.StoreMode.{StoreMode}
 use Rattle.line_grammar.specs.Sentences.{Sentence, New, Define, View, Load, Kernel, Copy, Relayout}
 use Rattle.line_grammar.specs.declared.line.KernelText.{KernelText}
 use Rattle.map_expr.specs.Terms.{Term}
@@ -19,10 +19,10 @@ use Rattle.worlds.specs.Worlds.{World, Entry, empty, found, added, same_name}
 use Rattle.worlds.specs.declared.fault.CommandFault.{CommandFault}
 use Rattle.worlds.specs.declared.fault.CommandFault.TheVariants as fault
 use Rattle.worlds.specs.declared.fault.UnknownName.{UnknownName}
-use Rattle.c_calls.specs.Answers.{Answer}
-use Rattle.c_calls.specs.declared.refusal.Refusal.{Refusal}
-use Rattle.c_calls.specs.declared.refusal.Refusal.TheVariants as refusal
-use Rattle.c_calls.specs.declared.refusal.TextOf.TheVariants.{First, Second}
+use Rattle.c_lines.specs.Answers.{Answer}
+use Rattle.c_lines.specs.declared.refusal.Refusal.{Refusal}
+use Rattle.c_lines.specs.declared.refusal.Refusal.TheVariants as refusal
+use Rattle.c_lines.specs.declared.refusal.TextOf.TheVariants.{First, Second}
 use Rattle.c_lines.specs.Copies.{was_copied, source_after, target_after}
 use Rattle.c_lines.specs.KernelLines.{kernel_number, after_kernel}
 use Rattle.c_lines.specs.Lines.{line_told, described, filled, loaded}

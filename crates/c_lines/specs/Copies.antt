@@ -5,8 +5,8 @@ use Rattle.views.specs.Stores.{kept_rows}
 use Rattle.views.specs.Tallies.{Access, Read, Write, all_accesses, row_accesses}
 use Rattle.views.specs.Tables.{Table, answer_of, kept_of, leaf_count_of, after_log, after_stores}
 use Rattle.worlds.specs.Copy.{are_alike}
-use Rattle.c_calls.specs.Answers.{Answer}
-use Rattle.c_calls.specs.declared.refusal.Refusal.TheVariants.{Mismatch, Narrow}
+use Rattle.c_lines.specs.Answers.{Answer}
+use Rattle.c_lines.specs.declared.refusal.Refusal.TheVariants.{Mismatch, Narrow}
 
 -- the answer of a store of rows, by the first value that is not taken
 abbrev pub told_rows : Option Spot → Answer (Unit {0})

@@ -9,9 +9,9 @@ use Rattle.line_grammar.specs.Sentences.{Sentence}
 use Rattle.line_grammar.specs.declared.line.KernelText.{KernelText}
 use Rattle.views.specs.Tables.{Table, answer_of, kept_of, after_stores}
 use Rattle.worlds.specs.Kernel.{fit_kernel}
-use Rattle.c_calls.specs.Answers.{Answer, ◌>>=◌}
-use Rattle.c_calls.specs.declared.refusal.Refusal.TheVariants.{OtherLine}
-use Rattle.c_calls.specs.declared.refusal.TextOf.TheVariants.{First}
+use Rattle.c_lines.specs.Answers.{Answer, ◌>>=◌}
+use Rattle.c_lines.specs.declared.refusal.Refusal.TheVariants.{OtherLine}
+use Rattle.c_lines.specs.declared.refusal.TextOf.TheVariants.{First}
 use Rattle.c_lines.specs.Lines.{line_told}
 use Rattle.c_lines.specs.Told.{told, kernel_refusal}
 

@@ -7,3 +7,9 @@ pub mod Steps
 pub mod Makes
 pub mod Kernels
 pub mod Agreement
+pub mod Answers
+pub mod Faults
+pub mod Refusals
+pub mod Values
+pub mod Runs
+pub mod Buffers

@@ -15,10 +15,10 @@ use Rattle.worlds.specs.Tables.{made, resolved}
 use Rattle.worlds.specs.View.{Named, named, new_table}
 use Rattle.worlds.specs.Worlds.{World, empty}
 use Rattle.worlds.specs.declared.fault.CommandFault.TheVariants.{TooBig}
-use Rattle.c_calls.specs.Answers.{Answer, ◌>>=◌}
-use Rattle.c_calls.specs.declared.refusal.Refusal.TheVariants.{LineTooLong, Syntax, TooDeep, OtherLine}
-use Rattle.c_calls.specs.declared.refusal.TextOf.{TextOf}
-use Rattle.c_calls.specs.declared.refusal.TextOf.TheVariants.{First, Second}
+use Rattle.c_lines.specs.Answers.{Answer, ◌>>=◌}
+use Rattle.c_lines.specs.declared.refusal.Refusal.TheVariants.{LineTooLong, Syntax, TooDeep, OtherLine}
+use Rattle.c_lines.specs.declared.refusal.TextOf.{TextOf}
+use Rattle.c_lines.specs.declared.refusal.TextOf.TheVariants.{First, Second}
 use Rattle.c_lines.specs.Told.{told, row_refusal}
 
 -- the line that a text is

@@ -6,7 +6,7 @@ use Rattle.record_dim.specs.Schemas.{schema_fields}
 use Rattle.worlds.specs.View.{Named}
 use Rattle.worlds.specs.Worlds.{World, empty, added}
 use Rattle.c_lines.specs.Lines as lines
-use Rattle.c_calls.specs.Answers.{Answer}
+use Rattle.c_lines.specs.Answers.{Answer}
 use Rattle.views.specs.Tables.{Table}
 use Rattle.c_lines.specs.declared.make.Asked.{Asked}
 use Rattle.c_lines.specs.declared.make.Found.{Found}

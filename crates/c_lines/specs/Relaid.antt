@@ -6,9 +6,9 @@ use Rattle.map_expr.specs.Terms.{Term}
 use Rattle.views.specs.Tables.{Table, answer_of, after_log}
 use Rattle.worlds.specs.Names.{nameless}
 use Rattle.worlds.specs.Tables.{made}
-use Rattle.c_calls.specs.Answers.{Answer, ◌>>=◌}
-use Rattle.c_calls.specs.declared.refusal.Refusal.TheVariants.{OtherLine, Narrow}
-use Rattle.c_calls.specs.declared.refusal.TextOf.TheVariants.{First}
+use Rattle.c_lines.specs.Answers.{Answer, ◌>>=◌}
+use Rattle.c_lines.specs.declared.refusal.Refusal.TheVariants.{OtherLine, Narrow}
+use Rattle.c_lines.specs.declared.refusal.TextOf.TheVariants.{First}
 use Rattle.c_lines.specs.Copies.{told_rows, target_after, reads_until}
 use Rattle.c_lines.specs.Lines.{line_told}
 use Rattle.c_lines.specs.Told.{told}

@@ -7,9 +7,9 @@ use Rattle.lane_kernels.specs.declared.fault.KernelFault.TheVariants as kernel
 use Rattle.worlds.specs.Outcomes.{Outcome, Goes, Faults, CannotRead}
 use Rattle.worlds.specs.declared.fault.CommandFault.{CommandFault}
 use Rattle.worlds.specs.declared.fault.CommandFault.TheVariants as command
-use Rattle.c_calls.specs.Answers.{Answer}
-use Rattle.c_calls.specs.declared.refusal.Refusal.{Refusal}
-use Rattle.c_calls.specs.declared.refusal.Refusal.TheVariants as refusal
+use Rattle.c_lines.specs.Answers.{Answer}
+use Rattle.c_lines.specs.declared.refusal.Refusal.{Refusal}
+use Rattle.c_lines.specs.declared.refusal.Refusal.TheVariants as refusal
 
 -- the refusal of what makes a view, or fits a kernel to one; nothing else but a limit refuses these
 abbrev pub refusal_of : CommandFault → Refusal

@@ -2,10 +2,10 @@
 ghost use Rattle.std.specs.Prelude.{◌≡◌, ◌<◌};
 ghost use Rattle.c_lines.specs.Copies.{was_copied, source_after, target_after};
 
-use c_calls::Refusal;
+use crate::Refusal;
 use layout_copy::{CopyFault, copy};
+use record_dim::Steps;
 use std::sync::ledger::{Blank, Ledger};
-use steps::Steps;
 use views::View;
 
 /// Makes the table of a view that of another, as far as it holds the values.

@@ -2,19 +2,19 @@
 ghost use Rattle.std.specs.Prelude.{◌≡◌, ◌<◌, ◌≤◌, IfOk};
 ghost use Rattle.line_grammar.specs.Sentences.{sentence_of};
 ghost use Rattle.lane_kernels.specs.Kernels.{IsKernelOf};
-ghost use Rattle.c_calls.specs.Answers.{Tells, TellsLeft};
+ghost use Rattle.c_lines.specs.Answers.{Tells, TellsLeft};
 ghost use Rattle.c_lines.specs.KernelLines.{after_kernel, fitted, fitted_as, kernel_number, kernel_told};
 ghost use Rattle.c_lines.specs.Kernels.{fitted_of, written_of};
 
 use crate::lines::line_of;
 use crate::told::{answered, kernel_refusal};
-use c_calls::{Refusal, TextOf};
+use crate::{Refusal, TextOf};
 use command_checks::fit_kernel;
 use lane_kernels::{Kernel, run_lanes};
 use line_grammar::{KernelText, Line};
+use record_dim::Steps;
 use std::alloc::Global;
 use std::sync::ledger::{Blank, Ledger};
-use steps::Steps;
 use views::View;
 
 /// A kernel as a line writes it.

@@ -2,10 +2,10 @@
 ghost use Rattle.std.specs.Prelude.{◌≡◌, ◌≤◌, IfOk};
 ghost use Rattle.line_grammar.specs.Sentences.{sentence_of};
 ghost use Rattle.schema_lang.specs.Parsing.{IsWhole};
-ghost use Rattle.c_calls.specs.Answers.{Tells};
+ghost use Rattle.c_lines.specs.Answers.{Tells};
 ghost use Rattle.c_lines.specs.Lines.{line_told};
 
-use c_calls::{Refusal, TextOf};
+use crate::{Refusal, TextOf};
 use line_grammar::{Line, Version};
 use schema_lang::{LineFault, MAX_LINE_BYTES, parse_line};
 use std::alloc::Global;

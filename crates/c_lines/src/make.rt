@@ -8,24 +8,23 @@ ghost use Rattle.schema_lang.specs.Parsing.{IsWhole};
 ghost use Rattle.map_expr.specs.Terms.{term_of};
 ghost use Rattle.worlds.specs.View.{named, new_table};
 ghost use Rattle.command_checks.specs.Bases.{is_nameless};
-ghost use Rattle.c_calls.specs.Answers.{Tells};
+ghost use Rattle.c_lines.specs.Answers.{Tells};
 ghost use Rattle.c_lines.specs.Lines.{asked, described, filled_as, loaded, new_told, with_dataset, world_told, zeros_for};
 ghost use Rattle.c_lines.specs.Makes.{asked_filled, asked_of, named_of, new_of, world_of};
 ghost use Rattle.c_lines.specs.Told.{told};
 
 use crate::lines::line_of;
 use crate::told::{answered, row_refusal};
+use crate::{Refusal, TextOf};
 use blob_file::mode_by;
-use c_calls::{Refusal, TextOf};
 use command_checks::{MappingList, made, nameless, resolved, shaped};
 use csv_rows::{count_rows, load_rows};
 use extents::Shape;
 use line_grammar::{ExtentWords, Line};
 use map_expr::MapExpr;
-use record_dim::{MakeSchema, Name, Schema};
+use record_dim::{MakeSchema, Name, Schema, Steps};
 use std::alloc::Global;
 use std::sync::ledger::{Blank, Ledger};
-use steps::Steps;
 use views::{StoreMode, View};
 
 /// The most bytes of a dataset.

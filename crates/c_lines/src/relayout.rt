@@ -4,14 +4,14 @@ ghost use Rattle.layout_copy.specs.Copies.{AreAlike};
 ghost use Rattle.line_grammar.specs.Sentences.{sentence_of};
 ghost use Rattle.map_expr.specs.Terms.{term_of};
 ghost use Rattle.command_checks.specs.Bases.{is_nameless};
-ghost use Rattle.c_calls.specs.Answers.{Tells, TellsLeft};
+ghost use Rattle.c_lines.specs.Answers.{Tells, TellsLeft};
 ghost use Rattle.c_lines.specs.Relaid.{after_relaid, mapping_told, relaid, whole_told, zeros_told};
 ghost use Rattle.c_lines.specs.Told.{done_of};
 
 use crate::copies::copy_into;
 use crate::lines::line_of;
 use crate::told::answered;
-use c_calls::{Refusal, TextOf};
+use crate::{Refusal, TextOf};
 use command_checks::{MappingList, made, nameless};
 use line_grammar::Line;
 use map_expr::MapExpr;

@@ -3,7 +3,7 @@ ghost use Rattle.std.specs.Prelude.{◌≡◌};
 ghost use Rattle.c_lines.specs.Told.{kernel_refusal, refusal_of, row_refusal};
 ghost use Rattle.c_lines.specs.Steps.{answered, step_refusal};
 
-use c_calls::Refusal;
+use crate::Refusal;
 use command_checks::StepFault;
 use csv_rows::RowFault;
 use lane_kernels::KernelFault;

@@ -27,14 +27,7 @@ kind_by number =
 
 kind_back : (kind : LeafType) → kind_by (kind_number kind) ≡ kind
 kind_back Truth = refl
-kind_back U8 = refl
-kind_back U16 = refl
-kind_back U32 = refl
-kind_back U64 = refl
-kind_back I8 = refl
-kind_back I16 = refl
-kind_back I32 = refl
-kind_back I64 = refl
+kind_back other = refl
 
 same_kind : (kind other : LeafType) → nat_eq (kind_number kind) (kind_number other) ≡ true → kind ≡ other
 same_kind kind other e = sym (kind_back kind) ∙ ap kind_by (eqb-true (kind_number kind) (kind_number other) e) ∙ kind_back other

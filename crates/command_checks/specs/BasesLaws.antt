@@ -21,11 +21,6 @@ use Rattle.command_checks.specs.Bases.{is_nameless, rows_for}
 
 -- a mapping without names can be checked
 pub nameless_term : (term : Term) → is_nameless term ≡ true → IsNameless term
-nameless_term (Aos form order) e = tt
-nameless_term (Soa form order) e = tt
-nameless_term (Aosoa lanes order) e = tt
-nameless_term (BitAos width fields order) e = tt
-nameless_term (BitSoa width fields order) e = tt
 nameless_term (Split path first rest) e =
     let names = both (is_nameless first) (is_nameless rest) e in
     (nameless_term first names.0, nameless_term rest names.1)
@@ -35,6 +30,7 @@ nameless_term (Change from to inner) e = nameless_term inner e
 nameless_term (Count inner) e = nameless_term inner e
 nameless_term (Heat granule inner) e = nameless_term inner e
 nameless_term (Named name) e = absurd (false≢true e)
+nameless_term other e = tt
 
 -- two mappings without names, as the two sides of a split
 pub nameless_split : (path : List PathStep) (first rest : Term) → is_nameless first ≡ true → is_nameless rest ≡ true → is_nameless (Split path first rest) ≡ true

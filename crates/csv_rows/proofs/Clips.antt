@@ -8,12 +8,12 @@ use Rattle.record_dim.specs.declared.leaf_type.LeafType.{LeafType}
 use Rattle.record_dim.specs.declared.leaf_type.LeafType.TheVariants.{Bool as Truth, U8, U16, U32, U64, I8, I16, I32, I64}
 use Rattle.record_dim.specs.LeafTypes.{least_of, greatest_of}
 use Rattle.places.specs.declared.piece.Hold.{Hold}
-use Rattle.kept_tables.specs.declared.mode.StoreMode.{StoreMode}
-use Rattle.kept_tables.specs.declared.mode.StoreMode.TheVariants.{Strict, Wrap}
+use Rattle.piece_bits.specs.declared.mode.StoreMode.{StoreMode}
+use Rattle.piece_bits.specs.declared.mode.StoreMode.TheVariants.{Strict, Wrap}
 use Rattle.views.specs.Stores.{store_answer}
 use Rattle.views.specs.declared.fault.StoreFault.TheVariants.{Range}
-use Rattle.kept_numbers.specs.Far.{folded, shortened}
-use Rattle.kept_numbers.specs.FarLaws.{folded_near, folded_far, shortened_kept}
+use Rattle.piece_bits.specs.Far.{folded, shortened}
+use Rattle.piece_bits.specs.FarLaws.{folded_near, folded_far, shortened_kept}
 use Rattle.csv_rows.specs.Datasets.{◌>>=◌, Place, unspaced, number_of, the_field, the_number, taken, value_at}
 use Rattle.csv_rows.specs.declared.fault.RowFault.{RowFault}
 use Rattle.csv_rows.proofs.CsvReads.{some_is}
@@ -32,25 +32,11 @@ and_first false b e = refl
 -- above every range, and below
 above_all : (kind : LeafType) (n : ℕ) → 2 ^ 65 ≤ n → greatest_of kind <ℤ pos n
 above_all Truth n far = grind (arith, ints)
-above_all U8 n far = grind (arith, ints)
-above_all U16 n far = grind (arith, ints)
-above_all U32 n far = grind (arith, ints)
-above_all U64 n far = grind (arith, ints)
-above_all I8 n far = grind (arith, ints)
-above_all I16 n far = grind (arith, ints)
-above_all I32 n far = grind (arith, ints)
-above_all I64 n far = grind (arith, ints)
+above_all other n far = grind (arith, ints)
 
 below_all : (kind : LeafType) (n : ℕ) → 2 ^ 65 ≤ suc n → negsuc n <ℤ least_of kind
 below_all Truth n far = grind (arith, ints)
-below_all U8 n far = grind (arith, ints)
-below_all U16 n far = grind (arith, ints)
-below_all U32 n far = grind (arith, ints)
-below_all U64 n far = grind (arith, ints)
-below_all I8 n far = grind (arith, ints)
-below_all I16 n far = grind (arith, ints)
-below_all I32 n far = grind (arith, ints)
-below_all I64 n far = grind (arith, ints)
+below_all other n far = grind (arith, ints)
 
 far_above : (kind : LeafType) (hold : Hold) (n : ℕ) → 2 ^ 65 ≤ n → store_answer Strict kind hold (pos n) ≡ Err Range
 far_above kind hold n far = rw (and_false (int_le (least_of kind) (pos n)) (int_le (pos n) (greatest_of kind)) (int_le-false (pos n) (greatest_of kind) (above_all kind n far))) refl

@@ -4,8 +4,8 @@ use Rattle.std.specs.List.{slice_get, enumerate_from}
 use Rattle.record_dim.specs.Leaves.{texts_of}
 use Rattle.record_dim.specs.declared.leaf_type.LeafType.{LeafType}
 use Rattle.places.specs.declared.piece.Hold.{Hold}
-use Rattle.kept_tables.specs.declared.mode.StoreMode.{StoreMode}
-use Rattle.kept_tables.specs.declared.mode.StoreMode.TheVariants.{Wrap}
+use Rattle.piece_bits.specs.declared.mode.StoreMode.{StoreMode}
+use Rattle.piece_bits.specs.declared.mode.StoreMode.TheVariants.{Wrap}
 use Rattle.views.specs.Stores.{store_answer}
 use Rattle.views.specs.Tables.{Table, leaf_types_of, table_holds}
 use Rattle.csv_rows.specs.Datasets.{◌>>=◌, Place, unspaced, number_of, the_field, the_number, taken, value_at, row_values, table_from, with_columns, columns_named, one_column, columns_of, header_of, rows_of, dataset_table}

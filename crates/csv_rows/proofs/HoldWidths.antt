@@ -48,21 +48,16 @@ merged_few (false ∷ side) one (hold ∷ other) ones others =
     one_few hold (merged side one other) (others zero) (merged_few side one other ones (λ i. others (suc i)))
 
 holds_few : (term : Term) (fields : Fields) (cells : List Cell) → AreFew (holds_of term fields cells)
-holds_few (Aos form order) fields cells = full_few cells
-holds_few (Soa form order) fields cells = full_few cells
-holds_few (Aosoa lanes order) fields cells = full_few cells
 holds_few (BitAos width entries order) fields cells = narrow_few (cell_widths fields width entries cells) cells
 holds_few (BitSoa width entries order) fields cells = narrow_few (cell_widths fields width entries cells) cells
 holds_few (Split path first rest) fields cells =
     let under = cells_under fields path cells in
     let beside = cells_beside fields path cells in
     merged_few (side_of fields path cells) (holds_of first fields under) (holds_of rest fields beside) (holds_few first fields under) (holds_few rest fields beside)
-holds_few (Byteswap inner) fields cells = full_few cells
-holds_few (Bytesplit inner) fields cells = full_few cells
 holds_few (Change from to inner) fields cells = holds_few inner fields (changed from to cells)
 holds_few (Count inner) fields cells = holds_few inner fields cells
 holds_few (Heat granule inner) fields cells = holds_few inner fields cells
-holds_few (Named name) fields cells = full_few cells
+holds_few other fields cells = full_few cells
 
 pub leaf_few : (table : Table) (leaf : ℕ) → (hold_at (table_holds table) leaf).width ≤ 64
 leaf_few table leaf = holds_few table.mapping table.fields (leaf_cells (leaf_types_of table)) leaf

@@ -7,8 +7,8 @@ use Rattle.std.specs.List.{list_all}
 use Rattle.std.specs.Str.Parse.{digits_value}
 use Rattle.std.proofs.lemmas.Int.{ints}
 use Rattle.csv_rows.specs.Datasets.{unspaced, all_digits, digits_number, number_of}
-use Rattle.kept_numbers.specs.Far.{folded, shortened}
-use Rattle.kept_numbers.specs.FarLaws.{folded_near}
+use Rattle.piece_bits.specs.Far.{folded, shortened}
+use Rattle.piece_bits.specs.FarLaws.{folded_near}
 use Rattle.csv_rows.specs.Plain.{is_comma, is_line_end, IsFieldHere}
 use Rattle.csv_rows.proofs.CsvReads.{some_is}
 use Rattle.csv_rows.proofs.PrintedBytes.{AreDigits, unspaced_same, digits_write, minus_writes}

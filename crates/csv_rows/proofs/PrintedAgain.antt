@@ -7,7 +7,7 @@ use Rattle.std.proofs.lemmas.List.{length-map}
 use Rattle.record_dim.specs.Leaves.{leaves, texts_of}
 use Rattle.record_dim.specs.Paths.{path_text_of}
 use Rattle.views.specs.Tables.{Table, IsTable, leaf_types_of, table_holds}
-use Rattle.kept_tables.specs.declared.mode.StoreMode.{StoreMode}
+use Rattle.piece_bits.specs.declared.mode.StoreMode.{StoreMode}
 use Rattle.views.specs.Stores.{AllStay}
 use Rattle.csv_rows.specs.Loads.{dataset_of}
 use Rattle.layout_io.specs.Decimal.{decimal_text}

@@ -7,8 +7,8 @@ use Rattle.record_dim.specs.declared.leaf_type.LeafType.{LeafType}
 use Rattle.record_dim.specs.declared.leaf_type.LeafType.TheVariants.{Bool as Truth, U8, U16, U32, U64, I8, I16, I32, I64}
 use Rattle.record_dim.specs.LeafTypes.{IsDeclared}
 use Rattle.places.specs.declared.piece.Hold.{Hold}
-use Rattle.kept_tables.specs.EntryLaws.{stays_declared}
-use Rattle.kept_tables.specs.declared.mode.StoreMode.{StoreMode}
+use Rattle.piece_bits.specs.EntryLaws.{stays_declared}
+use Rattle.piece_bits.specs.declared.mode.StoreMode.{StoreMode}
 use Rattle.views.specs.Stores.{store_answer, Stays, kind_at}
 use Rattle.views.specs.AnswerLaws.{stays_answer}
 use Rattle.piece_bits.specs.Tables.{hold_at}
@@ -22,25 +22,11 @@ use Rattle.csv_rows.proofs.PrintedLines.{is_plain_row}
 -- a value of any leaf has few digits
 few_above : (kind : LeafType) (n : ℕ) → IsDeclared kind (pos n) → n < 10 ^ 64
 few_above Truth n is = grind (arith, ints)
-few_above U8 n is = grind (arith, ints)
-few_above U16 n is = grind (arith, ints)
-few_above U32 n is = grind (arith, ints)
-few_above U64 n is = grind (arith, ints)
-few_above I8 n is = grind (arith, ints)
-few_above I16 n is = grind (arith, ints)
-few_above I32 n is = grind (arith, ints)
-few_above I64 n is = grind (arith, ints)
+few_above other n is = grind (arith, ints)
 
 few_below : (kind : LeafType) (n : ℕ) → IsDeclared kind (negsuc n) → suc n < 10 ^ 64
 few_below Truth n is = grind (arith, ints)
-few_below U8 n is = grind (arith, ints)
-few_below U16 n is = grind (arith, ints)
-few_below U32 n is = grind (arith, ints)
-few_below U64 n is = grind (arith, ints)
-few_below I8 n is = grind (arith, ints)
-few_below I16 n is = grind (arith, ints)
-few_below I32 n is = grind (arith, ints)
-few_below I64 n is = grind (arith, ints)
+few_below other n is = grind (arith, ints)
 
 declared_text : (kind : LeafType) (z : ℤ) → IsDeclared kind z → IsNumberText z (decimal_text z)
 declared_text kind z is = number_text z (λ n e. few_above kind n (subst (IsDeclared kind) e is)) (λ n e. few_below kind n (subst (IsDeclared kind) e is))

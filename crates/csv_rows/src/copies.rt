@@ -1,6 +1,6 @@
 // The records of a dataset, copied by csv.
 ghost use Rattle.std.specs.Prelude.{◌≡◌, option_map};
-ghost use Rattle.kept_numbers.specs.Far.{shortened};
+ghost use Rattle.piece_bits.specs.Far.{shortened};
 ghost use Rattle.csv_rows.specs.Datasets.{unspaced, number_of, records_of};
 ghost use Rattle.csv_rows.specs.Readers.{rows_left, IsReading};
 

@@ -1,6 +1,6 @@
 // The table of a dataset, loaded into a view.
 ghost use Rattle.std.specs.Prelude.{◌≡◌, ◌⊎◌, IfErr, OnOk, Ok, Err, length};
-ghost use Rattle.kept_tables.specs.declared.mode.StoreMode.TheVariants.{Wrap};
+ghost use Rattle.piece_bits.specs.declared.mode.StoreMode.TheVariants.{Wrap};
 ghost use Rattle.views.specs.Tallies.{Write, all_accesses};
 ghost use Rattle.views.specs.Tables.{leaf_count_of, after_stores};
 ghost use Rattle.csv_rows.specs.Datasets.{records_of, rows_of, table_from};
@@ -14,10 +14,9 @@ use crate::fault::RowFault;
 use crate::lines::lines_of;
 use crate::reads::{Records, has_quote, without_marks};
 use crate::rows::load_row;
-use record_dim::Schema;
+use record_dim::{Schema, Steps};
 use std::alloc::Global;
 use std::sync::ledger::Ledger;
-use steps::Steps;
 use views::View;
 
 /// Loads the table of a dataset into a view that has as many rows. A number that does not fit is a fault in a strict view; any other keeps

@@ -2,11 +2,11 @@
 ghost use Rattle.std.specs.Prelude.{◌≡◌, ◌≤◌, ◌<◌, ◌^◌, ◌||◌, ℕ, pos, neg_ℤ, Some, true, false, IfSome, option_map, take, length, get_or};
 ghost use Rattle.std.specs.Char.{is_ascii_digit};
 ghost use Rattle.csv_rows.specs.Datasets.{is_blank, behind_blanks, before_blanks, unspaced, all_digits, digits_number, number_of};
-ghost use Rattle.kept_numbers.specs.Far.{folded, shortened};
+ghost use Rattle.piece_bits.specs.Far.{folded, shortened};
 ghost use Rattle.csv_rows.specs.Plain.{is_comma, is_line_end, IsFieldHere};
 
 use crate::lines::is_line_end;
-use kept_numbers::folded;
+use piece_bits::folded;
 
 /// The number of a field: without blanks at its ends an optional sign, and one or more digits. Of a number that is 2^65
 /// from 0 or further, one is answered that is as well, and has the same 64 low bits: no leaf of a strict view can store either, and any

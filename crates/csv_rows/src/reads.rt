@@ -4,7 +4,7 @@ ghost use Rattle.std.specs.List.{slice_get};
 ghost use Rattle.std.specs.Cmp.Lexicographic.{pointwise};
 ghost use Rattle.csv.specs.Reading.{strip_bom};
 ghost use Rattle.csv_rows.specs.Datasets.{unspaced, number_of};
-ghost use Rattle.kept_numbers.specs.Far.{shortened};
+ghost use Rattle.piece_bits.specs.Far.{shortened};
 ghost use Rattle.csv_rows.specs.Plain.{HasNoQuote};
 ghost use Rattle.csv_rows.specs.Readers.{IsAsked};
 

@@ -9,8 +9,8 @@ ghost use Rattle.csv_rows.specs.Readers.{IsAsked};
 
 use crate::fault::RowFault;
 use crate::reads::Records;
+use record_dim::Steps;
 use std::sync::ledger::Ledger;
-use steps::Steps;
 use views::{StoreFault, View, laws_of_table};
 
 /// Reads the record that was read last into a row, all of it or, where a leaf is refused, nothing. What the view keeps of `values` are the

@@ -9,7 +9,7 @@ use Rattle.record_dim.specs.Trees.{Tree, Fields}
 use Rattle.map_expr.specs.Terms.{Term as MapTerm}
 use Rattle.piece_bits.specs.Tables.{zeros}
 use Rattle.piece_bits.specs.TableLaws.{zeros_shape}
-use Rattle.kept_tables.specs.declared.mode.StoreMode.{StoreMode}
+use Rattle.piece_bits.specs.declared.mode.StoreMode.{StoreMode}
 use Rattle.line_grammar.specs.Sentences.{Sentence, New}
 use Rattle.line_grammar.specs.Sentences as line
 use Rattle.views.specs.Tallies.{Access, Tally, tallied, no_tally, all_accesses, Read, Write}

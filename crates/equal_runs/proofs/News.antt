@@ -44,12 +44,7 @@ paired mapping fields = holds_cells mapping fields (holds_by mapping fields) ref
 
 narrow_row : (fields : Fields) (n : Bool) (e : RowFault) → is_narrow_row e ≡ true → is_of_layout n (fault_of fields e) ≡ true
 narrow_row fields n (row_fault.Narrow row leaf) is = refl
-narrow_row fields n (row_fault.MissingColumn leaf) is = absurd (cc)
-narrow_row fields n (row_fault.ColumnTwice leaf) is = absurd (cc)
-narrow_row fields n (row_fault.ShortRow row leaf) is = absurd (cc)
-narrow_row fields n (row_fault.Number row leaf) is = absurd (cc)
-narrow_row fields n (row_fault.Range row leaf) is = absurd (cc)
-narrow_row fields n row_fault.NoMemory is = absurd (cc)
+narrow_row fields n other is = absurd (cc)
 
 -- what the words of a new view stand for, but its mapping
 record AlikeNamed (whole other : Named) : Type 0 where

@@ -9,8 +9,8 @@ use Rattle.line_grammar.specs.declared.version.Version.{Version}
 use Rattle.worlds.specs.Worlds.{World, empty}
 use Rattle.worlds.specs.Outcomes.{Outcome, Left}
 use Rattle.worlds.specs.Step.{step}
-use Rattle.script_runs.specs.Outcome.{Output}
-use Rattle.script_runs.specs.Fold.{run_from, after, fails_at, prepend}
+use Rattle.worlds.specs.Outcome.{Output}
+use Rattle.worlds.specs.Fold.{run_from, after, fails_at, prepend}
 use Rattle.equal_runs.specs.Lines.{with_term, AgreeButTerms, shows_layout, IsLine, AreLines}
 use Rattle.equal_runs.specs.Endings.{misses_mapping, ends_after, ends_by_layout}
 use Rattle.equal_runs.specs.Widths.{MakesWide, HoldsOf, StaysWide}

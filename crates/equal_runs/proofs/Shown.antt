@@ -18,8 +18,8 @@ use Rattle.worlds.specs.Outcomes.{Outcome, LeftOf, Left, known, some_or}
 use Rattle.worlds.specs.Show.{counts, heat}
 use Rattle.worlds.specs.Step.{step}
 use Rattle.worlds.specs.declared.fault.CommandFault.TheVariants.{NotCounted}
-use Rattle.script_runs.specs.Fold.{run_from, after, prepend, fails_at}
-use Rattle.script_runs.specs.Outcome.{Output}
+use Rattle.worlds.specs.Fold.{run_from, after, prepend, fails_at}
+use Rattle.worlds.specs.Outcome.{Output}
 use Rattle.equal_runs.specs.Lines.{AreLines}
 use Rattle.equal_runs.specs.EqualRuns.{DoesLines}
 use Rattle.equal_runs.specs.Logs.{SoFar, at_first, one_more, logs_after, Comes, there, further, log_of}

@@ -34,11 +34,8 @@ module _ (world other : World) (alike : AlikeWorlds world other) (term : MapTerm
   step_agree (line.Show kind name) plain = view_agree false false world other alike name _ _ (λ table mapping tally same. showing_agree false false table mapping tally same kind name plain)
   step_agree (line.Drop name) plain = drop_agree false false world other alike name
   step_agree (line.Open name file) plain = open_agree world other alike false false name file files unread
-  step_agree (line.Bytes name blob) plain = absurd (cc)
-  step_agree (line.Save name) plain = absurd (cc)
-  step_agree (line.Actors name filter sets cuts seed turns) plain = absurd (cc)
   step_agree (line.PrintWindow name spans) plain = view_agree false false world other alike name _ _ (λ table mapping tally same. print_window_agree false false table mapping tally same spans)
   step_agree (line.Stencil name spans path terms divisor rounds) plain =
       view_agree false false world other alike name _ _ (λ table mapping tally same.
       stencil_agree false false table mapping tally same (live_bits world.views) (live_bits other.views) spans path terms divisor rounds)
-  step_agree (line.Advise name granule passes terms splits) plain = absurd (cc)
+  step_agree other plain = absurd (cc)

@@ -6,7 +6,7 @@ use Rattle.map_expr.specs.Terms.{Term as MapTerm}
 use Rattle.map_checks.specs.Mappings.{leaf_cells, layout_by, most_slots, accepted}
 use Rattle.views.specs.Tallies.{Access, Tally, all_accesses, granules_for, Write}
 use Rattle.layout_copy.specs.Copies.{refused_at}
-use Rattle.kept_tables.specs.declared.mode.StoreMode.{StoreMode}
+use Rattle.piece_bits.specs.declared.mode.StoreMode.{StoreMode}
 use Rattle.std.specs.Prelude.{ℤ, ◌+◌, ◌*◌, ◌^◌, nat_lt, ⊤}
 use Rattle.views.specs.AnswerLaws.{kept_alike}
 use Rattle.views.specs.Stores.{Keeping, kept_rows}

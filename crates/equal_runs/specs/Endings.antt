@@ -9,7 +9,7 @@ use Rattle.worlds.specs.Step.{step}
 use Rattle.worlds.specs.declared.fault.CommandFault.{CommandFault}
 use Rattle.worlds.specs.declared.fault.CommandFault.TheVariants.{BadMapping, TooBig, Narrow, NotCounted, Unknown}
 use Rattle.worlds.specs.declared.fault.UnknownName.TheVariants.{Name}
-use Rattle.script_runs.specs.Fold.{fails_at}
+use Rattle.worlds.specs.Fold.{fails_at}
 
 -- it does not go
 abbrev pub is_refused : {A : Type 0} → Outcome A → Bool

@@ -13,7 +13,7 @@ use Rattle.views.specs.Tallies.{Access, Tally, tallied, no_tally}
 use Rattle.worlds.specs.Worlds.{World, empty, found}
 use Rattle.worlds.specs.Outcomes.{Outcome, Goes, Left}
 use Rattle.worlds.specs.Step.{step}
-use Rattle.script_runs.specs.Fold.{run_from, prepend}
+use Rattle.worlds.specs.Fold.{run_from, prepend}
 use Rattle.equal_runs.specs.Lines.{AreLines}
 use Rattle.equal_runs.specs.Logs.{SoFar, at_first, Comes, log_of}
 

@@ -7,7 +7,7 @@ use Rattle.line_grammar.specs.declared.version.Version.{Version}
 use Rattle.worlds.specs.Worlds.{World, empty}
 use Rattle.worlds.specs.Outcomes.{Outcome, Left}
 use Rattle.worlds.specs.Step.{step}
-use Rattle.script_runs.specs.Fold.{run_from}
+use Rattle.worlds.specs.Fold.{run_from}
 use Rattle.equal_runs.specs.Lines.{AgreeButTerms, shows_layout, IsLine, AreLines}
 use Rattle.equal_runs.specs.Endings.{ends_by_layout}
 use Rattle.equal_runs.specs.Widths.{StaysWide}

@@ -9,7 +9,7 @@ use Rattle.worlds.specs.Worlds.{World, Entry, empty, found, added, replaced, rem
 use Rattle.worlds.specs.OnView.{Done, Work}
 use Rattle.worlds.specs.Outcomes.{Outcome, Goes, ◌>>=◌, Left, known}
 use Rattle.worlds.specs.Step.{step, work_of}
-use Rattle.script_runs.specs.Fold.{fails_at}
+use Rattle.worlds.specs.Fold.{fails_at}
 
 -- the accesses that are listed, and none where there is no list
 abbrev pub log_in : Option (List Access) → List Access

@@ -6,7 +6,7 @@ use Rattle.views.specs.Tables.{IsWide}
 use Rattle.worlds.specs.Worlds.{World, found}
 use Rattle.worlds.specs.Outcomes.{Outcome, Goes, Left}
 use Rattle.worlds.specs.Step.{step}
-use Rattle.script_runs.specs.Fold.{fails_at}
+use Rattle.worlds.specs.Fold.{fails_at}
 
 -- the table that a line makes with its mapping expression, if it keeps low bits, has room for all bits of the types of its leaves
 abbrev pub MakesWide : Sentence → World → Type 0

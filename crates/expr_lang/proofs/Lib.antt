@@ -1,4 +1,4 @@
 pub mod Along
-pub mod Shorts
 pub mod Unknown
 pub mod Within
+mod MostSoFar

@@ -7,8 +7,8 @@ ghost use Rattle.expr_lang.specs.Bounds.{bound_term, bound_leaves, bound_rank};
 use crate::bound::{Bound, Chain, Links, Operand, Step};
 use crate::numbers::{decided, is_true, negated, result_of, truth};
 use crate::{EvalFault, Row};
+use record_dim::Steps;
 use std::sync::ledger::Ledger;
-use steps::Steps;
 
 /// The value of an expression on a row at an index, or its first fault from left to right. It takes no memory. A chain of
 /// operators is walked by a loop, so only right operands that nest take stack.

@@ -1,8 +1,8 @@
 ghost use Rattle.std.specs.Prelude.{◌≡◌, ℕ, ◌<◌, ℤ, pos, List, length};
 ghost use Rattle.std.specs.List.{slice_index_or};
 
+use record_dim::Steps;
 use std::sync::ledger::Ledger;
-use steps::Steps;
 
 /// A row whose leaves are read one at a time. It means a list of numbers, one for each leaf, and a state, which a read may
 /// change: the counts of accesses, say.

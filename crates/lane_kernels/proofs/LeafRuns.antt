@@ -10,7 +10,7 @@ use Rattle.std.proofs.lemmas.Simd.{Each1-chunk, Each1-get_or, Each1-weaker}
 use Rattle.record_dim.specs.declared.leaf_type.LeafType.{LeafType}
 use Rattle.record_dim.specs.declared.leaf_type.LeafType.TheVariants.{U64}
 use Rattle.record_dim.specs.LeafTypes.{width_of, IsDeclared}
-use Rattle.leaf_runs.specs.Lows.{low_64, IsWithin64}
+use Rattle.piece_bits.specs.Lows.{low_64, IsWithin64}
 use Rattle.views.specs.Columns.{in_leaf, column, column_reads, IsNarrowLeaf}
 use Rattle.views.specs.Runs.{raised, run_of, run_steps}
 use Rattle.views.specs.RunsLaws.{declared_within, raised_all}

@@ -9,24 +9,24 @@ use Rattle.std.proofs.lemmas.List.{length-map, map-append, take-map}
 use Rattle.std.proofs.lemmas.List.Sums.{sum_by-append, count_by-le-length}
 use Rattle.std.specs.Simd.Lanes.{Each1}
 use Rattle.std.proofs.lemmas.Simd.{Each1-chunk, Each1-weaker}
-use Rattle.lanes.specs.Plain.{SumsFit}
-use Rattle.lanes.specs.NarrowLaws.{narrow_sum_fits}
-use Rattle.lanes.specs.BlockLaws.{narrow_fits}
+use Rattle.piece_bits.specs.Plain.{SumsFit}
+use Rattle.piece_bits.specs.NarrowLaws.{narrow_sum_fits}
+use Rattle.piece_bits.specs.BlockLaws.{narrow_fits}
 use Rattle.places.specs.Image.{entry}
 use Rattle.record_dim.specs.declared.leaf_type.LeafType.{LeafType}
 use Rattle.record_dim.specs.declared.leaf_type.LeafType.TheVariants.{Bool as Truth, U8, U16, U32, U64, I8, I16, I32, I64}
 use Rattle.record_dim.specs.LeafTypes.{width_of, IsDeclared}
 use Rattle.record_dim.specs.Leaves.{leaves}
 use Rattle.piece_bits.specs.Tables.{hold_at}
-use Rattle.kept_tables.specs.EntryLaws.{stays_declared}
+use Rattle.piece_bits.specs.EntryLaws.{stays_declared}
 use Rattle.views.specs.Tables.{Table, IsTable, leaf_types_of, leaf_type_of, leaf_count_of, table_holds}
 use Rattle.views.specs.Stores.{Keeping}
 use Rattle.lane_kernels.specs.Kernels.{Compare, compares, column, in_leaf, number_of, run_rows, IsNarrow, IsNarrowLeaf}
 use Rattle.lane_kernels.specs.Reductions.{reduced_by, with_more}
 use Rattle.lane_kernels.specs.Runs.{number_so_far, AreNext}
 use Rattle.lane_kernels.specs.declared.reduce.Reduction.{Reduction}
-use Rattle.leaf_runs.specs.Lows.{low_64}
-use Rattle.leaf_runs.specs.LowsLaws.{low_same}
+use Rattle.piece_bits.specs.Lows.{low_64}
+use Rattle.piece_bits.specs.LowsLaws.{low_same}
 use Rattle.lane_kernels.specs.declared.kernel.Kernel.{Kernel}
 use Rattle.lane_kernels.specs.declared.kernel.Kernel.TheVariants.{Axpy, Clamp, Sum, Least, Greatest, CountWhere}
 use Rattle.lane_kernels.proofs.Changed.{rows_stand}
@@ -34,15 +34,9 @@ use Rattle.lane_kernels.proofs.Reductions.{none_before, more_of, plain_more, run
 
 -- a value of at most 32 bits
 declared_narrow : (kind : LeafType) (value : ℤ) → width_of kind ≤ 32 → IsDeclared kind value → IsNarrow value
-declared_narrow Truth value narrow d = (omega (arith, ints, d.0), omega (arith, ints, d.1))
-declared_narrow U8 value narrow d = (omega (arith, ints, d.0), omega (arith, ints, d.1))
-declared_narrow U16 value narrow d = (omega (arith, ints, d.0), omega (arith, ints, d.1))
-declared_narrow U32 value narrow d = (omega (arith, ints, d.0), omega (arith, ints, d.1))
 declared_narrow U64 value narrow d = absurd (omega (arith, narrow))
-declared_narrow I8 value narrow d = (omega (arith, ints, d.0), omega (arith, ints, d.1))
-declared_narrow I16 value narrow d = (omega (arith, ints, d.0), omega (arith, ints, d.1))
-declared_narrow I32 value narrow d = (omega (arith, ints, d.0), omega (arith, ints, d.1))
 declared_narrow I64 value narrow d = absurd (omega (arith, narrow))
+declared_narrow other value narrow d = (omega (arith, ints, d.0), omega (arith, ints, d.1))
 
 each_row : (P : ℤ → Type 0) (f : List ℤ → ℤ) (rows : List (List ℤ)) → ((row : ℕ) → row < length rows → P (f (get_or rows row []))) → Each1 P (map f rows)
 each_row P f [] holds = tt

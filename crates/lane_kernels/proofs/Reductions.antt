@@ -11,10 +11,10 @@ use Rattle.std.proofs.lemmas.List.{map-id, take-take, take_all}
 use Rattle.std.proofs.lemmas.List.Folds.{fold-map}
 use Rattle.std.proofs.lemmas.List.Sums.{fold-append}
 use Rattle.std.proofs.lemmas.Simd.{Each1-chunk}
-use Rattle.lanes.specs.Blocks.{IsNarrow}
-use Rattle.lanes.specs.NarrowLaws.{narrow_sum_fits}
-use Rattle.lanes.specs.Plain.{SumsFit}
-use Rattle.leaf_runs.specs.Lows.{IsWithin64}
+use Rattle.piece_bits.specs.Blocks.{IsNarrow}
+use Rattle.piece_bits.specs.NarrowLaws.{narrow_sum_fits}
+use Rattle.piece_bits.specs.Plain.{SumsFit}
+use Rattle.piece_bits.specs.Lows.{IsWithin64}
 use Rattle.lane_kernels.specs.Reductions.{reduced_by, extreme_with, with_more, CanAdd}
 use Rattle.lane_kernels.specs.declared.reduce.Reduction.{Reduction}
 use Rattle.lane_kernels.specs.declared.reduce.Reduction.TheVariants.{Sum, Least, Greatest}

@@ -40,12 +40,9 @@ no_row [] none = refl
 no_row (row ∷ rows) none = absurd (omega arith)
 
 only_empty : (kernel : Kernel) (fault : KernelFault) → empty_fault kernel [] ≡ Some fault → fault ≡ Empty
-only_empty (Axpy a x y) fault is = absurd (cc)
-only_empty (Clamp x lo hi) fault is = absurd (cc)
-only_empty (Sum x) fault is = absurd (cc)
 only_empty (Least x) fault is = cc
 only_empty (Greatest x) fault is = cc
-only_empty (CountWhere x op c) fault is = absurd (cc)
+only_empty other fault is = absurd (cc)
 
 nothing_done : (old : Table) (kernel : Kernel) (rows : ℕ) → rows ≡ 0 → old ≡ after_stores old (run_rows (kept_of old) kernel rows old.rows) (rows_log kernel rows)
 nothing_done old kernel rows none = rw none (sym (after_log-none old))

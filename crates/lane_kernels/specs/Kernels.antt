@@ -8,10 +8,10 @@ use Rattle.views.specs.Stores.{Answer, Keeping}
 use Rattle.views.specs.declared.fault.StoreFault.TheVariants as store
 use Rattle.views.specs.declared.fault.StoreFault.{StoreFault}
 pub use Rattle.views.specs.Columns.{in_leaf, column, IsNarrowLeaf}
-pub use Rattle.lanes.specs.Blocks.{IsFactor, IsNarrow}
-pub use Rattle.lanes.specs.Plain.{compares}
-pub use Rattle.lanes.specs.declared.compare.Compare.{Compare}
-pub use Rattle.lanes.specs.declared.compare.Compare.TheVariants.{Eq, Ne, Lt, Le, Gt, Ge}
+pub use Rattle.piece_bits.specs.Blocks.{IsFactor, IsNarrow}
+pub use Rattle.piece_bits.specs.Plain.{compares}
+pub use Rattle.piece_bits.specs.declared.compare.Compare.{Compare}
+pub use Rattle.piece_bits.specs.declared.compare.Compare.TheVariants.{Eq, Ne, Lt, Le, Gt, Ge}
 use Rattle.lane_kernels.specs.Logs.{rows_log, fault_log}
 pub use Rattle.lane_kernels.specs.Reductions.{reduced_by}
 use Rattle.lane_kernels.specs.declared.fault.KernelFault.{KernelFault}

@@ -1,7 +1,7 @@
 ghost use Rattle.lane_kernels.specs.Runs.{IsOfNoRow};
 
 use crate::fault::KernelFault;
-use lanes::Compare;
+use piece_bits::Compare;
 
 /// What is done with each row of a view. `x` and `y` are numbers of leaves, whose types have at most 32 bits.
 #[derive(Clone, Copy)]

@@ -10,6 +10,6 @@ mod rows;
 
 pub use fault::KernelFault;
 pub use kernel::Kernel;
-pub use lanes::Compare;
+pub use piece_bits::Compare;
 pub use plain::{run_lanes, run_plain};
 pub use reduce::{Reduction, reduce_leaf};

@@ -5,8 +5,8 @@ use crate::blocks::{RUN, step_at};
 use crate::fault::KernelFault;
 use crate::kernel::Kernel;
 use crate::rows::on_rows;
+use record_dim::Steps;
 use std::sync::ledger::Ledger;
-use steps::Steps;
 use views::View;
 
 /// Runs a kernel in blocks of 1 to 16 rows, and the rest row by row. Each value is stored as the view keeps it. `Range` and `Narrow` come

@@ -11,11 +11,10 @@ ghost use Rattle.lane_kernels.specs.Kernels.{IsNarrow};
 ghost use Rattle.lane_kernels.specs.Reductions.{reduced_by, with_more, CanAdd};
 
 use crate::blocks::RUN;
-use lanes::{greatest, least, sum};
 use num_traits::PrimInt;
-use record_dim::LeafType;
+use piece_bits::{greatest, least, sum};
+use record_dim::{LeafType, Steps};
 use std::sync::ledger::Ledger;
-use steps::Steps;
 use views::{View, raised};
 
 /// What is asked of some numbers.

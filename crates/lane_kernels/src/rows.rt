@@ -11,9 +11,9 @@ ghost use Rattle.lane_kernels.specs.Runs.{fault_in, named_row, number_so_far, Ar
 use crate::fault::KernelFault;
 use crate::kernel::Kernel;
 use crate::reduce::Reduction;
-use lanes::{clamp, count, times_plus};
+use piece_bits::{clamp, count, times_plus};
+use record_dim::Steps;
 use std::sync::ledger::Ledger;
-use steps::Steps;
 use views::{LaneFault, View};
 
 /// Does a kernel in as many rows as the buffers hold, from this one on, up to the first that does not take its value. It gives the number of

@@ -6,12 +6,11 @@ ghost use Rattle.schema_lang.specs.Parsing.{IsWhole};
 use crate::forms::{fault_answer, no_form};
 use crate::row::LoggedRow;
 use expr_lang::{BindFault, Bound, EvalFault, Expr, bind, eval};
-use record_dim::{MakeSchema, PathStep, Schema};
+use record_dim::{MakeSchema, PathStep, Schema, Steps};
 use schema_lang::{Line, LineFault, MAX_LINE_BYTES, Version, parse_line};
 use std::alloc::{AllocError as NoMemory, Global};
 use std::marker::Brand;
 use std::sync::ledger::{Blank, Ledger};
-use steps::Steps;
 
 // What an expression is asked at.
 #[derive(Drop)]

@@ -2,8 +2,8 @@
 ghost use Rattle.std.specs.Prelude.{◌≡◌};
 
 use expr_lang::Row;
+use record_dim::Steps;
 use std::sync::ledger::Ledger;
-use steps::Steps;
 
 const LOG_LIMIT: u64 = 1_000_000_000_000;
 

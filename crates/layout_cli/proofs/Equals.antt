@@ -10,7 +10,7 @@ use Rattle.worlds.specs.Worlds.{World, empty}
 use Rattle.worlds.specs.Outcomes.{Outcome, Faults, Left}
 use Rattle.worlds.specs.Step.{step}
 use Rattle.worlds.specs.declared.fault.CommandFault.TheVariants.{LineTooLong, TooDeep, ScriptTooLong}
-use Rattle.script_runs.specs.Fold.{run_from, fails_at}
+use Rattle.worlds.specs.Fold.{run_from, fails_at}
 use Rattle.equal_runs.specs.EqualRuns.{DoesLines, EqualRuns}
 use Rattle.session_runs.specs.Steps.{step_text, step_line}
 use Rattle.session_runs.specs.Scripts.{run_form, run_headed, run_versioned, faulted, script_lines, version_line, version_said, without_version}

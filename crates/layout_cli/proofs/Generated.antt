@@ -9,11 +9,11 @@ use Rattle.schema_lang.specs.LineOf.{line_of}
 use Rattle.worlds.specs.Worlds.{World, empty}
 use Rattle.worlds.specs.Outcomes.{Outcome, Goes, Faults, CannotRead, Left}
 use Rattle.worlds.specs.declared.fault.CommandFault.TheVariants.{LineTooLong, TooDeep, ScriptTooLong}
-use Rattle.script_runs.specs.Outcome.{Output, End, Unread, Gives, IsText}
-use Rattle.script_runs.specs.Fold.{run_from, after}
-use Rattle.script_runs.specs.Answers.{Answers, IsRun, HasCause, HasSinkCause}
-use Rattle.script_runs.specs.declared.status.Status.{Status}
-use Rattle.script_runs.specs.declared.status.Status.TheVariants.{Done, CommandFault, Usage, SourceFault, SinkFault, NoMemory}
+use Rattle.worlds.specs.Outcome.{Output, End, Unread, Gives, IsText}
+use Rattle.worlds.specs.Fold.{run_from, after}
+use Rattle.worlds.specs.RunAnswers.{Answers, IsRun, HasCause, HasSinkCause}
+use Rattle.worlds.specs.declared.status.Status.{Status}
+use Rattle.worlds.specs.declared.status.Status.TheVariants.{Done, CommandFault, Usage, SourceFault, SinkFault, NoMemory}
 use Rattle.generator.specs.Generated.{script_text, dataset_text, generated_lines, generated_files}
 use Rattle.line_grammar.specs.declared.version.Version.TheVariants.{One}
 use Rattle.session_runs.specs.Steps.{step_text, step_line}
@@ -85,13 +85,11 @@ text_same first whole failed other text same none is =
     ⊎_elim (λ (plain : (first None).bytes ≡ text). inl (ap (λ (o : Output). o.bytes) same ∙ plain)) (λ (read : failed × (line : ℕ) × Gives (first (Some line)) text (Unread line)). absurd (none read.0)) is
 
 generated_answer : (rows : ℕ) (status : Status) (out : List ℕ) → rows ≤ 65536 → Answers (run_form (script_text rows) (generated_files (dataset_text rows))) (Rose 0 0) status out → Answers (λ unread. run_generated rows) ⊥ status out
-generated_answer rows Done out few answer = answer
-generated_answer rows CommandFault out few answer = answer
-generated_answer rows Usage out few answer = answer
 generated_answer rows SourceFault out few answer =
     absurd (⊎_elim unrisen (λ (plain : Gives (run_generated rows) out (Unread answer.0)). generated_reads rows few (unread_end (run_generated rows) out answer.0 plain)) answer.2)
 generated_answer rows SinkFault out few answer = (answer.0, text_same (run_form (script_text rows) (generated_files (dataset_text rows))) (λ unread. run_generated rows) (Rose 0 0) ⊥ answer.0 refl unrisen answer.1, answer.2, answer.3, answer.4)
 generated_answer rows NoMemory out few answer = (answer.0, text_same (run_form (script_text rows) (generated_files (dataset_text rows))) (λ unread. run_generated rows) (Rose 0 0) ⊥ answer.0 refl unrisen answer.1, answer.2, answer.3, answer.4)
+generated_answer rows other out few answer = answer
 
 -- the run over a shelf of the dataset is that of `gen N`
 pub generated_run : {K : Type 0} (taken : K → Option (List ℕ)) (old new : K) (rows : ℕ) (status : Status) → rows ≤ 65536 → IsRun taken old new (run_form (script_text rows) (generated_files (dataset_text rows))) (Rose 0 0) status → IsRun taken old new (λ unread. run_generated rows) ⊥ status
@@ -99,12 +97,9 @@ generated_run taken old new rows status few is = record { out = is.out; bytes = 
 
 -- and its status is that of a run that reads nothing
 pub generated_cause : (rows : ℕ) (files : Option (List File)) (sink_old sink_new : ℕ) (status : Status) (out : List ℕ) → rows ≤ 65536 → Answers (λ unread. run_generated rows) ⊥ status out → HasCause ⊥ files 0 0 sink_old sink_new status → HasSinkCause sink_old sink_new status
-generated_cause rows files sink_old sink_new Done out few answer cause = cause.1
-generated_cause rows files sink_old sink_new CommandFault out few answer cause = cause.1
 generated_cause rows files sink_old sink_new Usage out few answer cause = absurd cause.0
 generated_cause rows files sink_old sink_new SourceFault out few answer cause = absurd (generated_reads rows few (unread_end (run_generated rows) out answer.0 answer.1))
-generated_cause rows files sink_old sink_new SinkFault out few answer cause = cause.1
-generated_cause rows files sink_old sink_new NoMemory out few answer cause = cause.1
+generated_cause rows files sink_old sink_new other out few answer cause = cause.1
 
 -- the run of words of the form `run FILE`
 pub file_run : {K : Type 0} (taken : K → Option (List ℕ)) (old new : K) (words : List (List ℕ)) (name : List ℕ) (files : List File) (read_failed : Type 0) (status : Status) → script_name words ≡ Some name → IsRun taken old new (run_file name files) read_failed status → IsRun taken old new (run words files) read_failed status

@@ -11,7 +11,7 @@ use Rattle.record_dim.specs.Trees.{Tree, Fields}
 use Rattle.map_expr.specs.Terms.{Term as MapTerm, Aos, Soa, Aosoa, BitAos, BitSoa, Split, Byteswap, Bytesplit, Change, Count, Heat, Named as NamedTerm}
 use Rattle.line_grammar.specs.Sentences as line
 use Rattle.line_grammar.specs.Sentences.{New, file_of as file_in}
-use Rattle.kept_tables.specs.declared.mode.StoreMode.{StoreMode}
+use Rattle.piece_bits.specs.declared.mode.StoreMode.{StoreMode}
 use Rattle.views.specs.Tables.{Table, owners_of}
 use Rattle.worlds.specs.Worlds.{World, Entry, found}
 use Rattle.worlds.specs.declared.fault.CommandFault.{CommandFault}
@@ -114,11 +114,7 @@ nameless_reads mappings (Change from to inner) = next (nameless_reads mappings i
 nameless_reads mappings (Count inner) = next (nameless_reads mappings inner) (λ a. goes _)
 nameless_reads mappings (Heat granule inner) = next (nameless_reads mappings inner) (λ a. goes _)
 nameless_reads mappings (NamedTerm name) = known_reads name mappings
-nameless_reads mappings (Aos form order) = goes _
-nameless_reads mappings (Soa form order) = goes _
-nameless_reads mappings (Aosoa lanes order) = goes _
-nameless_reads mappings (BitAos width fields order) = goes _
-nameless_reads mappings (BitSoa width fields order) = goes _
+nameless_reads mappings other = goes _
 
 fit_reads : (tree : Tree) → IsReadable (fit tree)
 fit_reads tree = next (caused _ _) (λ good. goes _)

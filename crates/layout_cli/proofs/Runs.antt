@@ -7,11 +7,11 @@ use Rattle.layout_io.specs.WritingLaws.{with_bytes-nil}
 use Rattle.worlds.specs.Worlds.{World, empty}
 use Rattle.worlds.specs.Outcomes.{Outcome, Goes, Faults, CannotRead, Left}
 use Rattle.worlds.specs.declared.fault.CommandFault.TheVariants.{ScriptTooLong}
-use Rattle.script_runs.specs.Outcome.{Output, End, Unread, Gives}
-use Rattle.script_runs.specs.Answers.{IsRun, HasCause}
-use Rattle.script_runs.specs.Fold.{run_from, after, fails_at}
-use Rattle.script_runs.specs.declared.status.Status.{Status}
-use Rattle.script_runs.specs.declared.status.Status.TheVariants.{Done, CommandFault, Usage, SourceFault, SinkFault, NoMemory}
+use Rattle.worlds.specs.Outcome.{Output, End, Unread, Gives}
+use Rattle.worlds.specs.RunAnswers.{IsRun, HasCause}
+use Rattle.worlds.specs.Fold.{run_from, after, fails_at}
+use Rattle.worlds.specs.declared.status.Status.{Status}
+use Rattle.worlds.specs.declared.status.Status.TheVariants.{Done, CommandFault, Usage, SourceFault, SinkFault, NoMemory}
 use Rattle.line_grammar.specs.declared.version.Version.{Version}
 use Rattle.session_runs.specs.Steps.{step_text}
 use Rattle.session_runs.specs.Scripts.{run_form, run_headed, run_versioned, faulted, script_lines, version_line, version_said, without_version}
@@ -80,9 +80,5 @@ run_read taken old new files name script read_failed status is small run =
 -- what words of a form say of the counts
 pub cause_of_form : (misused : Type 0) (files : Option (List File)) (shelf_old shelf_new sink_old sink_new : ℕ) (status : Status) →
     HasCause ⊥ files shelf_old shelf_new sink_old sink_new status → HasCause misused files shelf_old shelf_new sink_old sink_new status
-cause_of_form misused files shelf_old shelf_new sink_old sink_new Done cause = cause
-cause_of_form misused files shelf_old shelf_new sink_old sink_new CommandFault cause = cause
 cause_of_form misused files shelf_old shelf_new sink_old sink_new Usage cause = absurd cause.0
-cause_of_form misused files shelf_old shelf_new sink_old sink_new SourceFault cause = cause
-cause_of_form misused files shelf_old shelf_new sink_old sink_new SinkFault cause = cause
-cause_of_form misused files shelf_old shelf_new sink_old sink_new NoMemory cause = cause
+cause_of_form misused files shelf_old shelf_new sink_old sink_new other cause = cause

@@ -3,7 +3,7 @@ use Rattle.std.specs.Prelude.{ℕ, ◌≡◌, ◌≤◌, ◌^◌, false, List, l
 use Rattle.layout_io.specs.Files.{File, file_of}
 use Rattle.line_grammar.specs.Sentences.{Sentence}
 use Rattle.line_grammar.specs.declared.version.Version.{Version}
-use Rattle.script_runs.specs.Fold.{fails_at}
+use Rattle.worlds.specs.Fold.{fails_at}
 use Rattle.equal_runs.specs.Lines.{AreLines}
 use Rattle.equal_runs.specs.EqualRuns.{DifferInTerms}
 use Rattle.session_runs.specs.Scripts.{script_lines, version_line, version_said, without_version}

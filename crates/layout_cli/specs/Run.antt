@@ -5,8 +5,8 @@ use Rattle.generator.specs.Generated.{script_text, dataset_text, generated_files
 use Rattle.generator.specs.Numbers.{number_of}
 use Rattle.worlds.specs.FaultTexts.{unread_text}
 use Rattle.worlds.specs.declared.fault.CommandFault.TheVariants.{ScriptTooLong}
-use Rattle.script_runs.specs.Outcome.{Output, Misused, Unread}
-use Rattle.script_runs.specs.Fold.{fails_at}
+use Rattle.worlds.specs.Outcome.{Output, Misused, Unread}
+use Rattle.worlds.specs.Fold.{fails_at}
 use Rattle.session_runs.specs.Scripts.{faulted, run_form}
 
 abbrev pub usage_text : List ℕ

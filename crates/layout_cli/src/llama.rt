@@ -2,16 +2,14 @@ ghost use Rattle.std.specs.Prelude.{◌≡◌, ◌≢◌, ◌≤◌, ◌⊎◌, 
 ghost use Rattle.layout_io.specs.Faults.{Rose};
 ghost use Rattle.layout_io.specs.Files.{File};
 ghost use Rattle.layout_io.specs.Writing.{Writes};
-ghost use Rattle.script_runs.specs.Answers.{IsRun, HasCause, HasSinkCause};
+ghost use Rattle.worlds.specs.RunAnswers.{IsRun, HasCause, HasSinkCause};
 ghost use Rattle.layout_cli.specs.Run.{run, run_file, run_generated, script_name, gen_words, IsMisuse, usage_text};
 
-use fault_lines::{write_fault, write_unread};
 use generator::{GeneratedShelf, gen_dataset, gen_number, gen_script};
 use layout_io::{Failed, ReadEnd, Shelf, Sink, read_all, write_all};
-use script_runs::{Status, ended};
 use session_runs::run_form;
 use std::alloc::Global;
-use worlds::CommandFault;
+use worlds::{CommandFault, Status, ended, write_fault, write_unread};
 
 // The most bytes of a script, its byte order mark among them.
 const SCRIPT_BYTES: usize = 1 << 20;

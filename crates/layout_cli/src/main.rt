@@ -6,10 +6,10 @@ mod laws;
 mod llama;
 
 use layout_io::{FileShelf, OutSink};
-use script_runs::Status;
 use std::alloc::AllocError as NoMemory;
 use std::process::ExitCode;
 use std::{env, io};
+use worlds::Status;
 
 // The words behind the program's name. Words that are no text are given as no words, which are no form either.
 fn words_of(rt: &HostRuntime) -> Result<Vec<String>, NoMemory> {

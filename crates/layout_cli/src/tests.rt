@@ -4,9 +4,9 @@ ghost use Rattle.std.specs.Prelude.{◌<◌};
 
 use crate::llama::llama;
 use layout_io::{MemoryShelf, MemorySink};
-use script_runs::Status;
 use std::alloc::{AllocError as NoMemory, Global};
 use std::test::Fail;
+use worlds::Status;
 
 // A run: its words, the script `s` and the file `d.csv` on its shelf, how it ends and what it writes.
 #[derive(Clone, Copy)]

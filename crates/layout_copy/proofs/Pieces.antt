@@ -11,7 +11,7 @@ use Rattle.places.specs.Image.{entry}
 use Rattle.piece_bits.specs.TableLaws.{tables_same}
 use Rattle.piece_bits.specs.Tables.{HasShape}
 use Rattle.map_expr.specs.Terms.{Term}
-use Rattle.map_plans.specs.Arrays.{array_of, lanes_in}
+use Rattle.map_checks.specs.Arrays.{array_of, lanes_in}
 use Rattle.map_any.specs.ArraySlots.{slots_in}
 use Rattle.map_any.specs.Strategies.{AreRuns}
 use Rattle.map_any.specs.declared.arrays.ArraySlots.{ArraySlots}

@@ -10,11 +10,11 @@ use Rattle.places.specs.declared.piece.Hold.{Hold}
 use Rattle.piece_bits.specs.Tables.{HasShape, hold_at}
 use Rattle.map_expr.specs.Terms.{Term, uncounted}
 use Rattle.map_checks.specs.Mappings.{leaf_cells, holds_by}
-use Rattle.map_plans.specs.Arrays.{array_of}
+use Rattle.map_checks.specs.Arrays.{array_of}
 use Rattle.map_any.specs.Strategies.{AreRuns}
 use Rattle.map_any.specs.declared.strategy.Strategy.{Strategy}
 use Rattle.map_any.specs.declared.strategy.Strategy.TheVariants as way
-use Rattle.kept_tables.specs.EntryLaws.{fitting_stays, stays_declared}
+use Rattle.piece_bits.specs.EntryLaws.{fitting_stays, stays_declared}
 use Rattle.views.specs.MovesLaws.{with_rows, stays_moves, may_move, runs_full}
 use Rattle.views.specs.Runs.{CountsNothing}
 use Rattle.views.specs.Stores.{AllStay}

@@ -9,7 +9,7 @@ use Rattle.record_dim.specs.Trees.{Fields}
 use Rattle.blobs.specs.Moves.{blocks}
 use Rattle.map_expr.specs.Terms.{Term}
 use Rattle.map_checks.specs.Mappings.{layout_by}
-use Rattle.map_plans.specs.Arrays.{array_of, lanes_in}
+use Rattle.map_checks.specs.Arrays.{array_of, lanes_in}
 use Rattle.map_any.specs.Strategies.{IsStrategy}
 use Rattle.map_any.specs.declared.strategy.Strategy.{Strategy}
 use Rattle.map_any.specs.declared.strategy.Strategy.TheVariants as way

@@ -5,7 +5,7 @@ use Rattle.extents.specs.declared.order.Order.{Order}
 use Rattle.extents.specs.declared.order.Order.TheVariants.{Row}
 use Rattle.places.specs.Image.{entry}
 use Rattle.map_expr.specs.Terms.{Term}
-use Rattle.map_plans.specs.Arrays.{array_of}
+use Rattle.map_checks.specs.Arrays.{array_of}
 use Rattle.views.specs.Moves.{IsInRun}
 
 -- the order of the slots of a mapping that lays out arrays; of another one nothing is said

@@ -10,8 +10,8 @@ use crate::fieldwise::copy_fields;
 use crate::runs::copy_runs;
 use crate::ways::way_of;
 use map_any::Strategy;
+use record_dim::Steps;
 use std::sync::ledger::Ledger;
-use steps::Steps;
 use views::{View, laws_of_table};
 
 /// Makes the table of a view that of another, of each value what the target keeps. `Mismatch` comes exactly where they have other schemas or

@@ -7,8 +7,8 @@ ghost use Rattle.layout_copy.specs.Copies.{AreAlike, IsCopied, refusing, source_
 
 use crate::fault::CopyFault;
 use crate::row_runs::{copy_row_runs, may_go_by_runs};
+use record_dim::Steps;
 use std::sync::ledger::Ledger;
-use steps::Steps;
 use views::{View, laws_of_table};
 
 // A copy of a table to a view that is alike: by runs of rows where none is refused and no side counts, and else row by row. `Narrow` comes

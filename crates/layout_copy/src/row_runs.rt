@@ -5,8 +5,8 @@ ghost use Rattle.views.specs.Tables.{leaf_count_of};
 ghost use Rattle.layout_copy.specs.Copies.{AreAlike};
 ghost use Rattle.layout_copy.specs.RowRuns.{AllTake};
 
+use record_dim::Steps;
 use std::sync::ledger::Ledger;
-use steps::Steps;
 use views::{View, laws_of_table};
 
 // The most rows that are copied leaf after leaf: their values lie on the stack.

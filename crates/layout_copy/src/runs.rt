@@ -1,6 +1,6 @@
 // A copy that goes by runs of slots, between views that lay out arrays whose slots are in one order.
 ghost use Rattle.std.specs.Prelude.{◌≡◌, ◌+◌, ◌%◌, ◌<◌, ◌≤◌, Some, min, length, option_map};
-ghost use Rattle.map_plans.specs.Arrays.{array_of};
+ghost use Rattle.map_checks.specs.Arrays.{array_of};
 ghost use Rattle.map_any.specs.ArraySlots.{slots_in};
 ghost use Rattle.map_any.specs.Strategies.{AreRuns};
 ghost use Rattle.views.specs.Pieces.{HasSlots};
@@ -10,8 +10,8 @@ ghost use Rattle.layout_copy.specs.Costs.{leaf_sizes, round_steps, run_steps};
 ghost use Rattle.layout_copy.specs.Runs.{order_by, IsPieceMoved};
 
 use map_any::ArraySlots;
+use record_dim::Steps;
 use std::sync::ledger::Ledger;
-use steps::Steps;
 use views::{View, laws_of_table};
 
 // The blocks of the shorter ones of two sides that are copied leaf after leaf: few enough that both sides' bytes stay at hand, and so many

@@ -2,14 +2,13 @@
 ghost use Rattle.std.specs.Prelude.{◌≡◌, [], ◌∷◌, IfOk};
 
 use crate::mapped::cells_of;
-use lists::Sequence;
 use map_aos::Aos;
 use map_bits::BitAos;
 use map_bytes::{Bytesplit, Byteswap, Change};
 use map_soa::Soa;
 use map_split::Split;
 use places::{AosForm, Cell, CellList, Hold, Mapping, NewMapping, Piece, SoaForm, pieces_of};
-use record_dim::LeafType;
+use record_dim::{LeafType, Sequence};
 use std::alloc::{AllocError as NoMemory, Global};
 use std::test::Fail;
 

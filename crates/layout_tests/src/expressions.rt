@@ -3,12 +3,11 @@ ghost use Rattle.std.specs.Prelude.{◌≡◌, ◌<◌, length};
 ghost use Rattle.expr_lang.specs.Bounds.{bound_leaves, bound_rank};
 
 use expr_lang::{BinOp, Bound, EvalFault, Expr, Row, bind, eval};
-use record_dim::{Dim, Field, FieldList, LeafType, Name, Path, Schema};
+use record_dim::{Dim, Field, FieldList, LeafType, Name, Path, Schema, Steps};
 use std::alloc::{AllocError as NoMemory, Global};
 use std::marker::Brand;
 use std::sync::ledger::{Blank, Ledger};
 use std::test::Fail;
-use steps::Steps;
 
 // A row of one number that counts its reads.
 #[derive(Drop)]

@@ -1,10 +1,9 @@
 // What is asked of mappings: whether their cells lie in places that are listed, and whether they lie as a plain program lays them out.
-use lists::Sequence;
 use places::{
     Cell, CellList, Hold, Mapping, Piece, pieces_of, writes_keep_others, writes_read_back,
 };
 use plain_layouts::{PlainBlob, PlainOwner};
-use record_dim::LeafType;
+use record_dim::{LeafType, Sequence};
 use std::alloc::{AllocError as NoMemory, Global};
 
 /// The cells of a record whose padding differs in every form.

@@ -2,10 +2,10 @@
 ghost use Rattle.std.specs.Prelude.{◌≡◌, IfSome};
 ghost use Rattle.plain_layouts.specs.Plain.{HasLanes};
 
-use lists::Sequence;
 use plain_layouts::{
     LayoutForm, PlainBlob, PlainOwner, PlainTable, plain_bytes, plain_image, plain_layout,
 };
+use record_dim::Sequence;
 use std::alloc::{AllocError as NoMemory, Global};
 use std::fmt::Write;
 use std::test::Fail;

@@ -1,4 +1,4 @@
-use lists::Sequence;
+use record_dim::Sequence;
 use std::test::Fail;
 
 #[test]

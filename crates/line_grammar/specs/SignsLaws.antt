@@ -29,17 +29,11 @@ sign_self sign = (bytes_eq-Decides (spelling sign) (spelling sign)).1 refl
 
 pub sign_only : (sign : Sign) (token : Token) → is_sign sign token ≡ true → token ≡ Signed sign
 sign_only sign (Signed other) h = ap Signed (spelled_once other sign ((bytes_eq-Decides (spelling other) (spelling sign)).0 h))
-sign_only sign (Word text) h = absurd cc
-sign_only sign (Number value) h = absurd cc
-sign_only sign (Text text) h = absurd cc
-sign_only sign Bad h = absurd cc
+sign_only sign rest h = absurd cc
 
 pub word_self : (text : List ℕ) → is_word text (Word text) ≡ true
 word_self text = (bytes_eq-Decides text text).1 refl
 
 pub word_only : (text : List ℕ) (token : Token) → is_word text token ≡ true → token ≡ Word text
 word_only text (Word other) h = ap Word ((bytes_eq-Decides other text).0 h)
-word_only text (Signed sign) h = absurd cc
-word_only text (Number value) h = absurd cc
-word_only text (Text other) h = absurd cc
-word_only text Bad h = absurd cc
+word_only text rest h = absurd cc

@@ -4,9 +4,8 @@ ghost use Rattle.line_grammar.specs.Sentences.{Show, file_of, sentence_of, show_
 use crate::FileName;
 use expr_lang::{BinOp, Expr};
 use extents::{ExtentWord, Span};
-use lists::Sequence;
 use map_expr::{MapExpr, MapExprList};
-use record_dim::{Dim, Name, Path};
+use record_dim::{Dim, Name, Path, Sequence};
 
 /// The extents of a view, in order.
 pub type ExtentWords = Sequence<ExtentWord>;

@@ -284,38 +284,23 @@ name_free word x false is e = is
 
 name_no_number : (token : Token) (x : List ℕ) → name_of token ≡ Some x → means number_of token ≡ false
 name_no_number (Word word) x e = refl
-name_no_number (Number value) x e = absurd cc
-name_no_number (Text text) x e = absurd cc
-name_no_number (Signed sign) x e = absurd cc
-name_no_number Bad x e = absurd cc
+name_no_number other x e = absurd cc
 
 name_no_index : (token : Token) (x : List ℕ) → name_of token ≡ Some x → means index_of token ≡ false
 name_no_index (Word word) x e = ap is_some (unlisted index_word dimensions word (refl, (refl, (refl, (refl, tt)))) (name_free word x (list_any (bytes_eq word) reserved) refl e))
-name_no_index (Number value) x e = refl
-name_no_index (Text text) x e = refl
-name_no_index (Signed sign) x e = refl
-name_no_index Bad x e = refl
+name_no_index other x e = refl
 
 name_no_choice : (token : Token) (x : List ℕ) → name_of token ≡ Some x → means choice_of token ≡ false
 name_no_choice (Word word) x e = ap is_some (unlisted choice_word (Min ∷ Max ∷ []) word (refl, (refl, tt)) (name_free word x (list_any (bytes_eq word) reserved) refl e))
-name_no_choice (Number value) x e = refl
-name_no_choice (Text text) x e = refl
-name_no_choice (Signed sign) x e = refl
-name_no_choice Bad x e = refl
+name_no_choice other x e = refl
 
 index_no_number : (token : Token) (d : ℕ) → index_of token ≡ Some d → means number_of token ≡ false
 index_no_number (Word word) d e = refl
-index_no_number (Number value) d e = absurd cc
-index_no_number (Text text) d e = absurd cc
-index_no_number (Signed sign) d e = absurd cc
-index_no_number Bad d e = absurd cc
+index_no_number other d e = absurd cc
 
 number_no_choice : (token : Token) (n : _) → number_of token ≡ Some n → means choice_of token ≡ false
 number_no_choice (Number value) n e = refl
-number_no_choice (Word word) n e = absurd cc
-number_no_choice (Text text) n e = absurd cc
-number_no_choice (Signed sign) n e = absurd cc
-number_no_choice Bad n e = absurd cc
+number_no_choice other n e = absurd cc
 
 two_words : (word : List ℕ) (d : ℕ) → listed index_word dimensions word ≡ Some d → listed choice_word (Min ∷ Max ∷ []) word ≡ None
 two_words word d e = elim (truth_cases (bytes_eq word (codes "min"))) [
@@ -328,10 +313,7 @@ two_words word d e = elim (truth_cases (bytes_eq word (codes "min"))) [
 
 index_no_choice : (token : Token) (d : ℕ) → index_of token ≡ Some d → means choice_of token ≡ false
 index_no_choice (Word word) d e = ap is_some (two_words word d e)
-index_no_choice (Number value) d e = absurd cc
-index_no_choice (Text text) d e = absurd cc
-index_no_choice (Signed sign) d e = absurd cc
-index_no_choice Bad d e = absurd cc
+index_no_choice other d e = absurd cc
 
 -- what leaves begin with
 leaf_starts : (test : Token → Bool) (b : Bool) → ((token : Token) (n : _) → number_of token ≡ Some n → test token ≡ b) → ((token : Token) (d : ℕ) → index_of token ≡ Some d → test token ≡ b) →

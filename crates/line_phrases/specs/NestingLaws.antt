@@ -92,17 +92,13 @@ fields_alike n m le = alike_below (suc n) n (omega arith) (braced_alike n (field
 -- mappings
 
 form_wider : (version : Version) {Is IsAlso : List Token → MapTerm → Type 0} → Wider Is IsAlso → (form : MapWord) → Wider (IsForm version Is form) (IsForm version IsAlso form)
-form_wider version one form.Aos = same_wider _
-form_wider version one form.Soa = same_wider _
-form_wider version one form.Aosoa = same_wider _
-form_wider version one form.BitAos = same_wider _
-form_wider version one form.BitSoa = same_wider _
 form_wider version one form.Split = joined_wider (same_wider _) (λ path. behind_wider _ (joined_wider one (λ first. behind_wider _ (joined_wider one (λ rest. same_wider _)))))
 form_wider version one form.Byteswap = joined_wider one (λ inner. same_wider _)
 form_wider version one form.Bytesplit = joined_wider one (λ inner. same_wider _)
 form_wider version one form.Change = joined_wider (same_wider _) (λ from. behind_wider _ (joined_wider (same_wider _) (λ to. behind_wider _ (joined_wider one (λ inner. same_wider _)))))
 form_wider version one form.Count = joined_wider one (λ inner. same_wider _)
 form_wider version one form.Heat = joined_wider (same_wider _) (λ granule. behind_wider _ (joined_wider one (λ inner. same_wider _)))
+form_wider version one other = same_wider _
 
 form_or_name_wider : (version : Version) {Is IsAlso : List Token → MapTerm → Type 0} → Wider Is IsAlso → (word : List ℕ) (form : Option MapWord)
     → Wider (IsFormOrName version Is word form) (IsFormOrName version IsAlso word form)
@@ -123,11 +119,6 @@ form_alike : (version : Version) (n : ℕ) {Is : List Token → MapTerm → Type
     → Parses Is read (Not OpenParen) → Alike n read other → (form : MapWord)
     → Alike n (form_at version read form) (form_at version other form)
 unfolding form_at
-form_alike version n p one form.Aos = same_alike n _
-form_alike version n p one form.Soa = same_alike n _
-form_alike version n p one form.Aosoa = same_alike n _
-form_alike version n p one form.BitAos = same_alike n _
-form_alike version n p one form.BitSoa = same_alike n _
 form_alike version n p one form.Split = then_alike n (no_longer path_parses) (same_alike n _)
     (λ path. behind_kept n _ (then_alike n (no_longer p) one (λ first. behind_kept n _ (then_alike n (no_longer p) one (λ rest. same_alike n _)))))
 form_alike version n p one form.Byteswap = then_alike n (no_longer p) one (λ inner. same_alike n _)
@@ -136,6 +127,7 @@ form_alike version n p one form.Change = then_alike n (no_longer type_parses) (s
     (λ from. behind_kept n _ (then_alike n (no_longer integer_type_parses) (same_alike n _) (λ to. behind_kept n _ (then_alike n (no_longer p) one (λ inner. same_alike n _)))))
 form_alike version n p one form.Count = then_alike n (no_longer p) one (λ inner. same_alike n _)
 form_alike version n p one form.Heat = then_alike n (no_longer count_parses) (same_alike n _) (λ granule. behind_kept n _ (then_alike n (no_longer p) one (λ inner. same_alike n _)))
+form_alike version n p one other = same_alike n _
 
 form_or_name_alike : (version : Version) (n : ℕ) {Is : List Token → MapTerm → Type 0} {read other : List Token → Result (MapTerm × List Token) ℕ} → Parses Is read (Not OpenParen) → Alike n read other
     → (word : List ℕ) (form : Option MapWord) →

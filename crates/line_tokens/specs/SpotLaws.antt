@@ -19,18 +19,14 @@ spot_at from end kind = record { from = from; end = end; kind = kind }
 
 -- no token opens a 65th bracket
 after_few : (kind : TokenKind) (brackets : ℕ) → HasRoom kind brackets → brackets ≤ 64 → brackets_after kind brackets ≤ 64
-after_few Word brackets room few = few
-after_few (Number value) brackets room few = few
-after_few Text brackets room few = few
 after_few (SignKind sign) brackets room few = cond_both (opens sign) (brackets + 1) (if closes sign then brackets - 1 else brackets) (λ n. n ≤ 64)
     (λ opened. let less = room opened in omega arith)
     (λ _. cond_both (closes sign) (brackets - 1) brackets (λ n. n ≤ 64) (λ _. omega arith) (λ _. few))
+after_few other brackets room few = few
 
 pub token_room : (kind : TokenKind) (n : ℕ) (rest : List ℕ) (brackets : ℕ) → IsToken kind n rest brackets → HasRoom kind brackets
-token_room Word n rest brackets h = tt
-token_room (Number value) n rest brackets h = tt
-token_room Text n rest brackets h = tt
 token_room (SignKind sign) n rest brackets h = h.1
+token_room other n rest brackets h = tt
 
 pub brackets_after-le : (text : List ℕ) (at brackets from end : ℕ) (kind : TokenKind) → next_of text at brackets ≡ Token from end kind → brackets ≤ 64 → brackets_after kind brackets ≤ 64
 brackets_after-le text at brackets from end kind e few =

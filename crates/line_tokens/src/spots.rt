@@ -4,7 +4,7 @@ ghost use Rattle.std.specs.Prelude.{◌≡◌, ◌≤◌, length, All, IfOk, Lis
 ghost use Rattle.line_tokens.specs.Spots.{brackets_after, Spots};
 
 use crate::token::{Next, TokenKind, next_token};
-use lists::Sequence;
+use record_dim::Sequence;
 use std::alloc::{AllocError as NoMemory, Global};
 
 /// A token with its place in the line: the bytes from `from` up to, and without, `end`.

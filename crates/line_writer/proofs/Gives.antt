@@ -40,10 +40,7 @@ nothing_gives {Q = Q} value q = record { at = λ xs v h clean. (rw h.0 tt, rw (h
 
 clean_spelled : {A : Type 0} (value : Token → Option A) (token : Token) (v : A) → value Bad ≡ None → value token ≡ Some v → IsClean token → IsSpelled token
 clean_spelled value Bad v none some clean = absurd cc
-clean_spelled value (Word text) v none some clean = clean
-clean_spelled value (Number number) v none some clean = clean
-clean_spelled value (Text text) v none some clean = clean
-clean_spelled value (Sign sign) v none some clean = clean
+clean_spelled value other v none some clean = clean
 
 pub item_gives : {A : Type 0} {Q : List Token → A → Type 0} (value : Token → Option A) → value Bad ≡ None →
     ((token : Token) (v : A) → value token ≡ Some v → IsSpelled token → Q (token ∷ []) v) → Gives (IsItem value) Q

@@ -203,11 +203,7 @@ kernel_word_spelled word.CountWhere = word_spelled (codes "count_where") refl re
 
 kernel_word_back : (word : KernelWord) → kernel_word_of (Word (kernel_word word)) ≡ Some word
 kernel_word_back word.Axpy = refl
-kernel_word_back word.Clamp = refl
-kernel_word_back word.Sum = refl
-kernel_word_back word.Least = refl
-kernel_word_back word.Greatest = refl
-kernel_word_back word.CountWhere = refl
+kernel_word_back other = refl
 
 -- a command with a word in front
 pub command_line : (version : Version) (c : Command) (text : List ℕ) (rest : List Token) (s : Sentence) → command_of version (Word text) ≡ Some c → IsBody version 32 c rest s → IsLine version 32 (Word text ∷ rest) s

@@ -48,10 +48,7 @@ number_gives = item_gives {Q = λ xs v. number_tokens v ≡ xs} number_of refl n
 index_is : (token : Token) (v : ℕ) → index_of token ≡ Some v → IsSpelled token → Word (codes "i" ++ decimal v) ∷ [] ≡ token ∷ []
 index_is (Word word) v h spelled = ap (λ k. Word k ∷ []) (sym (listed_as index_word (λ dimension. codes "i" ++ decimal dimension) dimensions
     (rw (decimal_digit 0 (omega arith), decimal_digit 1 (omega arith), decimal_digit 2 (omega arith), decimal_digit 3 (omega arith)) refl) word v h))
-index_is (Number value) v h spelled = absurd cc
-index_is (Text text) v h spelled = absurd cc
-index_is (Sign sign) v h spelled = absurd cc
-index_is Bad v h spelled = absurd cc
+index_is other v h spelled = absurd cc
 
 -- a leaf has one list of tokens
 leaf_written : Gives IsLeaf (λ xs v. (value_tokens v ≡ xs) × (IsGoodLeaf v → IsGood v))

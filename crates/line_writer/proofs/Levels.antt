@@ -161,11 +161,7 @@ record IsReadBack (v : Value) : Type 0 where
 
 depth_some : (v : Value) → 1 ≤ depth_of v
 depth_some (Constant number) = omega arith
-depth_some (Entry path) = omega arith
-depth_some (Index dimension) = omega arith
-depth_some (Neg inner) = omega arith
-depth_some (Not inner) = omega arith
-depth_some (Binary op left right) = omega arith
+depth_some other = omega arith
 
 leaf_back : (v : Value) (tokens : List Token) → IsLeaf tokens v → (n : ℕ) → IsExpr n tokens v
 leaf_back v tokens h n = from_atom (IsAtom n) tokens v (leaf_atom n tokens v h)

@@ -81,38 +81,15 @@ pub word_spelled : (text : List ℕ) → Begins is_letter text → list_all is_w
 word_spelled text begins all short = (begins, AllPass-from_list_all is_word_byte text all, short)
 
 operator_spelled : (op : BinOp) → IsSpelled (operator op)
-operator_spelled Add = refl
-operator_spelled Sub = refl
-operator_spelled Mul = refl
-operator_spelled Div = refl
-operator_spelled Rem = refl
 operator_spelled Min = word_spelled (codes "min") refl refl (omega arith)
 operator_spelled Max = word_spelled (codes "max") refl refl (omega arith)
-operator_spelled Eq = refl
-operator_spelled Ne = refl
-operator_spelled Lt = refl
-operator_spelled Le = refl
-operator_spelled Gt = refl
-operator_spelled Ge = refl
 operator_spelled And = word_spelled (codes "and") refl refl (omega arith)
 operator_spelled Or = word_spelled (codes "or") refl refl (omega arith)
+operator_spelled other = refl
 
 operator_flat : (op : BinOp) → is_flat (operator op) ≡ true
 operator_flat Add = refl
-operator_flat Sub = refl
-operator_flat Mul = refl
-operator_flat Div = refl
-operator_flat Rem = refl
-operator_flat Min = refl
-operator_flat Max = refl
-operator_flat Eq = refl
-operator_flat Ne = refl
-operator_flat Lt = refl
-operator_flat Le = refl
-operator_flat Gt = refl
-operator_flat Ge = refl
-operator_flat And = refl
-operator_flat Or = refl
+operator_flat other = refl
 
 pub fits_operator : (k : ℕ) (op : BinOp) (tokens : List Token) → Fits k tokens → Fits k (operator op ∷ tokens)
 fits_operator k op tokens f = fits_flat k (operator op) tokens (operator_flat op) (operator_spelled op) f

@@ -28,10 +28,7 @@ listed_as word_of own (value ∷ values) all word v h =
 
 meant_word : {A : Type 0} (word_of : A → List ℕ) (values : List A) (token : Token) (v : A) → meaning word_of values token ≡ Some v → token ≡ Word (word_of v)
 meant_word word_of values (Word word) v h = ap Word (listed_as word_of word_of values refl word v h)
-meant_word word_of values (Number value) v h = absurd cc
-meant_word word_of values (Text text) v h = absurd cc
-meant_word word_of values (Sign sign) v h = absurd cc
-meant_word word_of values Bad v h = absurd cc
+meant_word word_of values other v h = absurd cc
 
 pub map_word_is : (word : List ℕ) (form : MapWord) → map_word word ≡ Some form → word ≡ form_word form
 map_word_is = listed_as form_word form_word map_words refl
@@ -79,20 +76,14 @@ if_none false x v h = cc
 
 name_is : (token : Token) (v : List ℕ) → name_of token ≡ Some v → token ≡ Word v
 name_is (Word word) v h = ap Word (if_none (list_any (bytes_eq word) reserved) word v h)
-name_is (Number value) v h = absurd cc
-name_is (Text text) v h = absurd cc
-name_is (Sign sign) v h = absurd cc
-name_is Bad v h = absurd cc
+name_is other v h = absurd cc
 
 pub name_gives : Gives IsName (λ xs v. Word v ∷ [] ≡ xs)
 name_gives = one_token name_of Word refl name_is
 
 string_is : (token : Token) (v : List ℕ) → string_of token ≡ Some v → token ≡ Text v
 string_is (Text text) v h = cc
-string_is (Word word) v h = absurd cc
-string_is (Number value) v h = absurd cc
-string_is (Sign sign) v h = absurd cc
-string_is Bad v h = absurd cc
+string_is other v h = absurd cc
 
 pub string_gives : Gives IsString (λ xs v. Text v ∷ [] ≡ xs)
 string_gives = one_token string_of Text refl string_is

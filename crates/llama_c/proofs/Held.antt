@@ -1,10 +1,10 @@
 -- What calls answer by what their handles held.
 use Rattle.std.proofs.Common.{◌≡◌, ⊎_elim, inl, inr, ℕ, ℤ, pos, List, Option, None, Ok, Err, refl, subst, ◌∙◌}
 use Rattle.views.specs.Tables.{Table}
-use Rattle.c_calls.specs.Answers.{Answer, Tells, on_held}
-use Rattle.c_calls.specs.Faults.{fault_of}
-use Rattle.c_calls.specs.declared.refusal.Fault.{Fault}
-use Rattle.c_calls.specs.declared.refusal.Refusal.TheVariants.{NoView, NoMemory}
+use Rattle.c_lines.specs.Answers.{Answer, Tells, on_held}
+use Rattle.c_lines.specs.Faults.{fault_of}
+use Rattle.c_lines.specs.declared.refusal.Fault.{Fault}
+use Rattle.c_lines.specs.declared.refusal.Refusal.TheVariants.{NoView, NoMemory}
 use Rattle.llama_c.specs.Calls.{IsDone, IsKernel, IsMade, IsPutInto}
 
 -- an empty handle has nothing to put into a buffer, and nothing to change

@@ -2,11 +2,11 @@
 use Rattle.std.specs.Prelude.{ℕ, ◌≡◌, ◌⊎◌, ℤ, List, length, Option, Some, None, Ok, Err}
 use Rattle.views.specs.Tables.{Table, leaf_count_of, owners_of, after_log}
 use Rattle.views.specs.Tallies.{Read, all_accesses}
-use Rattle.c_calls.specs.Answers.{Answer, Tells, TellsLeft, code_of, number_of}
-use Rattle.c_calls.specs.Faults.{fault_or}
-use Rattle.c_calls.specs.declared.refusal.Fault.{Fault}
-use Rattle.c_calls.specs.declared.refusal.Refusal.TheVariants.{NoView, NoMemory}
-use Rattle.c_calls.specs.Buffers.{TellsPut}
+use Rattle.c_lines.specs.Answers.{Answer, Tells, TellsLeft, code_of, number_of}
+use Rattle.c_lines.specs.Faults.{fault_or}
+use Rattle.c_lines.specs.declared.refusal.Fault.{Fault}
+use Rattle.c_lines.specs.declared.refusal.Refusal.TheVariants.{NoView, NoMemory}
+use Rattle.c_lines.specs.Buffers.{TellsPut}
 use Rattle.c_lines.specs.Copies.{source_after, target_after, was_copied}
 
 -- how many rows, leaves and blobs a table has

@@ -1,10 +1,10 @@
 // Answers as C has them.
 ghost use Rattle.std.specs.Prelude.{◌≡◌};
-ghost use Rattle.c_calls.specs.Answers.{code_of};
-ghost use Rattle.c_calls.specs.Faults.{fault_of, fault_or};
-ghost use Rattle.c_calls.specs.Answers.{number_of};
+ghost use Rattle.c_lines.specs.Answers.{code_of};
+ghost use Rattle.c_lines.specs.Faults.{fault_of, fault_or};
+ghost use Rattle.c_lines.specs.Answers.{number_of};
 
-use c_calls::{DONE, Fault, Refusal};
+use c_lines::{DONE, Fault, Refusal};
 
 /// The number of an answer.
 pub fn code(answer: Result<(), Refusal>) -> i32

@@ -1,12 +1,12 @@
 // What is copied into buffers of the caller.
 ghost use Rattle.std.specs.Prelude.{◌≡◌, Ok, None, pos};
-ghost use Rattle.c_calls.specs.Answers.{code_of, on_held};
-ghost use Rattle.c_calls.specs.Buffers.{blob_told, buffer_after, file_told, needed_after, printed, put_told};
+ghost use Rattle.c_lines.specs.Answers.{code_of, on_held};
+ghost use Rattle.c_lines.specs.Buffers.{blob_told, buffer_after, file_told, needed_after, printed, put_told};
 ghost use Rattle.llama_c.specs.Calls.{IsPutInto, IsReadOnce};
 
 use crate::answers::code;
 use crate::handle::Handle;
-use c_calls::{Refusal, put_blob, put_file, put_table};
+use c_lines::{Refusal, put_blob, put_file, put_table};
 use std::alloc::Global;
 use std::marker::Brand;
 use std::sync::ledger::Blank;

@@ -2,11 +2,11 @@
 ghost use Rattle.std.specs.Prelude.{◌≡◌, ◌⊎◌, pos, Some, None, IfSome, Contains, slice_get};
 ghost use Rattle.extents.specs.Indices.{indices};
 ghost use Rattle.record_dim.specs.Leaves.{texts_of};
-ghost use Rattle.c_calls.specs.Answers.{code_of, given_or, on_held};
+ghost use Rattle.c_lines.specs.Answers.{code_of, given_or, on_held};
 ghost use Rattle.llama_c.specs.Calls.{blob_count, leaf_count, row_count};
 
 use crate::handle::Handle;
-use c_calls::{DONE, Refusal, blob_count, leaf_of, row_of};
+use c_lines::{DONE, Refusal, blob_count, leaf_of, row_of};
 use std::alloc::Global;
 
 /// How many rows a view has.

@@ -1,13 +1,13 @@
 // One leaf of rows one after another.
 ghost use Rattle.std.specs.Prelude.{◌≡◌, pos, length, map, option_map};
-ghost use Rattle.c_calls.specs.Answers.{code_of, given_or, held_after, on_held};
-ghost use Rattle.c_calls.specs.Faults.{fault_or};
-ghost use Rattle.c_calls.specs.Runs.{after_run, after_set_run, got_run, was_set_run};
-ghost use Rattle.c_calls.specs.Values.{reads_signed, reads_unsigned};
+ghost use Rattle.c_lines.specs.Answers.{code_of, given_or, held_after, on_held};
+ghost use Rattle.c_lines.specs.Faults.{fault_or};
+ghost use Rattle.c_lines.specs.Runs.{after_run, after_set_run, got_run, was_set_run};
+ghost use Rattle.c_lines.specs.Values.{reads_signed, reads_unsigned};
 
 use crate::answers::{code, refused, told};
 use crate::handle::Handle;
-use c_calls::{Fault, Refusal, get_run, set_run};
+use c_lines::{Fault, Refusal, get_run, set_run};
 use std::alloc::Global;
 use std::marker::Brand;
 use std::sync::ledger::Blank;

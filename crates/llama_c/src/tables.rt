@@ -1,7 +1,7 @@
 // Calls on whole tables.
 ghost use Rattle.std.specs.Prelude.{◌≡◌};
-ghost use Rattle.c_calls.specs.Answers.{code_of};
-ghost use Rattle.c_calls.specs.Faults.{fault_or};
+ghost use Rattle.c_lines.specs.Answers.{code_of};
+ghost use Rattle.c_lines.specs.Faults.{fault_or};
 ghost use Rattle.c_lines.specs.KernelLines.{after_kernel, kernel_number};
 ghost use Rattle.c_lines.specs.Relaid.{after_relaid, relaid};
 ghost use Rattle.c_lines.specs.Told.{done_of};
@@ -9,8 +9,7 @@ ghost use Rattle.llama_c.specs.Calls.{copy_told, source_left, target_left, IsDon
 
 use crate::answers::{refused, told};
 use crate::handle::Handle;
-use c_calls::{DONE, Fault, Refusal};
-use c_lines::{copy_into, lay_anew, run_kernel};
+use c_lines::{DONE, Fault, Refusal, copy_into, lay_anew, run_kernel};
 use std::alloc::Global;
 use std::marker::Brand;
 use std::sync::ledger::Blank;

@@ -1,12 +1,12 @@
 // One value of a view.
 ghost use Rattle.std.specs.Prelude.{◌≡◌, pos};
 ghost use Rattle.views.specs.Tables.{after_read, after_write};
-ghost use Rattle.c_calls.specs.Answers.{code_of, given_or, held_after, on_held};
-ghost use Rattle.c_calls.specs.Values.{got, was_set, reads_signed, reads_unsigned};
+ghost use Rattle.c_lines.specs.Answers.{code_of, given_or, held_after, on_held};
+ghost use Rattle.c_lines.specs.Values.{got, was_set, reads_signed, reads_unsigned};
 
 use crate::answers::code;
 use crate::handle::Handle;
-use c_calls::{DONE, Refusal, get, set};
+use c_lines::{DONE, Refusal, get, set};
 use std::alloc::Global;
 use std::marker::Brand;
 use std::sync::ledger::Blank;

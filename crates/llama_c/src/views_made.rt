@@ -1,14 +1,13 @@
 // Views that are made and let go.
 ghost use Rattle.std.specs.Prelude.{◌≡◌, pos, None, IfOk};
-ghost use Rattle.c_calls.specs.Answers.{Tells};
-ghost use Rattle.c_calls.specs.Buffers.{opened_told};
+ghost use Rattle.c_lines.specs.Answers.{Tells};
+ghost use Rattle.c_lines.specs.Buffers.{opened_told};
 ghost use Rattle.c_lines.specs.Lines.{described, loaded};
 ghost use Rattle.llama_c.specs.Calls.{IsMade};
 
 use crate::answers::refused;
 use crate::handle::Handle;
-use c_calls::{DONE, Fault, Refusal, open_view};
-use c_lines::{loaded_view, new_view};
+use c_lines::{DONE, Fault, Refusal, loaded_view, new_view, open_view};
 use std::alloc::Global;
 use std::marker::Brand;
 use std::sync::ledger::Blank;

@@ -9,7 +9,7 @@ use Rattle.places.specs.declared.piece.Hold.{Hold}
 use Rattle.map_expr.specs.Terms.{Term}
 use Rattle.map_any.specs.AnyLaws.{holds_cells}
 use Rattle.map_checks.specs.Mappings.{leaf_cells, holds_by}
-use Rattle.map_plans.specs.Ruled.{HasLengths}
+use Rattle.map_checks.specs.Ruled.{HasLengths}
 
 -- the number of blobs, and the bytes of each
 pub length-sized : (layout : List (List Owner)) (lengths : List ℕ) → HasLengths layout lengths → length lengths ≡ length layout

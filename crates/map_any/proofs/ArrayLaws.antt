@@ -10,14 +10,14 @@ use Rattle.places.specs.Rules.{in_rows}
 use Rattle.places.specs.Layout.{Owner}
 use Rattle.places.specs.declared.piece.Cell.{Cell}
 use Rattle.places.specs.declared.piece.Hold.{Hold}
-use Rattle.piece_rules.specs.BeginsLaws.{begins_fit}
-use Rattle.piece_rules.specs.PieceRules.{begin_in, AreRulesOf, IsDense}
-use Rattle.piece_rules.specs.declared.rule.PieceRule.{PieceRule}
+use Rattle.places.specs.BeginsLaws.{begins_fit}
+use Rattle.places.specs.PieceRules.{begin_in, AreRulesOf, IsDense}
+use Rattle.places.specs.declared.rule.PieceRule.{PieceRule}
 use Rattle.map_expr.specs.Terms.{Term, Aos, Soa, Aosoa, BitAos, BitSoa, Split, Byteswap, Bytesplit, Change, Count, Heat, Named}
 use Rattle.map_checks.specs.Mappings.{layout_of, holds_of}
-use Rattle.map_plans.specs.Arrays.{array_of, array_layout, lanes_in, IsArray, IsArrayOf, HasArrays}
-use Rattle.map_plans.specs.Ruled.{IsSameRule}
-use Rattle.map_plans.specs.declared.rule.Rule.{Rule}
+use Rattle.map_checks.specs.Arrays.{array_of, array_layout, lanes_in, IsArray, IsArrayOf, HasArrays}
+use Rattle.map_checks.specs.Ruled.{IsSameRule}
+use Rattle.map_checks.specs.declared.rule.Rule.{Rule}
 use Rattle.map_any.specs.ArrayRuns.{IsArrayRun}
 use Rattle.map_any.specs.ArrayRunLaws.{array_run, array_holds}
 use Rattle.map_any.specs.LeafArrays.{HaveArrays}
@@ -83,18 +83,11 @@ module _ (term : Term) (extents : List ℕ) (cells : List Cell) (leaf slot : ℕ
 -- the layout of such a mapping by rows, and how its cells are stored
 pub array_rows : (term : Term) (extents : List ℕ) (fields : Fields) (cells : List Cell)
     → IfSome (array_of term) (λ array. layout_of term extents fields cells ≡ in_rows (row_at array.0 extents) (array_layout term (slot_count array.0 extents) (widths_of cells)))
-array_rows (Aos form order) extents fields cells = tt
 array_rows (Soa form order) extents fields cells = refl
 array_rows (Aosoa lanes order) extents fields cells = refl
-array_rows (BitAos width entries order) extents fields cells = tt
-array_rows (BitSoa width entries order) extents fields cells = tt
-array_rows (Split path first rest) extents fields cells = tt
-array_rows (Byteswap inner) extents fields cells = tt
-array_rows (Bytesplit inner) extents fields cells = tt
-array_rows (Change from to inner) extents fields cells = tt
 array_rows (Count inner) extents fields cells = array_rows inner extents fields cells
 array_rows (Heat granule inner) extents fields cells = array_rows inner extents fields cells
-array_rows (Named name) extents fields cells = tt
+array_rows other extents fields cells = tt
 
 -- where a leaf's slots lie one behind another
 pub array_place : (term : Term) (extents : List ℕ) (fields : Fields) (cells : List Cell) (holds : List Hold) (leaf slot : ℕ) (rule : Rule) (d : PieceRule) (blob byte : ℕ)

@@ -11,11 +11,6 @@ use Rattle.record_dim.specs.Trees.{Fields}
 
 -- no name stands in it
 pub built_nameless : (term : Term) → IsBuiltTerm term → IsNameless term
-built_nameless (Aos form order) h = tt
-built_nameless (Soa form order) h = tt
-built_nameless (Aosoa lanes order) h = tt
-built_nameless (BitAos width entries order) h = tt
-built_nameless (BitSoa width entries order) h = tt
 built_nameless (Split path first rest) h = (built_nameless first h.0, built_nameless rest h.1)
 built_nameless (Byteswap inner) h = built_nameless inner h
 built_nameless (Bytesplit inner) h = built_nameless inner h
@@ -23,6 +18,7 @@ built_nameless (Change from to inner) h = built_nameless inner h
 built_nameless (Count inner) h = built_nameless inner h
 built_nameless (Heat granule inner) h = built_nameless inner h
 built_nameless (Named name) h = absurd h
+built_nameless other h = tt
 
 answered_none : (deep twice : Bool) (bad : Option BadMapping) → (if deep then Err TooDeep else (if twice then Err Counter else answered bad)) ≡ Ok tt → bad ≡ None
 answered_none true twice bad e = cc

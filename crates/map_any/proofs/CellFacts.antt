@@ -7,15 +7,15 @@ use Rattle.places.specs.Layout.{Owner}
 use Rattle.places.specs.Laws.{IsLocated}
 use Rattle.places.specs.declared.piece.Cell.{Cell}
 use Rattle.places.specs.declared.piece.Hold.{Hold}
-use Rattle.piece_rules.specs.BeginsLaws.{begins_fit}
-use Rattle.piece_rules.specs.PieceRules.{begin_in, pieces_in}
-use Rattle.piece_rules.specs.declared.rule.PieceRule.{PieceRule}
+use Rattle.places.specs.BeginsLaws.{begins_fit}
+use Rattle.places.specs.PieceRules.{begin_in, pieces_in}
+use Rattle.places.specs.declared.rule.PieceRule.{PieceRule}
 use Rattle.map_expr.specs.Terms.{Term}
 use Rattle.map_checks.specs.Mappings.{layout_of}
-use Rattle.map_plans.specs.Plans.{IsPlanOf}
-use Rattle.map_plans.specs.Ruled.{IsRuleOf}
-use Rattle.map_plans.specs.declared.plan.Plan.{Plan}
-use Rattle.map_plans.specs.declared.rule.Rule.{Rule}
+use Rattle.map_checks.specs.Plans.{IsPlanOf}
+use Rattle.map_checks.specs.Ruled.{IsRuleOf}
+use Rattle.map_checks.specs.declared.plan.Plan.{Plan}
+use Rattle.map_checks.specs.declared.rule.Rule.{Rule}
 use Rattle.map_any.specs.AnyLaws.{cell_rules}
 
 -- the pieces of a rule in the slot of a row are the places of its cell, and begin within 64 bits

@@ -10,14 +10,14 @@ use Rattle.places.specs.Rules.{in_rows}
 use Rattle.places.specs.Layout.{Owner}
 use Rattle.places.specs.declared.piece.Cell.{Cell}
 use Rattle.places.specs.declared.piece.Hold.{Hold}
-use Rattle.piece_rules.specs.PieceRules.{begin_in, IsDense}
-use Rattle.piece_rules.specs.declared.rule.PieceRule.{PieceRule}
+use Rattle.places.specs.PieceRules.{begin_in, IsDense}
+use Rattle.places.specs.declared.rule.PieceRule.{PieceRule}
 use Rattle.map_expr.specs.Terms.{Term, Aos, Soa, Aosoa, BitAos, BitSoa, Split, Byteswap, Bytesplit, Change, Count, Heat, Named}
 use Rattle.map_expr.specs.Checks.{bad_number, bad_granule}
 use Rattle.map_expr.specs.declared.check.BadMapping.{BadMapping}
 use Rattle.map_checks.specs.Mappings.{layout_of, holds_of}
-use Rattle.map_plans.specs.Arrays.{array_of, array_layout, lanes_in, IsArrayOf}
-use Rattle.map_plans.specs.declared.rule.Rule.{Rule}
+use Rattle.map_checks.specs.Arrays.{array_of, array_layout, lanes_in, IsArrayOf}
+use Rattle.map_checks.specs.declared.rule.Rule.{Rule}
 use Rattle.map_any.specs.ArrayRuns.{IsArrayRun}
 use Rattle.map_any.specs.ArrayRunLaws.{array_run, array_holds}
 use Rattle.map_any.proofs.ArrayLaws.{if_three, array_rows}

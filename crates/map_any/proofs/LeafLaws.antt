@@ -8,24 +8,24 @@ use Rattle.record_dim.specs.declared.leaf_type.LeafType.{LeafType}
 use Rattle.places.specs.Layout.{Owner}
 use Rattle.places.specs.Laws.{IsLocated}
 use Rattle.places.specs.declared.piece.Hold.{Hold}
-use Rattle.piece_rules.specs.PieceRules.{pieces_in}
-use Rattle.piece_rules.specs.declared.rule.PieceRule.{PieceRule}
+use Rattle.places.specs.PieceRules.{pieces_in}
+use Rattle.places.specs.declared.rule.PieceRule.{PieceRule}
 use Rattle.record_dim.specs.Trees.{Fields}
 use Rattle.record_dim.specs.Leaves.{kinds_of}
 use Rattle.places.specs.declared.piece.Cell.{Cell}
 use Rattle.map_expr.specs.Terms.{Term}
 use Rattle.map_any.specs.AnyLaws.{length-leaf_cells, cell_holds, cell_rules}
 use Rattle.map_checks.specs.Mappings.{leaf_cells}
-use Rattle.map_plans.specs.Plans.{IsPlanOf}
-use Rattle.map_plans.specs.declared.plan.Plan.{Plan}
+use Rattle.map_checks.specs.Plans.{IsPlanOf}
+use Rattle.map_checks.specs.declared.plan.Plan.{Plan}
 use Rattle.map_any.specs.LeafRules.{kind_in, hold_in, IsLeafRule, AreLeafRules, AreRuled}
-use Rattle.map_plans.specs.Ruled.{IsRuleOf, IsRuled, IsSameRule}
-use Rattle.short_rules.specs.Shorts.{IsShortOf, IsShortIn}
-use Rattle.short_rules.specs.ShortsLaws.{short_in}
-use Rattle.short_rules.specs.Walks.{leads}
-use Rattle.short_rules.specs.declared.short.ShortRule.{ShortRule}
+use Rattle.map_checks.specs.Ruled.{IsRuleOf, IsRuled, IsSameRule}
+use Rattle.piece_bits.specs.Shorts.{IsShortOf, IsShortIn}
+use Rattle.piece_bits.specs.ShortsLaws.{short_in}
+use Rattle.piece_bits.specs.Walks.{leads}
+use Rattle.piece_bits.specs.declared.short.ShortRule.{ShortRule}
 use Rattle.map_any.specs.declared.leaf_rule.LeafRule.{LeafRule}
-use Rattle.map_plans.specs.declared.rule.Rule.{Rule}
+use Rattle.map_checks.specs.declared.rule.Rule.{Rule}
 
 -- a rule that says the same is a rule of the same cell
 pub rule_same : (layout : List (List Owner)) (extents : List ℕ) (cell width : ℕ) (old new : Rule) → IsSameRule old new

@@ -10,12 +10,6 @@ use Rattle.extents.specs.declared.order.Order.TheVariants.{Row, Col}
 use Rattle.linearize.proofs.SlotLemmas.{product_count}
 use Rattle.linearize.specs.Slots.{slot_at, slot_count, index_at}
 use Rattle.linearize.specs.SlotsLaws.{place_in_is, slot_at_below, slot_at_by_rows, entry_of_row, IsInside-reverse}
-use Rattle.places.specs.Layout.{Owner}
-use Rattle.places.specs.Laws.{IsLocated}
-use Rattle.piece_rules.specs.PieceRules.{pieces_in}
-use Rattle.map_plans.specs.Ruled.{IsRuleOf}
-use Rattle.map_plans.specs.declared.rule.Rule.{Rule}
-use Rattle.map_any.specs.SlotRules.{ArePlacesOf}
 
 -- there are as many slots as rows, and each is that of a row
 pub record HasRows (order : Order) (extents : List ℕ) : Type 0 where
@@ -45,13 +39,3 @@ pub has_rows : (order : Order) (extents : List ℕ) → (order ≡ Row) ⊎ (ord
 has_rows order extents either =
     ⊎_elim (λ (is : order ≡ Row). subst (λ (o : Order). HasRows o extents) (sym is) (by_rows extents))
     (λ (is : order ≡ Col). subst (λ (o : Order). HasRows o extents) (sym is) (by_columns extents)) either
-
--- so a rule has the places of its cell in all rows
-pub all_places : (layout : List (List Owner)) (extents : List ℕ) (cell width : ℕ) (rule : Rule) → IsRuleOf layout extents cell width rule → HasRows rule.order extents
-    → ArePlacesOf layout (length (indices extents)) cell width rule.pieces.items
-all_places layout extents cell width rule is has = record {
-  some = λ slot low.
-      (let row = has.row slot low in
-      (row.0, row.1, subst (λ (s : ℕ). IsLocated layout row.0 cell width (pieces_in rule.pieces.items s)) row.2 (is.places row.0 row.1)));
-  each = λ row low. (slot_at rule.order extents row, omega (arith, slot_at_below rule.order extents row low, has.many), is.places row low);
-}

@@ -13,9 +13,9 @@ use Rattle.map_expr.specs.Checks.{bad_number}
 use Rattle.map_checks.specs.LeafCells.{leaf_cells_kinds}
 use Rattle.map_checks.specs.Mappings.{leaf_cells, layout_of, holds_of, holds_by, most_slots, not_full, IsBuiltTerm}
 use Rattle.map_checks.specs.TermLaws.{term_laws, good_numbers, length-holds}
-use Rattle.map_plans.specs.Plans.{IsPlanOf}
-use Rattle.map_plans.specs.PlansLaws.{plan_holds, plan_rules}
-use Rattle.map_plans.specs.declared.plan.Plan.{Plan}
+use Rattle.map_checks.specs.Plans.{IsPlanOf}
+use Rattle.map_checks.specs.PlansLaws.{plan_holds, plan_rules}
+use Rattle.map_checks.specs.declared.plan.Plan.{Plan}
 
 pub any_laws : (term : Term) (extents : List ℕ) (fields : Fields) (cells : List Cell) (holds : List Hold) → IsBuiltTerm term → bad_number term ≡ None
     → not_full term fields cells ≡ false → holds ≡ holds_of term fields cells

@@ -16,17 +16,17 @@ use Rattle.places.specs.Laws.{IsLocated, IsPiece, owners_in}
 use Rattle.places.specs.ComposeLaws.{owner_relabel}
 use Rattle.places.specs.PlacesLaws.{ranges_at}
 use Rattle.places.specs.declared.piece.Piece.{Piece}
-use Rattle.piece_rules.specs.PieceRules.{begin_in, piece_in, pieces_in}
-use Rattle.piece_rules.specs.declared.rule.PieceRule.{PieceRule}
+use Rattle.places.specs.PieceRules.{begin_in, piece_in, pieces_in}
+use Rattle.places.specs.declared.rule.PieceRule.{PieceRule}
 use Rattle.record_dim.specs.Trees.{Fields}
 use Rattle.places.specs.Holds.{full_holds}
 use Rattle.places.specs.declared.piece.Cell.{Cell}
 use Rattle.map_expr.specs.Terms.{Term, Aos, Soa, Aosoa, BitAos, BitSoa, Split, Byteswap, Bytesplit, Change, Count, Heat, Named}
 use Rattle.map_checks.specs.Mappings.{holds_of}
-use Rattle.map_plans.specs.Arrays.{array_of, IsArray}
+use Rattle.map_checks.specs.Arrays.{array_of, IsArray}
 use Rattle.map_any.specs.ArrayRuns.{IsArrayRun}
 use Rattle.map_checks.specs.RowsLaws.{length-in_rows, length-blob}
-use Rattle.map_plans.specs.declared.rule.Rule.{Rule}
+use Rattle.map_checks.specs.declared.rule.Rule.{Rule}
 
 -- the owners of the bits of one piece
 pub piece_owner : (layout : List (List Owner)) (slot cell width k : ℕ) (piece : Piece) → IsLocated layout slot cell width (piece ∷ []) → piece.bits ≡ width → k < width
@@ -139,15 +139,8 @@ runs_alike layout other order extents cell width slot count blob bit source from
 
 -- where cells lie in arrays, each is stored as its type is
 pub array_holds : (term : Term) (fields : Fields) (cells : List Cell) → IfSome (array_of term) (λ array. holds_of term fields cells ≡ full_holds cells)
-array_holds (Aos form order) fields cells = tt
 array_holds (Soa form order) fields cells = refl
 array_holds (Aosoa lanes order) fields cells = refl
-array_holds (BitAos width entries order) fields cells = tt
-array_holds (BitSoa width entries order) fields cells = tt
-array_holds (Split path first rest) fields cells = tt
-array_holds (Byteswap inner) fields cells = tt
-array_holds (Bytesplit inner) fields cells = tt
-array_holds (Change from to inner) fields cells = tt
 array_holds (Count inner) fields cells = array_holds inner fields cells
 array_holds (Heat granule inner) fields cells = array_holds inner fields cells
-array_holds (Named name) fields cells = tt
+array_holds other fields cells = tt

@@ -4,8 +4,8 @@ use Rattle.linearize.specs.Slots.{slot_count}
 use Rattle.places.specs.Holds.{widths_of, full_holds}
 use Rattle.places.specs.declared.piece.Cell.{Cell}
 use Rattle.map_expr.specs.Terms.{Term}
-use Rattle.map_plans.specs.Arrays.{array_of, array_layout, lanes_in, IsArray}
-use Rattle.map_plans.specs.Ruled.{EachWith}
+use Rattle.map_checks.specs.Arrays.{array_of, array_layout, lanes_in, IsArray}
+use Rattle.map_checks.specs.Ruled.{EachWith}
 use Rattle.map_any.specs.declared.leaf_rule.LeafRule.{LeafRule}
 
 -- each leaf lies in an array; of another mapping nothing is said

@@ -5,12 +5,12 @@ use Rattle.record_dim.specs.declared.leaf_type.LeafType.{LeafType}
 use Rattle.record_dim.specs.declared.leaf_type.LeafType.TheVariants.{Bool as Truth}
 use Rattle.places.specs.Layout.{Owner}
 use Rattle.places.specs.declared.piece.Hold.{Hold}
-use Rattle.map_plans.specs.Ruled.{EachWith, IsRuleOf, IsSameRule}
-use Rattle.short_rules.specs.Shorts.{IsShortOf}
-use Rattle.short_rules.specs.Walks.{leads}
-use Rattle.short_rules.specs.Wides.{IsWide}
+use Rattle.map_checks.specs.Ruled.{EachWith, IsRuleOf, IsSameRule}
+use Rattle.piece_bits.specs.Shorts.{IsShortOf}
+use Rattle.piece_bits.specs.Walks.{leads}
+use Rattle.piece_bits.specs.Wides.{IsWide}
 use Rattle.map_any.specs.declared.leaf_rule.LeafRule.{LeafRule}
-use Rattle.map_plans.specs.declared.rule.Rule.{Rule}
+use Rattle.map_checks.specs.declared.rule.Rule.{Rule}
 
 -- the type of a leaf, and how it is stored; outside of the lists any
 abbrev pub kind_in : List LeafType → ℕ → LeafType

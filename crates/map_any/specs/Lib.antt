@@ -1,6 +1,5 @@
 pub mod AnyLaws
 pub mod LeafRules
-pub mod SlotRules
 pub mod Maps
 pub mod Counters
 pub mod Runs
@@ -13,5 +12,5 @@ pub mod ArrayRunLaws
 pub use Rattle.map_checks.specs.Mappings
 pub use Rattle.map_checks.specs.LeafCells
 pub use Rattle.map_checks.specs.TermLaws
-pub use Rattle.map_plans.specs.Ruled
-pub use Rattle.map_plans.specs.Arrays
+pub use Rattle.map_checks.specs.Ruled
+pub use Rattle.map_checks.specs.Arrays

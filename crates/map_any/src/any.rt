@@ -9,14 +9,13 @@ ghost use Rattle.map_any.specs.LeafArrays.{HaveArrays};
 ghost use Rattle.map_any.specs.LeafRules.{AreRuled, IsWideIn};
 ghost use Rattle.map_checks.specs.Mappings.{layout_by, holds_by, leaf_cells, not_full, IsBuiltTerm};
 ghost use Rattle.map_checks.specs.Orders.{IsBuiltTerm-prop};
-ghost use Rattle.map_plans.specs.Ruled.{EachWith, HasLengths};
-ghost use Rattle.short_rules.specs.Walks.{leads};
+ghost use Rattle.map_checks.specs.Ruled.{EachWith, HasLengths};
+ghost use Rattle.piece_bits.specs.Walks.{leads};
 
 use crate::leaf_rule::RuleList;
 use extents::Extents;
-use map_checks::HoldList;
+use map_checks::{HoldList, LengthList};
 use map_expr::MapExpr;
-use map_plans::LengthList;
 use record_dim::Schema;
 
 /// A mapping of run time: what an expression says of an array. Its slots are row numbers, and its cells the leaves.

@@ -2,15 +2,15 @@
 ghost use Rattle.std.specs.Prelude.{ℕ, ◌≡◌, ◌+◌, ◌*◌, ◌%◌, ◌<◌, ◌≤◌, IfSome, IsSomeAnd, length, map, option_map, slice_index};
 ghost use Rattle.linearize.specs.Slots.{slot_count};
 ghost use Rattle.map_expr.specs.Terms.{term_of};
-ghost use Rattle.map_plans.specs.Arrays.{array_of, lanes_in};
+ghost use Rattle.map_checks.specs.Arrays.{array_of, lanes_in};
 ghost use Rattle.map_any.specs.ArrayRuns.{IsArrayRun};
 ghost use Rattle.map_any.specs.ArraySlots.{slots_in};
 ghost use Rattle.map_any.specs.Maps.{extents_of, term_of_map};
 
 use crate::any::AnyMap;
 use linearize::Order;
+use map_checks::slots_of;
 use map_expr::MapExpr;
-use map_plans::slots_of;
 use places::Mapping;
 
 /// Slots that lie in arrays: how many there are, and how many of a leaf lie one behind another from each multiple of their number on.

@@ -6,18 +6,14 @@ ghost use Rattle.map_expr.specs.Checks.{bad_number};
 ghost use Rattle.map_any.specs.AnyLaws.{any_laws, cell_holds};
 ghost use Rattle.map_checks.specs.Mappings.{layout_of, holds_of, accepted, not_full, IsBuiltTerm, IsTooBigFor, IsRefusal};
 ghost use Rattle.map_checks.specs.Orders.{IsBuiltTerm-prop};
-ghost use Rattle.map_plans.specs.Plans.{IsPlanOf};
-ghost use Rattle.map_plans.specs.Ruled.{IsRuleOf};
+ghost use Rattle.map_checks.specs.Plans.{IsPlanOf};
+ghost use Rattle.map_checks.specs.Ruled.{IsRuleOf};
 
 use crate::planned::planned;
-use crate::slot_rules::SlotRules;
 use extents::Extents;
-use linearize::Order;
-use map_checks::{MakeMap, hold_at, kind_at};
+use map_checks::{MakeMap, Plan, Rule, hold_at, kind_at, slot_of_row};
 use map_expr::MapExpr;
-use map_plans::{Plan, Rule, slot_of_row};
-use piece_rules::{PieceRules, pieces_in};
-use places::{Cell, CellList, Hold, Mapping, Pieces};
+use places::{Cell, CellList, Hold, Mapping, Pieces, pieces_in};
 use record_dim::{LeafType, Schema};
 use std::alloc::Global;
 
@@ -120,14 +116,4 @@ impl Mapping for CellMap {
     ghost laws = { λ m. any_laws (term_of m.expr) m.extents (schema_fields m.schema) m.cells.items m.plan.holds m.built m.numbers m.full m.made.held };
 
     ghost holds_cells = { λ m. cell_holds (term_of m.expr) m.extents (schema_fields m.schema) m.cells.items m.plan m.made };
-}
-
-impl SlotRules for CellMap {
-    fn slot_rules(&self, cell: usize) -> Option<&PieceRules> {
-        let rule = self.rule(cell);
-        match rule.order {
-            Order::Row | Order::Col => Some(&rule.pieces),
-            Order::Morton => None,
-        }
-    }
 }

@@ -1,6 +1,6 @@
-use lists::Sequence;
-use map_plans::Rule;
-use short_rules::{ShortRule, Wide};
+use map_checks::Rule;
+use piece_bits::{ShortRule, Wide};
+use record_dim::Sequence;
 
 /// Where a leaf lies in every row, with what is worked out once for all accesses to it.
 #[derive(Drop)]

@@ -3,17 +3,16 @@ ghost use Rattle.record_dim.specs.LeafTypes.{is_signed, IsIn, IsDeclared};
 ghost use Rattle.record_dim.specs.Schemas.{schema_fields};
 ghost use Rattle.record_dim.specs.Leaves.{kinds_of};
 ghost use Rattle.map_any.specs.LeafRules.{IsLeafRule, AreLeafRules, IsWideIn};
-ghost use Rattle.map_plans.specs.Ruled.{EachWith, IsSameRule};
-ghost use Rattle.short_rules.specs.Shorts.{IsShortOf};
-ghost use Rattle.short_rules.specs.Walks.{leads};
+ghost use Rattle.map_checks.specs.Ruled.{EachWith, IsSameRule};
+ghost use Rattle.piece_bits.specs.Shorts.{IsShortOf};
+ghost use Rattle.piece_bits.specs.Walks.{leads};
 
 use crate::leaf_rule::{LeafRule, RuleList};
 use extents::Extents;
-use map_checks::hold_at;
-use map_plans::Rule;
+use map_checks::{Rule, hold_at};
+use piece_bits::ShortRule;
 use places::Hold;
 use record_dim::{LeafType, Schema};
-use short_rules::ShortRule;
 use std::alloc::{AllocError as NoMemory, Global};
 
 /// What the accesses to each leaf of a schema over an array go by, given how each is stored and where, and the bytes of each blob. Where

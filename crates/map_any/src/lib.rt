@@ -9,16 +9,13 @@ mod leaf_rule;
 mod leaf_rules;
 mod planned;
 mod runs;
-mod slot_rules;
 mod strategy;
 
 pub use any::AnyMap;
 pub use arrays::{ArraySlots, BytePlace, BytePlaces};
 pub use cell_map::CellMap;
 pub use leaf_rule::{LeafRule, RuleList};
-pub use map_checks::{HoldList, MakeMap};
+pub use map_checks::{HoldList, LengthList, MakeMap, Rule};
 pub use map_expr::{BadMapping, MapExpr, MapExprList};
-pub use map_plans::{LengthList, Rule};
-pub use short_rules::{Field, ShortRule, Walk, Wide, Word};
-pub use slot_rules::SlotRules;
+pub use piece_bits::{Field, ShortRule, Walk, Wide, Word};
 pub use strategy::Strategy;

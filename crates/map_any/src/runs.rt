@@ -4,8 +4,7 @@ ghost use Rattle.map_any.specs.Filling.{IsFilled, IsShown, Show, runs_along};
 ghost use Rattle.map_any.specs.Runs.{goes_on, run_owner, runs_of};
 
 use crate::any::AnyMap;
-use piece_rules::PieceRule;
-use places::{Mapping, Piece, Run, RunList, RunOwner};
+use places::{Mapping, Piece, PieceRule, Run, RunList, RunOwner};
 use std::alloc::{AllocError as NoMemory, Global};
 
 impl AnyMap {

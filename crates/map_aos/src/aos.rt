@@ -9,9 +9,9 @@ ghost use Rattle.map_aos.specs.AosLaws.{aos_laws};
 ghost use Rattle.places.specs.CellWidthsLaws.{length-full};
 
 use crate::part::lay_out;
-use piece_rules::{PieceRule, Ruled};
 use places::{
-    AosForm, Cell, CellList, Hold, MAX_BLOB_BITS, MAX_SLOTS, Mapping, NewMapping, Pieces,
+    AosForm, Cell, CellList, Hold, MAX_BLOB_BITS, MAX_SLOTS, Mapping, NewMapping, PieceRule,
+    Pieces, Ruled,
 };
 use record_dim::LeafType;
 use std::alloc::Global;

@@ -8,9 +8,9 @@ ghost use Rattle.map_aosoa.specs.AosoaLaws.{aosoa_laws};
 ghost use Rattle.places.specs.CellWidthsLaws.{length-full};
 
 use crate::block::{count_blocks, lay_out};
-use piece_rules::{PieceRule, Ruled};
 use places::{
-    Cell, CellList, Hold, MAX_BLOB_BITS, MAX_LANES, MAX_SLOTS, Mapping, NewMapping, Pieces,
+    Cell, CellList, Hold, MAX_BLOB_BITS, MAX_LANES, MAX_SLOTS, Mapping, NewMapping, PieceRule,
+    Pieces, Ruled,
 };
 use record_dim::LeafType;
 use std::alloc::Global;

@@ -8,8 +8,9 @@ ghost use Rattle.map_bits.specs.BitLaws.{bit_soa_laws};
 
 use crate::narrow::{has_bad_width, narrow_holds};
 use crate::padding::padded;
-use piece_rules::{PieceRule, Ruled};
-use places::{Cell, CellList, Hold, MAX_BLOB_BITS, MAX_SLOTS, Mapping, NewMapping, Pieces};
+use places::{
+    Cell, CellList, Hold, MAX_BLOB_BITS, MAX_SLOTS, Mapping, NewMapping, PieceRule, Pieces, Ruled,
+};
 use record_dim::LeafType;
 use std::alloc::Global;
 

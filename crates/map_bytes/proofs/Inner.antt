@@ -13,8 +13,8 @@ use Rattle.places.specs.PlacesLaws.{bits_located}
 use Rattle.places.specs.declared.piece.Cell.{Cell}
 use Rattle.places.specs.declared.piece.Hold.{Hold}
 use Rattle.places.specs.declared.piece.Piece.{Piece}
-use Rattle.piece_rules.specs.PieceRules.{piece_in, pieces_in}
-use Rattle.piece_rules.specs.declared.rule.PieceRule.{PieceRule}
+use Rattle.places.specs.PieceRules.{piece_in, pieces_in}
+use Rattle.places.specs.declared.rule.PieceRule.{PieceRule}
 use Rattle.map_bytes.specs.Cells.{bytes_of, byte_count}
 use Rattle.map_bytes.specs.ByteCellsLaws.{bytes_before, byte_cell_at, byte_within, byte_count_is, byte_count_before, length-bytes, widths_of_bytes}
 use Rattle.map_bytes.specs.JoinLaws.{byte_joined, byte_alone}

@@ -7,8 +7,8 @@ use Rattle.std.proofs.lemmas.List.FromFn.{get_or-range_with_len, length-range_wi
 use Rattle.std.proofs.lemmas.List.Sorted.{All-permutation, IsPermutation-reverse}
 use Rattle.std.proofs.lemmas.List.Sums.{sum_by-cons}
 use Rattle.places.specs.declared.piece.Piece.{Piece}
-use Rattle.piece_rules.specs.PieceRules.{begin_in, piece_in, pieces_in}
-use Rattle.piece_rules.specs.declared.rule.PieceRule.{PieceRule}
+use Rattle.places.specs.PieceRules.{begin_in, piece_in, pieces_in}
+use Rattle.places.specs.declared.rule.PieceRule.{PieceRule}
 use Rattle.map_bytes.specs.Cuts.{byte_of, piece_bytes, swapped, rule_byte, rule_bytes, swapped_rules}
 
 -- things that are cut, so many parts of each

@@ -2,7 +2,7 @@
 use Rattle.std.specs.Prelude.{ℕ, zero, suc, ◌+◌, ◌*◌, ◌/◌, List, [], ◌++◌, map, reverse, take, drop}
 use Rattle.std.specs.List.{flat_map, range_with_len}
 use Rattle.places.specs.declared.piece.Piece.{Piece}
-use Rattle.piece_rules.specs.declared.rule.PieceRule.{PieceRule}
+use Rattle.places.specs.declared.rule.PieceRule.{PieceRule}
 
 -- one byte of a piece
 abbrev pub byte_of : ℕ → Piece → Piece

@@ -1,7 +1,6 @@
 ghost use Rattle.std.specs.Prelude.{◌≡◌, ◌+◌, ◌≤◌, ◌++◌, length};
 
-use piece_rules::PieceRules;
-use places::Pieces;
+use places::{PieceRules, Pieces};
 
 /// Appends the pieces of `next`. It takes no memory.
 pub fn join_pieces(pieces: &mut Pieces, next: &Pieces)

@@ -1,9 +1,8 @@
 ghost use Rattle.std.specs.Prelude.{◌≡◌, ◌+◌, ◌*◌, ◌/◌, ◌%◌, ◌^◌, ◌<◌, ◌≤◌, ◌++◌, All, length, sum_by};
-ghost use Rattle.piece_rules.specs.PieceRules.{piece_in, pieces_in};
+ghost use Rattle.places.specs.PieceRules.{piece_in, pieces_in};
 ghost use Rattle.map_bytes.specs.Cuts.{rule_byte, rule_bytes, swapped, swapped_rules, places_in, groups_back};
 
-use piece_rules::{PieceRule, PieceRules, pieces_in};
-use places::{Piece, Pieces};
+use places::{Piece, PieceRule, PieceRules, Pieces, pieces_in};
 
 /// One byte of a rule's pieces.
 fn byte_of(rule: &PieceRule, byte: u32) -> PieceRule

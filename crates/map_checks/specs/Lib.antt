@@ -7,3 +7,11 @@ pub mod Orders
 pub mod RowsLaws
 pub mod LeafCells
 pub mod TermLaws
+pub mod Ruled
+pub mod RuledLaws
+pub mod Splits
+pub mod Plans
+pub mod PlansLaws
+pub mod LeafOrders
+pub mod ByteRules
+pub mod Arrays

@@ -75,16 +75,11 @@ length-holds (Split path first rest) fields cells =
     (omega (arith, cells_first fields path cells)) (omega (arith, cells_rest fields path cells))
     ∙ length-side fields path cells
 length-holds (Count inner) fields cells = length-holds inner fields cells
-length-holds (Aos form order) fields cells = length-full cells
-length-holds (Soa form order) fields cells = length-full cells
-length-holds (Aosoa lanes order) fields cells = length-full cells
 length-holds (BitAos width entries order) fields cells = length-within fields width entries cells
 length-holds (BitSoa width entries order) fields cells = length-within fields width entries cells
-length-holds (Byteswap inner) fields cells = length-full cells
-length-holds (Bytesplit inner) fields cells = length-full cells
 length-holds (Change from to inner) fields cells = length-holds inner fields (changed from to cells) ∙ length-changed from to cells
 length-holds (Heat granule inner) fields cells = length-holds inner fields cells
-length-holds (Named name) fields cells = length-full cells
+length-holds other fields cells = length-full cells
 
 -- a number in its range is at least 1
 at_least : (bad : BadMapping) (low high : Bool) → (if low && high then None else Some bad) ≡ None → low ≡ true
@@ -200,8 +195,6 @@ then_none None two e = e
 then_none (Some bad) two e = cc
 
 pub good_numbers : (term : Term) → bad_number term ≡ None → HasNumbers term
-good_numbers (Aos form order) e = tt
-good_numbers (Soa form order) e = tt
 good_numbers (Aosoa lanes order) e = e
 good_numbers (BitAos width entries order) e = e
 good_numbers (BitSoa width entries order) e = e
@@ -213,4 +206,4 @@ good_numbers (Change from to inner) e = good_numbers inner e
 good_numbers (Count inner) e = good_numbers inner e
 good_numbers (Heat granule inner) e =
     (first_none (bad_granule granule) (bad_number inner) e, good_numbers inner (then_none (bad_granule granule) (bad_number inner) e))
-good_numbers (Named name) e = tt
+good_numbers other e = tt

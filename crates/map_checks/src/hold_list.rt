@@ -1,7 +1,7 @@
 ghost use Rattle.std.specs.Prelude.{◌≡◌, ◌<◌, Some, length, slice_get};
 
-use lists::Sequence;
 use places::Hold;
+use record_dim::Sequence;
 
 /// How each cell is stored, in order.
 pub type HoldList = Sequence<Hold>;

@@ -3,9 +3,8 @@ ghost use Rattle.record_dim.specs.Schemas.{schema_fields};
 ghost use Rattle.record_dim.specs.Nodes.{is_under};
 ghost use Rattle.map_checks.specs.Sides.{side_of, cells_under, cells_beside};
 
-use lists::Sequence;
 use places::CellList;
-use record_dim::{Path, Schema};
+use record_dim::{Path, Schema, Sequence};
 use std::alloc::{AllocError as NoMemory, Global};
 
 /// Whether each cell goes to the first side of a split, in order.

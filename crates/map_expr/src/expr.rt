@@ -1,8 +1,7 @@
 use crate::WidthList;
 use extents::Order;
-use lists::Sequence;
 use places::{AosForm, SoaForm};
-use record_dim::{LeafType, Name, Path};
+use record_dim::{LeafType, Name, Path, Sequence};
 
 /// Mapping expressions, in order.
 pub type MapExprList = Sequence<MapExpr>;

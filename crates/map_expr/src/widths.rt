@@ -1,7 +1,6 @@
 ghost use Rattle.std.specs.Prelude.{◌≡◌, ◌↔◌, IfOk, IsTrue};
 
-use lists::Sequence;
-use record_dim::{Path, PathStep};
+use record_dim::{Path, PathStep, Sequence};
 use std::alloc::{AllocError as NoMemory, Global};
 
 /// The most bits of each cell whose leaf is under a path.

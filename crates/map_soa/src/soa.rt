@@ -9,8 +9,9 @@ ghost use Rattle.map_soa.specs.SoaLaws.{soa_laws};
 ghost use Rattle.places.specs.CellWidthsLaws.{length-full};
 
 use crate::arrays::lay_out;
-use piece_rules::{PieceRule, Ruled};
-use places::{Cell, CellList, Hold, MAX_SLOTS, Mapping, NewMapping, Pieces, SoaForm};
+use places::{
+    Cell, CellList, Hold, MAX_SLOTS, Mapping, NewMapping, PieceRule, Pieces, Ruled, SoaForm,
+};
 use record_dim::LeafType;
 use std::alloc::Global;
 

@@ -1,6 +1,6 @@
 -- Rules of places in blobs that stand behind others.
 use Rattle.std.specs.Prelude.{ℕ, ◌+◌}
-use Rattle.piece_rules.specs.declared.rule.PieceRule.{PieceRule}
+use Rattle.places.specs.declared.rule.PieceRule.{PieceRule}
 
 -- a rule of a piece of later blobs, which stand behind `by` others
 abbrev pub shifted_rule : ℕ → PieceRule → PieceRule

@@ -2,8 +2,7 @@ ghost use Rattle.std.specs.Prelude.{ℕ, ◌≡◌, ◌+◌, ◌^◌, ◌<◌, A
 ghost use Rattle.places.specs.Laws.{shifted};
 ghost use Rattle.map_split.specs.Shifts.{shifted_rule};
 
-use piece_rules::{PieceRule, PieceRules};
-use places::{Piece, Pieces};
+use places::{Piece, PieceRule, PieceRules, Pieces};
 
 fn shifted_piece(piece: Piece, by: usize) -> Piece
     requires room { piece.blob + by < 2 ^ 64 }

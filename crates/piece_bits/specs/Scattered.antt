@@ -1,7 +1,7 @@
 -- Bytes that stand each by itself, alike from slot to slot.
 use Rattle.std.specs.Prelude.{ℕ, ◌+◌, ◌*◌, ◌/◌, List, map}
 use Rattle.places.specs.declared.piece.Piece.{Piece}
-use Rattle.piece_rules.specs.declared.rule.PieceRule.{PieceRule}
+use Rattle.places.specs.declared.rule.PieceRule.{PieceRule}
 
 -- the byte that stands a place behind the first one of a rule
 abbrev pub byte_of : ℕ → PieceRule → Piece

@@ -1,18 +1,57 @@
-// One entry of a table that lies in blobs under any mapping: its bits, its value, and how both are read and written.
+//! The numbers of a leaf as they lie in blobs under any mapping: one entry, its bits and its value; what a store of either mode keeps of a
+//! number; short forms of rules; many rows at once, and sixteen numbers side by side.
 #![tactic(auto)]
 
+mod block;
+mod bytes;
+mod compare;
 mod entry;
+mod far;
 mod field;
+mod join;
+mod laws;
+mod low;
+mod low_numbers;
+mod mode;
+mod path;
 mod pieces;
+mod plain;
+mod put;
+mod read;
 mod scattered;
+mod short;
+mod shorten;
+mod stand;
+mod start;
+mod stretch;
+mod table_laws;
+mod unit;
 mod value;
+mod walk;
 mod wide;
+mod wide_rules;
 mod word;
+mod words;
 
+pub use block::Block;
+pub use compare::Compare;
 pub use entry::{read_entry, read_piece, write_entry, write_piece};
+pub use far::folded;
 pub use field::{Field, field_at, put_field_at};
+pub use laws::kept_laws;
+pub use low::{declared, held, kept};
+pub use low_numbers::{low_bits, low_of};
+pub use mode::StoreMode;
 pub use pieces::{read_pieces, write_pieces};
+pub use plain::{clamp, count, greatest, least, sum, times_plus};
+pub use put::put_stretch;
+pub use read::read_stretch;
 pub use scattered::{read_scattered, write_scattered};
+pub use short::ShortRule;
+pub use stretch::{Spread, Stretch};
+pub use table_laws::table_laws;
 pub use value::{decode, encode};
+pub use walk::Walk;
 pub use wide::{field_wide, turned_wide, whole_wide};
+pub use wide_rules::Wide;
 pub use word::{Word, read_word, write_word};

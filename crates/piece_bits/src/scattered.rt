@@ -12,8 +12,7 @@ ghost use Rattle.piece_bits.specs.WritesLaws.{AreWritten};
 use crate::field::Field;
 use crate::value::{decode, encode};
 use blobs::{Blob, bits_in_word};
-use piece_rules::PieceRule;
-use places::Hold;
+use places::{Hold, PieceRule};
 
 /// The number that the bytes say which stand a place behind the first ones of rules. The field says its sign and its width.
 pub fn read_scattered(blobs: &[Blob], rules: &[PieceRule], place: u64, field: &Field) -> i128

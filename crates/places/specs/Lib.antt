@@ -19,3 +19,6 @@ pub mod SlotsLaws
 pub mod StackedLaws
 pub mod TouchedLaws
 pub mod WidthsLaws
+pub mod PieceRules
+pub mod BeginsLaws
+pub mod DenseLaws

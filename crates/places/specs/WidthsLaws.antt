@@ -15,15 +15,13 @@ abbrev pub IsWidth : ℕ → Type 0
 IsWidth w = (w ≡ 8) ⊎ ((w ≡ 16) ⊎ ((w ≡ 32) ⊎ (w ≡ 64)))
 
 pub width_is : (kind : LeafType) → IsWidth (width_of kind)
-width_is Truth = inl refl
-width_is U8 = inl refl
 width_is U16 = inr (inl refl)
 width_is U32 = inr (inr (inl refl))
 width_is U64 = inr (inr (inr refl))
-width_is I8 = inl refl
 width_is I16 = inr (inl refl)
 width_is I32 = inr (inr (inl refl))
 width_is I64 = inr (inr (inr refl))
+width_is other = inl refl
 
 pub by_width : (P : ℕ → Type 0) (w : ℕ) → P 8 → P 16 → P 32 → P 64 → IsWidth w → P w
 by_width P w p8 p16 p32 p64 h =

@@ -1,6 +1,5 @@
 use arrayvec::ArrayVec;
-use lists::Sequence;
-use record_dim::LeafType;
+use record_dim::{LeafType, Sequence};
 
 /// What a mapping is built over: a leaf and the type in which it is stored.
 #[derive(Clone, Copy)]

@@ -4,7 +4,7 @@ ghost use Rattle.places.specs.Image.{bit_held, digit, entry, image, number};
 ghost use Rattle.plain_layouts.specs.Plain.{bytes_of, owner_of, owners_of};
 
 use crate::owner::{PlainBlob, PlainOwner};
-use lists::Sequence;
+use record_dim::Sequence;
 use std::alloc::{AllocError as NoMemory, Global};
 
 /// A table of numbers: a list of rows, each a list of entries.

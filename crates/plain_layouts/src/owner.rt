@@ -1,4 +1,4 @@
-use lists::Sequence;
+use record_dim::Sequence;
 
 /// Who owns one bit of a blob: nobody, or bit `bit` of a cell in a slot.
 #[derive(Clone, Copy, Debug, PartialEq, Eq)]

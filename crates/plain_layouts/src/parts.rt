@@ -4,7 +4,7 @@ ghost use Rattle.places.specs.Layout.{Pad as Nobody, field, fields, array, padde
 ghost use Rattle.plain_layouts.specs.Plain.{owners_of};
 
 use crate::owner::{PlainBlob, PlainOwner};
-use lists::Sequence;
+use record_dim::Sequence;
 use std::alloc::{AllocError as NoMemory, Global};
 
 /// The number of a cell and its width in bits.

@@ -9,7 +9,7 @@ use crate::parts::{
     PlainCell, by_width, numbered, pad_to, push_aligned, push_aligned_arrays, push_array,
     push_block, push_fields,
 };
-use lists::Sequence;
+use record_dim::Sequence;
 use std::alloc::{AllocError as NoMemory, Global};
 
 /// Slot after slot, cell after cell.

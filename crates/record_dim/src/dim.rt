@@ -1,5 +1,4 @@
 use crate::{LeafType, Name};
-use lists::Sequence;
 
 /// What a field holds: a leaf, a record, or `len` elements of one kind.
 #[cycle(dim)]

@@ -3,9 +3,9 @@ use Rattle.std.proofs.Common.{◌≡◌, ◌∙◌, ℕ, ◌+◌, ◌<◌, ◌�
 use Rattle.std.specs.Prelude.{unsigned_abs, if◌then◌else◌}
 use Rattle.std.proofs.lemmas.Int.{fits_signed_from_abs}
 use Rattle.std.proofs.lemmas.List.{get_or-map, length-map, get_or-take, length-take-le}
-use Rattle.leaf_runs.specs.Lows.{low_64}
-use Rattle.leaf_runs.specs.LowsLaws.{low_same}
-use Rattle.kept_tables.specs.EntryLaws.{stays_declared}
+use Rattle.piece_bits.specs.Lows.{low_64}
+use Rattle.piece_bits.specs.LowsLaws.{low_same}
+use Rattle.piece_bits.specs.EntryLaws.{stays_declared}
 use Rattle.piece_bits.specs.Tables.{hold_at}
 use Rattle.record_dim.specs.Leaves.{Leaf, leaves}
 use Rattle.record_dim.specs.LeafTypes.{IsDeclared, is_signed}

@@ -4,8 +4,8 @@ use Rattle.std.specs.Prelude.{slice_set}
 use Rattle.std.proofs.lemmas.List.{get_or-map, length-map, get_or-take, length-take-le, set-get_or, take_more, drop-drop}
 use Rattle.expr_lang.specs.Terms.{Term}
 use Rattle.expr_lang.specs.Values.{outcome_of}
-use Rattle.expr_runs.specs.Exacts.{IsSafe}
-use Rattle.expr_runs.specs.ExactsLaws.{worth}
+use Rattle.expr_lang.specs.Exacts.{IsSafe}
+use Rattle.expr_lang.specs.ExactsLaws.{worth}
 use Rattle.linearize.specs.Slots.{index_at}
 use Rattle.piece_bits.specs.Tables.{hold_at}
 use Rattle.record_dim.specs.Leaves.{Leaf, leaves}

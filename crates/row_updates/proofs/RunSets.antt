@@ -2,7 +2,7 @@
 use Rattle.std.proofs.Common.{◌≡◌, ◌∙◌, ℕ, ◌+◌, ◌<◌, ◌≤◌, List, [], ◌∷◌, ◌++◌, length, map, take, get_or, ℤ, Bool, Option, None, refl, sym, ap, subst, arith, take_all}
 use Rattle.std.proofs.lemmas.List.{take-map, length-map}
 use Rattle.expr_lang.specs.Terms.{Term}
-use Rattle.expr_runs.specs.Exacts.{IsSafe}
+use Rattle.expr_lang.specs.Exacts.{IsSafe}
 use Rattle.views.specs.Columns.{column_writes, with_column, first_lane_fault}
 use Rattle.views.specs.Runs.{stored_count}
 use Rattle.views.specs.Tables.{Table, IsTable, leaf_count_of, answer_of, kept_of, after_stores}

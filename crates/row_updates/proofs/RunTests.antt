@@ -4,8 +4,8 @@ use Rattle.std.proofs.lemmas.List.Sums.{count_by-le-length, sum_by-cons}
 use Rattle.expr_lang.specs.declared.fault.EvalFault.{EvalFault}
 use Rattle.expr_lang.specs.Terms.{Term}
 use Rattle.expr_lang.specs.Values.{is_true}
-use Rattle.expr_runs.specs.Exacts.{IsSafe}
-use Rattle.expr_runs.specs.ExactsLaws.{worth}
+use Rattle.expr_lang.specs.Exacts.{IsSafe}
+use Rattle.expr_lang.specs.ExactsLaws.{worth}
 use Rattle.linearize.specs.Slots.{index_at}
 use Rattle.views.specs.Tables.{Table}
 use Rattle.row_updates.specs.declared.fault.UpdateFault.{UpdateFault}

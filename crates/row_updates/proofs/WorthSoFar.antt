@@ -5,10 +5,10 @@ use Rattle.expr_lang.specs.declared.bound.Links.TheVariants as links
 use Rattle.expr_lang.specs.declared.bound.Step.{Step}
 use Rattle.expr_lang.specs.Terms.{Term}
 use Rattle.expr_lang.specs.Chains.{step_term, links_term}
-use Rattle.expr_runs.specs.ChainLaws.{one_more, safe_front}
-use Rattle.expr_runs.specs.Exacts.{IsSafe}
-use Rattle.expr_runs.specs.Steps.{stepped, IsStepFit, IsWorthIn, IsRight}
-use Rattle.expr_runs.specs.StepLaws.{step_worth, step_fits}
+use Rattle.expr_lang.specs.ChainLaws.{one_more, safe_front}
+use Rattle.expr_lang.specs.Exacts.{IsSafe}
+use Rattle.expr_lang.specs.Steps.{stepped, IsStepFit, IsWorthIn, IsRight}
+use Rattle.expr_lang.specs.StepLaws.{step_worth, step_fits}
 use Rattle.linearize.specs.Slots.{index_at}
 use Rattle.views.specs.Tables.{Table}
 use Rattle.row_updates.specs.declared.runs.Run.{Run}

@@ -4,7 +4,7 @@ use Rattle.expr_lang.specs.declared.bound.Bound.{Bound}
 use Rattle.expr_lang.specs.Bounds.{bound_leaves, bound_rank}
 use Rattle.expr_lang.specs.declared.bound.Step.{Step}
 use Rattle.expr_lang.specs.Terms.{Term}
-use Rattle.expr_runs.specs.Steps.{IsWorthIn, IsRight}
+use Rattle.expr_lang.specs.Steps.{IsWorthIn, IsRight}
 use Rattle.linearize.specs.Slots.{index_at}
 use Rattle.views.specs.Columns.{in_leaf}
 use Rattle.views.specs.Tables.{Table, leaf_count_of, answer_of, after_log}

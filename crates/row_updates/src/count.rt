@@ -1,7 +1,7 @@
 // Rows where an expression is not 0, counted.
 ghost use Rattle.std.specs.Prelude.{◌≡◌, ◌+◌, ◌≤◌, ◌-◌, ℕ, OnOk, IfOk, IfErr, length};
 ghost use Rattle.expr_lang.specs.Bounds.{bound_term};
-ghost use Rattle.expr_runs.specs.Exacts.{IsSafe};
+ghost use Rattle.expr_lang.specs.Exacts.{IsSafe};
 ghost use Rattle.views.specs.Tables.{Table, leaf_count_of, after_log};
 ghost use Rattle.row_updates.specs.Rows.{IsOver, counted};
 ghost use Rattle.row_updates.specs.Logs.{count_log};
@@ -15,8 +15,8 @@ use crate::run_updates::{ROWS, count_passing};
 use crate::runs::{Run, chain_run};
 use crate::value::passes;
 use expr_lang::Bound;
+use record_dim::Steps;
 use std::sync::ledger::Ledger;
-use steps::Steps;
 use views::View;
 
 /// In how many rows an expression is not 0, or its first fault in the order of rows. The table stands, the

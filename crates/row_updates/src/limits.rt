@@ -1,14 +1,13 @@
 // How far from 0 the values of leaves and the numbers of indices may lie, so that no part of some expressions can fail.
 ghost use Rattle.std.specs.Prelude.{◌≡◌, ◌≤◌, true, IfSome, All, length};
 ghost use Rattle.expr_lang.specs.Bounds.{bound_term, bound_leaves, bound_rank};
-ghost use Rattle.expr_runs.specs.Exacts.{IsSafe};
+ghost use Rattle.expr_lang.specs.Exacts.{IsSafe};
 ghost use Rattle.views.specs.Tables.{leaf_count_of};
 ghost use Rattle.row_updates.specs.Rows.{IsOver, IsSetOf};
 ghost use Rattle.row_updates.specs.Runs.{IsIdle, IsSized};
 
 use crate::update::Assign;
-use expr_lang::Bound;
-use expr_runs::most;
+use expr_lang::{Bound, most};
 use record_dim::LeafType;
 use views::View;
 

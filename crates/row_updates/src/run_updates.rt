@@ -3,7 +3,7 @@ ghost use Rattle.std.specs.Prelude.{ℕ, ◌≡◌, ◌+◌, ◌<◌, ◌≤◌,
 ghost use Rattle.expr_lang.specs.Bounds.{bound_term};
 ghost use Rattle.expr_lang.specs.Terms.{Term};
 ghost use Rattle.expr_lang.specs.Values.{is_true};
-ghost use Rattle.expr_runs.specs.Exacts.{IsSafe};
+ghost use Rattle.expr_lang.specs.Exacts.{IsSafe};
 ghost use Rattle.views.specs.Columns.{in_leaf};
 ghost use Rattle.views.specs.Tables.{Table, leaf_count_of};
 ghost use Rattle.row_updates.specs.Rows.{IsOver, IsSetOf, setting_of, filter_term};
@@ -14,8 +14,8 @@ use crate::fault::UpdateFault;
 use crate::runs::{Run, chain_run, leaf_run};
 use crate::update::{Assign, update_between};
 use expr_lang::Bound;
+use record_dim::Steps;
 use std::sync::ledger::Ledger;
-use steps::Steps;
 use views::{View, laws_of_table};
 
 /// How many rows go at once.

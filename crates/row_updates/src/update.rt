@@ -13,8 +13,8 @@ use crate::limits::find_limits;
 use crate::run_updates::update_by_runs;
 use crate::value::{passes, value_of};
 use expr_lang::Bound;
+use record_dim::Steps;
 use std::sync::ledger::Ledger;
-use steps::Steps;
 use views::{StoreFault, View};
 
 /// How many right sides go by runs, since each has a buffer on the stack.

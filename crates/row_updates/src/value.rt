@@ -8,8 +8,8 @@ ghost use Rattle.row_updates.specs.Logs.{value_log, filter_log};
 
 use crate::fault::{UpdateFault, UpdateKind};
 use expr_lang::{Bound, EvalFault, eval};
+use record_dim::Steps;
 use std::sync::ledger::Ledger;
-use steps::Steps;
 use views::{View, laws_of_table};
 
 /// The value of an expression on the row of this number, whose index this is. The table stands, the reads

@@ -58,12 +58,7 @@ uncounted_low (Bytesplit inner) none = omega (arith, uncounted_low inner none)
 uncounted_low (Change from to inner) none = omega (arith, uncounted_low inner none)
 uncounted_low (Counted inner) none = absurd (cc none)
 uncounted_low (Heated granule inner) none = absurd (cc none)
-uncounted_low (Aos form order) none = omega arith
-uncounted_low (Soa form order) none = omega arith
-uncounted_low (Aosoa lanes order) none = omega arith
-uncounted_low (BitAos width fields order) none = omega arith
-uncounted_low (BitSoa width fields order) none = omega arith
-uncounted_low (Named name) none = omega arith
+uncounted_low other none = omega arith
 
 -- with at most one counter of each kind, at the top
 counted_low : (count heat : Bool) (term : MapTerm) → counts_once count heat term ≡ true → height term ≤ depth_of term + (one_if count + one_if heat)
@@ -81,12 +76,7 @@ counted_low count heat (Split path first rest) once = omega (arith, uncounted_lo
 counted_low count heat (Byteswap inner) once = omega (arith, uncounted_low (Byteswap inner) (not_true _ once))
 counted_low count heat (Bytesplit inner) once = omega (arith, uncounted_low (Bytesplit inner) (not_true _ once))
 counted_low count heat (Change from to inner) once = omega (arith, uncounted_low (Change from to inner) (not_true _ once))
-counted_low count heat (Aos form order) once = omega arith
-counted_low count heat (Soa form order) once = omega arith
-counted_low count heat (Aosoa lanes order) once = omega arith
-counted_low count heat (BitAos width fields order) once = omega arith
-counted_low count heat (BitSoa width fields order) once = omega arith
-counted_low count heat (Named name) once = omega arith
+counted_low count heat other once = omega arith
 
 checked_low : (term : MapTerm) → checked term ≡ Ok tt → height term ≤ 10
 checked_low term is = of_tests (nat_lt 8 (depth_of term)) (counts_once true true term) refl refl is

@@ -11,8 +11,8 @@ use Rattle.map_checks.specs.Mappings.{holds_by, leaf_cells}
 use Rattle.map_checks.specs.TermLaws.{length-holds}
 use Rattle.map_any.specs.AnyLaws.{length-leaf_cells}
 use Rattle.piece_bits.specs.Tables.{hold_at}
-use Rattle.kept_tables.specs.Modes.{kind_at, Stays}
-use Rattle.kept_tables.specs.declared.mode.StoreMode.{StoreMode}
+use Rattle.piece_bits.specs.Modes.{kind_at, Stays}
+use Rattle.piece_bits.specs.declared.mode.StoreMode.{StoreMode}
 use Rattle.views.specs.AnswerLaws.{answer_stays}
 use Rattle.views.specs.Stores.{store_answer}
 use Rattle.views.specs.declared.fault.StoreFault.{StoreFault}

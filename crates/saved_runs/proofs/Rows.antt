@@ -16,8 +16,8 @@ use Rattle.map_checks.specs.Mappings.{holds_by}
 use Rattle.places.specs.Image.{entry}
 use Rattle.piece_bits.specs.Tables.{HasShape, hold_at, with_entry, zeros}
 use Rattle.piece_bits.specs.TableLaws.{zeros_shape, zeros_entry}
-use Rattle.kept_tables.specs.EntryLaws.{fitting_stays}
-use Rattle.kept_tables.specs.Modes.{kind_at, Stays}
+use Rattle.piece_bits.specs.EntryLaws.{fitting_stays}
+use Rattle.piece_bits.specs.Modes.{kind_at, Stays}
 use Rattle.views.specs.AnswerLaws.{answer_stays}
 use Rattle.views.specs.Stores.{Answer, Keeping, kept_or, kept_by, kept_row, kept_rows}
 use Rattle.views.specs.declared.fault.StoreFault.{StoreFault}

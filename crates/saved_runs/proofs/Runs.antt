@@ -12,7 +12,7 @@ use Rattle.line_writer.proofs.ReadsBack.{tokens_read}
 use Rattle.blob_file.specs.Statements.{OpensFiles, HoldsBits, HoldsRows}
 use Rattle.worlds.specs.Outcomes.{Left}
 use Rattle.worlds.specs.Step.{step}
-use Rattle.script_runs.specs.Fold.{fails_at}
+use Rattle.worlds.specs.Fold.{fails_at}
 use Rattle.equal_runs.specs.Lines.{IsLine, AreLines}
 use Rattle.equal_runs.specs.Logs.{SoFar, at_first, one_more, Comes, there, further}
 use Rattle.equal_runs.specs.GoesLaws.{gone}

@@ -10,7 +10,7 @@ use Rattle.record_dim.specs.Trees.{Fields}
 use Rattle.places.specs.Layout.{Owner}
 use Rattle.map_expr.specs.Terms.{Term as MapTerm}
 use Rattle.map_checks.specs.Mappings.{accepted, leaf_cells, layout_by, most_slots}
-use Rattle.kept_tables.specs.declared.mode.StoreMode.{StoreMode}
+use Rattle.piece_bits.specs.declared.mode.StoreMode.{StoreMode}
 use Rattle.line_grammar.specs.Sentences.{New}
 use Rattle.views.specs.Refusals.{IsOver}
 use Rattle.views.specs.Tallies.{granules_for}

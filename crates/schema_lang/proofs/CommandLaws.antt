@@ -221,18 +221,11 @@ body_wider version n m le command.View = joined_wider (new_wider version n m le)
 body_wider version n m le command.Load = joined_wider (new_wider version n m le) (λ new. same_wider _)
 body_wider version n m le command.Set = joined_wider (same_wider _) (λ view. joined_wider (same_wider _) (λ index. behind_wider _ (joined_wider (same_wider _) (λ path. behind_wider _ (joined_wider (expr_wider n m le) (λ value. same_wider _))))))
 body_wider version n m le command.Update = joined_wider (same_wider _) (λ view. joined_wider (filter_wider n m le) (λ filter. behind_wider _ (joined_wider (listed_wider (assignment_wider n m le)) (λ sets. same_wider _))))
-body_wider version n m le command.Kernel = same_wider _
 body_wider version n m le command.Reduce = joined_wider (same_wider _) (λ view. either_wider (behind_wider _ (behind_wider _ (joined_wider (expr_wider n m le) (λ filter. same_wider _)))) (same_wider _))
-body_wider version n m le command.Copy = same_wider _
 body_wider version n m le command.Relayout = joined_wider (same_wider _) (λ view. behind_wider _ (joined_wider (map_wider version n m le) (λ map. same_wider _)))
-body_wider version n m le (command.Show kind) = same_wider _
-body_wider version n m le command.Drop = same_wider _
-body_wider version n m le command.Bytes = same_wider _
-body_wider version n m le command.Save = same_wider _
-body_wider version n m le command.Open = same_wider _
 body_wider version n m le command.Advise = joined_wider (same_wider _) (λ view. behind_wider _ (joined_wider (same_wider _) (λ granule. joined_wider (same_wider _)
     (λ passes. behind_wider _ (joined_wider (listed_wider (map_wider version n m le)) (λ maps. same_wider _))))))
-body_wider version n m le command.Stencil = same_wider _
+body_wider version n m le other = same_wider _
 
 line_wider : (version : Version) (n m : ℕ) → n ≤ m → Wider (IsLine version n) (IsLine version m)
 line_wider version n m le = either_wider (same_wider _) (joined_wider (same_wider _) (body_wider version n m le))
@@ -262,18 +255,11 @@ body_alike version n m le command.Set = then_alike n (no_longer name_parses) (sa
     (λ path. behind_kept n _ (then_alike n (no_longer (expr_parses n)) (expr_alike n m le) (λ value. same_alike n _))))))
 body_alike version n m le command.Update = then_alike n (no_longer name_parses) (same_alike n _) (λ view. then_alike n (no_longer (filter_parses n)) (filter_alike n m le)
     (λ filter. behind_kept n _ (then_alike n (no_longer (listed_parses (assignment_parses n) (λ us. omega arith))) (listed_alike n (assignment_parses n) (λ us. omega arith) (assignment_alike n m le)) (λ sets. same_alike n _))))
-body_alike version n m le command.Kernel = same_alike n _
 body_alike version n m le command.Reduce = then_alike n (no_longer name_parses) (same_alike n _) (λ view. either_alike n _ (behind_kept n _ (behind_kept n _ (then_alike n (no_longer (expr_parses n)) (expr_alike n m le) (λ filter. same_alike n _)))) (same_alike n _))
-body_alike version n m le command.Copy = same_alike n _
 body_alike version n m le command.Relayout = then_alike n (no_longer name_parses) (same_alike n _) (λ view. behind_kept n _ (then_alike n (no_longer (map_parses version n)) (map_alike version n m le) (λ map. same_alike n _)))
-body_alike version n m le (command.Show kind) = same_alike n _
-body_alike version n m le command.Drop = same_alike n _
-body_alike version n m le command.Bytes = same_alike n _
-body_alike version n m le command.Save = same_alike n _
-body_alike version n m le command.Open = same_alike n _
 body_alike version n m le command.Advise = then_alike n (no_longer name_parses) (same_alike n _) (λ view. behind_kept n _ (then_alike n (no_longer count_parses) (same_alike n _) (λ granule. then_alike n (no_longer passes_parses) (same_alike n _)
     (λ passes. behind_kept n _ (then_alike n (no_longer (maps_parses version n)) (listed_alike n (map_parses version n) (λ us. refl) (map_alike version n m le)) (λ maps. same_alike n _))))))
-body_alike version n m le command.Stencil = same_alike n _
+body_alike version n m le other = same_alike n _
 
 line_alike : (version : Version) (n m : ℕ) → n ≤ m → Alike n (line_at version n) (line_at version m)
 unfolding line_at command_at

@@ -39,24 +39,16 @@ IsFlat (Sign sign) = ⊥
 IsFlat token = Unit {0}
 
 flat_kind : (bytes inside : List ℕ) (kind : TokenKind) → IsFlat (kind_token bytes inside (Some kind)) → brackets_after kind 0 ≡ 0
-flat_kind bytes inside kind.Word flat = refl
-flat_kind bytes inside (kind.Number value) flat = refl
-flat_kind bytes inside kind.Text flat = refl
 flat_kind bytes inside (kind.Sign sign) flat = absurd flat
+flat_kind bytes inside other flat = refl
 
 word_flat : (word : List ℕ) (token : Token) → is_word word token ≡ true → IsFlat token
 word_flat word (Sign sign) named = absurd (cc)
-word_flat word (Word text) named = tt
-word_flat word (Number value) named = tt
-word_flat word (Text text) named = tt
-word_flat word Bad named = tt
+word_flat word other named = tt
 
 count_flat : (token : Token) (number : ℕ) → count_of token ≡ Some number → IsFlat token
 count_flat (Sign sign) number counted = absurd (cc)
-count_flat (Word text) number counted = tt
-count_flat (Number value) number counted = tt
-count_flat (Text text) number counted = tt
-count_flat Bad number counted = tt
+count_flat other number counted = tt
 
 -- the token that stands next is the first of the tokens, and behind one that is no bracket stand the others
 record Follows (text : List ℕ) (spots : List Spot) (token : Token) (end : ℕ) : Type 0 where

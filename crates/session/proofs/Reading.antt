@@ -77,10 +77,8 @@ after_load name view done outcome rest read_failed step.Sink result is loads = a
 
 pub unread_after : (A : Type 0) {B C D : Type 0} (name : List ℕ) (outcome : List File → Bool → Outcome B) (rest : B → Outcome D) (fault : StepFault) (result : Result C StepFault) →
     result ≡ Err fault → UnreadOnly {A = A} (Some name) outcome (Err fault) → UnreadOnly (Some name) (λ files unread. outcome files unread >>= rest) result
-unread_after A name outcome rest (step.Command refusal) result is unread = rw is tt
-unread_after A name outcome rest step.NoMemory result is unread = rw is tt
-unread_after A name outcome rest step.Sink result is unread = rw is tt
 unread_after A name outcome rest step.Source result is unread = rw is (λ files. rw (unread files) refl)
+unread_after A name outcome rest other result is unread = rw is tt
 
 -- what is told of a load is told of what comes first
 pub told_first : {A B : Type 0} (told : Option (List File)) (files : List File) (first : Outcome A) (rest : A → Outcome B) → ToldFor told (first >>= rest) files → ToldFor told first files
@@ -128,17 +126,13 @@ unloads_of {most} {name} {rest} {outcome} view files read_failed fault result re
 -- and no other file is told as unread
 pub unread_of : (A : Type 0) {B : Type 0} {most : ℕ} {name : List ℕ} {rest : List ℕ → Outcome B} {outcome : List File → Bool → Outcome B} (fault : StepFault) (result : Result A StepFault) →
     IsOf most name rest outcome → result ≡ Err fault → UnreadOnly (Some name) outcome result
-unread_of A (step.Command refusal) result reads is = rw is tt
-unread_of A step.NoMemory result reads is = rw is tt
-unread_of A step.Sink result reads is = rw is tt
 unread_of A step.Source result reads is = rw is (λ files. reads.is files true)
+unread_of A other result reads is = rw is tt
 
 -- a test that gives up tells no file as unread
 pub unread_test : {A B X : Type 0} (file : Option (List ℕ)) (first : Outcome X) (outcome : List File → Bool → Outcome B) (fault : StepFault) (result : Result A StepFault) → result ≡ Err fault → GivesUp first fault → UnreadOnly file outcome result
-unread_test file first outcome (step.Command refusal) result is gives = rw is tt
-unread_test file first outcome step.NoMemory result is gives = rw is tt
 unread_test file first outcome step.Source result is gives = absurd gives
-unread_test file first outcome step.Sink result is gives = rw is tt
+unread_test file first outcome other result is gives = rw is tt
 
 -- nor does one that is done without a file
 pub unread_gives : {A B C : Type 0} (file : Option (List ℕ)) (view : A → B) (first : Outcome B) (outcome : List File → Bool → Outcome C) (result : Result A StepFault) → Gives view result first → UnreadOnly file outcome result

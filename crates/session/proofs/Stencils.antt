@@ -50,13 +50,4 @@ rounds_stop table stencil rounds fault told is tells = rw is (ap (λ (f : Comman
 pub built_uncounted : (term : Term) → IsBuiltTerm term → IsBuiltTerm (uncounted term)
 built_uncounted (Count inner) built = built_uncounted inner built
 built_uncounted (Heat granule inner) built = built_uncounted inner built
-built_uncounted (Aos form order) built = built
-built_uncounted (Soa form order) built = built
-built_uncounted (Aosoa lanes order) built = built
-built_uncounted (BitAos width entries order) built = built
-built_uncounted (BitSoa width entries order) built = built
-built_uncounted (Split path first rest) built = built
-built_uncounted (Byteswap inner) built = built
-built_uncounted (Bytesplit inner) built = built
-built_uncounted (Change from to inner) built = built
-built_uncounted (Named name) built = built
+built_uncounted other built = built

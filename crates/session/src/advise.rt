@@ -23,10 +23,9 @@ use layout_io::{Sink, write_parts};
 use line_grammar::{Line, PassTextList};
 use line_writer::write_line;
 use map_expr::{MapExpr, MapExprList};
-use record_dim::{Name, Text};
+use record_dim::{Name, Steps, Text};
 use std::alloc::{AllocError as NoMemory, Global};
 use std::sync::ledger::Ledger;
-use steps::Steps;
 use views::View;
 use worlds::CommandFault;
 

@@ -21,11 +21,10 @@ use expr_lang::{Bound, EvalFault, Expr};
 use extents::Extents;
 use layout_io::Sink;
 use line_grammar::IndexWords;
-use record_dim::Path;
+use record_dim::{Path, Steps};
 use row_updates::value_on;
 use std::alloc::Global;
 use std::sync::ledger::Ledger;
-use steps::Steps;
 use views::{StoreFault, View};
 use worlds::CommandFault;
 

@@ -34,9 +34,9 @@ use instrument::write_bytes;
 use layout_io::{Failed, Sink};
 use line_grammar::{IndexWords, SetList};
 use places::Mapping;
+use record_dim::Steps;
 use std::alloc::Global;
 use std::sync::ledger::Ledger;
-use steps::Steps;
 use views::View;
 use worlds::{BadActors, CommandFault};
 

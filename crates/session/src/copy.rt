@@ -15,10 +15,9 @@ use crate::faults::narrow_fault;
 use crate::session::Session;
 use command_checks::{StepFault, ViewList, known_view};
 use layout_copy::{CopyFault, copy_self};
-use record_dim::Name;
+use record_dim::{Name, Steps};
 use std::alloc::Global;
 use std::sync::ledger::Ledger;
-use steps::Steps;
 use views::View;
 use worlds::CommandFault;
 

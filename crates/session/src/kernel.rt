@@ -16,9 +16,9 @@ use command_checks::{StepFault, fit_kernel};
 use lane_kernels::{Kernel, KernelFault, run_lanes};
 use layout_io::{Failed, Sink};
 use line_grammar::KernelText;
+use record_dim::Steps;
 use std::alloc::Global;
 use std::sync::ledger::Ledger;
-use steps::Steps;
 use views::View;
 use worlds::CommandFault;
 

@@ -27,6 +27,7 @@ pub use actors::{Assign, UpdateFault, UpdateKind, update_rows};
 pub use command_checks::{
     MappingEntry, MappingList, RecordEntry, RecordList, StepFault, ViewEntry, ViewList,
 };
-pub use fault_lines::write_fault;
 pub use session::Session;
-pub use worlds::{BadActors, BadAdvice, BadFile, BadKernel, BadStencil, CommandFault, UnknownName};
+pub use worlds::{
+    BadActors, BadAdvice, BadFile, BadKernel, BadStencil, CommandFault, UnknownName, write_fault,
+};

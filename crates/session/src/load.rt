@@ -24,9 +24,9 @@ use csv_rows::{RowFault, count_rows, load_rows};
 use extents::{ExtentWord, Extents, Shape};
 use layout_io::Shelf;
 use line_grammar::FileName;
+use record_dim::Steps;
 use std::alloc::Global;
 use std::sync::ledger::Ledger;
-use steps::Steps;
 use views::View;
 use worlds::CommandFault;
 

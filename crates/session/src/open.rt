@@ -14,10 +14,9 @@ use blob_file::{FileFault, read_file};
 use command_checks::{MAX_LIVE_BYTES, StepFault, ViewEntry, free_view, has_room, live_bytes};
 use layout_io::Shelf;
 use line_grammar::FileName;
-use record_dim::Name;
+use record_dim::{Name, Steps};
 use std::alloc::Global;
 use std::sync::ledger::Ledger;
-use steps::Steps;
 use views::View;
 use worlds::{BadFile, CommandFault};
 

@@ -16,11 +16,10 @@ use expr_lang::Expr;
 use lane_kernels::{Reduction, reduce_leaf};
 use layout_io::Sink;
 use line_grammar::ReduceKind;
-use record_dim::Path;
+use record_dim::{Path, Steps};
 use row_updates::count_where;
 use std::alloc::Global;
 use std::sync::ledger::Ledger;
-use steps::Steps;
 use views::View;
 use worlds::CommandFault;
 

@@ -13,10 +13,9 @@ use crate::copy::copy_into;
 use crate::session::Session;
 use command_checks::{StepFault, ViewEntry, known_view, made, nameless};
 use map_expr::MapExpr;
-use record_dim::Name;
+use record_dim::{Name, Steps};
 use std::alloc::Global;
 use std::sync::ledger::Ledger;
-use steps::Steps;
 use views::View;
 
 impl Session {

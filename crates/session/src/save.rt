@@ -5,9 +5,9 @@ use crate::work::Work;
 use blob_file::{SaveEnd, write_file};
 use command_checks::StepFault;
 use layout_io::Sink;
+use record_dim::Steps;
 use std::alloc::Global;
 use std::sync::ledger::Ledger;
-use steps::Steps;
 use views::View;
 use worlds::CommandFault;
 

@@ -24,10 +24,9 @@ use command_checks::{
 };
 use layout_io::{Shelf, Sink};
 use line_grammar::Line;
-use record_dim::Name;
+use record_dim::{Name, Steps};
 use std::alloc::Global;
 use std::sync::ledger::Ledger;
-use steps::Steps;
 
 /// What a script has named so far.
 #[derive(Drop)]

@@ -17,10 +17,9 @@ use csv_rows::print_rows;
 use instrument::{write_bytes, write_counts, write_heat, write_runs};
 use layout_io::Sink;
 use places::{Mapping, Run, RunList, laws_of};
-use record_dim::Name;
+use record_dim::{Name, Steps};
 use std::alloc::{AllocError as NoMemory, Global};
 use std::sync::ledger::Ledger;
-use steps::Steps;
 use views::View;
 use worlds::CommandFault;
 

@@ -18,10 +18,10 @@ use command_checks::{StepFault, bound, leaf_of, leaf_text};
 use expr_lang::{Bound, Expr};
 use layout_io::Sink;
 use line_grammar::{SetList, SetText};
+use record_dim::Steps;
 use row_updates::{Assign, UpdateFault, UpdateKind, update_rows};
 use std::alloc::Global;
 use std::sync::ledger::Ledger;
-use steps::Steps;
 use views::View;
 use worlds::CommandFault;
 

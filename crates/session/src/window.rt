@@ -6,9 +6,9 @@ use crate::work::Work;
 use command_checks::{StepFault, windowed};
 use layout_io::Sink;
 use line_grammar::WindowWords;
+use record_dim::Steps;
 use std::alloc::Global;
 use std::sync::ledger::Ledger;
-use steps::Steps;
 use subviews::{SubView, print_window};
 use views::View;
 

@@ -13,10 +13,9 @@ ghost use Rattle.session.specs.Stands.{AreLeft, world_in};
 
 use command_checks::{StepFault, ViewList, known_view};
 use layout_io::Sink;
-use record_dim::Name;
+use record_dim::{Name, Steps};
 use std::alloc::Global;
 use std::sync::ledger::Ledger;
-use steps::Steps;
 use views::View;
 
 /// What works on one view, and on nothing else of a session.

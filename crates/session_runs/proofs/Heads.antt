@@ -6,7 +6,7 @@ use Rattle.layout_io.specs.Files.{File}
 use Rattle.line_grammar.specs.declared.version.Version.{Version}
 use Rattle.schema_lang.specs.VersionOf.{version_of, is_blank}
 use Rattle.worlds.specs.Worlds.{World}
-use Rattle.script_runs.specs.Fold.{run_from}
+use Rattle.worlds.specs.Fold.{run_from}
 use Rattle.session_runs.specs.Steps.{step_text}
 use Rattle.session_runs.specs.Scripts.{version_line}
 use Rattle.session_runs.specs.BlankLaws.{passes_blanks}

@@ -8,11 +8,11 @@ use Rattle.worlds.specs.Worlds.{empty}
 use Rattle.worlds.specs.FaultTexts.{fault_text}
 use Rattle.worlds.specs.declared.fault.CommandFault.{CommandFault as Fault}
 use Rattle.worlds.specs.declared.fault.CommandFault.TheVariants.{ScriptTooLong, BadVersion}
-use Rattle.script_runs.specs.Outcome.{Output}
-use Rattle.script_runs.specs.Answers.{IsRun, ended}
-use Rattle.script_runs.specs.Fold.{run_from}
-use Rattle.script_runs.specs.declared.status.Status.{Status}
-use Rattle.script_runs.specs.declared.status.Status.TheVariants.{CommandFault}
+use Rattle.worlds.specs.Outcome.{Output}
+use Rattle.worlds.specs.RunAnswers.{IsRun, ended}
+use Rattle.worlds.specs.Fold.{run_from}
+use Rattle.worlds.specs.declared.status.Status.{Status}
+use Rattle.worlds.specs.declared.status.Status.TheVariants.{CommandFault}
 use Rattle.line_grammar.specs.Versions.{version_numbered}
 use Rattle.line_grammar.specs.declared.version.Version.{Version}
 use Rattle.line_grammar.specs.declared.version.Version.TheVariants.{One}

@@ -12,9 +12,9 @@ use Rattle.schema_lang.specs.LineOf.{line_of}
 use Rattle.schema_lang.specs.Parsing.{IsWhole}
 use Rattle.command_checks.specs.declared.fault.StepFault.{StepFault}
 use Rattle.command_checks.specs.declared.fault.StepFault.TheVariants as fault
-use Rattle.script_runs.specs.Steps.{ending_of}
-use Rattle.script_runs.specs.declared.fold.LineEnd.{LineEnd}
-use Rattle.script_runs.specs.declared.fold.LineEnd.TheVariants as end
+use Rattle.worlds.specs.Steps.{ending_of}
+use Rattle.worlds.specs.declared.fold.LineEnd.{LineEnd}
+use Rattle.worlds.specs.declared.fold.LineEnd.TheVariants as end
 use Rattle.session.specs.Answers.{IsFit, ending_of as fault_ending}
 use Rattle.session.specs.Loads.{UnreadOnly}
 use Rattle.worlds.specs.Worlds.{World}

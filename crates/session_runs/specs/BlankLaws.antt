@@ -14,7 +14,7 @@ use Rattle.worlds.specs.Worlds.{World}
 use Rattle.worlds.specs.Outcomes.{Outcome, Faults, Left, quiet}
 use Rattle.worlds.specs.Step.{step}
 use Rattle.worlds.specs.declared.fault.CommandFault.TheVariants.{LineTooLong}
-use Rattle.script_runs.specs.Fold.{run_from, after, fails_at}
+use Rattle.worlds.specs.Fold.{run_from, after, fails_at}
 use Rattle.session_runs.specs.Steps.{step_text, step_line}
 use Rattle.session_runs.specs.Heads.{PassesBlanks}
 

@@ -6,7 +6,7 @@ use Rattle.line_grammar.specs.declared.version.Version.TheVariants.{One}
 use Rattle.schema_lang.specs.VersionOf.{is_blank}
 use Rattle.worlds.specs.Worlds.{World, empty}
 use Rattle.worlds.specs.declared.fault.CommandFault.TheVariants.{ScriptTooLong}
-use Rattle.script_runs.specs.Fold.{run_from}
+use Rattle.worlds.specs.Fold.{run_from}
 use Rattle.session_runs.specs.Steps.{step_text}
 use Rattle.session_runs.specs.Scripts.{script_lines, version_line, run_form, faulted}
 use Rattle.session_runs.specs.declared.version.FirstLine.{FirstLine}

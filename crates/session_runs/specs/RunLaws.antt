@@ -1,9 +1,9 @@
 -- A run that is the same as another one, as far as reads fail there.
 use Rattle.std.proofs.Common.{◌≡◌, ℕ, inl, inr, ⊎_elim, List, Option, None, Some, ap, ◌∙◌}
-use Rattle.script_runs.specs.Outcome.{Output, Unread, Gives, IsText}
-use Rattle.script_runs.specs.Answers.{Answers, IsRun}
-use Rattle.script_runs.specs.declared.status.Status.{Status}
-use Rattle.script_runs.specs.declared.status.Status.TheVariants.{Done, CommandFault, Usage, SourceFault, SinkFault, NoMemory}
+use Rattle.worlds.specs.Outcome.{Output, Unread, Gives, IsText}
+use Rattle.worlds.specs.RunAnswers.{Answers, IsRun}
+use Rattle.worlds.specs.declared.status.Status.{Status}
+use Rattle.worlds.specs.declared.status.Status.TheVariants.{Done, CommandFault, Usage, SourceFault, SinkFault, NoMemory}
 
 -- two runs that are the same where no read fails, and where one fails at a line of the first
 pub record IsSame (first whole : Option ℕ → Output) : Type 0 where
@@ -18,13 +18,11 @@ text_of_same first whole read_failed text same is_text = ⊎_elim
 
 same_answer : (first whole : Option ℕ → Output) (read_failed : Type 0) (status : Status) (out : List ℕ) → IsSame first whole
     → Answers first read_failed status out → Answers whole read_failed status out
-same_answer first whole read_failed Done out same answer = same.unfailed ∙ answer
-same_answer first whole read_failed CommandFault out same answer = same.unfailed ∙ answer
-same_answer first whole read_failed Usage out same answer = same.unfailed ∙ answer
 same_answer first whole read_failed SourceFault out same answer =
     (answer.0, same.failed answer.0 out answer.1 ∙ answer.1, ⊎_elim (λ (failed : read_failed). inl failed) (λ (plain : Gives (first None) out (Unread answer.0)). inr (same.unfailed ∙ plain)) answer.2)
 same_answer first whole read_failed SinkFault out same answer = (answer.0, text_of_same first whole read_failed answer.0 same answer.1, answer.2, answer.3, answer.4)
 same_answer first whole read_failed NoMemory out same answer = (answer.0, text_of_same first whole read_failed answer.0 same answer.1, answer.2, answer.3, answer.4)
+same_answer first whole read_failed other out same answer = same.unfailed ∙ answer
 
 pub run_of_same : {K : Type 0} (taken : K → Option (List ℕ)) (old new : K) (first whole : Option ℕ → Output) (read_failed : Type 0) (status : Status)
     → IsSame first whole → IsRun taken old new first read_failed status → IsRun taken old new whole read_failed status

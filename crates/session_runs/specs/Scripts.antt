@@ -10,9 +10,9 @@ use Rattle.worlds.specs.Worlds.{empty}
 use Rattle.worlds.specs.FaultTexts.{fault_text}
 use Rattle.worlds.specs.declared.fault.CommandFault.{CommandFault}
 use Rattle.worlds.specs.declared.fault.CommandFault.TheVariants.{ScriptTooLong, BadVersion}
-use Rattle.script_runs.specs.Outcome.{Output, Faulted}
-use Rattle.script_runs.specs.Lines.{lines_in}
-use Rattle.script_runs.specs.Fold.{run_from}
+use Rattle.worlds.specs.Outcome.{Output, Faulted}
+use Rattle.worlds.specs.Lines.{lines_in}
+use Rattle.worlds.specs.Fold.{run_from}
 use Rattle.session_runs.specs.Steps.{step_text}
 
 -- the run ends with a fault line

@@ -6,8 +6,8 @@ use Rattle.line_grammar.specs.declared.version.Version.{Version}
 use Rattle.schema_lang.specs.LineOf.{line_of}
 use Rattle.command_checks.specs.declared.fault.StepFault.{StepFault}
 use Rattle.command_checks.specs.declared.fault.StepFault.TheVariants as fault
-use Rattle.script_runs.specs.declared.fold.LineEnd.{LineEnd}
-use Rattle.script_runs.specs.declared.fold.LineEnd.TheVariants as end
+use Rattle.worlds.specs.declared.fold.LineEnd.{LineEnd}
+use Rattle.worlds.specs.declared.fold.LineEnd.TheVariants as end
 use Rattle.worlds.specs.Worlds.{World}
 use Rattle.worlds.specs.Outcomes.{Outcome, Faults, Left}
 use Rattle.worlds.specs.Step.{step}

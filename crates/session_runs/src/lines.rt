@@ -4,7 +4,7 @@ ghost use Rattle.layout_io.specs.Faults.{Rose};
 ghost use Rattle.layout_io.specs.Files.{File};
 ghost use Rattle.line_grammar.specs.Sentences.{sentence_of, file_of};
 ghost use Rattle.schema_lang.specs.Parsing.{IsWhole};
-ghost use Rattle.script_runs.specs.Steps.{ending_of};
+ghost use Rattle.worlds.specs.Steps.{ending_of};
 ghost use Rattle.session.specs.Stands.{Stands};
 ghost use Rattle.worlds.specs.Answers.{StepsTo, StepCause};
 ghost use Rattle.worlds.specs.Step.{step};
@@ -12,13 +12,12 @@ ghost use Rattle.worlds.specs.Worlds.{World};
 ghost use Rattle.session_runs.specs.Steps.{step_text, EndsAs, TellsFile};
 
 use layout_io::{Shelf, Sink};
-use record_dim::Text;
+use record_dim::{Steps, Text};
 use schema_lang::{FileName, Line, LineFault, MAX_LINE_BYTES, Version, parse_line};
-use script_runs::{LineEnd, Stepper};
 use session::{CommandFault, Session, StepFault};
 use std::alloc::{AllocError as NoMemory, Global};
 use std::sync::ledger::Ledger;
-use steps::Steps;
+use worlds::{LineEnd, Stepper};
 
 /// A session that does the lines of a script.
 #[derive(Drop)]

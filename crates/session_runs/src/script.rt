@@ -3,24 +3,23 @@ ghost use Rattle.std.specs.Prelude.{◌≡◌, ◌+◌, ◌^◌, ◌<◌, ◌≤
 ghost use Rattle.csv.specs.Reading.{strip_bom};
 ghost use Rattle.layout_io.specs.Faults.{Rose};
 ghost use Rattle.layout_io.specs.Files.{File};
-ghost use Rattle.script_runs.specs.Answers.{IsRun, HasCause};
-ghost use Rattle.script_runs.specs.Fold.{run_from};
-ghost use Rattle.script_runs.specs.Lines.{lines_in};
+ghost use Rattle.worlds.specs.RunAnswers.{IsRun, HasCause};
+ghost use Rattle.worlds.specs.Fold.{run_from};
+ghost use Rattle.worlds.specs.Lines.{lines_in};
 ghost use Rattle.worlds.specs.Worlds.{empty};
 ghost use Rattle.session_runs.specs.Scripts.{run_form, run_headed, version_line};
 ghost use Rattle.session_runs.specs.Steps.{step_text};
 
 use crate::lines::Running;
 use crate::version::{version_line, version_numbered};
-use fault_lines::write_fault;
 use layout_io::{Shelf, Sink};
+use record_dim::Steps;
 use schema_lang::Version;
-use script_runs::{Status, ended, line_count, run_lines};
 use session::{CommandFault, Session};
 use std::alloc::Global;
 use std::marker::Brand;
 use std::sync::ledger::{Blank, Ledger};
-use steps::Steps;
+use worlds::{Status, ended, line_count, run_lines, write_fault};
 
 // The most lines of a script.
 const SCRIPT_LINES: usize = 65_536;

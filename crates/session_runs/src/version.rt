@@ -1,12 +1,12 @@
 // The version line of a script.
 ghost use Rattle.std.specs.Prelude.{◌≡◌, ◌+◌, ◌<◌, ◌∷◌, ℕ, List, drop, length, option_map, IfSome};
 ghost use Rattle.line_grammar.specs.Versions.{version_numbered};
-ghost use Rattle.script_runs.specs.Lines.{lines_in};
+ghost use Rattle.worlds.specs.Lines.{lines_in};
 ghost use Rattle.session_runs.specs.Heads.{with_first};
 ghost use Rattle.session_runs.specs.Scripts.{version_line};
 
 use schema_lang::{MAX_LINE_BYTES, Version, is_blank, version_of};
-use script_runs::next_line;
+use worlds::next_line;
 
 /// A version line: how many lines stand before it, its number, and what stands behind it.
 #[derive(Clone, Copy)]

@@ -5,13 +5,13 @@ use Rattle.std.proofs.Math.Nat.{mod-eq_of_lt}
 use borrow.Author.Gap.{read_sfits}
 use Rattle.std.proofs.lemmas.List.{length-map, take_all}
 use Rattle.extents.specs.Indices.{indices}
-use Rattle.leaf_runs.specs.Lows.{low_64, IsWithin64}
-use Rattle.leaf_runs.specs.LowsLaws.{code_low}
-use Rattle.kept_numbers.specs.Kept.{declared, kept}
-use Rattle.kept_numbers.specs.KeptLaws.{declared_same, kept_declared}
-use Rattle.kept_tables.specs.declared.mode.StoreMode.{StoreMode}
-use Rattle.kept_tables.specs.declared.mode.StoreMode.TheVariants.{Strict, Wrap}
-use Rattle.kept_tables.specs.EntryLaws.{stays_declared}
+use Rattle.piece_bits.specs.Lows.{low_64, IsWithin64}
+use Rattle.piece_bits.specs.LowsLaws.{code_low}
+use Rattle.piece_bits.specs.Kept.{declared, kept}
+use Rattle.piece_bits.specs.KeptLaws.{declared_same, kept_declared}
+use Rattle.piece_bits.specs.declared.mode.StoreMode.{StoreMode}
+use Rattle.piece_bits.specs.declared.mode.StoreMode.TheVariants.{Strict, Wrap}
+use Rattle.piece_bits.specs.EntryLaws.{stays_declared}
 use Rattle.piece_bits.specs.Tables.{hold_at}
 use Rattle.places.specs.Image.{entry}
 use Rattle.places.specs.declared.piece.Hold.{Hold}

@@ -7,9 +7,9 @@ use Rattle.std.proofs.lemmas.List.{length-map}
 use Rattle.std.proofs.lemmas.List.Sums.{sum_by_more, sum_by_more_le}
 use Rattle.std.proofs.lemmas.Nat.{mul-le}
 use Rattle.extents.specs.Indices.{indices}
-use Rattle.kept_tables.specs.EntryLaws.{stays_declared}
-use Rattle.leaf_runs.specs.Lows.{low_64}
-use Rattle.leaf_runs.specs.LowsLaws.{low_same}
+use Rattle.piece_bits.specs.EntryLaws.{stays_declared}
+use Rattle.piece_bits.specs.Lows.{low_64}
+use Rattle.piece_bits.specs.LowsLaws.{low_same}
 use Rattle.piece_bits.specs.Tables.{hold_at}
 use Rattle.places.specs.Image.{entry}
 use Rattle.record_dim.specs.Leaves.{Leaf, leaves}

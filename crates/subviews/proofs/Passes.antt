@@ -13,7 +13,7 @@ use Rattle.record_dim.specs.Trees.{Fields}
 use Rattle.record_dim.specs.Leaves.{leaves, kinds_of}
 use Rattle.map_expr.specs.Terms.{Term}
 use Rattle.map_checks.specs.Mappings.{leaf_cells, holds_by}
-use Rattle.kept_tables.specs.declared.mode.StoreMode.{StoreMode}
+use Rattle.piece_bits.specs.declared.mode.StoreMode.{StoreMode}
 use Rattle.piece_bits.specs.Tables.{HasShape, hold_at, with_entry}
 use Rattle.piece_bits.specs.TableLaws.{with_entry_shape, with_entry_same, with_entry_other}
 use Rattle.views.specs.AnswerLaws.{told_err, told_kept, told_ok}

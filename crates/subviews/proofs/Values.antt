@@ -46,14 +46,7 @@ weight_small weight is =
 
 pub entry_small : (kind : LeafType) (value : ℤ) → IsDeclared kind value → unsigned_abs value ≤ 2 ^ 64
 entry_small Truth value d = abs_small value (2 ^ 64) (omega (arith, ints, d.0)) (omega (arith, ints, d.1))
-entry_small U8 value d = abs_small value (2 ^ 64) (omega (arith, ints, d.0)) (omega (arith, ints, d.1))
-entry_small U16 value d = abs_small value (2 ^ 64) (omega (arith, ints, d.0)) (omega (arith, ints, d.1))
-entry_small U32 value d = abs_small value (2 ^ 64) (omega (arith, ints, d.0)) (omega (arith, ints, d.1))
-entry_small U64 value d = abs_small value (2 ^ 64) (omega (arith, ints, d.0)) (omega (arith, ints, d.1))
-entry_small I8 value d = abs_small value (2 ^ 64) (omega (arith, ints, d.0)) (omega (arith, ints, d.1))
-entry_small I16 value d = abs_small value (2 ^ 64) (omega (arith, ints, d.0)) (omega (arith, ints, d.1))
-entry_small I32 value d = abs_small value (2 ^ 64) (omega (arith, ints, d.0)) (omega (arith, ints, d.1))
-entry_small I64 value d = abs_small value (2 ^ 64) (omega (arith, ints, d.0)) (omega (arith, ints, d.1))
+entry_small other value d = abs_small value (2 ^ 64) (omega (arith, ints, d.0)) (omega (arith, ints, d.1))
 
 pub product_small : (weight value : ℤ) → unsigned_abs weight ≤ 2 ^ 31 → unsigned_abs value ≤ 2 ^ 64 → unsigned_abs (weight *ℤ value) ≤ 2 ^ 95
 product_small weight value low high =

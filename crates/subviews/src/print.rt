@@ -11,8 +11,8 @@ ghost use Rattle.subviews.specs.SubViews.{sub_table, sub_reads};
 use crate::sub_view::SubView;
 use csv_rows::{put_names, put_row};
 use layout_io::{Failed, Sink, TextBuffer};
+use record_dim::Steps;
 use std::sync::ledger::Ledger;
-use steps::Steps;
 use views::laws_of_table;
 
 /// Writes the names of the leaves as a line, and the values of each row of the subview as a line, joined by commas.

@@ -16,9 +16,9 @@ use crate::runs::{MOST, Run, Walk};
 use crate::sums::sum_run;
 use crate::term::Term;
 use extents::Window;
-use kept_tables::StoreMode;
+use piece_bits::StoreMode;
+use record_dim::Steps;
 use std::sync::ledger::Ledger;
-use steps::Steps;
 use views::{View, laws_of_table};
 
 /// Sets a leaf in each row of a window to the sum of the terms there, divided and cut toward zero, so many times. All values of a round are

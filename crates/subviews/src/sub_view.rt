@@ -6,8 +6,8 @@ ghost use Rattle.views.specs.Tables.{leaf_count_of, leaf_type_of, answer_of, aft
 ghost use Rattle.subviews.specs.SubViews.{rows_of, outer_row};
 
 use extents::Window;
+use record_dim::Steps;
 use std::sync::ledger::Ledger;
-use steps::Steps;
 use views::{StoreFault, View, laws_of_table};
 
 /// The rows of a view that is borrowed whose index a window holds, in row order.

@@ -7,8 +7,8 @@ ghost use mir.Syntax.{w64};
 use crate::far::row_away;
 use crate::plan::Plan;
 use crate::runs::Run;
+use record_dim::Steps;
 use std::sync::ledger::Ledger;
-use steps::Steps;
 use views::{View, laws_of_table};
 
 /// Works out the values of a stencil in a run of rows of its window, in a view that counts nothing. What is read stands in a buffer of as many

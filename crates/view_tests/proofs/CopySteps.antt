@@ -15,7 +15,7 @@ use Rattle.record_dim.specs.Leaves.{kinds_of, leaves}
 use Rattle.record_dim.specs.Trees.{Fields}
 use Rattle.record_dim.specs.declared.leaf_type.LeafType.{LeafType}
 use Rattle.record_dim.specs.declared.leaf_type.LeafType.TheVariants.{U32}
-use Rattle.kept_tables.specs.declared.mode.StoreMode.TheVariants.{Strict}
+use Rattle.piece_bits.specs.declared.mode.StoreMode.TheVariants.{Strict}
 use Rattle.map_expr.specs.Terms.{Aos, Soa, Aosoa}
 use Rattle.map_checks.specs.Mappings.{layout_by, leaf_cells}
 use Rattle.map_checks.specs.RowsLaws.{length-in_rows, sum-blobs}

@@ -10,18 +10,17 @@ ghost use Rattle.record_dim.specs.Leaves.{kinds_of};
 ghost use Rattle.record_dim.specs.Schemas.{schema_fields};
 ghost use Rattle.map_expr.specs.Terms.{Aos, Soa, Aosoa, term_of};
 ghost use Rattle.map_checks.specs.Mappings.{IsBuiltTerm};
-ghost use Rattle.kept_tables.specs.declared.mode.StoreMode.TheVariants.{Strict};
+ghost use Rattle.piece_bits.specs.declared.mode.StoreMode.TheVariants.{Strict};
 
 use crate::tables::{aos, aosoa, get, set, soa, view_of};
 use layout_copy::{CopyFault, copy};
 use map_any::{MapExpr, Strategy};
 use places::{AosForm, SoaForm};
-use record_dim::{LeafType, Schema};
+use record_dim::{LeafType, Schema, Steps};
 use std::alloc::Global;
 use std::marker::Brand;
 use std::sync::ledger::{Blank, Ledger};
 use std::test::Fail;
-use steps::Steps;
 use views::View;
 
 // What a copy answers.

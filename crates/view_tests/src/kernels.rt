@@ -7,12 +7,11 @@ use crate::tables::{aos, has_counted, set, view_of};
 use lane_kernels::{Kernel, KernelFault, run_lanes};
 use map_any::MapExpr;
 use places::AosForm;
-use record_dim::LeafType;
+use record_dim::{LeafType, Steps};
 use std::alloc::Global;
 use std::marker::Brand;
 use std::sync::ledger::{Blank, Ledger};
 use std::test::Fail;
-use steps::Steps;
 use views::View;
 
 // What a kernel answers.

@@ -2,8 +2,9 @@
 // rules out.
 use crate::blob_files::FILE;
 use crate::tables::get;
-use c_calls::{open_view, put_blob, put_file, put_table};
-use c_lines::{lay_anew, loaded_view, new_view, run_kernel};
+use c_lines::{
+    lay_anew, loaded_view, new_view, open_view, put_blob, put_file, put_table, run_kernel,
+};
 use std::alloc::Global;
 use std::marker::Brand;
 use std::sync::ledger::Blank;

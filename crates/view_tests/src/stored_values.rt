@@ -10,12 +10,11 @@ use instrument::write_heat;
 use layout_io::MemorySink;
 use map_any::MapExpr;
 use places::{AosForm, SoaForm};
-use record_dim::LeafType;
+use record_dim::{LeafType, Steps};
 use std::alloc::{AllocError as NoMemory, Global};
 use std::marker::Brand;
 use std::sync::ledger::{Blank, Ledger};
 use std::test::Fail;
-use steps::Steps;
 use views::{StoreFault, View};
 
 const KINDS: [LeafType; 9] = [

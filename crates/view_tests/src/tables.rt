@@ -3,18 +3,17 @@ ghost use Rattle.std.specs.Prelude.{◌≡◌, ◌<◌, IfOk, length};
 ghost use Rattle.extents.specs.declared.order.Order.TheVariants.{Row};
 ghost use Rattle.map_expr.specs.Terms.{Aos, Soa, Aosoa, term_of};
 ghost use Rattle.map_checks.specs.Mappings.{IsBuiltTerm};
-ghost use Rattle.kept_tables.specs.declared.mode.StoreMode.TheVariants.{Strict};
+ghost use Rattle.piece_bits.specs.declared.mode.StoreMode.TheVariants.{Strict};
 ghost use Rattle.views.specs.Tables.{leaf_count_of};
 
 use extents::{ExtentWord, Extents, Order, Shape};
 use map_any::MapExpr;
 use places::{AosForm, SoaForm};
-use record_dim::{Dim, Field, FieldList, LeafType, Name, Schema};
+use record_dim::{Dim, Field, FieldList, LeafType, Name, Schema, Steps};
 use std::alloc::Global;
 use std::marker::Brand;
 use std::sync::ledger::{Blank, Ledger};
 use std::test::Fail;
-use steps::Steps;
 use views::{StoreFault, View};
 
 // A flat schema with a leaf of each of these types.

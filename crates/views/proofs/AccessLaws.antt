@@ -8,7 +8,7 @@ use Rattle.places.specs.Layout.{Owner}
 use Rattle.places.specs.Laws.{IsLaidOut}
 use Rattle.places.specs.declared.piece.Hold.{Hold}
 use Rattle.places.specs.declared.piece.Piece.{Piece}
-use Rattle.piece_rules.specs.declared.rule.PieceRule.{PieceRule}
+use Rattle.places.specs.declared.rule.PieceRule.{PieceRule}
 use Rattle.blobs.specs.Bits.{bit_of, bit_in}
 use Rattle.piece_bits.specs.CellsLaws.{IsCell, bit_count, apart, read_entry_is, written_table, written_padding, still_laid}
 use Rattle.piece_bits.specs.Scattered.{scattered_pieces}
@@ -20,8 +20,8 @@ use Rattle.piece_bits.specs.WritesLaws.{AreWritten}
 use Rattle.piece_bits.specs.declared.field.Field.{Field}
 use Rattle.piece_bits.specs.declared.word.Word.{Word}
 use Rattle.piece_bits.specs.declared.word.Word.TheVariants as stored
-use Rattle.short_rules.specs.Shorts.{pieces_by, short_pieces, start_in, IsShortIn}
-use Rattle.short_rules.specs.declared.short.ShortRule.{ShortRule}
+use Rattle.piece_bits.specs.Shorts.{pieces_by, short_pieces, start_in, IsShortIn}
+use Rattle.piece_bits.specs.declared.short.ShortRule.{ShortRule}
 
 -- what is not scattered stands at one place
 word_form : (word : Word) (field : Field) → IsField field → (word ≡ stored.Field → field.width ≤ 57) → (word ≡ stored.Scattered → ⊥) → IsWord word field

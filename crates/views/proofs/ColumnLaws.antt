@@ -5,8 +5,8 @@ use Rattle.std.proofs.lemmas.List.{get_or-map, length-map, length-replicate}
 use Rattle.std.proofs.lemmas.Simd.{Each1-replicate}
 use Rattle.std.specs.Simd.Lanes.{Each1}
 use Rattle.std.proofs.lemmas.List.FromFn.{map-range_with_len_more}
-use Rattle.lanes.specs.Blocks.{IsBlock, IsNarrow}
-use Rattle.lanes.specs.BlockLaws.{narrow_block, narrow_fits}
+use Rattle.piece_bits.specs.Blocks.{IsBlock, IsNarrow}
+use Rattle.piece_bits.specs.BlockLaws.{narrow_block, narrow_fits}
 use Rattle.views.specs.Tables.{Table, after_log, after_read}
 use Rattle.views.specs.Tallies.{Read}
 use Rattle.views.specs.TallyLaws.{after_log-none, after_log-append}

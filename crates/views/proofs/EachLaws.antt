@@ -12,10 +12,10 @@ use Rattle.blobs.specs.Moves.{IsMoved}
 use Rattle.piece_bits.specs.MovedLaws.{AreMoved}
 use Rattle.piece_bits.specs.MovedBytesLaws.{moved_bits}
 use Rattle.map_expr.specs.Terms.{Term}
-use Rattle.map_plans.specs.Arrays.{array_of, lanes_in}
+use Rattle.map_checks.specs.Arrays.{array_of, lanes_in}
 use Rattle.map_any.specs.ArrayRuns.{IsArrayRun}
 use Rattle.map_any.specs.Strategies.{AreRuns}
-use Rattle.kept_tables.specs.declared.mode.StoreMode.{StoreMode}
+use Rattle.piece_bits.specs.declared.mode.StoreMode.{StoreMode}
 use Rattle.views.specs.Kept.{IsKept, raw_under}
 use Rattle.views.specs.Moves.{size_of, IsRunMoved}
 use Rattle.views.specs.Pieces.{IsMovedEach}

@@ -13,11 +13,11 @@ use Rattle.map_expr.specs.Terms.{Term, term_of}
 use Rattle.map_checks.specs.Mappings.{layout_by, holds_by}
 use Rattle.piece_bits.specs.Tables.{AreLaid, hold_at}
 use Rattle.views.specs.Columns.{with_column, column_writes, first_lane_fault}
-use Rattle.kept_numbers.specs.Kept.{declared}
-use Rattle.kept_numbers.specs.KeptLaws.{declared_same}
-use Rattle.kept_tables.specs.declared.mode.StoreMode.{StoreMode}
-use Rattle.kept_tables.specs.Modes.{declared_row, declared_table, IsSettled}
-use Rattle.kept_tables.specs.EntryLaws.{fitting_settled}
+use Rattle.piece_bits.specs.Kept.{declared}
+use Rattle.piece_bits.specs.KeptLaws.{declared_same}
+use Rattle.piece_bits.specs.declared.mode.StoreMode.{StoreMode}
+use Rattle.piece_bits.specs.Modes.{declared_row, declared_table, IsSettled}
+use Rattle.piece_bits.specs.EntryLaws.{fitting_settled}
 use Rattle.views.specs.Kept.{IsKept, raw_under, table_under}
 use Rattle.views.specs.Stores.{Answer, Fits, kind_at, told}
 use Rattle.views.specs.Tables.{Table, kept_of, after_stores}

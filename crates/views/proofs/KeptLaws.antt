@@ -24,13 +24,13 @@ use Rattle.piece_bits.specs.Tables.{AreLaid, HasShape, hold_at, with_entry, zero
 use Rattle.piece_bits.specs.TableLaws.{table_shape, tables_same, zeros_shape, zeros_entry}
 use Rattle.piece_bits.specs.EntriesLaws.{blob_is, zeros_read}
 use Rattle.piece_bits.specs.CellsLaws.{bit_in_lt, hold_widths}
-use Rattle.kept_numbers.specs.Kept.{declared}
-use Rattle.kept_numbers.specs.KeptLaws.{declared_same}
-use Rattle.kept_tables.specs.declared.mode.StoreMode.{StoreMode}
-use Rattle.kept_tables.specs.declared.mode.StoreMode.TheVariants.{Strict}
-use Rattle.kept_tables.specs.Modes.{declared_table, Stays, IsSettled}
-use Rattle.kept_tables.specs.TableLaws.{declared_shape, declared_entry, declared_with_entry}
-use Rattle.kept_tables.specs.EntryLaws.{fitting_settled, same_sign, strict_entry, image_of_table, settled_after}
+use Rattle.piece_bits.specs.Kept.{declared}
+use Rattle.piece_bits.specs.KeptLaws.{declared_same}
+use Rattle.piece_bits.specs.declared.mode.StoreMode.{StoreMode}
+use Rattle.piece_bits.specs.declared.mode.StoreMode.TheVariants.{Strict}
+use Rattle.piece_bits.specs.Modes.{declared_table, Stays, IsSettled}
+use Rattle.piece_bits.specs.KeptTableLaws.{declared_shape, declared_entry, declared_with_entry}
+use Rattle.piece_bits.specs.EntryLaws.{fitting_settled, same_sign, strict_entry, image_of_table, settled_after}
 use Rattle.views.specs.Stores.{kind_at, Fits, AllStay}
 use Rattle.views.specs.Kept.{IsKept, raw_under, table_under}
 
@@ -151,14 +151,7 @@ zero_held hold some =
 
 zero_declared : (kind : LeafType) → IsDeclared kind (pos 0)
 zero_declared Truth = (omega (arith, ints), omega (arith, ints))
-zero_declared U8 = (omega (arith, ints), omega (arith, ints))
-zero_declared U16 = (omega (arith, ints), omega (arith, ints))
-zero_declared U32 = (omega (arith, ints), omega (arith, ints))
-zero_declared U64 = (omega (arith, ints), omega (arith, ints))
-zero_declared I8 = (omega (arith, ints), omega (arith, ints))
-zero_declared I16 = (omega (arith, ints), omega (arith, ints))
-zero_declared I32 = (omega (arith, ints), omega (arith, ints))
-zero_declared I64 = (omega (arith, ints), omega (arith, ints))
+zero_declared other = (omega (arith, ints), omega (arith, ints))
 
 -- blobs of zeros are kept, and hold zeros
 module _ (term : Term) (extents : List ℕ) (fields : Fields) (blobs : List (List ℕ))

@@ -18,8 +18,8 @@ use Rattle.map_expr.specs.declared.expr.MapExpr.{MapExpr}
 use Rattle.record_dim.specs.Schemas.{schema_fields}
 use Rattle.record_dim.specs.declared.schema.Schema.{Schema}
 use Rattle.views.proofs.Opened.{seen_from}
-use Rattle.kept_tables.specs.declared.mode.StoreMode.{StoreMode}
-use Rattle.kept_tables.specs.Modes.{declared_table, AllSettled}
+use Rattle.piece_bits.specs.declared.mode.StoreMode.{StoreMode}
+use Rattle.piece_bits.specs.Modes.{declared_table, AllSettled}
 use Rattle.views.specs.Kept.{IsKept, raw_under, table_under}
 use Rattle.views.specs.Tables.{Table, leaf_types_of, table_holds}
 use Rattle.views.specs.UncountedLaws.{layout_uncounted, holds_uncounted, slots_uncounted}

@@ -27,11 +27,11 @@ use Rattle.piece_bits.specs.Tables.{AreLaid, table_in, hold_at, with_entry}
 use Rattle.views.specs.Tables.{Table, leaf_count_of, leaf_type_of, table_holds, after_log, after_raw, after_stores, IsTable, IsSettledIn}
 use Rattle.views.specs.Stores.{Fits, kind_at}
 use Rattle.views.specs.Tallies.{Access, Write, Tally, touched, tallied, all_touches}
-use Rattle.kept_numbers.specs.Kept.{declared}
-use Rattle.kept_tables.specs.declared.mode.StoreMode.{StoreMode}
-use Rattle.kept_tables.specs.declared.mode.StoreMode.TheVariants.{Strict}
-use Rattle.kept_tables.specs.Modes.{IsSettled}
-use Rattle.kept_tables.specs.EntryLaws.{raw_held, stays_declared}
+use Rattle.piece_bits.specs.Kept.{declared}
+use Rattle.piece_bits.specs.declared.mode.StoreMode.{StoreMode}
+use Rattle.piece_bits.specs.declared.mode.StoreMode.TheVariants.{Strict}
+use Rattle.piece_bits.specs.Modes.{IsSettled}
+use Rattle.piece_bits.specs.EntryLaws.{raw_held, stays_declared}
 use Rattle.views.specs.Kept.{IsKept, IsMappingOf, IsTallied, HasSign, raw_under, table_under}
 use Rattle.views.specs.CountLaws.{idle_logged}
 use Rattle.views.proofs.KeptLaws.{kind_count, row_count, kept_shape, kept_stays, hold_some, entry_is_declared, entry_stays, sign_entry, strict_raw, kept_set, table_set}

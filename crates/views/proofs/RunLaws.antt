@@ -14,18 +14,18 @@ use Rattle.places.specs.Layout.{Owner}
 use Rattle.places.specs.Laws.{IsLaidOut}
 use Rattle.places.specs.declared.piece.Hold.{Hold}
 use Rattle.blobs.specs.Bits.{bit_of}
-use Rattle.piece_rules.specs.declared.rule.PieceRule.{PieceRule}
+use Rattle.places.specs.declared.rule.PieceRule.{PieceRule}
 use Rattle.piece_bits.specs.Tables.{AreSized, AreLaid, hold_at, table_in, with_entry}
 use Rattle.piece_bits.specs.Words.{word_place, word_width}
-use Rattle.short_rules.specs.Shorts.{start_in, IsShortIn}
-use Rattle.short_rules.specs.Stretches.{stretch_place, IsStretch}
-use Rattle.short_rules.specs.StretchesLaws.{stretch_fits}
-use Rattle.short_rules.specs.declared.short.ShortRule.{ShortRule}
-use Rattle.short_rules.specs.declared.stretch.Stretch.{Stretch}
-use Rattle.leaf_runs.specs.Lows.{low_64}
-use Rattle.leaf_runs.specs.LowsLaws.{code_low}
-use Rattle.leaf_runs.specs.Stretched.{stretched_at, HasRoom, ArePut}
-use Rattle.leaf_runs.proofs.Numbers.{word_narrow}
+use Rattle.piece_bits.specs.Shorts.{start_in, IsShortIn}
+use Rattle.piece_bits.specs.Stretches.{stretch_place, IsStretch}
+use Rattle.piece_bits.specs.StretchesLaws.{stretch_fits}
+use Rattle.piece_bits.specs.declared.short.ShortRule.{ShortRule}
+use Rattle.piece_bits.specs.declared.stretch.Stretch.{Stretch}
+use Rattle.piece_bits.specs.Lows.{low_64}
+use Rattle.piece_bits.specs.LowsLaws.{code_low}
+use Rattle.piece_bits.specs.Stretched.{stretched_at, HasRoom, ArePut}
+use Rattle.piece_bits.proofs.Numbers.{word_narrow}
 use Rattle.views.specs.Columns.{in_leaf, column, with_column}
 use Rattle.views.specs.ColumnsLaws.{no_column, entry_more}
 use Rattle.views.specs.Runs.{raised}

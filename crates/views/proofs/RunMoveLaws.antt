@@ -22,14 +22,14 @@ use Rattle.piece_bits.specs.Tables.{HasShape, table_in, hold_at}
 use Rattle.map_expr.specs.Terms.{Term, Aos, Soa, Aosoa, BitAos, BitSoa, Split, Byteswap, Bytesplit, Change, Count, Heat, Named}
 use Rattle.map_checks.specs.LeafCells.{leaf_cells_kinds, holds_by_kind}
 use Rattle.map_checks.specs.Mappings.{leaf_cells, layout_by, holds_by, most_slots, IsTooBigFor}
-use Rattle.map_plans.specs.Arrays.{array_of, lanes_in}
+use Rattle.map_checks.specs.Arrays.{array_of, lanes_in}
 use Rattle.map_any.specs.ArrayRuns.{IsArrayRun}
 use Rattle.map_any.specs.ArrayRunLaws.{array_holds}
 use Rattle.map_any.specs.Strategies.{AreRuns}
-use Rattle.kept_tables.specs.declared.mode.StoreMode.{StoreMode}
-use Rattle.kept_tables.specs.Modes.{declared_table, IsSettled, AllSettled}
-use Rattle.kept_tables.specs.TableLaws.{declared_entry}
-use Rattle.kept_numbers.specs.Kept.{declared}
+use Rattle.piece_bits.specs.declared.mode.StoreMode.{StoreMode}
+use Rattle.piece_bits.specs.Modes.{declared_table, IsSettled, AllSettled}
+use Rattle.piece_bits.specs.KeptTableLaws.{declared_entry}
+use Rattle.piece_bits.specs.Kept.{declared}
 use Rattle.views.specs.Kept.{IsKept, IsMappingOf, raw_under, table_under}
 use Rattle.views.proofs.KeptLaws.{raw_shape, hold_some}
 use Rattle.views.specs.Moves.{size_of, IsInBlock, IsInRun, IsRunMoved}
@@ -67,36 +67,15 @@ full_width kinds holds leaf inside full =
 -- widths are whole bytes
 pub whole_width : (kind : LeafType) → 8 * size_of kind ≡ width_of kind
 whole_width Truth = refl
-whole_width U8 = refl
-whole_width U16 = refl
-whole_width U32 = refl
-whole_width U64 = refl
-whole_width I8 = refl
-whole_width I16 = refl
-whole_width I32 = refl
-whole_width I64 = refl
+whole_width other = refl
 
 pub few_bits : (kind : LeafType) → width_of kind ≤ 64
 few_bits Truth = omega arith
-few_bits U8 = omega arith
-few_bits U16 = omega arith
-few_bits U32 = omega arith
-few_bits U64 = omega arith
-few_bits I8 = omega arith
-few_bits I16 = omega arith
-few_bits I32 = omega arith
-few_bits I64 = omega arith
+few_bits other = omega arith
 
 some_width : (kind : LeafType) → 0 < width_of kind
 some_width Truth = omega arith
-some_width U8 = omega arith
-some_width U16 = omega arith
-some_width U32 = omega arith
-some_width U64 = omega arith
-some_width I8 = omega arith
-some_width I16 = omega arith
-some_width I32 = omega arith
-some_width I64 = omega arith
+some_width other = omega arith
 
 -- where a run of a mapping begins
 abbrev pub HasRun : Term → List (List Owner) → List ℕ → ℕ → ℕ → ℕ → ℕ → ℕ → Type 0
@@ -294,18 +273,11 @@ run_table {mode} {lender} a b extents others_extents fields trees old others new
 
 -- a mapping that lays out arrays over few slots, as those of views are
 slots_are : (term : Term) (extents : List ℕ) → IfSome (array_of term) (λ array. slot_count array.0 extents ≡ most_slots term extents)
-slots_are (Aos form by) extents = tt
 slots_are (Soa form by) extents = refl
 slots_are (Aosoa lanes by) extents = refl
-slots_are (BitAos most entries by) extents = tt
-slots_are (BitSoa most entries by) extents = tt
-slots_are (Split path first rest) extents = tt
-slots_are (Byteswap inner) extents = tt
-slots_are (Bytesplit inner) extents = tt
-slots_are (Change from to inner) extents = tt
 slots_are (Count inner) extents = slots_are inner extents
 slots_are (Heat granule inner) extents = slots_are inner extents
-slots_are (Named name) extents = tt
+slots_are other extents = tt
 
 few_in : (o : Option (Order × Option ℕ)) (P : Order × Option ℕ → Type 0) (extents : List ℕ) (slot count most : ℕ) → IsSomeAnd o P
     → IfSome o (λ array. (slot + count ≤ slot_count array.0 extents) × (slot % lanes_in array.1 (slot_count array.0 extents) + count ≤ lanes_in array.1 (slot_count array.0 extents)))

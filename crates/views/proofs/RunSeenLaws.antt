@@ -17,9 +17,9 @@ use Rattle.map_checks.specs.LeafCells.{kinds_are}
 use Rattle.map_checks.specs.Mappings.{layout_by, holds_by}
 use Rattle.map_any.specs.Counters.{is_counted}
 use Rattle.piece_bits.specs.Tables.{AreLaid, hold_at, table_in}
-use Rattle.kept_tables.specs.EntryLaws.{stays_declared}
-use Rattle.kept_tables.specs.declared.mode.StoreMode.{StoreMode}
-use Rattle.leaf_runs.specs.Lows.{low_64}
+use Rattle.piece_bits.specs.EntryLaws.{stays_declared}
+use Rattle.piece_bits.specs.declared.mode.StoreMode.{StoreMode}
+use Rattle.piece_bits.specs.Lows.{low_64}
 use Rattle.views.specs.Columns.{column_writes, with_column}
 use Rattle.views.specs.Kept.{IsKept, IsMappingOf, IsTallied, raw_under}
 use Rattle.views.specs.Runs.{raised, run_of, TakesAll}

@@ -7,7 +7,7 @@ use Rattle.std.proofs.Math.Seq.{drop-length}
 use Rattle.std.proofs.lemmas.List.FromFn.{map-range_with_len_more}
 use Rattle.places.specs.Image.{entry}
 use Rattle.piece_bits.specs.Tables.{with_entry}
-use Rattle.leaf_runs.specs.Lows.{low_64}
+use Rattle.piece_bits.specs.Lows.{low_64}
 use Rattle.views.specs.Columns.{column_reads, column_writes, with_column, first_lane_fault}
 use Rattle.views.specs.ColumnsLaws.{entry_more}
 use Rattle.views.specs.Runs.{run_fault, stored_count, with_run}

@@ -10,7 +10,7 @@ use Rattle.places.specs.declared.piece.Hold.{Hold}
 use Rattle.map_expr.specs.Terms.{Term, term_of}
 use Rattle.map_expr.specs.declared.expr.MapExpr.{MapExpr}
 use Rattle.map_checks.specs.LeafCells.{kinds_are}
-use Rattle.kept_tables.specs.declared.mode.StoreMode.{StoreMode}
+use Rattle.piece_bits.specs.declared.mode.StoreMode.{StoreMode}
 use Rattle.views.specs.Kept.{IsKept, IsMappingOf}
 use Rattle.views.specs.Tables.{Table, leaf_types_of, owners_of, table_holds}
 use Rattle.views.specs.Tallies.{Tally}

@@ -5,7 +5,7 @@ use Rattle.std.proofs.lemmas.Bool.{cases_lt}
 use Rattle.extents.specs.Indices.{indices}
 use Rattle.extents.specs.declared.order.Order.{Order}
 use Rattle.linearize.specs.Slots.{slot_at}
-use Rattle.map_plans.specs.Arrays.{array_of}
+use Rattle.map_checks.specs.Arrays.{array_of}
 use Rattle.views.specs.Moves.{IsInBlock, IsRunMoved}
 use Rattle.views.specs.MovesLaws.{with_rows}
 use Rattle.views.specs.Tables.{Table, IsTable, leaf_count_of}

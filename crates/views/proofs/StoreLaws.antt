@@ -3,11 +3,11 @@ use Rattle.std.proofs.Common.{◌≡◌, ℕ, ◌<◌, ◌≤◌, List, [], ◌�
 use Rattle.record_dim.specs.declared.leaf_type.LeafType.{LeafType}
 use Rattle.places.specs.declared.piece.Hold.{Hold}
 use Rattle.piece_bits.specs.Tables.{hold_at, with_entry}
-use Rattle.kept_numbers.specs.Kept.{declared, held}
-use Rattle.kept_numbers.specs.KeptLaws.{declared_same}
-use Rattle.kept_tables.specs.EntryLaws.{fitting_held, fitting_settled, fitting_stays, stays_settled}
-use Rattle.kept_tables.specs.declared.mode.StoreMode.{StoreMode}
-use Rattle.kept_tables.specs.declared.mode.StoreMode.TheVariants.{Strict}
+use Rattle.piece_bits.specs.Kept.{declared, held}
+use Rattle.piece_bits.specs.KeptLaws.{declared_same}
+use Rattle.piece_bits.specs.EntryLaws.{fitting_held, fitting_settled, fitting_stays, stays_settled}
+use Rattle.piece_bits.specs.declared.mode.StoreMode.{StoreMode}
+use Rattle.piece_bits.specs.declared.mode.StoreMode.TheVariants.{Strict}
 use Rattle.views.specs.AnswerLaws.{answer_stays, stays_answer, strict_kept, told_kept}
 use Rattle.views.specs.Stores.{Fits, Stays, kept_or, told}
 use Rattle.views.specs.Tables.{Table, answer_of, kept_of, leaf_type_of, table_holds, after_raw, after_stores, after_write, IsSettledIn}

@@ -5,7 +5,7 @@ use Rattle.std.specs.Int.{w128}
 use Rattle.std.proofs.lemmas.Int.{to_z-of_z}
 use Rattle.std.specs.Option.{option_or}
 use Rattle.std.proofs.lemmas.List.FromFn.{map-range_with_len_more}
-use Rattle.kept_numbers.specs.Kept.{declared}
+use Rattle.piece_bits.specs.Kept.{declared}
 use Rattle.piece_bits.specs.Tables.{with_entry}
 use Rattle.views.specs.Stores.{Answer, told}
 use Rattle.views.specs.AnswerLaws.{told_err}

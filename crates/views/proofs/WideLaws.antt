@@ -12,12 +12,12 @@ use Rattle.piece_bits.specs.Words.{word_place, word_signed, word_width}
 use Rattle.piece_bits.specs.declared.field.Field.{Field}
 use Rattle.piece_bits.specs.declared.word.Word.{Word}
 use Rattle.piece_bits.specs.declared.word.Word.TheVariants as stored
-use Rattle.short_rules.specs.Walks.{leads, walks_plain, walks_in_blocks}
-use Rattle.short_rules.specs.Wides.{is_turned_width, IsAsWhole, IsAsTurned, IsWide}
-use Rattle.short_rules.specs.declared.short.ShortRule.{ShortRule}
-use Rattle.short_rules.specs.declared.walk.Walk.{Walk}
-use Rattle.short_rules.specs.declared.walk.Walk.TheVariants as walk
-use Rattle.short_rules.specs.declared.wide.Wide.{Wide}
+use Rattle.piece_bits.specs.Walks.{leads, walks_plain, walks_in_blocks}
+use Rattle.piece_bits.specs.Wides.{is_turned_width, IsAsWhole, IsAsTurned, IsWide}
+use Rattle.piece_bits.specs.declared.short.ShortRule.{ShortRule}
+use Rattle.piece_bits.specs.declared.walk.Walk.{Walk}
+use Rattle.piece_bits.specs.declared.walk.Walk.TheVariants as walk
+use Rattle.piece_bits.specs.declared.wide_rules.Wide.{Wide}
 
 -- rows that go in one array, or in blocks, have places
 pub plain_leads : (way : Walk) → walks_plain way ≡ true → leads way ≡ true

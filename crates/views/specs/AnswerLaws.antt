@@ -14,10 +14,10 @@ use Rattle.map_any.specs.AnyLaws.{length-leaf_cells}
 use Rattle.map_checks.specs.Mappings.{leaf_cells}
 use Rattle.map_checks.specs.TermLaws.{length-holds}
 use Rattle.piece_bits.specs.Tables.{hold_at}
-use Rattle.kept_numbers.specs.Kept.{value_bits, kept}
-use Rattle.kept_numbers.specs.KeptLaws.{kept_again, wide_kept}
-use Rattle.kept_tables.specs.declared.mode.StoreMode.{StoreMode}
-use Rattle.kept_tables.specs.declared.mode.StoreMode.TheVariants.{Strict, Wrap}
+use Rattle.piece_bits.specs.Kept.{value_bits, kept}
+use Rattle.piece_bits.specs.KeptLaws.{kept_again, wide_kept}
+use Rattle.piece_bits.specs.declared.mode.StoreMode.{StoreMode}
+use Rattle.piece_bits.specs.declared.mode.StoreMode.TheVariants.{Strict, Wrap}
 use Rattle.views.specs.StrictLaws.{stored_fits, fitting_stored}
 use Rattle.views.specs.Stores.{Keeping, Stays, kind_at, is_between, store_answer, told, kept_or, kept_row, kept_rows}
 use Rattle.views.specs.Tables.{Table, IsTable, IsWide, kept_of, leaf_count_of, leaf_types_of, leaf_type_of, table_holds}

@@ -80,18 +80,9 @@ tallied-one layout tally access = refl
 
 -- an expression that counts nothing has no counts
 pub uncounted : (term : Term) → is_counted term ≡ false → (has_count term ≡ false) × (granule_of term ≡ None)
-uncounted (Aos form order) e = (refl, refl)
-uncounted (Soa form order) e = (refl, refl)
-uncounted (Aosoa lanes order) e = (refl, refl)
-uncounted (BitAos width entries order) e = (refl, refl)
-uncounted (BitSoa width entries order) e = (refl, refl)
-uncounted (Split path first rest) e = (refl, refl)
-uncounted (Byteswap inner) e = (refl, refl)
-uncounted (Bytesplit inner) e = (refl, refl)
-uncounted (Change from to inner) e = (refl, refl)
 uncounted (Count inner) e = absurd (true≢false e)
 uncounted (Heat granule inner) e = absurd (true≢false e)
-uncounted (Named name) e = (refl, refl)
+uncounted other e = (refl, refl)
 
 pub none_of : {A : Type 0} (o : Option A) → is_some o ≡ false → o ≡ None
 none_of None e = refl

@@ -16,8 +16,8 @@ use Rattle.instrument.specs.Counters.{HeatCounts, leaf_counts, heat_counts, gran
 use Rattle.instrument.specs.declared.counts.Counts.{Counts}
 use Rattle.instrument.specs.declared.heat.Heat.{Heat}
 use Rattle.views.specs.Tallies.{Tally, blob_lengths}
-use Rattle.kept_tables.specs.Modes.{kind_at, declared_table, AllSettled}
-use Rattle.kept_tables.specs.declared.mode.StoreMode.{StoreMode}
+use Rattle.piece_bits.specs.Modes.{kind_at, declared_table, AllSettled}
+use Rattle.piece_bits.specs.declared.mode.StoreMode.{StoreMode}
 
 -- a mapping is of an expression over an array, and has its layout, rows, leaves and holds
 pub record IsMappingOf (term : Term) (extents : List ℕ) (fields : Fields) (mapped : Term) (mapped_extents : List ℕ)

@@ -8,12 +8,12 @@ use Rattle.places.specs.Image.{entry}
 use Rattle.places.specs.Layout.{Owner}
 use Rattle.places.specs.declared.piece.Hold.{Hold}
 use Rattle.piece_bits.specs.Tables.{hold_at}
-use Rattle.kept_tables.specs.Modes.{kind_at}
-use Rattle.kept_tables.specs.declared.mode.StoreMode.{StoreMode}
-use Rattle.kept_tables.specs.declared.mode.StoreMode.TheVariants.{Strict, Wrap}
+use Rattle.piece_bits.specs.Modes.{kind_at}
+use Rattle.piece_bits.specs.declared.mode.StoreMode.{StoreMode}
+use Rattle.piece_bits.specs.declared.mode.StoreMode.TheVariants.{Strict, Wrap}
 use Rattle.blobs.specs.Moves.{blocks}
 use Rattle.map_expr.specs.Terms.{Term}
-use Rattle.map_plans.specs.Arrays.{array_of, lanes_in}
+use Rattle.map_checks.specs.Arrays.{array_of, lanes_in}
 
 -- the blocks of at most 64 bytes that all blobs of a layout are
 abbrev pub blob_steps : List (List Owner) → ℕ

@@ -17,18 +17,18 @@ use Rattle.places.specs.declared.piece.Hold.{Hold}
 use Rattle.map_expr.specs.Terms.{Term}
 use Rattle.map_checks.specs.LeafCells.{leaf_cells_kinds, holds_by_kind}
 use Rattle.map_checks.specs.Mappings.{leaf_cells, holds_by}
-use Rattle.map_plans.specs.Arrays.{array_of}
+use Rattle.map_checks.specs.Arrays.{array_of}
 use Rattle.piece_bits.specs.Tables.{AreLaid, table_in, hold_at}
 use Rattle.piece_bits.specs.MovedLaws.{AreMoved, moved_laid, moved_entry, kept_entry}
 use Rattle.map_any.specs.ArrayRuns.{IsArrayRun}
 use Rattle.map_any.specs.ArrayRunLaws.{array_holds, run_row, run_other, runs_alike}
 use Rattle.map_any.specs.Strategies.{AreRuns}
-use Rattle.kept_numbers.specs.Kept.{declared}
-use Rattle.kept_numbers.specs.KeptLaws.{kept_in, own_sign_held}
-use Rattle.kept_tables.specs.EntryLaws.{fitting_stays}
-use Rattle.kept_tables.specs.Modes.{IsSettled}
-use Rattle.kept_tables.specs.declared.mode.StoreMode.{StoreMode}
-use Rattle.kept_tables.specs.declared.mode.StoreMode.TheVariants.{Strict, Wrap}
+use Rattle.piece_bits.specs.Kept.{declared}
+use Rattle.piece_bits.specs.KeptLaws.{kept_in, own_sign_held}
+use Rattle.piece_bits.specs.EntryLaws.{fitting_stays}
+use Rattle.piece_bits.specs.Modes.{IsSettled}
+use Rattle.piece_bits.specs.declared.mode.StoreMode.{StoreMode}
+use Rattle.piece_bits.specs.declared.mode.StoreMode.TheVariants.{Strict, Wrap}
 use Rattle.views.specs.Moves.{IsOwn, MayMove, IsRunMoved}
 use Rattle.views.specs.Stores.{Stays, kind_at}
 use Rattle.views.specs.Tables.{Table}

@@ -5,7 +5,7 @@ use Rattle.extents.specs.declared.order.Order.{Order}
 use Rattle.linearize.specs.Slots.{slot_count}
 use Rattle.blobs.specs.Moves.{IsMoved, blocks}
 use Rattle.map_expr.specs.Terms.{Term}
-use Rattle.map_plans.specs.Arrays.{array_of, lanes_in}
+use Rattle.map_checks.specs.Arrays.{array_of, lanes_in}
 
 -- whether a piece begins at a slot, where slots are cut at the multiples of two numbers
 abbrev pub is_cut : ℕ → ℕ → ℕ → Bool

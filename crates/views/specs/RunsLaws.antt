@@ -9,8 +9,8 @@ use Rattle.std.proofs.lemmas.List.{length-map, length-take, length-drop, get_or-
 use Rattle.record_dim.specs.LeafTypes.{width_of, IsDeclared}
 use Rattle.record_dim.specs.declared.leaf_type.LeafType.{LeafType}
 use Rattle.record_dim.specs.declared.leaf_type.LeafType.TheVariants as kinds
-use Rattle.leaf_runs.specs.Lows.{low_64, IsWithin64}
-use Rattle.leaf_runs.specs.LowsLaws.{low_same}
+use Rattle.piece_bits.specs.Lows.{low_64, IsWithin64}
+use Rattle.piece_bits.specs.LowsLaws.{low_same}
 use Rattle.places.specs.Image.{entry}
 use Rattle.views.specs.Columns.{in_leaf, column, with_column}
 use Rattle.views.specs.ColumnsLaws.{column_there, column_stands}
@@ -22,14 +22,7 @@ use Rattle.views.specs.Tallies.{Access}
 -- a value of any leaf has 64 bits
 pub declared_within : (kind : LeafType) (value : ℤ) → IsDeclared kind value → IsWithin64 value
 declared_within kinds.Bool value h = (omega (arith, ints, h.0), omega (arith, ints, h.1))
-declared_within kinds.U8 value h = (omega (arith, ints, h.0), omega (arith, ints, h.1))
-declared_within kinds.U16 value h = (omega (arith, ints, h.0), omega (arith, ints, h.1))
-declared_within kinds.U32 value h = (omega (arith, ints, h.0), omega (arith, ints, h.1))
-declared_within kinds.U64 value h = (omega (arith, ints, h.0), omega (arith, ints, h.1))
-declared_within kinds.I8 value h = (omega (arith, ints, h.0), omega (arith, ints, h.1))
-declared_within kinds.I16 value h = (omega (arith, ints, h.0), omega (arith, ints, h.1))
-declared_within kinds.I32 value h = (omega (arith, ints, h.0), omega (arith, ints, h.1))
-declared_within kinds.I64 value h = (omega (arith, ints, h.0), omega (arith, ints, h.1))
+declared_within other value h = (omega (arith, ints, h.0), omega (arith, ints, h.1))
 
 fits_between : (value : ℤ) → neg_ℤ (pos (2 ^ 63)) ≤ℤ value → value <ℤ pos (2 ^ 63) → FitsSigned w64 value
 fits_between (pos n) least most = record { sfits = omega (arith, ints, most) }
@@ -37,15 +30,8 @@ fits_between (negsuc n) least most = record { sfits = omega (arith, ints, least)
 
 -- with a sign, but for the greatest of the widest without one
 pub declared_fits : (kind : LeafType) (value : ℤ) → (kind ≡ kinds.U64 → ⊥) → IsDeclared kind value → FitsSigned w64 value
-declared_fits kinds.Bool value other h = fits_between value (omega (arith, ints, h.0)) (omega (arith, ints, h.1))
-declared_fits kinds.U8 value other h = fits_between value (omega (arith, ints, h.0)) (omega (arith, ints, h.1))
-declared_fits kinds.U16 value other h = fits_between value (omega (arith, ints, h.0)) (omega (arith, ints, h.1))
-declared_fits kinds.U32 value other h = fits_between value (omega (arith, ints, h.0)) (omega (arith, ints, h.1))
 declared_fits kinds.U64 value other h = absurd (other refl)
-declared_fits kinds.I8 value other h = fits_between value (omega (arith, ints, h.0)) (omega (arith, ints, h.1))
-declared_fits kinds.I16 value other h = fits_between value (omega (arith, ints, h.0)) (omega (arith, ints, h.1))
-declared_fits kinds.I32 value other h = fits_between value (omega (arith, ints, h.0)) (omega (arith, ints, h.1))
-declared_fits kinds.I64 value other h = fits_between value (omega (arith, ints, h.0)) (omega (arith, ints, h.1))
+declared_fits rest value other h = fits_between value (omega (arith, ints, h.0)) (omega (arith, ints, h.1))
 
 -- so it is its own low bits
 pub low_declared : (kind : LeafType) (value : ℤ) → (kind ≡ kinds.U64 → ⊥) → IsDeclared kind value → low_64 value ≡ value

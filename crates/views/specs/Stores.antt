@@ -6,10 +6,10 @@ use Rattle.record_dim.specs.LeafTypes.{least_of, greatest_of, least_in, greatest
 use Rattle.places.specs.declared.piece.Hold.{Hold}
 use Rattle.places.specs.Image.{entry}
 use Rattle.piece_bits.specs.Tables.{hold_at}
-use Rattle.kept_numbers.specs.Kept.{kept}
-use Rattle.kept_tables.specs.declared.mode.StoreMode.{StoreMode}
-use Rattle.kept_tables.specs.declared.mode.StoreMode.TheVariants.{Strict, Wrap}
-pub use Rattle.kept_tables.specs.Modes.{kind_at, Fits, Stays}
+use Rattle.piece_bits.specs.Kept.{kept}
+use Rattle.piece_bits.specs.declared.mode.StoreMode.{StoreMode}
+use Rattle.piece_bits.specs.declared.mode.StoreMode.TheVariants.{Strict, Wrap}
+pub use Rattle.piece_bits.specs.Modes.{kind_at, Fits, Stays}
 use Rattle.views.specs.declared.fault.StoreFault.{StoreFault}
 use Rattle.views.specs.declared.fault.StoreFault.TheVariants.{Range, Narrow}
 

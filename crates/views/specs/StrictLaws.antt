@@ -6,7 +6,7 @@ use Rattle.std.proofs.lemmas.Bool.{cases_Bool, and_parts}
 use Rattle.record_dim.specs.declared.leaf_type.LeafType.{LeafType}
 use Rattle.record_dim.specs.LeafTypes.{least_of, greatest_of, least_in, greatest_in, IsIn, IsDeclared}
 use Rattle.places.specs.declared.piece.Hold.{Hold}
-use Rattle.kept_tables.specs.declared.mode.StoreMode.TheVariants.{Strict}
+use Rattle.piece_bits.specs.declared.mode.StoreMode.TheVariants.{Strict}
 use Rattle.views.specs.Stores.{is_between, store_answer, Fits}
 use Rattle.views.specs.declared.fault.StoreFault.TheVariants.{Range, Narrow}
 

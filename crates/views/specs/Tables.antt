@@ -10,10 +10,10 @@ use Rattle.places.specs.declared.piece.Hold.{Hold}
 use Rattle.map_expr.specs.Terms.{Term}
 use Rattle.map_checks.specs.Mappings.{layout_by, holds_by}
 use Rattle.piece_bits.specs.Tables.{HasShape, hold_at, with_entry}
-use Rattle.kept_numbers.specs.Kept.{value_bits, declared}
-use Rattle.kept_tables.specs.Modes.{IsSettled}
-use Rattle.kept_tables.specs.declared.mode.StoreMode.{StoreMode}
-use Rattle.kept_tables.specs.declared.mode.StoreMode.TheVariants.{Wrap}
+use Rattle.piece_bits.specs.Kept.{value_bits, declared}
+use Rattle.piece_bits.specs.Modes.{IsSettled}
+use Rattle.piece_bits.specs.declared.mode.StoreMode.{StoreMode}
+use Rattle.piece_bits.specs.declared.mode.StoreMode.TheVariants.{Wrap}
 use Rattle.views.specs.Stores.{Keeping, kind_at, store_answer, kept_by, AllStay}
 use Rattle.views.specs.Tallies.{Access, Read, Write, Tally, tallied}
 use Rattle.views.specs.declared.fault.StoreFault.{StoreFault}

@@ -10,16 +10,7 @@ same_uncounted : {A : Type 0} (f : Term → A) → ((inner : Term) → f inner �
     → (term : Term) → f (uncounted term) ≡ f term
 same_uncounted f count heat (Count inner) = same_uncounted f count heat inner ∙ count inner
 same_uncounted f count heat (Heat granule inner) = same_uncounted f count heat inner ∙ heat granule inner
-same_uncounted f count heat (Aos form order) = refl
-same_uncounted f count heat (Soa form order) = refl
-same_uncounted f count heat (Aosoa lanes order) = refl
-same_uncounted f count heat (BitAos width entries order) = refl
-same_uncounted f count heat (BitSoa width entries order) = refl
-same_uncounted f count heat (Split path first rest) = refl
-same_uncounted f count heat (Byteswap inner) = refl
-same_uncounted f count heat (Bytesplit inner) = refl
-same_uncounted f count heat (Change from to inner) = refl
-same_uncounted f count heat (Named name) = refl
+same_uncounted f count heat other = refl
 
 -- counters lay out nothing
 pub layout_uncounted : (term : Term) (extents : List ℕ) (fields : Fields) (cells : List Cell) → layout_of (uncounted term) extents fields cells ≡ layout_of term extents fields cells

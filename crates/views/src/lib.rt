@@ -15,8 +15,8 @@ mod store;
 mod view;
 
 pub use fault::{LaneFault, MakeView, StoreFault};
-pub use kept_tables::StoreMode;
 pub use laws::{counts_are_entries, laws_of_table};
+pub use piece_bits::StoreMode;
 pub use row::RowRef;
 pub use runs::{raised, read_rows};
 pub use size::bytes_for;

@@ -5,8 +5,8 @@ ghost use Rattle.piece_bits.specs.MovedLaws.{AreMoved};
 
 use crate::view::BlobList;
 use blobs::{Blob, move_bytes};
+use record_dim::Steps;
 use std::sync::ledger::Ledger;
-use steps::Steps;
 
 /// Makes all blobs those of others that have the same lengths.
 pub fn move_all<L: Ledger>(blobs: &mut BlobList, others: &[Blob], steps: &mut Steps<L>)

@@ -6,8 +6,8 @@ ghost use Rattle.views.specs.Pieces.{ArePieces, IsMovedEach};
 use crate::view::BlobList;
 use blobs::{Blob, move_bytes};
 use map_any::BytePlaces;
+use record_dim::Steps;
 use std::sync::ledger::Ledger;
-use steps::Steps;
 
 /// So many pieces of so many slots each.
 #[derive(Clone, Copy)]

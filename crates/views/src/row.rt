@@ -8,8 +8,8 @@ use crate::fault::StoreFault;
 use crate::laws::laws_of_table;
 use crate::view::View;
 use expr_lang::Row;
+use record_dim::Steps;
 use std::sync::ledger::Ledger;
-use steps::Steps;
 
 /// One row of a view that is borrowed.
 #[derive(Drop)]

@@ -6,8 +6,8 @@ ghost use Rattle.views.specs.Tallies.{Read, Write, row_accesses};
 
 use crate::laws::laws_of_table;
 use crate::view::View;
+use record_dim::Steps;
 use std::sync::ledger::Ledger;
-use steps::Steps;
 
 impl View {
     /// Reads the values of a row. It takes a step for each leaf.

@@ -5,7 +5,7 @@ ghost use Rattle.places.specs.Image.{entry};
 ghost use Rattle.map_any.specs.Counters.{is_counted};
 ghost use Rattle.map_any.specs.Maps.{term_of_map};
 ghost use Rattle.piece_bits.specs.Tables.{AreSized, AreLaid, hold_at, table_in};
-ghost use Rattle.leaf_runs.specs.Lows.{low_64};
+ghost use Rattle.piece_bits.specs.Lows.{low_64};
 ghost use Rattle.views.specs.Columns.{with_column};
 ghost use Rattle.views.specs.Kept.{HasSign};
 ghost use Rattle.views.specs.Runs.{raised};
@@ -13,8 +13,8 @@ ghost use Rattle.views.specs.Stores.{Fits, kind_at};
 
 use crate::view::BlobList;
 use blobs::Blob;
-use leaf_runs::{put_stretch, read_stretch};
 use map_any::AnyMap;
+use piece_bits::{put_stretch, read_stretch};
 use places::{Mapping, laws_of};
 use record_dim::LeafType;
 

@@ -1,5 +1,5 @@
 ghost use Rattle.std.specs.Prelude.{ℕ, ◌≡◌, ◌≤◌};
-ghost use Rattle.kept_tables.specs.declared.mode.StoreMode.TheVariants.{Strict};
+ghost use Rattle.piece_bits.specs.declared.mode.StoreMode.TheVariants.{Strict};
 ghost use Rattle.views.specs.Stores.{is_between, store_answer, told};
 
 use crate::fault::StoreFault;

@@ -16,15 +16,13 @@ use crate::store::answer;
 use blobs::Blob;
 use extents::Extents;
 use instrument::{Counts, Heat};
-use kept_numbers::{declared, held, kept};
-use kept_tables::StoreMode;
 use map_any::{AnyMap, MapExpr};
+use piece_bits::{StoreMode, declared, held, kept};
 use places::{Mapping, laws_of};
-use record_dim::Schema;
+use record_dim::{Schema, Steps};
 use std::alloc::Global;
 use std::marker::Model;
 use std::sync::ledger::Ledger;
-use steps::Steps;
 
 mod columns;
 mod moves;
@@ -94,8 +92,8 @@ impl View {
     ghost use Rattle.map_any.specs.Maps.{extents_of, term_of_map};
     ghost use Rattle.record_dim.specs.Leaves.{leaves, kinds_of};
     ghost use Rattle.record_dim.specs.LeafTypes.{IsDeclared};
-    ghost use Rattle.kept_numbers.specs.Kept.{declared};
-    ghost use Rattle.kept_tables.specs.declared.mode.StoreMode.TheVariants.{Strict, Wrap};
+    ghost use Rattle.piece_bits.specs.Kept.{declared};
+    ghost use Rattle.piece_bits.specs.declared.mode.StoreMode.TheVariants.{Strict, Wrap};
     ghost use Rattle.views.specs.Kept.{HasGranules};
     ghost use Rattle.views.specs.Stores.{told};
     ghost use Rattle.views.specs.Refusals.{IsOver, IsNoView, IsNoViewWithin};

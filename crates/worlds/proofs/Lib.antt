@@ -1,0 +1,4 @@
+pub mod Steps
+pub mod Whole
+pub mod Cuts
+pub mod Folding

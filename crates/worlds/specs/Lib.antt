@@ -24,3 +24,9 @@ pub mod Stencil
 pub mod Advise
 pub mod Step
 pub mod FaultTexts
+pub mod Details
+pub mod Outcome
+pub mod RunAnswers
+pub mod Lines
+pub mod Fold
+pub mod Steps

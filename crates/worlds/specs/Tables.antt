@@ -6,7 +6,7 @@ use Rattle.record_dim.specs.Trees.{Fields}
 use Rattle.record_dim.specs.Leaves.{kinds_of}
 use Rattle.map_expr.specs.Terms.{Term as MapTerm}
 use Rattle.map_checks.specs.Mappings.{leaf_cells, most_slots, accepted}
-use Rattle.kept_tables.specs.declared.mode.StoreMode.{StoreMode}
+use Rattle.piece_bits.specs.declared.mode.StoreMode.{StoreMode}
 use Rattle.views.specs.Tallies.{granules_for}
 use Rattle.views.specs.Tables.{Table, owners_of}
 use Rattle.blob_file.specs.Opened.{empty_table}

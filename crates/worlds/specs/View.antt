@@ -3,7 +3,7 @@ use Rattle.std.specs.Prelude.{ℕ, List, None}
 use Rattle.record_dim.specs.Trees.{Fields}
 use Rattle.map_expr.specs.Terms.{Term as MapTerm}
 use Rattle.line_grammar.specs.Sentences.{New}
-use Rattle.kept_tables.specs.declared.mode.StoreMode.{StoreMode}
+use Rattle.piece_bits.specs.declared.mode.StoreMode.{StoreMode}
 use Rattle.views.specs.Tables.{Table}
 use Rattle.worlds.specs.Worlds.{World, added}
 use Rattle.worlds.specs.Outcomes.{Outcome, Goes, ◌>>=◌, Left, quiet, free, known}

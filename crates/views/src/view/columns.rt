@@ -1,16 +1,16 @@
 // The values of one leaf in several rows at once.
 ghost use Rattle.std.specs.Prelude.{◌≡◌, ◌+◌, ◌-◌, ◌<◌, ◌≤◌, ◌++◌, pos, OnOk, OnErr, IfErr, Some, None, [], length, map, take, drop, replicate, slice_index_or};
 ghost use Rattle.std.specs.Simd.Lanes.{Each1};
-ghost use Rattle.lanes.specs.Blocks.{IsBlock, IsNarrow};
+ghost use Rattle.piece_bits.specs.Blocks.{IsBlock, IsNarrow};
 ghost use Rattle.views.specs.Columns.{in_leaf, column, column_reads, column_writes, with_column, first_lane_fault, IsNarrowLeaf};
 ghost use Rattle.views.specs.Tables.{answer_of, kept_of, leaf_count_of, after_log, after_read, after_stores};
 
 use super::View;
 use crate::fault::LaneFault;
-use lanes::Block;
+use piece_bits::Block;
+use record_dim::Steps;
 use std::simd::Simd;
 use std::sync::ledger::Ledger;
-use steps::Steps;
 
 impl View {
     /// The values of a leaf of at most 32 bits in so many rows, from this one on, in the first so many lanes; the other lanes are 0. It

@@ -2,14 +2,14 @@
 ghost use Rattle.std.specs.Prelude.{◌≡◌, ◌+◌, ◌*◌, ◌<◌, ◌≤◌, IfSome, length};
 ghost use Rattle.blobs.specs.Moves.{blocks};
 ghost use Rattle.map_expr.specs.Terms.{uncounted};
-ghost use Rattle.map_plans.specs.Arrays.{array_of};
+ghost use Rattle.map_checks.specs.Arrays.{array_of};
 ghost use Rattle.map_any.specs.Strategies.{AreRuns};
 ghost use Rattle.views.specs.Moves.{blob_steps, size_of, IsInBlock, IsRunMoved, MayMove};
 
 use super::View;
 use crate::moves::{move_all, move_between};
+use record_dim::Steps;
 use std::sync::ledger::Ledger;
-use steps::Steps;
 
 impl View {
     ghost use Rattle.views.specs.Tables.{leaf_count_of, leaf_type_of, leaf_types_of, owners_of, table_holds};

@@ -1,7 +1,7 @@
 // The values of one leaf in many rows at once.
 ghost use Rattle.std.specs.Prelude.{ℕ, ◌≡◌, ◌+◌, ◌*◌, ◌<◌, ◌≤◌, pos, true, List, length, map, take, slice_index_or};
 ghost use Rattle.piece_bits.specs.Tables.{hold_at};
-ghost use Rattle.leaf_runs.specs.Lows.{low_64};
+ghost use Rattle.piece_bits.specs.Lows.{low_64};
 ghost use Rattle.views.specs.Columns.{column_reads, column_writes, with_column};
 ghost use Rattle.views.specs.Runs.{raised, run_of, run_steps, run_fault, told_lane, stored_count, with_run, TakesAll};
 ghost use Rattle.views.specs.Stores.{Fits};
@@ -12,10 +12,10 @@ use super::View;
 use crate::fault::LaneFault;
 use crate::laws::laws_of_table;
 use crate::runs::{are_taken, put_rows, raised, read_rows};
-use leaf_runs::low_of;
+use piece_bits::low_of;
 use places::Mapping;
+use record_dim::Steps;
 use std::sync::ledger::Ledger;
-use steps::Steps;
 
 impl View {
     /// Whether no access is counted.

@@ -1,7 +1,7 @@
 // Slots of a leaf that are moved from view to view, whatever blocks they cross.
 ghost use Rattle.std.specs.Prelude.{ℕ, ◌≡◌, ◌+◌, ◌*◌, ◌^◌, ◌<◌, ◌≤◌, true, false, IfSome, Some, option_map, length};
 ghost use Rattle.blobs.specs.Moves.{blocks};
-ghost use Rattle.map_plans.specs.Arrays.{array_of};
+ghost use Rattle.map_checks.specs.Arrays.{array_of};
 ghost use Rattle.map_any.specs.ArraySlots.{slots_in};
 ghost use Rattle.map_any.specs.Strategies.{AreRuns};
 ghost use Rattle.views.specs.Moves.{size_of, IsInBlock, IsRunMoved};
@@ -11,8 +11,8 @@ use super::View;
 use crate::laws::laws_of_table;
 use crate::pieces::{move_pieces, pieces_at};
 use map_any::ArraySlots;
+use record_dim::Steps;
 use std::sync::ledger::Ledger;
-use steps::Steps;
 
 impl View {
     ghost use Rattle.views.specs.Tables.{leaf_count_of, leaf_type_of};

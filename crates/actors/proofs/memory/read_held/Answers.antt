@@ -11,8 +11,8 @@ use Rattle.places.specs.declared.piece.Cell.{Cell}
 use Rattle.places.specs.Image.{entry}
 use Rattle.piece_bits.specs.Tables.{table_in}
 use Rattle.map_any.specs.AnyLaws.{length-leaf_cells}
-use Rattle.kept_numbers.specs.Kept.{declared}
-use Rattle.kept_tables.specs.Modes.{kind_at}
+use Rattle.piece_bits.specs.Kept.{declared}
+use Rattle.piece_bits.specs.Modes.{kind_at}
 use Rattle.views.specs.Tables.{owners_of, leaf_types_of, table_holds, leaf_count_of}
 use Rattle.actors.proofs.Laws.{leaf_count, raw_here, one_held, all_held}
 use Rattle.actors.proofs.memory.read_held.Goals as goal

@@ -8,8 +8,8 @@ use Rattle.places.specs.Laws.{IsLocated}
 use Rattle.places.specs.Image.{number, digit}
 use Rattle.piece_bits.specs.CellsLaws.{IsCell, some_bits, few_bits, bit_count, apart}
 use Rattle.piece_bits.specs.LocatedLaws.{pieces_within}
-use Rattle.kept_numbers.specs.Kept.{held}
-use Rattle.kept_numbers.specs.KeptLaws.{low_in}
+use Rattle.piece_bits.specs.Kept.{held}
+use Rattle.piece_bits.specs.KeptLaws.{low_in}
 use Rattle.actors.proofs.Bytes.{is_write}
 use Rattle.actors.proofs.memory.write_bits.Given as given
 use Rattle.actors.proofs.memory.write_bits.Goals as goal

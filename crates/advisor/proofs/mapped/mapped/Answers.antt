@@ -9,7 +9,7 @@ use Rattle.map_checks.specs.declared.fault.MakeMap.TheVariants.{NoMemory}
 use Rattle.instrument.specs.Counters.{granules_in}
 use Rattle.views.specs.Tallies.{blob_lengths}
 use Rattle.map_checks.specs.Mappings.{layout_of}
-use Rattle.map_plans.specs.declared.plan.Plan.{Plan}
+use Rattle.map_checks.specs.declared.plan.Plan.{Plan}
 use Rattle.record_dim.specs.Schemas.{schema_fields}
 use Rattle.advisor.specs.Judged.{judged}
 use Rattle.advisor.specs.declared.mapped.RuledMap.{RuledMap}

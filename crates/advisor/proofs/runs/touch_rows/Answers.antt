@@ -2,8 +2,8 @@ use Rattle.std.proofs.Common.{◌≡◌, ◌+◌, ◌≤◌, true, Bool, ℕ, Li
 use Rattle.std.specs.Prelude.{◌||◌}
 use Rattle.instrument.specs.Counters.{heat_counts, IsInside}
 use Rattle.instrument.specs.declared.heat.Heat.{Heat}
-use Rattle.piece_rules.specs.PieceRules.{piece_in}
-use Rattle.piece_rules.specs.declared.rule.PieceRule.{PieceRule}
+use Rattle.places.specs.PieceRules.{piece_in}
+use Rattle.places.specs.declared.rule.PieceRule.{PieceRule}
 use Rattle.advisor.specs.Curve.{has_row}
 use Rattle.advisor.specs.Steady.{are_slots_touched, are_rows_touched}
 use Rattle.advisor.specs.Warm.{IsWarmed}

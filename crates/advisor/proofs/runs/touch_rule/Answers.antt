@@ -2,7 +2,7 @@ use Rattle.std.proofs.Common.{◌≡◌, ◌+◌, ◌*◌, ◌%◌, ◌/◌, ◌
 use Rattle.std.specs.Prelude.{◌||◌}
 use Rattle.std.proofs.lemmas.Nat.{div-add-mod', mod_below}
 use Rattle.instrument.specs.Counters.{heat_counts, IsInside}
-use Rattle.piece_rules.specs.PieceRules.{piece_in}
+use Rattle.places.specs.PieceRules.{piece_in}
 use Rattle.advisor.specs.Steady.{IsSteady, is_run_touched}
 use Rattle.advisor.proofs.SteadyLaws.{part_steady, touched_more}
 use Rattle.advisor.proofs.WarmLaws.{warmed_inside, warmed_more}

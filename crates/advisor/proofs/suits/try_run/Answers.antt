@@ -1,8 +1,8 @@
 use Rattle.std.proofs.Common.{◌≡◌, ◌<◌, ℕ, length, map, take, drop, ap, ◌∙◌, refl, arith}
 use Rattle.record_dim.specs.Leaves.{leaves}
 use Rattle.record_dim.specs.Trees.{Fields}
-use Rattle.leaf_runs.specs.Lows.{low_64}
-use Rattle.kept_tables.specs.declared.mode.StoreMode.{StoreMode}
+use Rattle.piece_bits.specs.Lows.{low_64}
+use Rattle.piece_bits.specs.declared.mode.StoreMode.{StoreMode}
 use Rattle.views.specs.Columns.{column_reads}
 use Rattle.views.specs.Runs.{run_of}
 use Rattle.views.specs.Tables.{Table, leaf_count_of, after_log}

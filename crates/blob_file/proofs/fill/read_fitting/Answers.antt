@@ -13,7 +13,7 @@ use Rattle.places.specs.declared.piece.Hold.{Hold}
 use Rattle.map_checks.specs.LeafCells.{kinds_are}
 use Rattle.piece_bits.specs.CellsLaws.{hold_widths}
 use Rattle.piece_bits.specs.Tables.{hold_at}
-use Rattle.leaf_runs.specs.Lows.{low_64}
+use Rattle.piece_bits.specs.Lows.{low_64}
 use Rattle.views.specs.Runs.{raised}
 use Rattle.views.specs.RunsLaws.{raised_low}
 use Rattle.views.specs.Stores.{kind_at}

@@ -3,7 +3,7 @@ use Rattle.std.specs.Int.{w128}
 use Rattle.std.proofs.lemmas.Bool.Decides.{nat_tests}
 use Rattle.std.proofs.lemmas.Int.{to_z-of_z}
 use Rattle.std.proofs.lemmas.List.{take_rest}
-use Rattle.kept_numbers.specs.Far.{folded}
+use Rattle.piece_bits.specs.Far.{folded}
 use Rattle.csv_rows.specs.Datasets.{digits_number}
 use Rattle.csv_rows.proofs.PlainNumbers.{given_fits, minus_number}
 use Rattle.csv_rows.proofs.number.signed_number.Goals as goal

@@ -9,7 +9,7 @@ use Rattle.record_dim.specs.declared.leaf_type.LeafType.TheVariants.{Bool as Tru
 use Rattle.record_dim.specs.Leaves.{kinds_of}
 use Rattle.record_dim.specs.LeafTypes.{width_of}
 use Rattle.record_dim.specs.Trees.{Fields}
-use Rattle.leaf_runs.specs.Lows.{low_64}
+use Rattle.piece_bits.specs.Lows.{low_64}
 use Rattle.views.specs.Columns.{column, column_reads}
 use Rattle.views.specs.Runs.{raised, run_of, run_steps}
 use Rattle.views.specs.Tables.{Table, leaf_type_of, leaf_types_of, after_log}

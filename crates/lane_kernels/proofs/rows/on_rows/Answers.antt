@@ -5,7 +5,7 @@ use Rattle.std.specs.Option.{unwrap_or}
 use Rattle.std.specs.Simd.Lanes.{Each1, zip2}
 use Rattle.std.proofs.lemmas.Int.{to_z-of_z}
 use Rattle.std.proofs.lemmas.List.{map-id}
-use Rattle.lanes.specs.NarrowLaws.{products_fit}
+use Rattle.piece_bits.specs.NarrowLaws.{products_fit}
 use Rattle.views.specs.Columns.{column}
 use Rattle.lane_kernels.specs.Kernels.{IsNarrow, compares}
 use Rattle.lane_kernels.specs.Runs.{fault_in, AreNext}

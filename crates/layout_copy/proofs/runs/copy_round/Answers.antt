@@ -1,7 +1,7 @@
 use Rattle.std.proofs.Common.{rules, ◌≡◌, ◌<◌, ℕ, length, ap, arith}
 use Rattle.std.proofs.lemmas.List.{length-map}
 use Rattle.record_dim.specs.Leaves.{leaves}
-use Rattle.map_plans.specs.Arrays.{array_of}
+use Rattle.map_checks.specs.Arrays.{array_of}
 use Rattle.views.specs.Moves.{size_of}
 use Rattle.views.specs.MovesLaws.{rows_after}
 use Rattle.views.specs.Pieces.{move_steps}

@@ -1,5 +1,5 @@
 use Rattle.std.proofs.Common.{◌≡◌, ◌+◌, ◌≤◌, take}
-use Rattle.map_plans.specs.Arrays.{array_of}
+use Rattle.map_checks.specs.Arrays.{array_of}
 use Rattle.views.specs.MovesLaws.{with_rows}
 use Rattle.views.specs.Tables.{leaf_count_of}
 use Rattle.layout_copy.specs.Costs.{leaf_sizes, round_steps}

@@ -6,7 +6,7 @@ use Rattle.views.specs.Pieces.{HasSlots}
 use Rattle.views.specs.Tables.{Table}
 use Rattle.layout_copy.specs.Costs.{leaf_sizes, round_steps, steps_before}
 use Rattle.layout_copy.specs.Runs.{order_by}
-use Rattle.map_plans.specs.Arrays.{array_of}
+use Rattle.map_checks.specs.Arrays.{array_of}
 use Rattle.layout_copy.proofs.CostLaws.{cut_at, round_counted}
 use Rattle.layout_copy.proofs.Pieces.{piece_moved, all_below, order_slots, has_slots, all_steps, steps_of_round}
 use Rattle.layout_copy.proofs.runs.copy_rounds.Goals as goal

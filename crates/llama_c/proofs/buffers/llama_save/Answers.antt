@@ -1,6 +1,6 @@
 use Rattle.std.proofs.Common.{rules, ◌∙◌, SFits, w32}
 use Rattle.std.proofs.lemmas.Int.{to_z-of_z}
-use Rattle.c_calls.specs.Buffers.{file_told}
+use Rattle.c_lines.specs.Buffers.{file_told}
 use Rattle.llama_c.proofs.Held.{none_put}
 use Rattle.llama_c.proofs.buffers.llama_save.Goals as goal
 

@@ -8,11 +8,11 @@ use Rattle.record_dim.specs.declared.leaf_type.LeafType.{LeafType}
 use Rattle.record_dim.specs.declared.leaf_type.LeafType.TheVariants.{Bool as Truth}
 use Rattle.places.specs.declared.piece.Hold.{Hold}
 use Rattle.map_any.specs.declared.leaf_rule.LeafRule.{LeafRule}
-use Rattle.map_plans.specs.declared.rule.Rule.{Rule}
+use Rattle.map_checks.specs.declared.rule.Rule.{Rule}
 use Rattle.map_any.specs.LeafRules.{kind_in, hold_in, IsLeafRule, IsWideIn}
-use Rattle.map_plans.specs.Ruled.{IsSameRule}
-use Rattle.short_rules.specs.Walks.{leads}
-use Rattle.map_plans.specs.RuledLaws.{each_push}
+use Rattle.map_checks.specs.Ruled.{IsSameRule}
+use Rattle.piece_bits.specs.Walks.{leads}
+use Rattle.map_checks.specs.RuledLaws.{each_push}
 use Rattle.map_any.proofs.leaf_rules.leaf_rules.Goals as goal
 
 -- as many types as leaves

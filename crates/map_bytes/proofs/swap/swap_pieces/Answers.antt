@@ -1,8 +1,8 @@
 use Rattle.std.proofs.Common.{◌≡◌, ◌+◌, ◌%◌, ◌^◌, ◌<◌, List, All, sym, ap, ◌∙◌, subst, arith}
 use Rattle.places.specs.PlacesLaws.{pieces_weaker}
 use Rattle.places.specs.declared.piece.Piece.{Piece}
-use Rattle.piece_rules.specs.PieceRules.{begin_in, pieces_in}
-use Rattle.piece_rules.specs.declared.rule.PieceRule.{PieceRule}
+use Rattle.places.specs.PieceRules.{begin_in, pieces_in}
+use Rattle.places.specs.declared.rule.PieceRule.{PieceRule}
 use Rattle.map_bytes.specs.Cuts.{places_in, swapped}
 use Rattle.map_bytes.specs.CutLaws.{swapped_in, swapped_begins}
 use Rattle.map_bytes.specs.SwapPiecesLaws.{swapped_eights}

@@ -6,7 +6,7 @@ use Rattle.blobs.specs.Bits.{bit_of, bit_in}
 use Rattle.piece_bits.specs.Scattered.{byte_of, scattered_pieces}
 use Rattle.piece_bits.specs.Spots.{spots_of, bit_at_spot}
 use Rattle.piece_bits.specs.SpotsOfLaws.{IsNext, read_next}
-use Rattle.piece_bits.proofs.Bytes.{byte_next, byte_within, byte_bound}
+use Rattle.piece_bits.proofs.PieceBytes.{byte_next, byte_within, byte_bound}
 use Rattle.piece_bits.proofs.scattered.read_bytes.Goals as goal
 
 pub bounds-blobs-rule : goal.bounds-blobs-rule

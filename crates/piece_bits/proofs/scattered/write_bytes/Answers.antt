@@ -6,7 +6,7 @@ use Rattle.piece_bits.specs.Scattered.{byte_of, scattered_pieces}
 use Rattle.piece_bits.specs.Spots.{spots_of, IsWithin}
 use Rattle.piece_bits.specs.SpotsOfLaws.{IsNext}
 use Rattle.piece_bits.specs.WritesLaws.{AreWritten, within_same, write_next}
-use Rattle.piece_bits.proofs.Bytes.{byte_next, byte_within, byte_bound}
+use Rattle.piece_bits.proofs.PieceBytes.{byte_next, byte_within, byte_bound}
 use Rattle.piece_bits.proofs.scattered.write_bytes.Goals as goal
 use Rattle.piece_bits.proofs.scattered.write_bytes.Goals.{After-bits_in_word-byte}
 

@@ -1,7 +1,7 @@
 use Rattle.std.proofs.Common.{rules, ◌≡◌, ◌-◌, ◌<◌, ℕ, List, length, map, take, sym, ap, subst, arith}
 use Rattle.std.proofs.lemmas.List.Elements.{All-get_or}
 use Rattle.expr_lang.specs.Bounds.{bound_term}
-use Rattle.expr_runs.specs.Exacts.{IsSafe}
+use Rattle.expr_lang.specs.Exacts.{IsSafe}
 use Rattle.views.specs.Columns.{column_writes}
 use Rattle.views.specs.Tables.{Table, leaf_count_of, kept_of}
 use Rattle.row_updates.specs.declared.update.Assign.{Assign}

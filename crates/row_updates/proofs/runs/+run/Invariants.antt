@@ -1,7 +1,7 @@
 use Rattle.std.proofs.Common.{◌≡◌, ◌≤◌, length}
 use Rattle.expr_lang.specs.declared.bound.Links.{size-Links}
 use Rattle.expr_lang.specs.Chains.{chain_term, AreWithin}
-use Rattle.expr_runs.specs.Steps.{AreStepsSafe}
+use Rattle.expr_lang.specs.Steps.{AreStepsSafe}
 use Rattle.views.specs.Tables.{leaf_count_of}
 use Rattle.row_updates.specs.Runs.{IsIdle, IsRunOf}
 use Rattle.row_updates.proofs.WorthSoFar.{IsWorthSoFar}

@@ -1,5 +1,5 @@
 use Rattle.std.proofs.Common.{◌≤◌, length, arith}
-use Rattle.script_runs.specs.Steps.{ending_of}
+use Rattle.worlds.specs.Steps.{ending_of}
 use Rattle.session.specs.Stands.{Stands}
 use Rattle.worlds.specs.AnswersLaws.{steps_same}
 use Rattle.session_runs.proofs.Texts.{text_steps}

@@ -5,7 +5,7 @@ use Rattle.record_dim.specs.Leaves.{kinds_of}
 use Rattle.map_expr.specs.Terms.{term_of}
 use Rattle.map_checks.specs.Mappings.{leaf_cells, layout_by}
 use Rattle.piece_bits.specs.Tables.{AreLaid, table_in}
-use Rattle.short_rules.specs.Walks.{leads}
+use Rattle.piece_bits.specs.Walks.{leads}
 use Rattle.views.specs.Columns.{with_column}
 use Rattle.views.specs.Runs.{raised}
 use Rattle.views.specs.Stores.{kind_at}

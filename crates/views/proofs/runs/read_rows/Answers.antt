@@ -1,7 +1,7 @@
 use Rattle.std.proofs.Common.{◌≡◌, ℕ, ◌+◌, ◌-◌, ◌<◌, ◌≤◌, [], length, get_or, pos, Fits, w64, ap, ◌∙◌, ⊎_elim, arith}
 use Rattle.std.proofs.lemmas.Bool.{cases_lt}
 use Rattle.std.proofs.lemmas.List.{get_or_read}
-use Rattle.leaf_runs.specs.Lows.{low_64}
+use Rattle.piece_bits.specs.Lows.{low_64}
 use Rattle.views.proofs.RunLaws.{stretch_blob, has_room, stretch_read}
 use Rattle.views.proofs.runs.read_rows.Goals as goal
 use Rattle.views.proofs.runs.read_rows.Goals.{After-index-blobs-short}

@@ -5,8 +5,8 @@ use Rattle.map_expr.specs.Terms.{term_of}
 use Rattle.map_checks.specs.Mappings.{layout_by}
 use Rattle.places.specs.Image.{entry}
 use Rattle.piece_bits.specs.Tables.{table_in}
-use Rattle.short_rules.specs.Walks.{leads}
-use Rattle.leaf_runs.specs.Lows.{low_64}
+use Rattle.piece_bits.specs.Walks.{leads}
+use Rattle.piece_bits.specs.Lows.{low_64}
 use Rattle.views.proofs.runs.read_rows.Given as goal
 
 abbrev pub invariant-loop-done : goal.invariant-loop-done

@@ -1,5 +1,5 @@
 use Rattle.std.proofs.Common.{◌∙◌, List, length, get_or, ap, arith}
-use Rattle.map_plans.specs.declared.rule.Rule.{Rule}
+use Rattle.map_checks.specs.declared.rule.Rule.{Rule}
 use Rattle.advisor.proofs.RuledLaws.{has_rule, rule_in}
 use Rattle.advisor.proofs.mapped.RuledMap.rule.Goals as goal
 

@@ -1,7 +1,7 @@
 use Rattle.std.proofs.Common.{rules, ◌≡◌, ◌∙◌, ap, sym, List, ℕ, ℤ, Option, Some, None, option_map}
 use Rattle.csv.specs.Records.{fields_of}
 use Rattle.csv_rows.specs.Datasets.{unspaced, number_of}
-use Rattle.kept_numbers.specs.Far.{shortened}
+use Rattle.piece_bits.specs.Far.{shortened}
 use Rattle.csv_rows.proofs.CsvReads.{same_at}
 use Rattle.csv_rows.proofs.copies.CopiesRecords.number.Goals as goal
 

@@ -3,7 +3,7 @@ use Rattle.std.specs.Int.{w128}
 use Rattle.std.specs.List.{slice_get, slice_split}
 use Rattle.std.proofs.lemmas.Int.{to_z-of_z}
 use Rattle.csv_rows.specs.Datasets.{unspaced, number_of}
-use Rattle.kept_numbers.specs.Far.{shortened}
+use Rattle.piece_bits.specs.Far.{shortened}
 use Rattle.csv_rows.specs.Plain.{is_comma, first_line, IsFieldHere}
 use Rattle.csv_rows.proofs.FirstLines.{here_found}
 use Rattle.csv_rows.proofs.line.Line.number.Goals as goal

@@ -6,7 +6,7 @@ use Rattle.record_dim.specs.Schemas.{schema_fields}
 use Rattle.std.proofs.lemmas.List.{length-map}
 use Rattle.map_expr.specs.Terms.{term_of}
 use Rattle.map_checks.specs.Mappings.{leaf_cells}
-use Rattle.map_plans.specs.Arrays.{array_of, lanes_in}
+use Rattle.map_checks.specs.Arrays.{array_of, lanes_in}
 use Rattle.map_any.proofs.ArrayLaws.{few_slots}
 use Rattle.map_any.proofs.EvenLaws.{blocks_have_lanes, lanes_or}
 use Rattle.map_any.proofs.any.AnyMap.array_slots.Goals as goal

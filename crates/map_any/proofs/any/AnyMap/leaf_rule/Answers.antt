@@ -7,7 +7,7 @@ use Rattle.map_any.specs.declared.leaf_rule.LeafRule.{LeafRule}
 use Rattle.map_any.specs.AnyLaws.{length-leaf_cells}
 use Rattle.map_any.specs.LeafRules.{IsWideIn}
 use Rattle.map_checks.specs.Mappings.{leaf_cells, layout_by}
-use Rattle.short_rules.specs.Walks.{leads}
+use Rattle.piece_bits.specs.Walks.{leads}
 use Rattle.map_any.proofs.ArrayLaws.{leaf_array}
 use Rattle.map_any.proofs.LeafLaws.{leaf_placed, leaf_whole}
 use Rattle.map_any.proofs.any.AnyMap.leaf_rule.Goals as goal

@@ -4,9 +4,9 @@ use Rattle.extents.specs.Indices.{indices}
 use Rattle.linearize.specs.Slots.{slot_at}
 use Rattle.places.specs.declared.piece.Hold.{Hold}
 use Rattle.places.specs.declared.piece.Piece.{Piece}
-use Rattle.piece_rules.specs.PieceRules.{piece_in}
-use Rattle.piece_rules.specs.declared.rule.PieceRule.{PieceRule}
-use Rattle.map_plans.specs.Ruled.{pieces_of}
+use Rattle.places.specs.PieceRules.{piece_in}
+use Rattle.places.specs.declared.rule.PieceRule.{PieceRule}
+use Rattle.map_checks.specs.Ruled.{pieces_of}
 use Rattle.map_any.proofs.Filling.{layout_in, width_in, laid_in, not_here}
 use Rattle.map_any.proofs.any.AnyMap.lies_in.Goals as goal
 

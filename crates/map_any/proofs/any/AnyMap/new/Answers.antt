@@ -9,10 +9,10 @@ use Rattle.map_expr.specs.Checks.{bad_number}
 use Rattle.map_checks.specs.Mappings.{leaf_cells, layout_by, accepted, not_full, IsBuiltTerm}
 use Rattle.map_any.specs.Counters.{is_counted}
 use Rattle.map_any.specs.LeafRules.{AreLeafRules, IsWideIn}
-use Rattle.map_plans.specs.Arrays.{HasArrays}
-use Rattle.map_plans.specs.Ruled.{EachWith, IsRuled}
-use Rattle.map_plans.specs.declared.rule.Rule.{Rule}
-use Rattle.map_plans.specs.Plans.{IsPlanOf}
+use Rattle.map_checks.specs.Arrays.{HasArrays}
+use Rattle.map_checks.specs.Ruled.{EachWith, IsRuled}
+use Rattle.map_checks.specs.declared.rule.Rule.{Rule}
+use Rattle.map_checks.specs.Plans.{IsPlanOf}
 use Rattle.map_any.proofs.ArrayLaws.{leaves_arrays}
 use Rattle.map_any.proofs.LeafLaws.{leaves_ruled, whole_holds, whole_rules}
 use Rattle.map_any.proofs.Built.{good_parts, good_number}

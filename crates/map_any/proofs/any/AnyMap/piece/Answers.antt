@@ -4,9 +4,9 @@ use Rattle.places.specs.Layout.{Owner}
 use Rattle.places.specs.Laws.{IsLocated}
 use Rattle.places.specs.declared.piece.Hold.{Hold}
 use Rattle.places.specs.declared.piece.Piece.{Piece}
-use Rattle.piece_rules.specs.BeginsLaws.{begins_fit}
-use Rattle.piece_rules.specs.declared.rule.PieceRule.{PieceRule}
-use Rattle.piece_rules.specs.PieceRules.{pieces_in}
+use Rattle.places.specs.BeginsLaws.{begins_fit}
+use Rattle.places.specs.declared.rule.PieceRule.{PieceRule}
+use Rattle.places.specs.PieceRules.{pieces_in}
 use Rattle.map_expr.specs.Terms.{term_of}
 use Rattle.map_any.specs.declared.any.AnyMap.{AnyMap}
 use Rattle.map_checks.specs.Mappings.{layout_by}

@@ -2,8 +2,8 @@ use Rattle.std.proofs.Common.{◌≡◌, ◌<◌, ◌∙◌, ◌^◌, ◌/◌, L
 use Rattle.record_dim.specs.Leaves.{kinds_of}
 use Rattle.record_dim.specs.Schemas.{schema_fields}
 use Rattle.places.specs.declared.piece.Piece.{Piece}
-use Rattle.piece_rules.specs.PieceRules.{begin_in}
-use Rattle.piece_rules.specs.declared.rule.PieceRule.{PieceRule}
+use Rattle.places.specs.PieceRules.{begin_in}
+use Rattle.places.specs.declared.rule.PieceRule.{PieceRule}
 use Rattle.map_expr.specs.Terms.{term_of}
 use Rattle.map_checks.specs.Mappings.{leaf_cells}
 use Rattle.map_any.proofs.ArrayLaws.{piece_fits, array_place}

@@ -4,7 +4,7 @@ use Rattle.record_dim.specs.Leaves.{kinds_of}
 use Rattle.map_expr.specs.Terms.{term_of}
 use Rattle.map_checks.specs.LeafCells.{leaf_cells_kinds}
 use Rattle.map_checks.specs.Mappings.{layout_by}
-use Rattle.short_rules.specs.Wides.{IsWide}
+use Rattle.piece_bits.specs.Wides.{IsWide}
 use Rattle.map_any.specs.declared.leaf_rule.LeafRule.{LeafRule}
 use Rattle.map_any.proofs.AnyFacts.{bytes_of}
 use Rattle.map_any.proofs.LeafLaws.{leaf_short, short_uncounted}

@@ -5,7 +5,7 @@ use Rattle.places.specs.declared.piece.Cell.{Cell}
 use Rattle.map_expr.specs.Terms.{Term, term_of}
 use Rattle.map_expr.specs.Checks.{bad_number}
 use Rattle.map_checks.specs.Mappings.{accepted, not_full, IsBuiltTerm}
-use Rattle.map_plans.specs.Plans.{IsPlanOf}
+use Rattle.map_checks.specs.Plans.{IsPlanOf}
 use Rattle.map_any.proofs.Built.{good_parts, good_number}
 use Rattle.map_any.proofs.cell_map.CellMap.new.Goals as goal
 

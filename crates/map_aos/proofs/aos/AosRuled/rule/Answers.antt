@@ -1,8 +1,8 @@
 use Rattle.std.proofs.Common.{◌≡◌, ℕ, ◌+◌, ◌*◌, ◌<◌, refl, sym, ap, ◌∙◌, arith}
 use Rattle.places.specs.CellWidthsLaws.{cell_width, width_read}
-use Rattle.piece_rules.specs.BeginsLaws.{one_lane}
+use Rattle.places.specs.BeginsLaws.{one_lane}
 use Rattle.map_aos.proofs.Blob.{located_is}
-use Rattle.piece_rules.specs.DenseLaws.{not_dense}
+use Rattle.places.specs.DenseLaws.{not_dense}
 use Rattle.map_aos.proofs.aos.AosRuled.rule.Goals as goal
 
 pub returns-clause-places : goal.returns-clause-places

@@ -3,7 +3,7 @@ use Rattle.std.proofs.lemmas.List.{get_or_default}
 use Rattle.places.specs.Holds.{widths_of}
 use Rattle.places.specs.CellWidthsLaws.{length-widths, cell_width, width_read}
 use Rattle.places.specs.WidthsLaws.{width_whole}
-use Rattle.piece_rules.specs.DenseLaws.{dense_lanes}
+use Rattle.places.specs.DenseLaws.{dense_lanes}
 use Rattle.map_aosoa.proofs.Blob.{located_is}
 use Rattle.map_aosoa.proofs.aosoa.AosoaRuled.rule.Goals as goal
 

@@ -1,7 +1,7 @@
 use Rattle.std.proofs.Common.{ℕ, ◌<◌, List, [], ◌∷◌, slice_index, sym, subst, arith}
 use Rattle.places.specs.Laws.{IsLocated}
 use Rattle.places.specs.declared.piece.Piece.{Piece}
-use Rattle.piece_rules.specs.BeginsLaws.{begins_fit}
+use Rattle.places.specs.BeginsLaws.{begins_fit}
 use Rattle.places.specs.Holds.{widths_in}
 use Rattle.places.specs.Layout.{bit_aos}
 use Rattle.map_bits.proofs.bit_aos.BitAosMapping.locate.Goals as goal

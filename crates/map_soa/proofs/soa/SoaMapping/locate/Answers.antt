@@ -4,7 +4,7 @@ use Rattle.places.specs.Laws.{IsLocated}
 use Rattle.places.specs.declared.piece.Hold.{Hold}
 use Rattle.places.specs.declared.piece.Piece.{Piece}
 use Rattle.places.specs.Forms.{soa_layout}
-use Rattle.piece_rules.specs.BeginsLaws.{begins_fit}
+use Rattle.places.specs.BeginsLaws.{begins_fit}
 use Rattle.map_soa.proofs.soa.SoaMapping.locate.Goals as goal
 
 pub pieces-requires : goal.pieces-requires

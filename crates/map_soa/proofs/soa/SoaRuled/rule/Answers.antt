@@ -8,8 +8,8 @@ use Rattle.places.specs.Forms.{soa_layout}
 use Rattle.map_soa.specs.Soa.{blob_of}
 use Rattle.places.specs.declared.forms.SoaForm.{SoaForm}
 use Rattle.places.specs.declared.forms.SoaForm.TheVariants.{Single, Aligned, Multi}
-use Rattle.piece_rules.specs.BeginsLaws.{one_lane}
-use Rattle.piece_rules.specs.DenseLaws.{dense_array}
+use Rattle.places.specs.BeginsLaws.{one_lane}
+use Rattle.places.specs.DenseLaws.{dense_array}
 use Rattle.places.specs.WidthsLaws.{width_whole}
 use Rattle.map_soa.proofs.Blobs.{located_is}
 use Rattle.map_soa.proofs.soa.SoaRuled.rule.Goals as goal

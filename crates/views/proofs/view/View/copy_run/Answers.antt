@@ -1,7 +1,7 @@
 use Rattle.std.proofs.Common.{◌≡◌, ◌∙◌, ℤ, ℕ, List, length, ap, arith}
 use Rattle.record_dim.specs.declared.leaf_type.LeafType.{LeafType}
 use Rattle.std.proofs.lemmas.List.{length-map}
-use Rattle.leaf_runs.specs.Lows.{low_64}
+use Rattle.piece_bits.specs.Lows.{low_64}
 use Rattle.views.specs.Columns.{column_writes, with_column}
 use Rattle.views.specs.Runs.{run_of, run_steps}
 use Rattle.views.specs.Tables.{leaf_type_of, after_stores}

@@ -4,9 +4,9 @@ use Rattle.std.proofs.lemmas.Int.{to_z-of_z}
 use Rattle.record_dim.specs.declared.leaf_type.LeafType.{LeafType}
 use Rattle.places.specs.declared.piece.Hold.{Hold}
 use Rattle.piece_bits.specs.Tables.{hold_at}
-use Rattle.kept_numbers.specs.Kept.{kept}
-use Rattle.kept_tables.specs.declared.mode.StoreMode.{StoreMode}
-use Rattle.kept_tables.specs.declared.mode.StoreMode.TheVariants.{Strict, Wrap}
+use Rattle.piece_bits.specs.Kept.{kept}
+use Rattle.piece_bits.specs.declared.mode.StoreMode.{StoreMode}
+use Rattle.piece_bits.specs.declared.mode.StoreMode.TheVariants.{Strict, Wrap}
 use Rattle.views.specs.AnswerLaws.{strict_kept}
 use Rattle.views.specs.Stores.{store_answer, kept_or}
 use Rattle.views.specs.Tables.{Table, leaf_type_of, table_holds}

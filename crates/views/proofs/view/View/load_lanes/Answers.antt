@@ -1,7 +1,7 @@
 use Rattle.std.proofs.Common.{◌≡◌, ◌-◌, ◌++◌, List, ℤ, pos, ℕ, length, take, drop, replicate, sym, ap, subst, ◌∙◌, arith}
 use Rattle.std.specs.Simd.Lanes.{Each1}
-use Rattle.lanes.specs.Blocks.{IsBlock, IsNarrow}
-use Rattle.lanes.specs.BlockLaws.{same}
+use Rattle.piece_bits.specs.Blocks.{IsBlock, IsNarrow}
+use Rattle.piece_bits.specs.BlockLaws.{same}
 use Rattle.views.specs.Columns.{column, column_reads}
 use Rattle.views.specs.Tables.{Table, after_log}
 use Rattle.views.proofs.ColumnLaws.{nothing_loaded, loaded_more, loaded_block}

@@ -2,7 +2,7 @@ use Rattle.std.proofs.Common.{◌≡◌, ◌+◌, ◌*◌, ℕ, length, refl, sy
 use Rattle.std.specs.Prelude.{IfSome}
 use Rattle.std.proofs.lemmas.Nat.{row_fits}
 use Rattle.blobs.specs.Moves.{blocks}
-use Rattle.map_plans.specs.Arrays.{array_of}
+use Rattle.map_checks.specs.Arrays.{array_of}
 use Rattle.map_any.specs.Strategies.{AreRuns}
 use Rattle.views.specs.Moves.{size_of, IsRunMoved}
 use Rattle.views.specs.MovesLaws.{rows_after}

@@ -1,7 +1,7 @@
 use Rattle.std.proofs.Common.{◌≡◌, ◌+◌, ◌*◌, ◌≤◌, length}
 use Rattle.std.specs.Prelude.{IfSome}
 use Rattle.blobs.specs.Moves.{blocks}
-use Rattle.map_plans.specs.Arrays.{array_of}
+use Rattle.map_checks.specs.Arrays.{array_of}
 use Rattle.views.specs.Moves.{size_of, IsRunMoved}
 use Rattle.views.specs.MovesLaws.{with_rows}
 use Rattle.views.specs.Tables.{leaf_count_of, leaf_type_of}

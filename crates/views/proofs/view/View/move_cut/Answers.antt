@@ -4,7 +4,7 @@ use Rattle.std.specs.List.{range_with_len}
 use Rattle.std.proofs.lemmas.Bool.{or_left, or_right, eq-eqb}
 use Rattle.std.proofs.lemmas.Nat.{row_fits}
 use Rattle.blobs.specs.Moves.{blocks}
-use Rattle.map_plans.specs.Arrays.{array_of}
+use Rattle.map_checks.specs.Arrays.{array_of}
 use Rattle.map_any.specs.Strategies.{AreRuns}
 use Rattle.views.specs.CutLaws.{slots_within, block_in, same_slots, same_steps, all_pieces}
 use Rattle.views.specs.Moves.{size_of, IsRunMoved}

@@ -1,7 +1,7 @@
 use Rattle.std.proofs.Common.{◌≡◌, ◌+◌, ◌-◌, ◌<◌, ◌≤◌, ◌||◌, true, length, sum_by}
 use Rattle.std.specs.Prelude.{◌==◌, IfSome}
 use Rattle.std.specs.List.{range_with_len}
-use Rattle.map_plans.specs.Arrays.{array_of}
+use Rattle.map_checks.specs.Arrays.{array_of}
 use Rattle.views.specs.Moves.{size_of, IsRunMoved}
 use Rattle.views.specs.MovesLaws.{with_rows}
 use Rattle.views.specs.Pieces.{is_cut, piece_at}

@@ -3,8 +3,8 @@ use Rattle.std.specs.Int.{w128}
 use Rattle.std.proofs.lemmas.Int.{to_z-of_z}
 use Rattle.std.proofs.lemmas.List.{get_or-map, length-map}
 use Rattle.record_dim.specs.declared.leaf_type.LeafType.{LeafType}
-use Rattle.kept_numbers.specs.Kept.{declared}
-use Rattle.kept_numbers.specs.KeptLaws.{declared_same}
+use Rattle.piece_bits.specs.Kept.{declared}
+use Rattle.piece_bits.specs.KeptLaws.{declared_same}
 use Rattle.views.specs.ColumnsLaws.{length-with_column}
 use Rattle.views.specs.Runs.{raised}
 use Rattle.views.specs.Tables.{Table, leaf_type_of, IsSettledIn}

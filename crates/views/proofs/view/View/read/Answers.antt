@@ -8,7 +8,7 @@ use Rattle.record_dim.specs.LeafTypes.{IsDeclared}
 use Rattle.record_dim.specs.Leaves.{kinds_of}
 use Rattle.record_dim.specs.Schemas.{schema_fields}
 use Rattle.places.specs.Image.{entry}
-use Rattle.kept_numbers.specs.Kept.{declared}
+use Rattle.piece_bits.specs.Kept.{declared}
 use Rattle.views.specs.Stores.{kind_at}
 use Rattle.views.specs.Tables.{leaf_type_of}
 use Rattle.views.proofs.Opened.{rows_seen, leaf_seen, cell_count, laid_here, raw_seen, strict_seen, declared_seen}

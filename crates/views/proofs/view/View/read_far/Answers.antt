@@ -1,7 +1,7 @@
 use Rattle.std.proofs.Common.{◌≡◌, ◌<◌, ◌≤◌, ◌∙◌, ℕ, length, refl, sym, ap, subst, arith, rules, SFits, FitsSigned, w64}
 use Rattle.std.specs.Int.{w128}
 use Rattle.std.proofs.lemmas.Int.{to_z-of_z}
-use Rattle.leaf_runs.specs.Lows.{low_64, IsWithin64}
+use Rattle.piece_bits.specs.Lows.{low_64, IsWithin64}
 use Rattle.views.specs.Columns.{column_reads}
 use Rattle.views.specs.RunsLaws.{declared_within}
 use Rattle.views.specs.Tables.{Table, leaf_type_of, after_log}

@@ -1,7 +1,7 @@
 use Rattle.std.proofs.Common.{◌∙◌, [], ◌∷◌, ap, sym, rules, SFits, to_z, of_z}
 use Rattle.std.specs.Int.{w128}
 use Rattle.std.proofs.lemmas.Int.{to_z-of_z}
-use Rattle.kept_numbers.specs.Kept.{declared}
+use Rattle.piece_bits.specs.Kept.{declared}
 use Rattle.piece_bits.specs.Tables.{with_entry}
 use Rattle.views.specs.Tables.{Table, leaf_type_of, after_raw}
 use Rattle.views.specs.Tallies.{Write}

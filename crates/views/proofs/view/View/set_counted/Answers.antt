@@ -1,7 +1,7 @@
 use Rattle.std.proofs.Common.{◌∙◌, ℤ, length, ap, sym, subst, arith, rules, SFits, to_z, of_z}
 use Rattle.std.specs.Int.{w128}
 use Rattle.std.proofs.lemmas.Int.{to_z-of_z}
-use Rattle.kept_numbers.specs.Kept.{declared}
+use Rattle.piece_bits.specs.Kept.{declared}
 use Rattle.piece_bits.specs.Tables.{with_entry}
 use Rattle.views.specs.Tables.{Table, leaf_count_of, leaf_type_of, after_raw, IsSettledIn}
 use Rattle.views.proofs.view.View.set_counted.Goals as goal

@@ -1,6 +1,6 @@
 use Rattle.std.proofs.Common.{◌≡◌, List, ℤ, ℕ, Some, None, map, take, OnOk, IfErr, subst, sym, ◌∙◌, arith}
-use Rattle.lanes.specs.Blocks.{IsBlock}
-use Rattle.lanes.specs.BlockLaws.{same}
+use Rattle.piece_bits.specs.Blocks.{IsBlock}
+use Rattle.piece_bits.specs.BlockLaws.{same}
 use Rattle.views.specs.Columns.{first_lane_fault, with_column, column_writes}
 use Rattle.views.specs.Tables.{answer_of, kept_of, after_stores}
 use Rattle.views.proofs.StoredLaws.{first_lanes}

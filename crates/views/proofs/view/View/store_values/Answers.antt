@@ -2,7 +2,7 @@ use Rattle.std.proofs.Common.{◌≡◌, ◌<◌, ℤ, pos, get_or, length, map,
 use Rattle.std.specs.Int.{w128}
 use Rattle.std.proofs.lemmas.Int.{to_z-of_z}
 use Rattle.std.proofs.lemmas.List.{get_or-map, length-map}
-use Rattle.kept_numbers.specs.Kept.{declared}
+use Rattle.piece_bits.specs.Kept.{declared}
 use Rattle.views.specs.Stores.{told}
 use Rattle.views.specs.Tables.{Table, answer_of, kept_of, leaf_type_of, IsSettledIn}
 use Rattle.views.specs.ColumnsLaws.{length-with_column}

@@ -4,8 +4,8 @@ use Rattle.std.proofs.lemmas.Int.{to_z-of_z}
 use Rattle.record_dim.specs.declared.leaf_type.LeafType.{LeafType}
 use Rattle.places.specs.declared.piece.Hold.{Hold}
 use Rattle.piece_bits.specs.Tables.{hold_at}
-use Rattle.kept_tables.specs.declared.mode.StoreMode.{StoreMode}
-use Rattle.kept_tables.specs.declared.mode.StoreMode.TheVariants.{Strict}
+use Rattle.piece_bits.specs.declared.mode.StoreMode.{StoreMode}
+use Rattle.piece_bits.specs.declared.mode.StoreMode.TheVariants.{Strict}
 use Rattle.views.specs.Stores.{store_answer, told}
 use Rattle.views.specs.Tables.{Table, leaf_type_of, table_holds}
 use Rattle.views.proofs.Opened.{cell_count, leaf_seen, kind_seen, hold_seen}

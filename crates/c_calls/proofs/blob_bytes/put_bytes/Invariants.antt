@@ -1,5 +1,0 @@
-use Rattle.std.proofs.Common.{◌≡◌, ◌++◌, drop, take}
-use Rattle.c_calls.proofs.blob_bytes.put_bytes.Given as goal
-
-abbrev pub invariant-loop-at : goal.invariant-loop-at
-invariant-loop-at l = l.buffer ≡ take l.at l.blob ++ drop l.at l.initial.buffer

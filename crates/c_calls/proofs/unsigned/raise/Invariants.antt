@@ -1,8 +1,0 @@
-use Rattle.std.proofs.Common.{map, pos}
-use Rattle.record_dim.specs.declared.leaf_type.LeafType.TheVariants.{U64}
-use Rattle.lanes.proofs.InPlace.{IsReplaced}
-use Rattle.views.specs.Runs.{raised}
-use Rattle.c_calls.proofs.unsigned.raise.Given as goal
-
-abbrev pub invariant-loop-k : goal.invariant-loop-k
-invariant-loop-k l = IsReplaced (λ n. pos n) (map (raised U64) l.lows) l.initial.values l.values l.k

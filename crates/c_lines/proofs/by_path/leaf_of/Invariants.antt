@@ -1,0 +1,6 @@
+use Rattle.std.proofs.Common.{◌≡◌, ◌<◌, ℕ, Some, slice_get}
+use Rattle.record_dim.specs.Leaves.{texts_of}
+use Rattle.c_lines.proofs.by_path.leaf_of.Given as goal
+
+abbrev pub invariant-loop-leaf : goal.invariant-loop-leaf
+invariant-loop-leaf l = (other : ℕ) → other < l.leaf → slice_get (texts_of l.view.fields) other ≡ Some l.path → ⊥

@@ -1,0 +1,81 @@
+-- The answers of calls: what comes of a table, or why nothing does, and their numbers in C.
+use Rattle.std.specs.Prelude.{◌≡◌, ◌⊎◌, ℤ, pos, Option, Some, None, option_map, Result, Ok, Err}
+use Rattle.views.specs.Tables.{Table}
+use Rattle.c_lines.specs.declared.refusal.Refusal.{Refusal}
+use Rattle.c_lines.specs.declared.refusal.Refusal.TheVariants.{NoView, NoPlace, NoMemory, NoRoom, BadType, Range, Narrow, Mismatch, Syntax, TooDeep, OtherLine, LineTooLong, Unknown, BadRecord, BadExtents, BadMapping, TooBig, BadKernel, Empty, MissingColumn, ColumnTwice, ShortRow, Number, BadFile}
+
+-- an answer that gives an `A`
+abbrev pub Answer : Type 0 → Type 0
+Answer A = Result A Refusal
+
+-- the number of a refusal in C
+abbrev pub number_of : Refusal → ℤ
+number_of NoView = pos 1
+number_of NoPlace = pos 2
+number_of NoMemory = pos 3
+number_of NoRoom = pos 4
+number_of BadType = pos 5
+number_of (Range row leaf) = pos 6
+number_of (Narrow row leaf) = pos 7
+number_of Mismatch = pos 8
+number_of (Syntax text column) = pos 9
+number_of (TooDeep text) = pos 10
+number_of (OtherLine text) = pos 11
+number_of (LineTooLong text) = pos 12
+number_of Unknown = pos 13
+number_of (BadRecord bad) = pos 14
+number_of (BadExtents bad) = pos 15
+number_of (BadMapping bad) = pos 16
+number_of TooBig = pos 17
+number_of (BadKernel bad) = pos 18
+number_of Empty = pos 19
+number_of (MissingColumn leaf) = pos 20
+number_of (ColumnTwice leaf) = pos 21
+number_of (ShortRow row leaf) = pos 22
+number_of (Number row leaf) = pos 23
+number_of (BadFile bad) = pos 24
+
+-- the number of an answer in C
+abbrev pub code_of : {A : Type 0} → Answer A → ℤ
+code_of (Ok given) = pos 0
+code_of (Err refusal) = number_of refusal
+
+-- one answer after another: behind a refusal comes nothing
+infixl 10 ◌>>=◌
+abbrev pub ◌>>=◌ : {A B : Type 0} → Answer A → (A → Answer B) → Answer B
+(Ok given) >>= next = next given
+(Err refusal) >>= next = Err refusal
+
+-- what is answered, seen by `view`, is this; but memory may run out at any time
+abbrev pub Tells : {A B : Type 0} → (A → B) → Answer B → Answer A → Type 0
+Tells view told (Ok given) = told ≡ Ok (view given)
+Tells view told (Err refusal) = (refusal ≡ NoMemory) ⊎ (told ≡ Err refusal)
+
+-- the same of a call that changes a table: what it leaves of the old one, and for want of memory all of it
+abbrev pub TellsLeft : {A : Type 0} → Answer A → Table → Table → Answer A → Table → Type 0
+TellsLeft told after old (Ok given) new = (told ≡ Ok given) × (new ≡ after)
+TellsLeft told after old (Err refusal) new = ((refusal ≡ NoMemory) × (new ≡ old)) ⊎ ((told ≡ Err refusal) × (new ≡ after))
+
+-- what an answer gives, as something else
+abbrev pub answer_map : {A B : Type 0} → (A → B) → Answer A → Answer B
+answer_map view (Ok given) = Ok (view given)
+answer_map view (Err refusal) = Err refusal
+
+-- the answer of a call on what a handle holds
+abbrev pub on_held : {A : Type 0} → (Table → Answer A) → Option Table → Answer A
+on_held call None = Err NoView
+on_held call (Some table) = call table
+
+-- what an answer gives, and this where it is a refusal
+abbrev pub given_or : {A : Type 0} → A → Answer A → A
+given_or other (Ok given) = given
+given_or other (Err refusal) = other
+
+-- a table after a call that changes it where it is done
+abbrev pub changed_by : {A : Type 0} → Answer A → Table → Table → Table
+changed_by (Ok given) new old = new
+changed_by (Err refusal) new old = old
+
+-- what a handle holds after such a call
+abbrev pub held_after : {A : Type 0} → (Table → Answer A) → (Table → Table) → Option Table → Option Table
+held_after call after held = option_map (λ table. changed_by (call table) (after table) table) held

@@ -1,0 +1,102 @@
+-- What C learns of a refusal beside its number.
+use Rattle.std.specs.Prelude.{ℕ, ℤ, pos, Ok, Err}
+use Rattle.extents.specs.declared.words.BadExtents.{BadExtents}
+use Rattle.extents.specs.declared.words.BadExtents.TheVariants as extents
+use Rattle.map_expr.specs.declared.check.BadMapping.{BadMapping}
+use Rattle.map_expr.specs.declared.check.BadMapping.TheVariants as mapping
+use Rattle.record_dim.specs.declared.fault.BadRecord.{BadRecord}
+use Rattle.record_dim.specs.declared.fault.BadRecord.TheVariants as fields
+use Rattle.worlds.specs.declared.fault.BadFile.{BadFile}
+use Rattle.worlds.specs.declared.fault.BadFile.TheVariants as file
+use Rattle.worlds.specs.declared.fault.BadKernel.{BadKernel}
+use Rattle.worlds.specs.declared.fault.BadKernel.TheVariants as kernel
+use Rattle.c_lines.specs.Answers.{Answer}
+use Rattle.c_lines.specs.declared.refusal.Fault.{Fault}
+use Rattle.c_lines.specs.declared.refusal.Refusal.{Refusal}
+use Rattle.c_lines.specs.declared.refusal.Refusal.TheVariants as refusal
+use Rattle.c_lines.specs.declared.refusal.TextOf.{TextOf}
+use Rattle.c_lines.specs.declared.refusal.TextOf.TheVariants.{First, Second}
+
+-- the number of a text of a call
+abbrev pub text_number : TextOf → ℤ
+text_number First = pos 1
+text_number Second = pos 2
+
+abbrev pub record_cause : BadRecord → ℤ
+record_cause fields.TooDeep = pos 1
+record_cause fields.Empty = pos 2
+record_cause fields.Twice = pos 3
+record_cause fields.NoElements = pos 4
+record_cause fields.TooManyLeaves = pos 5
+
+abbrev pub extents_cause : BadExtents → ℤ
+extents_cause extents.Rank = pos 1
+extents_cause extents.TwoRows = pos 2
+extents_cause extents.RowsBesideZero = pos 3
+extents_cause extents.NotDivisible = pos 4
+extents_cause extents.NotEqual = pos 5
+extents_cause extents.TooMany = pos 6
+
+abbrev pub mapping_cause : BadMapping → ℤ
+mapping_cause mapping.TooDeep = pos 1
+mapping_cause mapping.Counter = pos 2
+mapping_cause mapping.Lanes = pos 3
+mapping_cause mapping.Width = pos 4
+mapping_cause mapping.Granule = pos 5
+mapping_cause mapping.Side = pos 6
+mapping_cause mapping.Field = pos 7
+mapping_cause mapping.NotFull = pos 8
+
+abbrev pub kernel_cause : BadKernel → ℤ
+kernel_cause kernel.Lanes = pos 1
+kernel_cause kernel.Wide = pos 2
+kernel_cause kernel.Constant = pos 3
+
+abbrev pub file_cause : BadFile → ℤ
+file_cause file.Magic = pos 1
+file_cause file.Header = pos 2
+file_cause file.Layout = pos 3
+file_cause file.Length = pos 4
+file_cause file.Contents = pos 5
+
+-- which of several causes it is, or which text it is of, and 0 where there is but one
+abbrev pub cause_of : Refusal → ℤ
+cause_of (refusal.Syntax text column) = text_number text
+cause_of (refusal.TooDeep text) = text_number text
+cause_of (refusal.OtherLine text) = text_number text
+cause_of (refusal.LineTooLong text) = text_number text
+cause_of (refusal.BadRecord bad) = record_cause bad
+cause_of (refusal.BadExtents bad) = extents_cause bad
+cause_of (refusal.BadMapping bad) = mapping_cause bad
+cause_of (refusal.BadKernel bad) = kernel_cause bad
+cause_of (refusal.BadFile bad) = file_cause bad
+cause_of _ = pos 0
+
+-- the row and the leaf that it names, and the column of a text; 0 where it names none
+abbrev pub row_of : Refusal → ℕ
+row_of (refusal.Range row leaf) = row
+row_of (refusal.Narrow row leaf) = row
+row_of (refusal.ShortRow row leaf) = row
+row_of (refusal.Number row leaf) = row
+row_of _ = 0
+
+abbrev pub leaf_of : Refusal → ℕ
+leaf_of (refusal.Range row leaf) = leaf
+leaf_of (refusal.Narrow row leaf) = leaf
+leaf_of (refusal.MissingColumn leaf) = leaf
+leaf_of (refusal.ColumnTwice leaf) = leaf
+leaf_of (refusal.ShortRow row leaf) = leaf
+leaf_of (refusal.Number row leaf) = leaf
+leaf_of _ = 0
+
+abbrev pub column_of : Refusal → ℕ
+column_of (refusal.Syntax text column) = column
+column_of _ = 0
+
+abbrev pub fault_of : Refusal → Fault
+fault_of refused = record { cause = cause_of refused; row = row_of refused; leaf = leaf_of refused; column = column_of refused }
+
+-- what a call tells of its fault: a call that is done leaves what the caller had there
+abbrev pub fault_or : {A : Type 0} → Fault → Answer A → Fault
+fault_or old (Ok given) = old
+fault_or old (Err refused) = fault_of refused

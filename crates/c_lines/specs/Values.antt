@@ -1,0 +1,35 @@
+-- One value of a table, as a number of the caller's type.
+use Rattle.std.specs.Prelude.{ℕ, ◌+◌, ◌&&◌, Bool, true, false, not, ℤ, length, nat_lt, nat_le, if◌then◌else◌, Ok, Err}
+use Rattle.record_dim.specs.declared.leaf_type.LeafType.{LeafType}
+use Rattle.record_dim.specs.declared.leaf_type.LeafType.TheVariants.{U64}
+use Rattle.record_dim.specs.LeafTypes.{is_signed}
+use Rattle.places.specs.Image.{entry}
+use Rattle.views.specs.Tables.{Table, leaf_count_of, leaf_type_of, answer_of}
+use Rattle.c_lines.specs.Answers.{Answer}
+use Rattle.c_lines.specs.Refusals.{told_store}
+use Rattle.c_lines.specs.declared.refusal.Refusal.TheVariants.{NoPlace, BadType}
+
+-- so many rows from one on, and a leaf, are those of a table
+abbrev pub is_run : Table → ℕ → ℕ → ℕ → Bool
+is_run table first count leaf = nat_le (first + count) (length table.rows) && nat_lt leaf (leaf_count_of table)
+
+-- whether each value of a type is one of 64 bits with a sign, and one without
+abbrev pub reads_signed : LeafType → Bool
+reads_signed U64 = false
+reads_signed _ = true
+
+abbrev pub reads_unsigned : LeafType → Bool
+reads_unsigned kind = not (is_signed kind)
+
+-- what is read of rows of a leaf, by a caller who takes the values of some types
+abbrev pub read_by : {A : Type 0} → (LeafType → Bool) → Table → ℕ → ℕ → ℕ → A → Answer A
+read_by reads table first count leaf given = if is_run table first count leaf
+    then (if reads (leaf_type_of table leaf) then Ok given else Err BadType) else Err NoPlace
+
+-- what `llama_get` and `llama_get_u64` answer
+abbrev pub got : (LeafType → Bool) → ℕ → ℕ → Table → Answer ℤ
+got reads at leaf table = read_by reads table at 1 leaf (entry table.rows at leaf)
+
+-- what `llama_set` and `llama_set_u64` answer
+abbrev pub was_set : ℕ → ℕ → ℤ → Table → Answer (Unit {0})
+was_set at leaf value table = if is_run table at 1 leaf then told_store at leaf (answer_of table leaf value) else Err NoPlace

@@ -1,0 +1,259 @@
+ghost use Rattle.std.specs.Prelude.{◌≡◌};
+ghost use Rattle.c_lines.specs.Answers.{number_of};
+ghost use Rattle.c_lines.specs.Faults.{cause_of, column_of, extents_cause, fault_of, file_cause, kernel_cause, leaf_of, mapping_cause, record_cause, row_of, text_number};
+ghost use Rattle.c_lines.specs.Refusals.{store_refusal};
+
+use extents::BadExtents;
+use map_expr::BadMapping;
+use record_dim::BadRecord;
+use views::StoreFault;
+use worlds::{BadFile, BadKernel};
+
+/// The number in C of a call that did what it is for.
+pub const DONE: i32 = 0;
+
+/// Which of the texts of a call: where it has one, that is the first.
+#[derive(Clone, Copy)]
+pub enum TextOf {
+    First,
+    Second,
+}
+
+/// Why a call is not done.
+#[derive(Clone, Copy)]
+pub enum Refusal {
+    /// The handle holds no view.
+    NoView,
+    /// There is no such row, leaf, blob, path or index.
+    NoPlace,
+    NoMemory,
+    /// The buffer is too short.
+    NoRoom,
+    /// The leaf has values that are none of the caller's type.
+    BadType,
+    /// A value lies outside of the declared range of its leaf.
+    Range { row: u64, leaf: usize },
+    /// A value lies in the declared range and not in that of how its leaf is stored.
+    Narrow { row: u64, leaf: usize },
+    /// The views have other records or other extents.
+    Mismatch,
+    /// A text is no line, from its column on, counted from 1.
+    Syntax { text: TextOf, column: u64 },
+    /// An expression in a text is more than 32 deep.
+    TooDeep(TextOf),
+    /// A text is a line of another command.
+    OtherLine(TextOf),
+    /// A text has more than 4,096 bytes.
+    LineTooLong(TextOf),
+    /// A name or a path stands in a text that names nothing.
+    Unknown,
+    BadRecord(BadRecord),
+    BadExtents(BadExtents),
+    BadMapping(BadMapping),
+    /// A dataset or a view is over a limit.
+    TooBig,
+    BadKernel(BadKernel),
+    /// The view has no row, so there is no least and no greatest value.
+    Empty,
+    /// No column of the dataset names the leaf.
+    MissingColumn { leaf: usize },
+    /// Two columns of the dataset name the leaf.
+    ColumnTwice { leaf: usize },
+    /// The row of the dataset has no field in the leaf's column.
+    ShortRow { row: u64, leaf: usize },
+    /// The field of the dataset is no number.
+    Number { row: u64, leaf: usize },
+    BadFile(BadFile),
+}
+
+/// What C learns of a refusal beside its number: which of several causes it is, and where. What a refusal does not have is 0.
+#[repr(C)]
+#[derive(Clone, Copy)]
+pub struct Fault {
+    pub cause: i32,
+    pub row: u64,
+    pub leaf: usize,
+    pub column: u64,
+}
+
+impl Refusal {
+    /// Its number in C.
+    pub fn number(self) -> i32
+        ensures { result ≡ number_of self }
+    {
+        match self {
+            Refusal::NoView => 1,
+            Refusal::NoPlace => 2,
+            Refusal::NoMemory => 3,
+            Refusal::NoRoom => 4,
+            Refusal::BadType => 5,
+            Refusal::Range { .. } => 6,
+            Refusal::Narrow { .. } => 7,
+            Refusal::Mismatch => 8,
+            Refusal::Syntax { .. } => 9,
+            Refusal::TooDeep(_) => 10,
+            Refusal::OtherLine(_) => 11,
+            Refusal::LineTooLong(_) => 12,
+            Refusal::Unknown => 13,
+            Refusal::BadRecord(_) => 14,
+            Refusal::BadExtents(_) => 15,
+            Refusal::BadMapping(_) => 16,
+            Refusal::TooBig => 17,
+            Refusal::BadKernel(_) => 18,
+            Refusal::Empty => 19,
+            Refusal::MissingColumn { .. } => 20,
+            Refusal::ColumnTwice { .. } => 21,
+            Refusal::ShortRow { .. } => 22,
+            Refusal::Number { .. } => 23,
+            Refusal::BadFile(_) => 24,
+        }
+    }
+
+    /// What C learns of it beside that.
+    pub fn fault(self) -> Fault
+        ensures { result ≡ fault_of self }
+    {
+        Fault {
+            cause: self.cause(),
+            row: self.row(),
+            leaf: self.leaf(),
+            column: self.column(),
+        }
+    }
+
+    // Which of several causes it is, or which text it is of.
+    fn cause(self) -> i32
+        ensures { result ≡ cause_of self }
+    {
+        match self {
+            Refusal::Syntax { text, .. } => text.number(),
+            Refusal::TooDeep(text) => text.number(),
+            Refusal::OtherLine(text) => text.number(),
+            Refusal::LineTooLong(text) => text.number(),
+            Refusal::BadRecord(bad) => record_cause(bad),
+            Refusal::BadExtents(bad) => extents_cause(bad),
+            Refusal::BadMapping(bad) => mapping_cause(bad),
+            Refusal::BadKernel(bad) => kernel_cause(bad),
+            Refusal::BadFile(bad) => file_cause(bad),
+            _ => 0,
+        }
+    }
+
+    fn row(self) -> u64
+        ensures { result ≡ row_of self }
+    {
+        match self {
+            Refusal::Range { row, .. } => row,
+            Refusal::Narrow { row, .. } => row,
+            Refusal::ShortRow { row, .. } => row,
+            Refusal::Number { row, .. } => row,
+            _ => 0,
+        }
+    }
+
+    fn leaf(self) -> usize
+        ensures { result ≡ leaf_of self }
+    {
+        match self {
+            Refusal::Range { leaf, .. } => leaf,
+            Refusal::Narrow { leaf, .. } => leaf,
+            Refusal::MissingColumn { leaf } => leaf,
+            Refusal::ColumnTwice { leaf } => leaf,
+            Refusal::ShortRow { leaf, .. } => leaf,
+            Refusal::Number { leaf, .. } => leaf,
+            _ => 0,
+        }
+    }
+
+    fn column(self) -> u64
+        ensures { result ≡ column_of self }
+    {
+        match self {
+            Refusal::Syntax { column, .. } => column,
+            _ => 0,
+        }
+    }
+
+    /// That of a store that is refused.
+    pub fn of_store(row: u64, leaf: usize, fault: StoreFault) -> Refusal
+        ensures { result ≡ store_refusal row leaf fault }
+    {
+        match fault {
+            StoreFault::Range => Refusal::Range { row, leaf },
+            StoreFault::Narrow => Refusal::Narrow { row, leaf },
+        }
+    }
+}
+
+impl TextOf {
+    fn number(self) -> i32
+        ensures { result ≡ text_number self }
+    {
+        match self {
+            TextOf::First => 1,
+            TextOf::Second => 2,
+        }
+    }
+}
+
+fn record_cause(bad: BadRecord) -> i32
+    ensures { result ≡ record_cause bad }
+{
+    match bad {
+        BadRecord::TooDeep => 1,
+        BadRecord::Empty => 2,
+        BadRecord::Twice => 3,
+        BadRecord::NoElements => 4,
+        BadRecord::TooManyLeaves => 5,
+    }
+}
+
+fn extents_cause(bad: BadExtents) -> i32
+    ensures { result ≡ extents_cause bad }
+{
+    match bad {
+        BadExtents::Rank => 1,
+        BadExtents::TwoRows => 2,
+        BadExtents::RowsBesideZero => 3,
+        BadExtents::NotDivisible => 4,
+        BadExtents::NotEqual => 5,
+        BadExtents::TooMany => 6,
+    }
+}
+
+fn mapping_cause(bad: BadMapping) -> i32
+    ensures { result ≡ mapping_cause bad }
+{
+    match bad {
+        BadMapping::TooDeep => 1,
+        BadMapping::Counter => 2,
+        BadMapping::Lanes => 3,
+        BadMapping::Width => 4,
+        BadMapping::Granule => 5,
+        BadMapping::Side => 6,
+        BadMapping::Field => 7,
+        BadMapping::NotFull => 8,
+    }
+}
+
+fn kernel_cause(bad: BadKernel) -> i32
+    ensures { result ≡ kernel_cause bad }
+{
+    match bad {
+        BadKernel::Lanes => 1,
+        BadKernel::Wide => 2,
+        BadKernel::Constant => 3,
+    }
+}
+
+fn file_cause(bad: BadFile) -> i32
+    ensures { result ≡ file_cause bad }
+{
+    match bad {
+        BadFile::Magic => 1,
+        BadFile::Header => 2,
+        BadFile::Layout => 3,
+        BadFile::Length => 4,
+        BadFile::Contents => 5,
+    }
+}

@@ -1,0 +1,84 @@
+// One value of a view, as a number of the caller's type.
+ghost use Rattle.std.specs.Prelude.{◌≡◌, ◌+◌, ◌<◌, ◌≤◌, true, length, OnOk, OnErr};
+ghost use Rattle.views.specs.Tables.{leaf_count_of, leaf_type_of, after_read, after_write};
+ghost use Rattle.c_lines.specs.Answers.{answer_map};
+ghost use Rattle.c_lines.specs.Values.{is_run, got, was_set};
+
+use crate::number::Number64;
+use crate::refusal::Refusal;
+use record_dim::{LeafType, Steps};
+use std::sync::ledger::{Blank, Ledger};
+use views::View;
+
+/// The value of a leaf in a row, where each value of the leaf is a number of the caller's type.
+#[inline(always)]
+pub fn get<N: Number64, L: Ledger>(
+    view: &mut View,
+    row: u64,
+    leaf: usize,
+    blank: Blank,
+) -> Result<N, Refusal>
+    requires name { blank.name ≡ L.name }
+    requires parts { blank.parts ≡ L.parts }
+    requires some { 0 < blank.parts }
+    ensures got { answer_map N.number result ≡ got N.reads row leaf view.old }
+    ensures read { OnOk result (view.new ≡ after_read view.old row leaf) }
+    ensures kept { OnErr result (view.new ≡ view.old) }
+{
+    if !is_run(view, row, 1, leaf) {
+        return Err(Refusal::NoPlace);
+    }
+    let kind = leaf_type(view, leaf);
+    if !N::reads(kind) {
+        return Err(Refusal::BadType);
+    }
+    let mut steps = Steps::<L>::new(blank);
+    Ok(N::of(kind, view.get(row, leaf, &mut steps)))
+}
+
+/// Makes the value of a leaf in a row this one, as the view keeps it.
+#[inline(always)]
+pub fn set<L: Ledger>(
+    view: &mut View,
+    row: u64,
+    leaf: usize,
+    value: i128,
+    blank: Blank,
+) -> Result<(), Refusal>
+    requires name { blank.name ≡ L.name }
+    requires parts { blank.parts ≡ L.parts }
+    requires some { 0 < blank.parts }
+    ensures set { result ≡ was_set row leaf value view.old }
+    ensures written { OnOk result (view.new ≡ after_write view.old row leaf value) }
+    ensures kept { OnErr result (view.new ≡ view.old) }
+{
+    if !is_run(view, row, 1, leaf) {
+        return Err(Refusal::NoPlace);
+    }
+    let mut steps = Steps::<L>::new(blank);
+    match view.set(row, leaf, value, &mut steps) {
+        Ok(()) => Ok(()),
+        Err(fault) => Err(Refusal::of_store(row, leaf, fault)),
+    }
+}
+
+/// Whether a view has so many rows from one on, and the leaf.
+#[inline(always)]
+pub(crate) fn is_run(view: &View, first: u64, count: usize, leaf: usize) -> bool
+    ensures run { result ≡ is_run view.now first count leaf }
+    ensures rows { result ≡ true → first + count ≤ length view.now.rows }
+    ensures leaf { result ≡ true → leaf < leaf_count_of view.now }
+{
+    let rows = view.extents().count();
+    let count = count as u64;
+    first <= rows && count <= rows - first && leaf < view.schema().leaf_count()
+}
+
+/// The type of a leaf.
+#[inline(always)]
+pub(crate) fn leaf_type(view: &View, leaf: usize) -> LeafType
+    requires { leaf < leaf_count_of view.now }
+    ensures { result ≡ leaf_type_of view.now leaf }
+{
+    view.schema().leaf_type(leaf)
+}

@@ -1,0 +1,10 @@
+use Rattle.std.proofs.Common.{◌≡◌, ℕ, ◌<◌, ◌≤◌, length, get_or, pos, not}
+use Rattle.expr_lang.specs.Values.{truth, is_true}
+use Rattle.expr_lang.proofs.operators.invert.Given as goal
+
+abbrev pub invariant-loop-k : goal.invariant-loop-k
+invariant-loop-k l = record {
+  long : length l.values ≡ length l.fn.values;
+  done : (i : ℕ) → i < l.k → get_or l.values i (pos 0) ≡ truth (not (is_true (get_or l.fn.values i (pos 0))));
+  rest : (i : ℕ) → l.k ≤ i → get_or l.values i (pos 0) ≡ get_or l.fn.values i (pos 0);
+}

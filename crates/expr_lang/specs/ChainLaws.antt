@@ -1,0 +1,76 @@
+-- Along the links of a chain: what holds for all of it holds for its front, and how deep is what is left.
+use Rattle.std.proofs.Common.{◌≡◌, ◌∙◌, ℕ, ◌≤◌, List, sym, ap, subst, arith}
+use Rattle.expr_lang.specs.declared.bound.Links.{Links, size-Links}
+use Rattle.expr_lang.specs.declared.bound.Links.TheViews.{deep-More', size-Link}
+use Rattle.expr_lang.specs.declared.bound.Links.TheBlock.{the_depth}
+use denote.Hole.Rolled.{depth}
+use denote.Hole.Carrier.{fold}
+use Rattle.expr_lang.specs.declared.bound.Links.TheVariants as links
+use Rattle.expr_lang.specs.declared.bound.Step.{Step}
+use Rattle.expr_lang.specs.declared.bound.Step.TheVariants as step
+use Rattle.expr_lang.specs.Terms.{Term, IsWithin}
+use Rattle.expr_lang.specs.Chains.{step_term, links_term, IsStepWithin, AreWithin}
+use Rattle.expr_lang.specs.Exacts.{IsSafe}
+use Rattle.expr_lang.specs.Steps.{IsStepSafe, AreStepsSafe}
+
+-- what holds for the whole holds for the front, where it does so for one step
+front : (P : Term ℕ → Type 0) → ((term : Term ℕ) (s : Step) → P (step_term term s) → P term) → (term : Term ℕ) (l : Links) → P (links_term term l) → P term
+front P back term links.End h = h
+front P back term (links.More' p s rest) h = back term s (front P back (step_term term s) rest h)
+
+module _ (leaves rank : ℕ) where
+  within_back : (term : Term ℕ) (s : Step) → IsWithin leaves rank (step_term term s) → IsWithin leaves rank term
+  within_back term step.Neg h = h
+  within_back term step.Not h = h
+  within_back term (step.Binary' op first rest) h = h.0
+
+  pub within_front : (term : Term ℕ) (l : Links) → IsWithin leaves rank (links_term term l) → IsWithin leaves rank term
+  within_front = front (IsWithin leaves rank) within_back
+
+  within_step : (term : Term ℕ) (s : Step) → IsWithin leaves rank (step_term term s) → IsStepWithin leaves rank s
+  within_step term step.Neg h = tt
+  within_step term step.Not h = tt
+  within_step term (step.Binary' op first rest) h = h.1
+
+  pub within_links : (term : Term ℕ) (l : Links) → IsWithin leaves rank (links_term term l) → AreWithin leaves rank l
+  within_links term links.End h = tt
+  within_links term (links.More' p s rest) h = (within_step term s (within_front (step_term term s) rest h), within_links (step_term term s) rest h)
+
+  -- the same of those behind the first
+  pub within_rest : (all rest after : Links) (s : Step) (p : _) → all ≡ links.More' p s rest → after ≡ rest → AreWithin leaves rank all → AreWithin leaves rank after
+  within_rest all rest after s p is two within = subst (AreWithin leaves rank) (sym two) (subst (AreWithin leaves rank) is within).1
+
+module _ (leaves places : List ℕ) where
+  safe_back : (term : Term ℕ) (s : Step) → IsSafe leaves places (step_term term s) → IsSafe leaves places term
+  safe_back term step.Neg h = h
+  safe_back term step.Not h = h
+  safe_back term (step.Binary' op first rest) h = h.0
+
+  safe_step : (term : Term ℕ) (s : Step) → IsSafe leaves places (step_term term s) → IsStepSafe leaves places s
+  safe_step term step.Neg h = tt
+  safe_step term step.Not h = tt
+  safe_step term (step.Binary' op first rest) h = (h.1, h.2)
+
+  pub safe_front : (term : Term ℕ) (l : Links) → IsSafe leaves places (links_term term l) → IsSafe leaves places term
+  safe_front = front (IsSafe leaves places) safe_back
+
+  pub safe_steps : (term : Term ℕ) (l : Links) → IsSafe leaves places (links_term term l) → AreStepsSafe leaves places l
+  safe_steps term links.End h = tt
+  safe_steps term (links.More' p s rest) h = (safe_step term s (safe_front (step_term term s) rest h), safe_steps (step_term term s) rest h)
+
+  pub safe_rest : (all rest after : Links) (s : Step) (p : _) → all ≡ links.More' p s rest → after ≡ rest → AreStepsSafe leaves places all → AreStepsSafe leaves places after
+  safe_rest all rest after s p is two safe = subst (AreStepsSafe leaves places) (sym two) (subst (AreStepsSafe leaves places) is safe).1
+
+-- the front is one step longer
+pub one_more : (all rest after : Links) (s done : Step) (p : _) (term : Term ℕ) → all ≡ links.More' p s rest → done ≡ s → after ≡ rest
+    → links_term (step_term term done) after ≡ links_term term all
+one_more all rest after s done p term is one two =
+    ap (links_term (step_term term done)) two ∙ ap (λ (t : Step). links_term (step_term term t) rest) one ∙ sym (ap (links_term term) is)
+
+-- what is left is no deeper
+rest_depth : (s : Step) (rest : Links) → size-Links rest ≤ size-Link (record { step = s; rest = rest })
+unfolding the_depth depth fold
+rest_depth s rest = omega arith
+
+pub no_deeper : (all rest after : Links) (s : Step) (p : _) (most : ℕ) → all ≡ links.More' p s rest → after ≡ rest → size-Links all ≤ most → size-Links after ≤ most
+no_deeper all rest after s p most is two few = omega (arith, ap size-Links is, ap size-Links two, few, deep-More' p s rest, rest_depth s rest)

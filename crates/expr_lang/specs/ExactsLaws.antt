@@ -1,0 +1,145 @@
+-- Where no part of a term can fail, its value is the exact one.
+use Rattle.std.proofs.Common.{◌≡◌, ◌∙◌, ℕ, ◌+◌, ◌*◌, ◌^◌, ◌<◌, ◌≤◌, max, Bool, true, false, cond, not, ◌&&◌, ◌||◌, ℤ, pos, negsuc, neg_ℤ, ◌+ℤ◌, ◌-ℤ◌, ◌*ℤ◌, ◌≤ℤ◌, List, Some, None, Result, Ok, refl, ap, arith}
+use Rattle.std.specs.Prelude.{unsigned_abs, int_lt, if◌then◌else◌}
+use Rattle.std.proofs.lemmas.Int.{ints, unsigned_abs-mul}
+use Rattle.std.proofs.Math.Nat.{mul-le-mul}
+use Rattle.expr_lang.specs.declared.expr.BinOp.{BinOp}
+use Rattle.expr_lang.specs.declared.expr.BinOp.TheVariants.{Add, Sub, Mul, Div, Rem, Min, Max, Eq, Ne, Lt, Le, Gt, Ge, And, Or}
+use Rattle.expr_lang.specs.declared.fault.EvalFault.{EvalFault}
+use Rattle.expr_lang.specs.Terms.{Term, Number, Entry, Index, Neg, Not, Binary}
+use Rattle.expr_lang.specs.Values.{Outcome, no_read, then_from, ◌>>=◌, ranged, truth, is_true, decided, unless_decided, result_of, outcome_of}
+use Rattle.expr_lang.specs.Exacts.{exact_by, exact_of, most_by, most_of, is_total, IsSafe, IsReached}
+
+-- ---- how far from 0
+
+abs_small : (z : ℤ) (m : ℕ) → neg_ℤ (pos m) ≤ℤ z → z ≤ℤ pos m → unsigned_abs z ≤ m
+abs_small (pos n) m least greatest = omega (arith, ints, greatest)
+abs_small (negsuc n) m least greatest = omega (arith, ints, least)
+
+abs_low : (z : ℤ) → neg_ℤ (pos (unsigned_abs z)) ≤ℤ z
+abs_low (pos n) = omega (arith, ints)
+abs_low (negsuc n) = omega (arith, ints)
+
+abs_high : (z : ℤ) → z ≤ℤ pos (unsigned_abs z)
+abs_high (pos n) = omega (arith, ints)
+abs_high (negsuc n) = omega (arith, ints)
+
+abs_sum : (a b : ℤ) → unsigned_abs (a +ℤ b) ≤ unsigned_abs a + unsigned_abs b
+abs_sum a b = abs_small (a +ℤ b) (unsigned_abs a + unsigned_abs b) (omega (arith, ints, abs_low a, abs_low b)) (omega (arith, ints, abs_high a, abs_high b))
+
+abs_difference : (a b : ℤ) → unsigned_abs (a -ℤ b) ≤ unsigned_abs a + unsigned_abs b
+abs_difference a b = abs_small (a -ℤ b) (unsigned_abs a + unsigned_abs b) (omega (arith, ints, abs_low a, abs_high b)) (omega (arith, ints, abs_high a, abs_low b))
+
+abs_negated : (a : ℤ) → unsigned_abs (neg_ℤ a) ≤ unsigned_abs a
+abs_negated a = abs_small (neg_ℤ a) (unsigned_abs a) (omega (arith, ints, abs_high a)) (omega (arith, ints, abs_low a))
+
+abs_product : (a b : ℤ) (m n : ℕ) → unsigned_abs a ≤ m → unsigned_abs b ≤ n → unsigned_abs (a *ℤ b) ≤ m * n
+abs_product a b m n one two =
+    let both : unsigned_abs a * unsigned_abs b ≤ m * n = mul-le-mul one two in
+    omega (arith, unsigned_abs-mul a b, both)
+
+abs_truth : (b : Bool) → unsigned_abs (truth b) ≤ 1
+abs_truth true = omega arith
+abs_truth false = omega arith
+
+abs_either : (b : Bool) (x y : ℤ) (m n : ℕ) → unsigned_abs x ≤ m → unsigned_abs y ≤ n → unsigned_abs (cond b y x) ≤ max m n
+abs_either true x y m n one two = omega (arith, two)
+abs_either false x y m n one two = omega (arith, one)
+
+abs_other : (b : Bool) (x y : ℤ) (m n : ℕ) → unsigned_abs x ≤ m → unsigned_abs y ≤ n → unsigned_abs (cond b x y) ≤ max m n
+abs_other true x y m n one two = omega (arith, one)
+abs_other false x y m n one two = omega (arith, two)
+
+near_by : (op : BinOp) (x y : ℤ) (m n : ℕ) → is_total op ≡ true → unsigned_abs x ≤ m → unsigned_abs y ≤ n → unsigned_abs (exact_by op x y) ≤ most_by op m n
+near_by Add x y m n goes one two = omega (arith, abs_sum x y, one, two)
+near_by Sub x y m n goes one two = omega (arith, abs_difference x y, one, two)
+near_by Mul x y m n goes one two = abs_product x y m n one two
+near_by Div x y m n goes one two = absurd (cc)
+near_by Rem x y m n goes one two = absurd (cc)
+near_by Min x y m n goes one two = abs_either (int_lt y x) x y m n one two
+near_by Max x y m n goes one two = abs_other (int_lt y x) x y m n one two
+near_by other x y m n goes one two = abs_truth _
+
+-- ---- answers
+
+in_range : (z : ℤ) → unsigned_abs z < 2 ^ 63 → ranged z ≡ Ok z
+in_range (pos n) small = grind (arith, ints)
+in_range (negsuc n) small = grind (arith, ints)
+
+then_answer : (o : Outcome) (x : ℤ) (next : ℤ → Outcome) → o.answer ≡ Ok x → (o >>= next).answer ≡ (next x).answer
+then_answer o x next is = ap (λ (a : Result ℤ EvalFault). (then_from a o.reads next).answer) is
+
+and_answer : (b : Bool) (y : ℤ) (o : Outcome) → o.answer ≡ Ok (truth (b && is_true y)) → (unless_decided (if b then None else Some (pos 0)) o).answer ≡ Ok (truth (b && is_true y))
+and_answer true y o is = is
+and_answer false y o is = refl
+
+or_answer : (b : Bool) (y : ℤ) (o : Outcome) → o.answer ≡ Ok (truth (b || is_true y)) → (unless_decided (if b then Some (pos 1) else None) o).answer ≡ Ok (truth (b || is_true y))
+or_answer true y o is = refl
+or_answer false y o is = is
+
+op_answer : (op : BinOp) (x y : ℤ) (o : Outcome) → o.answer ≡ Ok y → is_total op ≡ true → unsigned_abs (exact_by op x y) < 2 ^ 63
+    → (unless_decided (decided op x) (o >>= (λ y. no_read (result_of op x y)))).answer ≡ Ok (exact_by op x y)
+op_answer Add x y o is goes small = then_answer o y (λ y. no_read (result_of Add x y)) is ∙ in_range (x +ℤ y) small
+op_answer Sub x y o is goes small = then_answer o y (λ y. no_read (result_of Sub x y)) is ∙ in_range (x -ℤ y) small
+op_answer Mul x y o is goes small = then_answer o y (λ y. no_read (result_of Mul x y)) is ∙ in_range (x *ℤ y) small
+op_answer Div x y o is goes small = absurd (cc)
+op_answer Rem x y o is goes small = absurd (cc)
+op_answer Min x y o is goes small = then_answer o y (λ y. no_read (result_of Min x y)) is
+op_answer Max x y o is goes small = then_answer o y (λ y. no_read (result_of Max x y)) is
+op_answer Eq x y o is goes small = then_answer o y (λ y. no_read (result_of Eq x y)) is
+op_answer Ne x y o is goes small = then_answer o y (λ y. no_read (result_of Ne x y)) is
+op_answer Lt x y o is goes small = then_answer o y (λ y. no_read (result_of Lt x y)) is
+op_answer Le x y o is goes small = then_answer o y (λ y. no_read (result_of Le x y)) is
+op_answer Gt x y o is goes small = then_answer o y (λ y. no_read (result_of Gt x y)) is
+op_answer Ge x y o is goes small = then_answer o y (λ y. no_read (result_of Ge x y)) is
+op_answer And x y o is goes small = and_answer (is_true x) y (o >>= (λ y. no_read (result_of And x y))) (then_answer o y (λ y. no_read (result_of And x y)) is)
+op_answer Or x y o is goes small = or_answer (is_true x) y (o >>= (λ y. no_read (result_of Or x y))) (then_answer o y (λ y. no_read (result_of Or x y)) is)
+
+-- an operator over two sides whose answers are their exact values
+binary_answer : (row : List ℤ) (index : List ℕ) (op : BinOp) (left right : Term ℕ) → (outcome_of row index left).answer ≡ Ok (exact_of row index left)
+    → (outcome_of row index right).answer ≡ Ok (exact_of row index right) → is_total op ≡ true → unsigned_abs (exact_by op (exact_of row index left) (exact_of row index right)) < 2 ^ 63
+    → (outcome_of row index (Binary op left right)).answer ≡ Ok (exact_of row index (Binary op left right))
+binary_answer row index op left right one two total small =
+    let x : ℤ = exact_of row index left in
+    let y : ℤ = exact_of row index right in
+    then_answer (outcome_of row index left) x (λ x. unless_decided (decided op x) (outcome_of row index right >>= (λ y. no_read (result_of op x y)))) one
+    ∙ op_answer op x y (outcome_of row index right) two total small
+
+-- ---- terms
+
+-- the answer of a term is its exact value, which lies no further from 0 than it may
+pub record IsWorth (row : List ℤ) (index : List ℕ) (term : Term ℕ) (most : ℕ) : Type 0 where
+  pub answer : (outcome_of row index term).answer ≡ Ok (exact_of row index term)
+  pub near : unsigned_abs (exact_of row index term) ≤ most
+  pub small : most < 2 ^ 63
+
+module _ (leaves places : List ℕ) (row : List ℤ) (index : List ℕ) where
+  pub worth : (term : Term ℕ) → IsSafe leaves places term → IsReached leaves places row index term → IsWorth row index term (most_of leaves places term)
+  worth (Number number) safe reach = record { answer = refl; near = omega arith; small = safe }
+  worth (Entry leaf) safe reach = record { answer = refl; near = reach; small = safe }
+  worth (Index dimension) safe reach = record { answer = refl; near = reach; small = safe }
+  worth (Neg inner) safe reach =
+      let here = worth inner safe reach in
+      let x : ℤ = exact_of row index inner in
+      let near : unsigned_abs (neg_ℤ x) ≤ most_of leaves places inner = omega (arith, here.near, abs_negated x) in
+      record {
+        answer = then_answer (outcome_of row index inner) x (λ x. no_read (ranged (neg_ℤ x))) here.answer ∙ in_range (neg_ℤ x) (omega (arith, near, here.small));
+        near = near;
+        small = here.small;
+      }
+  worth (Not inner) safe reach =
+      let here = worth inner safe reach in
+      let x : ℤ = exact_of row index inner in
+      record {
+        answer = then_answer (outcome_of row index inner) x (λ x. no_read (Ok (truth (not (is_true x))))) here.answer;
+        near = abs_truth (not (is_true x));
+        small = omega arith;
+      }
+  worth (Binary op left right) safe reach =
+      let first = worth left safe.0 reach.0 in
+      let second = worth right safe.1 reach.1 in
+      let x : ℤ = exact_of row index left in
+      let y : ℤ = exact_of row index right in
+      let near : unsigned_abs (exact_by op x y) ≤ most_by op (most_of leaves places left) (most_of leaves places right) = near_by op x y _ _ safe.2 first.near second.near in
+      let small : unsigned_abs (exact_by op x y) < 2 ^ 63 = omega (arith, near, safe.3) in
+      record { answer = binary_answer row index op left right first.answer second.answer safe.2 small; near = near; small = safe.3 }

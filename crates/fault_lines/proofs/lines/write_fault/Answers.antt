@@ -1,9 +1,0 @@
-use Rattle.std.proofs.Common.{rules, ◌≡◌, Err, refl}
-use Rattle.layout_io.specs.GatheringLaws.{Writes-puts_err}
-use Rattle.layout_io.specs.declared.ends.Failed.{Failed}
-use Rattle.fault_lines.proofs.lines.write_fault.Goals as goal
-
-pub returns-in_err-put_fault : goal.returns-in_err-put_fault
-returns-in_err-put_fault g c =
-    let is : c.from_residual.result ≡ Err c.in_err-put_fault.field-0.0 = search rules in
-    rw is (Writes-puts_err {T = Unit {0}} {E = Failed} (Err c.in_err-put_fault.field-0.0) c.new-buffer.ensures refl c.in_err-put_fault.ensures)

@@ -1,4 +1,0 @@
-pub mod Modes
-pub mod TableLaws
-pub mod EntryLaws
-pub mod ImageLaws

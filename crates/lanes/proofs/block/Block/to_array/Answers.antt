@@ -1,6 +1,0 @@
-use Rattle.std.proofs.Common.{◌∙◌}
-use Rattle.lanes.specs.BlockLaws.{same}
-use Rattle.lanes.proofs.block.Block.to_array.Goals as goal
-
-pub returns-clause-numbers : goal.returns-clause-numbers
-returns-clause-numbers c = same c.self.inside.lanes c.self.invariant.fit ∙ c.self.view_is

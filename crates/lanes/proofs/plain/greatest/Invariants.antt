@@ -1,6 +1,0 @@
-use Rattle.std.proofs.Common.{◌≡◌, take, fold}
-use Rattle.std.specs.Int.{int_max}
-use Rattle.lanes.proofs.plain.greatest.Given as goal
-
-abbrev pub invariant-loop-value : goal.invariant-loop-value
-invariant-loop-value g l = g.T.Number.value l.greatest ≡ fold (λ greatest x. int_max greatest (g.T.Number.value x)) (g.T.Number.value l.fn.start) (take l.value-index l.values)

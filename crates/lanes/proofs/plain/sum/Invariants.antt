@@ -1,5 +1,0 @@
-use Rattle.std.proofs.Common.{◌≡◌, ◌+ℤ◌, take, fold}
-use Rattle.lanes.proofs.plain.sum.Given as goal
-
-abbrev pub invariant-loop-value : goal.invariant-loop-value
-invariant-loop-value g l = g.T.Number.value l.sum ≡ fold (λ sum x. sum +ℤ g.T.Number.value x) (g.T.Number.value l.fn.start) (take l.value-index l.values)

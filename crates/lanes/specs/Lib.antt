@@ -1,4 +1,0 @@
-pub mod Blocks
-pub mod BlockLaws
-pub mod Plain
-pub mod NarrowLaws

@@ -1,5 +1,0 @@
-use Rattle.leaf_runs.specs.Stretched.{HaveRead}
-use Rattle.leaf_runs.proofs.read.read_each.Given as goal
-
-abbrev pub invariant-loop-k : goal.invariant-loop-k
-invariant-loop-k l = HaveRead l.short l.stretch l.blob l.at l.k l.initial.values l.values

@@ -1,3 +1,0 @@
-pub mod Lows
-pub mod LowsLaws
-pub mod Stretched

@@ -1,0 +1,294 @@
+-- The joined rules of the bytes of cells are rules of the cells.
+use Rattle.std.proofs.Common.{◌≡◌, ℕ, zero, suc, ◌+◌, ◌-◌, ◌*◌, ◌/◌, ◌%◌, ◌^◌, ◌<◌, ◌≤◌, List, [], ◌∷◌, ◌++◌, map, length, get_or, slice_index, take, drop, replicate, sum_by, All, refl, sym, ap, ◌∙◌, subst, arith}
+use Rattle.std.specs.List.{flat_map}
+use Rattle.std.proofs.lemmas.List.{length-map, get_or-map, same_lists, get_or-take, get_or-drop, length-take-le, length-drop, take_more, take_all, map-append, append-nil, get_or_append_left, get_or-append-add, get_or-replicate, length-replicate}
+use Rattle.std.proofs.lemmas.List.Concat.{flat_map-append}
+use Rattle.std.proofs.lemmas.List.Elements.{All-append, All-nil, All-head, All-tail}
+use Rattle.std.proofs.lemmas.List.Sums.{sum_by-cons, sum_by-append, sum_by_more}
+use Rattle.extents.specs.Indices.{indices}
+use Rattle.extents.specs.declared.order.Order.{Order}
+use Rattle.linearize.specs.Slots.{slot_at, slot_count}
+use Rattle.record_dim.specs.LeafTypes.{width_of}
+use Rattle.record_dim.specs.declared.leaf_type.LeafType.TheVariants.{U8}
+use Rattle.places.specs.Layout.{Owner}
+use Rattle.places.specs.Rules.{byte_cells, bytesplit}
+use Rattle.places.specs.Laws.{IsLocated}
+use Rattle.places.specs.Holds.{widths_of}
+use Rattle.places.specs.WidthsLaws.{widths_whole, widths_narrow, widths_wide}
+use Rattle.places.specs.CellWidthsLaws.{length-widths}
+use Rattle.places.specs.declared.piece.Cell.{Cell}
+use Rattle.places.specs.declared.piece.Piece.{Piece}
+use Rattle.places.specs.PieceRules.{piece_in, pieces_in}
+use Rattle.places.specs.declared.rule.PieceRule.{PieceRule}
+use Rattle.map_bytes.specs.Cells.{bytes_of, byte_count}
+use Rattle.map_bytes.specs.ByteCellsLaws.{bytes_before, byte_cell_at, byte_within, byte_count_is, byte_count_before, length-bytes}
+use Rattle.map_bytes.specs.CutLaws.{one_of_eight}
+use Rattle.map_bytes.specs.JoinLaws.{byte_joined, none_located}
+use Rattle.map_checks.specs.ByteRules.{HasOnePiece, IsJoined, AreJoined, bytes_at}
+use Rattle.map_checks.specs.Ruled.{IsRuleOf, IsRuled}
+use Rattle.map_checks.specs.declared.rule.Rule.{Rule}
+use Rattle.map_checks.proofs.OrderLaws.{order_in, with_item}
+
+-- a byte has one piece
+pub alone_ruled : (layout : List (List Owner)) (extents es : List ℕ) (bytes : List Rule) → IsRuled layout extents es bytes → All (λ w. w ≡ 8) es → All HasOnePiece bytes
+alone_ruled layout extents es bytes ruled eights = λ k d inside.
+    let each : length bytes ≡ length es = ruled.each in
+    let rule : Rule = get_or bytes k d in
+    let here : IsRuleOf layout extents k (slice_index es k) rule = ruled.places k d inside in
+    let width : slice_index es k ≡ 8 = eights k 0 (omega arith) in
+    let whole : slice_index es k % 8 ≡ 0 = omega arith in
+    one_of_eight (λ (p : PieceRule). p.bits) rule.pieces.items here.some (here.whole whole) (here.bits ∙ width)
+
+-- what holds of the items of each holds of all in a row
+all_flat : {X Y : Type 0} (P : Y → Type 0) (f : X → List Y) (xs : List X) → All (λ x. All P (f x)) xs → All P (flat_map f xs)
+all_flat P f [] h = All-nil P
+all_flat {X} P f (x ∷ xs) h =
+    All-append P (f x) (flat_map f xs) (All-head (λ (y : X). All P (f y)) x xs h) (all_flat P f xs (All-tail (λ (y : X). All P (f y)) x xs h))
+
+sum_flat : {X Y : Type 0} (bits : Y → ℕ) (f : X → List Y) (xs : List X) → All (λ x. sum_by bits (f x) ≡ 8) xs → sum_by bits (flat_map f xs) ≡ 8 * length xs
+sum_flat bits f [] h = refl
+sum_flat {X} bits f (x ∷ xs) h =
+    let here : sum_by bits (f x) ≡ 8 = All-head (λ (y : X). sum_by bits (f y) ≡ 8) x xs h in
+    let later : sum_by bits (flat_map f xs) ≡ 8 * length xs = sum_flat bits f xs (All-tail (λ (y : X). sum_by bits (f y) ≡ 8) x xs h) in
+    let both : sum_by bits (f x ++ flat_map f xs) ≡ sum_by bits (f x) + sum_by bits (flat_map f xs) = sum_by-append bits (f x) (flat_map f xs) in
+    omega arith
+
+abbrev pieces_by : Rule → List PieceRule
+pieces_by rule = rule.pieces.items
+
+-- a byte keeps the leaf of its cell
+byte_leaf : (cells : List Cell) (c j : ℕ) (d e : Cell) → c < length cells → j < width_of (get_or cells c e).kind / 8
+    → (get_or (bytes_of cells) (byte_count (take c cells) + j) d).leaf ≡ (get_or cells c e).leaf
+byte_leaf [] c j d e inside low = let never : ⊥ = omega arith in absurd never
+byte_leaf (cell ∷ cells) zero j d e inside low =
+    let n : ℕ = width_of cell.kind / 8 in
+    let byte : Cell = record { leaf = cell.leaf; kind = U8 } in
+    let j_in : j < n = low in
+    let size : length (replicate n byte) ≡ n = length-replicate n byte in
+    let place : byte_count (take zero (cell ∷ cells)) + j ≡ j = omega arith in
+    ap (λ (i : ℕ). (get_or (bytes_of (cell ∷ cells)) i d).leaf) place
+    ∙ ap (λ (x : Cell). x.leaf) (get_or_append_left (replicate n byte) (bytes_of cells) d j (omega arith) ∙ get_or-replicate n j byte d j_in)
+byte_leaf (cell ∷ cells) (suc c) j d e inside low =
+    let n : ℕ = width_of cell.kind / 8 in
+    let byte : Cell = record { leaf = cell.leaf; kind = U8 } in
+    let size : length (replicate n byte) ≡ n = length-replicate n byte in
+    let step : byte_count (take (suc c) (cell ∷ cells)) ≡ n + byte_count (take c cells) = sum_by-cons (λ (x : Cell). width_of x.kind / 8) cell (take c cells) in
+    let place : byte_count (take (suc c) (cell ∷ cells)) + j ≡ length (replicate n byte) + (byte_count (take c cells) + j) = omega arith in
+    ap (λ (i : ℕ). (get_or (bytes_of (cell ∷ cells)) i d).leaf) place
+    ∙ ap (λ (x : Cell). x.leaf) (get_or-append-add (replicate n byte) (bytes_of cells) (byte_count (take c cells) + j) d)
+    ∙ byte_leaf cells c j d e (omega arith) low
+
+-- the bytes of one cell
+module _ (cells : List Cell) (bytes : List Rule) (each : length bytes ≡ byte_count cells) (c : ℕ) (inside : c < length cells) where
+  abbrev ws : List ℕ
+  ws = widths_of cells
+
+  abbrev first : ℕ
+  first = byte_count (take c cells)
+
+  abbrev count : ℕ
+  count = slice_index ws c / 8
+
+  c_in : c < length ws
+  c_in = let size : length ws ≡ length cells = length-widths cells in omega arith
+
+  pub next_is : byte_count (take (c + 1) cells) ≡ first + count
+  next_is =
+      with_item cells c inside
+      (λ d.
+      let more : byte_count (take (c + 1) cells) ≡ first + width_of (get_or cells c d).kind / 8 = sum_by_more (λ (x : Cell). width_of x.kind / 8) cells c d inside in
+      let width : slice_index ws c ≡ width_of (get_or cells c d).kind = get_or-map (λ (x : Cell). width_of x.kind) cells c d 0 inside in
+      let z : byte_count (take (c + 1) cells) ≡ first + count = omega arith in
+      z)
+
+  pub within : first + count ≤ length bytes
+  within =
+      let few : count ≤ first + count = omega arith in
+      let all : byte_count cells ≡ sum_by (λ (w : ℕ). w / 8) ws = byte_count_is cells in
+      let before : first ≡ bytes_before ws c = byte_count_before cells c in
+      let narrow : slice_index ws c ≤ 64 = widths_narrow cells c 0 c_in in
+      let wide : 1 ≤ slice_index ws c = widths_wide cells c 0 c_in in
+      let whole : slice_index ws c % 8 ≡ 0 = widths_whole cells c 0 c_in in
+      let last : bytes_before ws c + (count - 1) < sum_by (λ (w : ℕ). w / 8) ws = byte_within ws c (count - 1) c_in (omega arith) in
+      omega arith
+
+  pub some_bytes : 0 < count
+  some_bytes =
+      let wide : 1 ≤ slice_index ws c = widths_wide cells c 0 c_in in
+      let whole : slice_index ws c % 8 ≡ 0 = widths_whole cells c 0 c_in in
+      omega arith
+
+  pub few_bytes : count ≤ 8
+  few_bytes = let narrow : slice_index ws c ≤ 64 = widths_narrow cells c 0 c_in in omega arith
+
+  abbrev those : List Rule
+  those = bytes_at cells bytes c
+
+  pub those_are : those ≡ take count (drop first bytes)
+  those_are = let size : byte_count (take (c + 1) cells) - first ≡ count = omega (arith, next_is) in ap (λ (n : ℕ). take n (drop first bytes)) size
+
+  -- the bytes that stand where the cell's begin
+  pub slice_is : (start n : ℕ) → start ≡ first → n ≡ count → take (start + n - start) (drop start bytes) ≡ those
+  slice_is start n begin many =
+      let size : start + n - start ≡ count = omega arith in
+      ap (λ (m : ℕ). take m (drop start bytes)) size ∙ ap (λ (m : ℕ). take count (drop m bytes)) begin ∙ sym those_are
+
+  pub length-those : length those ≡ count
+  length-those =
+      let rest : length (drop first bytes) ≡ length bytes - first = length-drop first bytes in
+      ap (λ (rs : List Rule). length rs) those_are ∙ length-take-le count (drop first bytes) (omega (arith, within))
+
+  pub those_at : (j : ℕ) (d : Rule) → j < count → get_or those j d ≡ get_or bytes (first + j) d
+  those_at j d low =
+      ap (λ (rs : List Rule). get_or rs j d) those_are ∙ get_or-take count (drop first bytes) j d low ∙ get_or-drop first bytes j d
+
+  -- what holds of all bytes holds of these
+  pub all_those : (P : Rule → Type 0) → All P bytes → All P those
+  all_those P h = λ j d j_in.
+      let low : j < count = omega (arith, length-those) in
+      subst P (sym (those_at j d low)) (h (first + j) d (omega (arith, within)))
+
+  module _ (layout : List (List Owner)) (extents es : List ℕ) (ruled : IsRuled layout extents es bytes) (eights : All (λ w. w ≡ 8) es) where
+    -- each is the rule of its byte
+    byte_ruled : (j : ℕ) (d : Rule) → j < count → IsRuleOf layout extents (first + j) 8 (get_or those j d)
+    byte_ruled j d low =
+        let size : length bytes ≡ length es = ruled.each in
+        let here : first + j < length bytes = omega (arith, within) in
+        let there : IsRuleOf layout extents (first + j) (slice_index es (first + j)) (get_or bytes (first + j) d) = ruled.places (first + j) d here in
+        subst (λ (r : Rule). IsRuleOf layout extents (first + j) 8 r) (sym (those_at j d low))
+        (subst (λ (w : ℕ). IsRuleOf layout extents (first + j) w (get_or bytes (first + j) d)) (eights (first + j) 0 (omega arith)) there)
+
+    all_bytes : (P : Rule → Type 0) → ((i : ℕ) (rule : Rule) → IsRuleOf layout extents i 8 rule → P rule) → All P those
+    all_bytes P to = λ j d j_in. to (first + j) (get_or those j d) (byte_ruled j d (omega (arith, length-those)))
+
+    all_pieces : (P : PieceRule → Type 0) → ((i : ℕ) (rule : Rule) → IsRuleOf layout extents i 8 rule → All P rule.pieces.items) → All P (flat_map pieces_by those)
+    all_pieces P to = all_flat P pieces_by those (all_bytes (λ (rule : Rule). All P rule.pieces.items) to)
+
+    -- the places of the first bytes, where all have one order
+    module _ (order : Order) (row : ℕ) (row_in : row < length (indices extents)) (orders : (j : ℕ) (d : Rule) → j < count → (get_or those j d).order ≡ order) where
+      abbrev new : List (List Owner)
+      new = bytesplit ws layout
+
+      abbrev slot : ℕ
+      slot = slot_at order extents row
+
+      places_so_far : (j : ℕ) → j ≤ count → IsLocated new row c (8 * j) (pieces_in (flat_map pieces_by (take j those)) slot)
+      places_so_far zero low = none_located new row c
+      places_so_far (suc j) low =
+          let j_in : j < count = omega arith in
+          let here : j < length those = omega (arith, length-those) in
+          let so_far : IsLocated new row c (8 * j) (pieces_in (flat_map pieces_by (take j those)) slot) = places_so_far j (omega arith) in
+          let begin : first ≡ bytes_before ws c = byte_count_before cells c in
+          let at : get_or (byte_cells ws) (first + j) (0, 0) ≡ (c, j) =
+          ap (λ (n : ℕ). get_or (byte_cells ws) (n + j) (0, 0)) begin ∙ byte_cell_at ws c j c_in j_in in
+          with_item those j here
+          (λ d.
+          let byte : Rule = get_or those j d in
+          let placed : IsLocated layout row (first + j) 8 (pieces_in byte.pieces.items slot) =
+          subst (λ (o : Order). IsLocated layout row (first + j) 8 (pieces_in byte.pieces.items (slot_at o extents row))) (orders j d j_in)
+          ((byte_ruled j d j_in).places row row_in) in
+          let joined : IsLocated new row c (8 * (j + 1)) (pieces_in (flat_map pieces_by (take j those)) slot ++ pieces_in byte.pieces.items slot) =
+          byte_joined layout ws row c j (first + j) at (pieces_in (flat_map pieces_by (take j those)) slot) (pieces_in byte.pieces.items slot) so_far placed in
+          let next : j + 1 ≡ suc j = omega arith in
+          let more : flat_map pieces_by (take (j + 1) those) ≡ flat_map pieces_by (take j those) ++ byte.pieces.items =
+          ap (λ (rs : List Rule). flat_map pieces_by rs) (take_more those j d here)
+          ∙ flat_map-append pieces_by (take j those) (byte ∷ [])
+          ∙ ap (λ (ps : List PieceRule). flat_map pieces_by (take j those) ++ ps) (append-nil byte.pieces.items) in
+          let pieces : pieces_in (flat_map pieces_by (take (j + 1) those)) slot ≡ pieces_in (flat_map pieces_by (take j those)) slot ++ pieces_in byte.pieces.items slot =
+          ap (λ (ps : List PieceRule). pieces_in ps slot) more ∙ map-append (λ (p : PieceRule). piece_in p slot) (flat_map pieces_by (take j those)) byte.pieces.items in
+          subst (λ (n : ℕ). IsLocated new row c (8 * n) (pieces_in (flat_map pieces_by (take n those)) slot)) next
+          (subst (λ (ps : List Piece). IsLocated new row c (8 * (j + 1)) ps) (sym pieces) joined))
+
+      places_joined : IsLocated new row c (slice_index ws c) (pieces_in (flat_map pieces_by those) slot)
+      places_joined =
+          let whole : slice_index ws c % 8 ≡ 0 = widths_whole cells c 0 c_in in
+          let all : 8 * count ≡ slice_index ws c = omega arith in
+          let size : length those ≡ count = length-those in
+          subst (λ (w : ℕ). IsLocated new row c w (pieces_in (flat_map pieces_by those) slot)) all
+          (subst (λ (rs : List Rule). IsLocated new row c (8 * count) (pieces_in (flat_map pieces_by rs) slot)) (take_all count those (omega arith))
+          (places_so_far count (omega arith)))
+
+    -- the joined rule is one of the cell
+    joined_rule : (rule : Rule) → IsJoined those rule → ((j : ℕ) (d : Rule) → j < count → (get_or those j d).order ≡ rule.order)
+        → IsRuleOf (bytesplit ws layout) extents c (slice_index ws c) rule
+    joined_rule rule join orders =
+        let whole : slice_index ws c % 8 ≡ 0 = widths_whole cells c 0 c_in in
+        let size : length (bytesplit ws layout) ≡ length layout = length-map layout _ in
+        let eight : 8 % 8 ≡ 0 = omega arith in
+        let first_order : rule.order ≡ (get_or those 0 rule).order = join.order rule in
+        record {
+          few = subst (λ (o : Order). slot_count o extents ≤ 2 ^ 24) (sym first_order) (byte_ruled 0 rule some_bytes).few;
+          blobs =
+              subst (λ (ps : List PieceRule). All (λ (p : PieceRule). p.blob < length (bytesplit ws layout)) ps) (sym join.pieces)
+              (subst (λ (n : ℕ). All (λ (p : PieceRule). p.blob < n) (flat_map pieces_by those)) (sym size)
+              (all_pieces (λ (p : PieceRule). p.blob < length layout) (λ i r h. h.blobs)));
+          bits =
+              ap (λ (ps : List PieceRule). sum_by (λ (p : PieceRule). p.bits) ps) join.pieces
+              ∙ sum_flat (λ (p : PieceRule). p.bits) pieces_by those (all_bytes (λ (r : Rule). sum_by (λ (p : PieceRule). p.bits) r.pieces.items ≡ 8) (λ i r h. h.bits))
+              ∙ (let z : 8 * length those ≡ slice_index ws c = omega (arith, length-those) in z);
+          bounds =
+              subst (λ (ps : List PieceRule). All (λ (p : PieceRule). p.base + p.bits < 2 ^ 64) ps) (sym join.pieces)
+              (all_pieces (λ (p : PieceRule). p.base + p.bits < 2 ^ 64) (λ i r h. h.bounds));
+          some = subst (λ (ps : List PieceRule). All (λ (p : PieceRule). 0 < p.bits) ps) (sym join.pieces) (all_pieces (λ (p : PieceRule). 0 < p.bits) (λ i r h. h.some));
+          whole = λ e.
+              subst (λ (ps : List PieceRule). All (λ (p : PieceRule). p.bits % 8 ≡ 0) ps) (sym join.pieces)
+              (all_pieces (λ (p : PieceRule). p.bits % 8 ≡ 0) (λ i r h. h.whole eight));
+          places = λ row row_in.
+              subst (λ (ps : List PieceRule). IsLocated (bytesplit ws layout) row c (slice_index ws c) (pieces_in ps (slot_at rule.order extents row))) (sym join.pieces)
+              (places_joined rule.order row row_in orders);
+        }
+
+    -- one order for each leaf
+    module _ (order_at : ℕ → Order) (ordered : map order_in bytes ≡ map (λ (cell : Cell). order_at cell.leaf) (bytes_of cells)) where
+      leaf_order : (j : ℕ) (d : Rule) (e : Cell) → j < count → (get_or those j d).order ≡ order_at (get_or cells c e).leaf
+      leaf_order j d e low =
+          let here : first + j < length bytes = omega (arith, within) in
+          let there : first + j < length (bytes_of cells) = omega (arith, length-bytes cells) in
+          let width : slice_index ws c ≡ width_of (get_or cells c e).kind = get_or-map (λ (x : Cell). width_of x.kind) cells c e 0 inside in
+          let small : j < width_of (get_or cells c e).kind / 8 = omega arith in
+          ap order_in (those_at j d low)
+          ∙ sym (get_or-map order_in bytes (first + j) d (order_in d) here)
+          ∙ ap (λ (os : List Order). get_or os (first + j) (order_in d)) ordered
+          ∙ get_or-map (λ (cell : Cell). order_at cell.leaf) (bytes_of cells) (first + j) e (order_in d) there
+          ∙ ap order_at (byte_leaf cells c j e e inside small)
+
+      pub cell_order : (rule : Rule) (e : Cell) → IsJoined those rule → rule.order ≡ order_at (get_or cells c e).leaf
+      cell_order rule e join = join.order rule ∙ leaf_order 0 rule e some_bytes
+
+      pub cell_ruled : (rule : Rule) → IsJoined those rule → IsRuleOf (bytesplit ws layout) extents c (slice_index ws c) rule
+      cell_ruled rule join =
+          with_item cells c inside
+          (λ e. joined_rule rule join (λ j d low. leaf_order j d e low ∙ sym (cell_order rule e join)))
+
+-- all cells
+module _ (cells : List Cell) (bytes rules : List Rule) (layout : List (List Owner)) (extents es : List ℕ) (ruled : IsRuled layout extents es bytes)
+    (eights : All (λ w. w ≡ 8) es) (counted : length bytes ≡ byte_count cells) (order_at : ℕ → Order)
+    (ordered : map order_in bytes ≡ map (λ (cell : Cell). order_at cell.leaf) (bytes_of cells)) (join : AreJoined cells bytes rules) where
+  pub join_ruled : IsRuled (bytesplit (widths_of cells) layout) extents (widths_of cells) rules
+  join_ruled =
+      let size : length (widths_of cells) ≡ length cells = length-widths cells in
+      let count : length rules ≡ length cells = join.each in
+      record {
+        each = count ∙ sym size;
+        places = λ k d inside.
+            let k_in : k < length cells = omega arith in
+            cell_ruled cells bytes counted k k_in layout extents es ruled eights order_at ordered (get_or rules k d) (join.join k d inside);
+      }
+
+  pub join_orders : map order_in rules ≡ map (λ (cell : Cell). order_at cell.leaf) cells
+  join_orders =
+      let order_of_cell : Cell → Order = λ (cell : Cell). order_at cell.leaf in
+      let one : length (map order_in rules) ≡ length rules = length-map rules order_in in
+      let two : length (map order_of_cell cells) ≡ length cells = length-map cells order_of_cell in
+      let count : length rules ≡ length cells = join.each in
+      same_lists (map order_in rules) (map order_of_cell cells) (omega arith)
+      (λ k o inside.
+      let rule_in : k < length rules = omega arith in
+      let k_in : k < length cells = omega arith in
+      with_item rules k rule_in
+      (λ d.
+      with_item cells k k_in
+      (λ e.
+      get_or-map order_in rules k d o rule_in
+      ∙ cell_order cells bytes counted k k_in layout extents es ruled eights order_at ordered (get_or rules k d) e (join.join k d rule_in)
+      ∙ sym (get_or-map order_of_cell cells k e o k_in))))

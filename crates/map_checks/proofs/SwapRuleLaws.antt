@@ -1,0 +1,95 @@
+-- Rules with their bytes in reverse order are rules of cells whose bytes are in reverse order.
+use Rattle.std.proofs.Common.{◌≡◌, ℕ, ◌+◌, ◌%◌, ◌^◌, ◌<◌, ◌≤◌, List, map, length, get_or, slice_index, sum_by, All, sym, ap, ◌∙◌, subst, arith}
+use Rattle.std.proofs.lemmas.List.{length-map, get_or-map, same_lists}
+use Rattle.std.proofs.lemmas.List.Elements.{All-weaker}
+use Rattle.extents.specs.declared.order.Order.{Order}
+use Rattle.linearize.specs.Slots.{slot_at, slot_count}
+use Rattle.places.specs.Layout.{Owner}
+use Rattle.places.specs.Rules.{byteswap}
+use Rattle.places.specs.Laws.{IsLocated}
+use Rattle.places.specs.declared.piece.Piece.{Piece}
+use Rattle.places.specs.PieceRules.{pieces_in}
+use Rattle.places.specs.declared.rule.PieceRule.{PieceRule}
+use Rattle.map_bytes.specs.Cuts.{swapped, swapped_rules}
+use Rattle.map_bytes.specs.CutLaws.{swapped_in, swapped_blobs, swapped_eights, swapped_bounds, swapped_bits}
+use Rattle.map_bytes.specs.SwapPiecesLaws.{swap_located}
+use Rattle.map_checks.specs.ByteRules.{HasWholeBytes, IsSwapped, AreSwapped}
+use Rattle.map_checks.specs.Ruled.{IsRuleOf, IsRuled, pieces_of}
+use Rattle.map_checks.specs.declared.rule.Rule.{Rule}
+use Rattle.map_checks.proofs.OrderLaws.{order_in, with_item}
+
+-- the rules of cells of whole bytes
+pub whole_ruled : (layout : List (List Owner)) (extents ws : List ℕ) (rules : List Rule) → IsRuled layout extents ws rules → All (λ w. w % 8 ≡ 0) ws
+    → All (λ w. w ≤ 64) ws → All HasWholeBytes rules
+whole_ruled layout extents ws rules ruled whole narrow = λ k d inside.
+    let each : length rules ≡ length ws = ruled.each in
+    let k_in : k < length ws = omega arith in
+    let rule : Rule = get_or rules k d in
+    let here : IsRuleOf layout extents k (slice_index ws k) rule = ruled.places k d inside in
+    let width : slice_index ws k ≤ 64 = narrow k 0 k_in in
+    let bits : sum_by (λ (p : PieceRule). p.bits) rule.pieces.items ≡ slice_index ws k = here.bits in
+    record { whole = here.whole (whole k 0 k_in); bounds = here.bounds; few = let z : sum_by (λ (p : PieceRule). p.bits) rule.pieces.items ≤ 64 = omega arith in z }
+
+-- one rule
+swapped_rule : (layout : List (List Owner)) (extents ws : List ℕ) (c : ℕ) (rule later : Rule) → get_or ws c 0 % 8 ≡ 0
+    → IsRuleOf layout extents c (get_or ws c 0) rule → IsSwapped rule later → IsRuleOf (byteswap ws layout) extents c (get_or ws c 0) later
+swapped_rule layout extents ws c rule later whole h swap =
+    let old : List PieceRule = rule.pieces.items in
+    let new : List PieceRule = swapped_rules old in
+    let bytes : All (λ piece. piece.bits % 8 ≡ 0) old = h.whole whole in
+    let size : length (byteswap ws layout) ≡ length layout = length-map layout _ in
+    record {
+      few = subst (λ (o : Order). slot_count o extents ≤ 2 ^ 24) (sym swap.0) h.few;
+      blobs =
+          subst (λ (ps : List PieceRule). All (λ (p : PieceRule). p.blob < length (byteswap ws layout)) ps) (sym swap.1)
+          (subst (λ (n : ℕ). All (λ (p : PieceRule). p.blob < n) new) (sym size) (swapped_blobs old (length layout) h.blobs));
+      bits = ap (λ (ps : List PieceRule). sum_by (λ (p : PieceRule). p.bits) ps) swap.1 ∙ swapped_bits old bytes ∙ h.bits;
+      bounds = subst (λ (ps : List PieceRule). All (λ (p : PieceRule). p.base + p.bits < 2 ^ 64) ps) (sym swap.1) (swapped_bounds old bytes h.bounds);
+      some =
+          subst (λ (ps : List PieceRule). All (λ (p : PieceRule). 0 < p.bits) ps) (sym swap.1)
+          (All-weaker (λ (p : PieceRule). p.bits ≡ 8) (λ (p : PieceRule). 0 < p.bits) (λ p (e : p.bits ≡ 8). let z : 0 < p.bits = omega arith in z) new
+          (swapped_eights old));
+      whole = λ e.
+          subst (λ (ps : List PieceRule). All (λ (p : PieceRule). p.bits % 8 ≡ 0) ps) (sym swap.1)
+          (All-weaker (λ (p : PieceRule). p.bits ≡ 8) (λ (p : PieceRule). p.bits % 8 ≡ 0) (λ p (e' : p.bits ≡ 8). let z : p.bits % 8 ≡ 0 = omega arith in z) new
+          (swapped_eights old));
+      places = λ row inside.
+          let slot : ℕ = slot_at rule.order extents row in
+          let same : pieces_of later extents row ≡ swapped (pieces_of rule extents row) =
+          ap (λ (o : Order). pieces_in later.pieces.items (slot_at o extents row)) swap.0
+          ∙ ap (λ (ps : List PieceRule). pieces_in ps slot) swap.1
+          ∙ swapped_in old slot in
+          subst (λ (ps : List Piece). IsLocated (byteswap ws layout) row c (get_or ws c 0) ps) (sym same)
+          (swap_located layout ws row c whole (pieces_of rule extents row) (h.places row inside));
+    }
+
+-- all rules
+pub swap_ruled : (layout : List (List Owner)) (extents ws : List ℕ) (rules later : List Rule) → IsRuled layout extents ws rules → All (λ w. w % 8 ≡ 0) ws
+    → AreSwapped rules later → IsRuled (byteswap ws layout) extents ws later
+swap_ruled layout extents ws rules later ruled whole h =
+    let each : length rules ≡ length ws = ruled.each in
+    let size : length later ≡ length rules = h.each in
+    record {
+      each = size ∙ each;
+      places = λ k d inside.
+          let rule : Rule = get_or later k d in
+          let k_in : k < length rules = omega arith in
+          let w_in : k < length ws = omega arith in
+          swapped_rule layout extents ws k (get_or rules k rule) rule (whole k 0 w_in) (ruled.places k rule k_in) (h.swap k d inside);
+    }
+
+-- they keep their orders
+pub swap_orders : (rules later : List Rule) → AreSwapped rules later → map order_in later ≡ map order_in rules
+swap_orders rules later h =
+    let one : length (map order_in later) ≡ length later = length-map later order_in in
+    let two : length (map order_in rules) ≡ length rules = length-map rules order_in in
+    let size : length later ≡ length rules = h.each in
+    same_lists (map order_in later) (map order_in rules) (omega arith)
+    (λ k e inside.
+    let k_in : k < length later = omega arith in
+    with_item later k k_in
+    (λ d.
+    let rule : Rule = get_or later k d in
+    get_or-map order_in later k d e k_in
+    ∙ (h.swap k d k_in).0
+    ∙ sym (get_or-map order_in rules k rule e (omega arith))))

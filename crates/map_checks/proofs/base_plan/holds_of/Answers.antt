@@ -1,0 +1,15 @@
+use Rattle.std.proofs.Common.{◌≡◌, ◌<◌, ◌++◌, ◌∷◌, [], ◌∙◌, List, length, get_or, take, sym, ap}
+use Rattle.std.proofs.lemmas.List.{take_more}
+use Rattle.std.proofs.lemmas.Option.{get_or_from_slice_get, slice_get_within}
+use Rattle.places.specs.declared.piece.Hold.{Hold}
+use Rattle.map_checks.proofs.base_plan.holds_of.Goals as goal
+
+pub loop-cell-preserved : goal.loop-cell-preserved
+loop-cell-preserved g c =
+    let all : List Hold = g.M.Mapping.hold_list c.args.mapping.now in
+    let hold : Hold = c.hold.result in
+    let inside : c.loop-cell.cell < length all = slice_get_within all c.loop-cell.cell hold c.hold.ensures in
+    let here : get_or all c.loop-cell.cell hold ≡ hold = get_or_from_slice_get all c.loop-cell.cell hold hold c.hold.ensures in
+    c.in_ok-push.ensures.ok
+    ∙ ap (λ (w : List Hold). w ++ hold ∷ []) c.loop-cell.invariant
+    ∙ sym (take_more all c.loop-cell.cell hold inside ∙ ap (λ (h : Hold). take c.loop-cell.cell all ++ h ∷ []) here)

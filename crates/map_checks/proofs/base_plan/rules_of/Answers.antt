@@ -1,0 +1,67 @@
+use Rattle.std.proofs.Common.{◌≡◌, ◌+◌, ◌%◌, ◌^◌, ◌<◌, ◌≤◌, ℕ, ◌++◌, ◌∷◌, [], ◌∙◌, List, length, map, replicate, slice_index, sym, ap, subst, arith, length-append}
+use Rattle.std.proofs.lemmas.List.{length-map, map_push, replicate_more}
+use Rattle.std.proofs.lemmas.List.Elements.{All-cons, All-nil}
+use Rattle.std.proofs.lemmas.List.Sums.{sum_by-cons}
+use Rattle.linearize.specs.Slots.{row_at}
+use Rattle.extents.specs.declared.order.Order.{Order}
+use Rattle.places.specs.declared.rule.PieceRule.{PieceRule}
+use Rattle.places.specs.Layout.{Owner}
+use Rattle.places.specs.Rules.{in_rows}
+use Rattle.places.specs.declared.piece.Cell.{Cell}
+use Rattle.places.specs.declared.piece.Hold.{Hold}
+use Rattle.map_checks.specs.declared.rule.Rule.{Rule}
+use Rattle.map_checks.specs.Arrays.{IsArray}
+use Rattle.map_checks.specs.Ruled.{IsRuleOf}
+use Rattle.map_checks.proofs.RuleLaws.{rule_by_rows}
+use Rattle.map_checks.specs.RuledLaws.{each_push}
+use Rattle.map_checks.proofs.OrderLaws.{map_constant}
+use Rattle.map_checks.proofs.ArrayLaws.{array_rule}
+use Rattle.map_checks.proofs.base_plan.rules_of.Goals as goal
+
+pub loop-cell-preserved : goal.loop-cell-preserved
+loop-cell-preserved g c =
+    let order = c.args.order in
+    let extents : List ℕ = c.args.extents.now in
+    let layout : List (List Owner) = g.M.Mapping.layout c.args.mapping.now in
+    let widths : List ℕ = map (λ (h : Hold). h.width) (g.M.Mapping.hold_list c.args.mapping.now) in
+    let P : ℕ → Rule → Type 0 = λ cell rule. IsRuleOf (in_rows (row_at order extents) layout) extents cell (slice_index widths cell) rule in
+    let slots : ℕ = g.M.Mapping.slot_count c.args.mapping.now in
+    let lanes : ℕ = g.M.Ruled.lane_count c.args.mapping.now in
+    let Q : ℕ → Rule → Type 0 = λ cell rule. IsArray layout slots lanes cell (slice_index widths cell) rule in
+    let made : Rule = c.of_piece.result in
+    let size : length c.loop-cell.rules ≡ c.loop-cell.cell = c.loop-cell.invariant.0 in
+    let width : c.rule.result.bits ≡ slice_index widths c.loop-cell.cell = c.rule.ensures.bits in
+    let count : length widths ≡ length (g.M.Mapping.hold_list c.args.mapping.now) = length-map (g.M.Mapping.hold_list c.args.mapping.now) (λ (h : Hold). h.width) in
+    let paired : length (g.M.Mapping.hold_list c.args.mapping.now) ≡ length (g.M.Mapping.cell_list c.args.mapping.now) = g.met.M.Mapping.holds_cells c.args.mapping.now in
+    let inside : c.loop-cell.cell < length widths = omega (arith, c.loop-cell-test.true, c.cells-cell-end.ensures) in
+    let wide : 1 ≤ slice_index widths c.loop-cell.cell = (g.met.M.Mapping.laws c.args.mapping.now).wide c.loop-cell.cell 0 inside in
+    let here : P c.loop-cell.cell made =
+    rule_by_rows order extents layout (g.M.Mapping.slot_count c.args.mapping.now) c.loop-cell.cell (slice_index widths c.loop-cell.cell) (c.rule.result ∷ []) made
+    c.requires.counted c.requires.few c.of_piece.ensures.order c.of_piece.ensures.pieces
+    (All-cons (λ (p : PieceRule). p.blob < length layout) c.rule.result [] c.rule.ensures.blob_in (All-nil (λ (p : PieceRule). p.blob < length layout)))
+    (sum_by-cons (λ (p : PieceRule). p.bits) c.rule.result [] ∙ (let e : c.rule.result.bits + 0 ≡ slice_index widths c.loop-cell.cell = omega (arith, c.rule.ensures.bits) in e))
+    (All-cons (λ (p : PieceRule). p.base + p.bits < 2 ^ 64) c.rule.result [] c.rule.ensures.bound (All-nil (λ (p : PieceRule). p.base + p.bits < 2 ^ 64)))
+    (All-cons (λ (p : PieceRule). 0 < p.bits) c.rule.result [] (omega arith) (All-nil (λ (p : PieceRule). 0 < p.bits)))
+    (λ whole. All-cons (λ (p : PieceRule). p.bits % 8 ≡ 0) c.rule.result [] (ap (λ (n : ℕ). n % 8) width ∙ whole) (All-nil (λ (p : PieceRule). p.bits % 8 ≡ 0)))
+    c.rule.ensures.places in (
+      ap (λ (rs : List Rule). length rs) c.in_ok-push.ensures.ok ∙ length-append c.loop-cell.rules (made ∷ []) ∙ ap (λ (n : ℕ). n + 1) size,
+      each_push P c.loop-cell.rules c.push.new.self made c.in_ok-push.ensures.ok c.loop-cell.invariant.1
+          (subst (λ (n : ℕ). P n made) (sym size) here),
+      ap (map (λ (r : Rule). r.order)) c.in_ok-push.ensures.ok
+          ∙ map_push (λ (r : Rule). r.order) c.loop-cell.rules made
+          ∙ ap (λ (os : List Order). os ++ made.order ∷ []) c.loop-cell.invariant.2
+          ∙ ap (λ (o : Order). replicate c.loop-cell.cell order ++ o ∷ []) c.of_piece.ensures.order
+          ∙ replicate_more c.loop-cell.cell order,
+      each_push Q c.loop-cell.rules c.push.new.self made c.in_ok-push.ensures.ok c.loop-cell.invariant.3
+          (subst (λ (n : ℕ). Q n made) (sym size)
+          (array_rule layout slots lanes c.loop-cell.cell (slice_index widths c.loop-cell.cell) c.rule.result made (omega (arith, c.requires.few, c.requires.counted)) c.of_piece.ensures.pieces width
+          c.rule.ensures.places c.rule.ensures.dense)),
+    )
+
+pub returns-clause-orders : goal.returns-clause-orders
+returns-clause-orders g c =
+    let cells : List Cell = g.M.Mapping.cell_list c.args.mapping.now in
+    let end : c.loop-cell.cell ≡ length cells = omega (arith, c.loop-cell-test.false, c.loop-cell.auto.cell-end, c.cells-cell-end.ensures) in
+    c.loop-cell.invariant.2
+    ∙ ap (λ (n : ℕ). replicate n c.args.order) end
+    ∙ sym (map_constant c.args.order cells)

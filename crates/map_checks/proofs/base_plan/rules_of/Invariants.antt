@@ -1,0 +1,16 @@
+-- the rules so far, all in one order
+use Rattle.std.proofs.Common.{◌≡◌, length, map, slice_index, replicate}
+use Rattle.linearize.specs.Slots.{row_at}
+use Rattle.places.specs.Rules.{in_rows}
+use Rattle.map_checks.specs.Arrays.{AreArrays}
+use Rattle.map_checks.specs.Ruled.{EachWith, IsRuleOf}
+use Rattle.map_checks.proofs.base_plan.rules_of.Given as goal
+
+abbrev pub invariant-loop-cell : goal.invariant-loop-cell
+invariant-loop-cell g l =
+    (length l.rules ≡ l.cell)
+    × EachWith (λ cell rule. IsRuleOf (in_rows (row_at l.order l.extents) (g.M.Mapping.layout l.mapping)) l.extents cell
+    (slice_index (map (λ h. h.width) (g.M.Mapping.hold_list l.mapping)) cell) rule) l.rules
+    × (map (λ rule. rule.order) l.rules ≡ replicate l.cell l.order)
+    × AreArrays (g.M.Mapping.layout l.mapping) (g.M.Mapping.slot_count l.mapping) (g.M.Ruled.lane_count l.mapping)
+    (map (λ h. h.width) (g.M.Mapping.hold_list l.mapping)) l.rules

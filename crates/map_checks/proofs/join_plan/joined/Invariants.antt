@@ -1,0 +1,8 @@
+-- the pieces so far, one of each byte
+use Rattle.std.proofs.Common.{◌≡◌, length, take}
+use Rattle.std.specs.List.{flat_map}
+use Rattle.map_checks.proofs.join_plan.joined.Given as goal
+
+abbrev pub invariant-loop-byte : goal.invariant-loop-byte
+invariant-loop-byte l =
+    (l.pieces.items ≡ flat_map (λ byte. byte.pieces.items) (take l.byte-index l.bytes)) × (length l.pieces.items ≡ l.byte-index)

@@ -1,0 +1,18 @@
+use Rattle.std.proofs.Common.{◌≡◌, ◌<◌, ◌∙◌, ℕ, List, [], sym, ap, subst}
+use Rattle.std.proofs.lemmas.Option.{get_or_from_slice_get}
+use Rattle.extents.specs.Indices.{indices}
+use Rattle.linearize.specs.Slots.{index_at, slot_at, slot_count, slot_of}
+use Rattle.linearize.specs.SlotsLaws.{slot_at_below}
+use Rattle.map_checks.proofs.orders.slot_by_index.Goals as goal
+
+pub returns : goal.returns
+returns c =
+    let index : index_at c.args.extents.now c.args.row ≡ c.index_of.result.items =
+    get_or_from_slice_get (indices c.args.extents.now) c.args.row c.index_of.result.items [] c.index_of.ensures.entry in
+    let is : c.slot_of_index.result ≡ slot_at c.args.order c.args.extents.now c.args.row =
+    c.slot_of_index.ensures ∙ ap (λ (i : List ℕ). slot_of c.args.order c.args.extents.now i) (c.as_slice.ensures.value ∙ sym index) in
+    record {
+      slot = is;
+      below = subst (λ (n : ℕ). n < slot_count c.args.order c.args.extents.now) (sym is)
+          (slot_at_below c.args.order c.args.extents.now c.args.row c.requires.row_in);
+    }

@@ -1,0 +1,7 @@
+-- what is left of the limit
+use Rattle.std.proofs.Common.{◌≡◌, ◌+◌, ◌^◌, take}
+use Rattle.std.specs.List.{sum}
+use Rattle.map_checks.proofs.split_plan.is_over.Given as goal
+
+abbrev pub invariant-loop-bytes : goal.invariant-loop-bytes
+invariant-loop-bytes l = l.left + sum (take l.bytes-index l.lengths) ≡ 2 ^ 28

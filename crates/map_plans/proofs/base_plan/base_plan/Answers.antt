@@ -1,8 +1,0 @@
-use Rattle.std.proofs.Common.{◌∙◌, sym}
-use Rattle.linearize.specs.Slots.{row_at}
-use Rattle.map_checks.specs.RowsLaws.{lengths-rows}
-use Rattle.map_plans.proofs.base_plan.base_plan.Goals as goal
-
-pub returns-clause-lengths : goal.returns-clause-lengths
-returns-clause-lengths g c =
-    c.in_ok-lengths.ensures ∙ sym (lengths-rows (row_at c.args.order c.args.extents.now) (g.M.Mapping.layout c.args.mapping.now))

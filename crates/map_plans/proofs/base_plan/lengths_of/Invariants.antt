@@ -1,7 +1,0 @@
--- the lengths so far
-use Rattle.std.proofs.Common.{take}
-use Rattle.map_plans.specs.Ruled.{HasLengths}
-use Rattle.map_plans.proofs.base_plan.lengths_of.Given as goal
-
-abbrev pub invariant-loop-blob : goal.invariant-loop-blob
-invariant-loop-blob g l = HasLengths (take l.blob (g.M.Mapping.layout l.mapping)) l.lengths

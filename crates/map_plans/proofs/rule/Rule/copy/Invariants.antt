@@ -1,6 +1,0 @@
--- the pieces so far
-use Rattle.std.proofs.Common.{◌≡◌, take}
-use Rattle.map_plans.proofs.rule.Rule.copy.Given as goal
-
-abbrev pub invariant-loop-piece : goal.invariant-loop-piece
-invariant-loop-piece l = l.pieces.items ≡ take l.piece-index l.self.pieces.items

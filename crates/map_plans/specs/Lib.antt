@@ -1,8 +1,0 @@
-pub mod Ruled
-pub mod RuledLaws
-pub mod Splits
-pub mod Plans
-pub mod PlansLaws
-pub mod LeafOrders
-pub mod ByteRules
-pub mod Arrays

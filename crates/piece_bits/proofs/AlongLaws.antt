@@ -1,0 +1,50 @@
+-- A short form that is put together of a path and what stands at its places.
+use Rattle.std.proofs.Common.{◌≡◌, ℕ, ◌≤◌, ◌^◌, List, length, sym, ap, subst}
+use Rattle.extents.specs.declared.order.Order.{Order}
+use Rattle.extents.specs.Indices.{indices}
+use Rattle.linearize.specs.declared.columns.Columns.{Columns}
+use Rattle.places.specs.declared.piece.Hold.{Hold}
+use Rattle.places.specs.declared.rule.PieceRule.{PieceRule}
+use Rattle.piece_bits.specs.declared.field.Field.{Field}
+use Rattle.piece_bits.specs.declared.word.Word.{Word}
+use Rattle.piece_bits.specs.Alongs.{IsAlong}
+use Rattle.piece_bits.specs.Paths.{IsPath}
+use Rattle.piece_bits.specs.Shorts.{Stands, IsHeldBy, IsShortOf}
+use Rattle.piece_bits.specs.Stands.{IsStandOf, IsStandFor}
+use Rattle.piece_bits.specs.declared.path.Path.{Path}
+use Rattle.piece_bits.specs.declared.short.ShortRule.{ShortRule}
+use Rattle.piece_bits.specs.declared.stand.Stand.{Stand}
+use Rattle.piece_bits.specs.declared.walk.Walk.{Walk}
+
+stands_along : (rules : List PieceRule) (field : Field) (word word' : Word) (blob blob' base base' block block' lane lane' power power' : ℕ) → word' ≡ word
+    → blob' ≡ blob → base' ≡ base → block' ≡ block → lane' ≡ lane → power' ≡ power → Stands rules word field blob base block lane power
+    → Stands rules word' field blob' base' block' lane' power'
+stands_along rules field word word' blob blob' base base' block block' lane lane' power power' one two three four five six h =
+    subst (λ (w : Word). Stands rules w field blob' base' block' lane' power') (sym one)
+    (subst (λ (n : ℕ). Stands rules word field n base' block' lane' power') (sym two)
+    (subst (λ (n : ℕ). Stands rules word field blob n block' lane' power') (sym three)
+    (subst (λ (n : ℕ). Stands rules word field blob base n lane' power') (sym four)
+    (subst (λ (n : ℕ). Stands rules word field blob base block n power') (sym five)
+    (subst (λ (n : ℕ). Stands rules word field blob base block lane n) (sym six) h)))))
+
+path_along : (order : Order) (extents : List ℕ) (power power' : ℕ) (way way' : Walk) (lines lines' columns columns' : ℕ) → power' ≡ power → way' ≡ way
+    → lines' ≡ lines → columns' ≡ columns → IsPath order extents power way lines columns → IsPath order extents power' way' lines' columns'
+path_along order extents power power' way way' lines lines' columns columns' one two three four h =
+    subst (λ (n : ℕ). IsPath order extents n way' lines' columns') (sym one)
+    (subst (λ (w : Walk). IsPath order extents power w lines' columns') (sym two)
+    (subst (λ (n : ℕ). IsPath order extents power way n columns') (sym three)
+    (subst (λ (n : ℕ). IsPath order extents power way lines n) (sym four) h)))
+
+pub short_of : (order : Order) (extents : List ℕ) (rules : List PieceRule) (hold : Hold) (path : Path) (stand : Stand) (short : ShortRule)
+    → IsAlong path stand hold short → IsStandFor rules hold stand → IsPath order extents stand.power path.walk path.lines path.columns.columns
+    → length (indices extents) ≤ 2 ^ 24 → IsShortOf order extents rules hold short
+short_of order extents rules hold path stand short along stands leads rows =
+    let is : IsStandOf rules hold short.field stand = stands short.field along.signed along.width in
+    record {
+      held = subst (λ (w : Word). IsHeldBy hold w short.field) (sym along.word) is.held;
+      stands = stands_along rules short.field stand.word short.word stand.blob short.blob stand.base short.base stand.block short.block stand.lane short.lane
+          stand.power short.power along.word along.blob along.base along.block along.lane along.power is.stands;
+      path = path_along order extents stand.power short.power path.walk short.walk path.lines short.lines path.columns.columns short.columns.columns
+          along.power along.walk along.lines (ap (λ (x : Columns). x.columns) along.columns) leads;
+      rows = rows;
+    }

@@ -1,0 +1,72 @@
+-- Numbers that are read are of 64 bits.
+use Rattle.std.proofs.Common.{◌≡◌, ℕ, ◌+◌, ◌-◌, ◌*◌, ◌/◌, ◌%◌, ◌^◌, ◌<◌, ◌≤◌, Bool, true, false, List, length, get_or, set, ℤ, pos, refl, sym, ap, ◌∙◌, subst, ⊎_elim, arith}
+use Rattle.std.proofs.Math.Nat.{pow-le-pow_right}
+use Rattle.std.proofs.lemmas.Bool.{cases_eq}
+use Rattle.std.proofs.lemmas.Int.{ints}
+use Rattle.std.proofs.lemmas.List.{length-set, get_or-set_same, get_or-set_other}
+use Rattle.std.proofs.lemmas.Nat.Bits.{bit_at-lt}
+use Rattle.record_dim.specs.LeafTypes.{IsIn}
+use Rattle.places.specs.Image.{number}
+use Rattle.places.specs.NumbersLaws.{number_lt, decoded_in}
+use Rattle.blobs.specs.Bits.{bit_of}
+use Rattle.piece_bits.specs.Words.{word_place, word_signed, word_width, IsWord}
+use Rattle.piece_bits.specs.declared.field.Field.{Field}
+use Rattle.piece_bits.specs.declared.word.Word.{Word}
+use Rattle.piece_bits.specs.declared.word.Word.TheVariants as stored
+use Rattle.piece_bits.specs.Stretches.{stretch_place}
+use Rattle.piece_bits.specs.declared.short.ShortRule.{ShortRule}
+use Rattle.piece_bits.specs.declared.stretch.Stretch.{Stretch}
+use Rattle.piece_bits.specs.Lows.{low_64, IsWithin64}
+use Rattle.piece_bits.specs.Stretched.{number_at, stretched_at, HaveRead}
+
+within_of : (signed : Bool) (width : ℕ) (value : ℤ) → 1 ≤ width → width ≤ 64 → IsIn signed width value → IsWithin64 value
+within_of true width value some narrow inside =
+    let half : 2 ^ (width - 1) ≤ 2 ^ 63 = pow-le-pow_right {n = 2} (omega arith) {i = width - 1} {j = 63} (omega (arith, narrow)) in
+    (omega (arith, ints, inside.0, half), omega (arith, ints, inside.1, half))
+within_of false width value some narrow inside =
+    let all : 2 ^ width ≤ 2 ^ 64 = pow-le-pow_right {n = 2} (omega arith) {i = width} {j = 64} narrow in
+    (omega (arith, ints, inside.0), omega (arith, ints, inside.1, all))
+
+-- a word has from 1 to 64 bits
+pub word_some : (word : Word) (field : Field) → IsWord word field → 1 ≤ word_width word field
+word_some stored.Field field form = form.0.some
+word_some stored.Scattered field form = absurd form
+word_some _ field form = omega arith
+
+pub word_narrow : (word : Word) (field : Field) → IsWord word field → word_width word field ≤ 64
+word_narrow stored.Field field form = form.0.narrow
+word_narrow stored.Scattered field form = absurd form
+word_narrow _ field form = omega arith
+
+pub number_within : (word : Word) (field : Field) (bytes : List ℕ) (place : ℕ) → IsWord word field → IsWithin64 (number_at word field bytes place)
+number_within word field bytes place form =
+    let bits : ℕ → ℕ = λ k. bit_of bytes (word_place word place k) in
+    let width : ℕ = word_width word field in
+    within_of (word_signed word field) width (number_at word field bytes place) (word_some word field form) (word_narrow word field form)
+    (decoded_in (word_signed word field) width (number bits width) (word_some word field form)
+    (number_lt bits width (λ k l. bit_at-lt (get_or bytes (word_place word place k / 8) 0) (word_place word place k % 8))))
+
+-- the number at a place of a stretch
+pub same_number : (short : ShortRule) (stretch : Stretch) (bytes : List ℕ) (k place : ℕ) (word : Word) (value : ℤ) → word ≡ short.word → place ≡ stretch_place stretch k
+    → value ≡ low_64 (number_at word short.field bytes place) → value ≡ low_64 (stretched_at short stretch bytes k)
+same_number short stretch bytes k place word value same there is =
+    is ∙ ap (λ (w : Word). low_64 (number_at w short.field bytes place)) same ∙ ap (λ (p : ℕ). low_64 (number_at short.word short.field bytes p)) there
+
+-- no number, and one more
+pub none_read : (short : ShortRule) (stretch : Stretch) (bytes : List ℕ) (at : ℕ) (old : List ℤ) → HaveRead short stretch bytes at 0 old old
+none_read short stretch bytes at old = record { count = refl; before = λ k l. refl; each = λ k l. absurd (omega arith) }
+
+pub one_more : (short : ShortRule) (stretch : Stretch) (bytes : List ℕ) (at done : ℕ) (old values : List ℤ) (value : ℤ) → HaveRead short stretch bytes at done old values → at + done < length old
+    → value ≡ low_64 (stretched_at short stretch bytes done) → HaveRead short stretch bytes at (done + 1) old (set values (at + done) value)
+one_more short stretch bytes at done old values value have inside is = record {
+  count = length-set values (at + done) value ∙ have.count;
+  before = λ k below. get_or-set_other values (at + done) k value (pos 0) (λ same. absurd (omega arith)) ∙ have.before k below;
+  each = λ k below.
+      ⊎_elim
+      (λ (here : k ≡ done).
+      ap (λ (n : ℕ). get_or (set values (at + done) value) (at + n) (pos 0)) here ∙ get_or-set_same values (at + done) value (pos 0) (omega (arith, inside, have.count)) ∙ is
+      ∙ sym (ap (λ (n : ℕ). low_64 (stretched_at short stretch bytes n)) here))
+      (λ (apart : k ≡ done → ⊥).
+      get_or-set_other values (at + done) (at + k) value (pos 0) (λ same. apart (omega (arith, same))) ∙ have.each k (omega (arith, below, apart)))
+      (cases_eq k done);
+}

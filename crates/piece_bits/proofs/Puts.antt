@@ -1,0 +1,41 @@
+-- Numbers that are put, one after another.
+use Rattle.std.proofs.Common.{◌≡◌, ℕ, zero, suc, ◌+◌, ◌*◌, ◌≤◌, ◌<◌, ◌^◌, List, length, get_or, ℤ, pos, refl, sym, ap, ◌∙◌, subst, arith}
+use Rattle.piece_bits.specs.Words.{word_bit, word_width}
+use Rattle.piece_bits.specs.declared.field.Field.{Field}
+use Rattle.piece_bits.specs.declared.word.Word.{Word}
+use Rattle.piece_bits.specs.Stretches.{spread_by, stretch_place}
+use Rattle.piece_bits.specs.declared.short.ShortRule.{ShortRule}
+use Rattle.piece_bits.specs.declared.stretch.Spread.{Spread}
+use Rattle.piece_bits.specs.declared.stretch.Spread.TheVariants.{Even}
+use Rattle.piece_bits.specs.declared.stretch.Stretch.{Stretch}
+use Rattle.piece_bits.specs.Stretched.{HasRoom, IsPut, ArePut}
+
+-- the place of a row of an even stretch
+pub even_place : (stretch : Stretch) (apart k place : ℕ) → stretch.spread ≡ Even → place ≡ stretch.start + k * apart → apart ≡ stretch.apart → place ≡ stretch_place stretch k
+even_place stretch apart k place even is same =
+    is ∙ ap (λ (n : ℕ). stretch.start + k * n) same ∙ ap (λ (s : Spread). stretch.start + spread_by s k * stretch.apart) (sym even)
+
+-- what is put changes no length
+pub put_length : (short : ShortRule) (stretch : Stretch) (values : List ℤ) (at k : ℕ) (old new : List ℕ) → ArePut short stretch values at k old new → length new ≡ length old
+put_length short stretch values at zero old new same = ap (length {A = ℕ}) same
+put_length short stretch values at (suc k) old new put = put.2.len ∙ put_length short stretch values at k old put.0 put.1
+
+-- one number more
+pub put_more : (short : ShortRule) (stretch : Stretch) (values : List ℤ) (at k place : ℕ) (word : Word) (value : ℤ) (old between new : List ℕ) → ArePut short stretch values at k old between
+    → word ≡ short.word → place ≡ stretch_place stretch k → value ≡ get_or values (at + k) (pos 0) → IsPut word short.field place value between new → ArePut short stretch values at (k + 1) old new
+put_more short stretch values at k place word value old between new before same there is put =
+    let next : suc k ≡ k + 1 = omega arith in
+    let here : IsPut short.word short.field (stretch_place stretch k) (get_or values (at + k) (pos 0)) between new =
+    subst (λ (w : Word). IsPut w short.field (stretch_place stretch k) (get_or values (at + k) (pos 0)) between new) same
+    (subst (λ (p : ℕ). IsPut word short.field p (get_or values (at + k) (pos 0)) between new) there
+    (subst (λ (v : ℤ). IsPut word short.field place v between new) is put)) in
+    subst (λ (n : ℕ). ArePut short stretch values at n old new) next (between, before, here)
+
+-- a place of a row lies within the bytes that are left of those of before
+pub room_left : (short : ShortRule) (stretch : Stretch) (values : List ℤ) (at k place : ℕ) (word : Word) (old now : List ℕ) → HasRoom short stretch (length old)
+    → ArePut short stretch values at k old now → k < stretch.rows → word ≡ short.word → place ≡ stretch_place stretch k
+    → word_bit word place + word_width word short.field ≤ 8 * length now
+room_left short stretch values at k place word old now room put inside same there =
+    subst (λ (w : Word). word_bit w place + word_width w short.field ≤ 8 * length now) (sym same)
+    (subst (λ (p : ℕ). word_bit short.word p + word_width short.word short.field ≤ 8 * length now) (sym there)
+    (subst (λ (n : ℕ). word_bit short.word (stretch_place stretch k) + word_width short.word short.field ≤ 8 * n) (sym (put_length short stretch values at k old now put)) (room.room k inside)))

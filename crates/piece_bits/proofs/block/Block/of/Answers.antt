@@ -1,0 +1,10 @@
+use Rattle.std.proofs.Common.{subst, sym}
+use Rattle.piece_bits.specs.Blocks.{IsBlock}
+use Rattle.piece_bits.specs.BlockLaws.{same}
+use Rattle.piece_bits.proofs.block.Block.of.Goals as goal
+
+pub invariant_of-result : goal.invariant_of-result
+invariant_of-result c = subst IsBlock (sym (same c.args.lanes c.requires.fit)) c.requires
+
+pub returns : goal.returns
+returns c = same c.args.lanes c.requires.fit

@@ -1,0 +1,6 @@
+use Rattle.std.proofs.Common.{◌∙◌}
+use Rattle.piece_bits.specs.BlockLaws.{same}
+use Rattle.piece_bits.proofs.block.Block.to_array.Goals as goal
+
+pub returns-clause-numbers : goal.returns-clause-numbers
+returns-clause-numbers c = same c.self.inside.lanes c.self.invariant.fit ∙ c.self.view_is

@@ -1,0 +1,12 @@
+use Rattle.std.proofs.Common.{ap, ◌∙◌, arith}
+use Rattle.std.specs.Int.{int_min, int_max}
+use Rattle.piece_bits.proofs.InPlace.{mapped}
+use Rattle.piece_bits.proofs.plain.clamp.Goals as goal
+
+pub loop-value-preserved : goal.loop-value-preserved
+loop-value-preserved g c =
+    let value = g.T.Number.value in
+    let exact = g.met.T.Integral.exact_law in
+    mapped value (λ x. int_max (value c.args.lo) (int_min (value x) (value c.args.hi))) c.args.values.now c.loop-value.values c.loop-value.value-index
+    c.value-item.result c.clamp_min.result (omega arith) (omega arith) c.loop-value.invariant
+    (c.clamp_min.ensures.value exact ∙ ap (int_max (value c.args.lo)) (c.clamp_max.ensures.value exact))

@@ -1,0 +1,33 @@
+use Rattle.std.proofs.Common.{◌≡◌, ℕ, ℤ, ◌+◌, ◌/◌, ◌%◌, ◌≤◌, ap, ◌∙◌, rules, FitsSigned, w64, arith}
+use Rattle.std.specs.Int.{bit_at}
+use Rattle.std.proofs.lemmas.Int.{to_z-of_z}
+use Rattle.places.specs.Image.{number, digit}
+use Rattle.blobs.specs.BytesLaws.{IsPut, byte_and_bit}
+use Rattle.blobs.specs.FieldsLaws.{field_put, window_written}
+use Rattle.piece_bits.proofs.put.put_field.Goals as goal
+use Rattle.piece_bits.proofs.put.put_field.Goals.{After-put_window}
+
+written : (c : After-put_window) → IsPut c.args.blob.now c.put_window.new.self c.args.place c.args.field.now.width c.low_bits-code.result
+written c =
+    let at = c.args.place in
+    let old = c.args.blob.now in
+    let width = c.args.field.now.width in
+    let within : at % 8 + width ≤ 64 = omega (arith, c.requires.form.1) in
+    let changed = c.with_bits-word.ensures in
+    field_put old c.put_window.new.self at (at / 8) (at % 8) width c.low_bits-code.result c.window.result c.with_bits-word.result
+    (byte_and_bit at) within c.window.ensures changed.inside changed.before changed.after
+    (window_written old c.put_window.new.self at (at / 8) (at % 8) width c.window.result c.with_bits-word.result (byte_and_bit at) c.requires.within
+    c.put_window.ensures.len c.window.ensures changed.after c.put_window.ensures.inside)
+    c.put_window.ensures.before c.put_window.ensures.after
+
+pub returns : goal.returns
+returns c =
+    let put = written (goal.at.returns c).After-put_window in
+    let fits : FitsSigned w64 c.args.value = search rules in
+    record {
+      fits = fits;
+      inside = λ k l. put.inside k l ∙ ap (λ (w : ℕ). bit_at w k) (c.low_bits-code.ensures.bits ∙ ap (λ (v : ℤ). number (digit v) c.args.field.now.width) (to_z-of_z w64 c.args.value fits));
+      before = put.before;
+      after = put.after;
+      len = c.put_window.ensures.len;
+    }

@@ -1,0 +1,11 @@
+use Rattle.std.proofs.Common.{◌≡◌, ◌∙◌, ℤ, sym, subst, rules, SFits}
+use Rattle.std.specs.Int.{w128}
+use Rattle.std.proofs.lemmas.Int.{to_z-of_z}
+use Rattle.piece_bits.specs.Lows.{IsWithin64}
+use Rattle.piece_bits.proofs.Numbers.{number_within}
+use Rattle.piece_bits.proofs.read.number_at.Goals as goal
+
+pub low_of-requires : goal.low_of-requires
+low_of-requires c =
+    let fits : SFits w128 c.read_word.result = search rules in
+    subst IsWithin64 (sym (to_z-of_z w128 c.read_word.result fits ∙ c.read_word.ensures)) (number_within c.args.word c.args.field.now c.args.blob.now c.args.place c.requires.form)

@@ -1,0 +1,9 @@
+use Rattle.std.proofs.Common.{arith}
+use Rattle.std.proofs.lemmas.Nat.{pow_pos}
+use Rattle.piece_bits.proofs.Places.{masked_slot}
+use Rattle.piece_bits.proofs.short.ShortRule.block_rows.Goals as goal
+
+pub returns : goal.returns
+returns c =
+    let short = c.args.self.now in
+    omega (arith, masked_slot c.args.row short.power short.mask 1 short.masked, short.masked, pow_pos short.power)

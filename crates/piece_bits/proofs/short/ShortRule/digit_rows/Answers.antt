@@ -1,0 +1,21 @@
+use Rattle.std.proofs.Common.{ℕ, ◌≡◌, ◌+◌, ◌%◌, ◌^◌, ◌<◌, ◌≤◌, subst, arith}
+use Rattle.linearize.specs.ApartLaws.{morton_line}
+use Rattle.piece_bits.proofs.StretchLaws.{twos_divide, shifted, sixteen}
+use Rattle.piece_bits.proofs.short.ShortRule.digit_rows.Goals as goal
+
+pub returns-clause-few : goal.returns-clause-few
+returns-clause-few c =
+    let digits : ℕ = c.min-digits.result in
+    let few : digits ≤ 4 = omega arith in
+    omega (arith, shifted digits few, sixteen digits few)
+
+pub returns-clause-apart : goal.returns-clause-apart
+returns-clause-apart c = λ k inside.
+    let columns : ℕ = c.args.self.now.columns.columns in
+    let row : ℕ = c.args.row in
+    let digits : ℕ = c.min-digits.result in
+    let few : digits ≤ 4 = omega arith in
+    let room : row % columns + k < columns = omega (arith, inside) in
+    let even : row % columns % 2 ^ digits ≡ 0 =
+    subst (λ (n : ℕ). n % 2 ^ digits ≡ 0) c.column-column.ensures (twos_divide c.column-column.result digits (omega arith) (omega arith)) in
+    morton_line row columns k room digits even (omega (arith, inside, shifted digits few))

@@ -1,0 +1,40 @@
+use Rattle.std.proofs.Common.{ℕ, ◌≡◌, ◌≢◌, ◌+◌, sym, subst, arith}
+use Rattle.piece_bits.specs.declared.word.Word.TheVariants.{Scattered}
+use Rattle.piece_bits.specs.Shorts.{HasStart}
+use Rattle.piece_bits.specs.declared.short.ShortRule.{ShortRule}
+use Rattle.piece_bits.specs.declared.stretch.Spread.{Spread}
+use Rattle.piece_bits.proofs.StretchLaws.{AreSteps, steps_stretch, plain_steps, block_steps, column_steps, digit_steps}
+use Rattle.piece_bits.proofs.short.ShortRule.stretch.Goals as goal
+use Rattle.piece_bits.proofs.short.ShortRule.stretch.Goals.{in-Plain, in-Blocks, in-Columns+in_ok-apart-in-Columns, in-Morton, in-Scattered, in_default}
+
+pub start-requires : goal.start-requires
+start-requires c = λ some.
+    let first : c.args.row + 0 ≡ c.args.row = omega arith in
+    subst (λ (n : ℕ). HasStart c.args.self.now n) first (c.requires.starts some 0 c.requires.some)
+
+pub line_rows-requires : goal.line_rows-requires
+line_rows-requires c = omega (arith, (c.requires.starts c.in_ok-start.ensures.some 0 c.requires.some).row_in)
+
+pub digit_rows-requires : goal.digit_rows-requires
+digit_rows-requires c = omega (arith, (c.requires.starts c.in_ok-start.ensures.some 0 c.requires.some).row_in)
+
+pub returns : goal.returns
+returns c =
+    let short : ShortRule = c.args.self.now in
+    let row : ℕ = c.args.row in
+    let alone : short.word ≢ Scattered = λ e. elim c.match-matches.branch [
+      | in-Scattered w ↦ cc
+      | in_default w ↦ w.in_default.not-Scattered e
+    ] in
+    let Steps : ℕ × Spread × ℕ → Type 0 = λ t. AreSteps short row t.0 t.1 t.2 in
+    let steps : Steps c.match-self.apart = elim c.match-self.branch [
+      | in-Plain w ↦ subst Steps (sym w.apart-is) (plain_steps short row c.args.most w.in-Plain.is c.requires.some)
+      | in-Blocks w ↦ subst Steps (sym w.apart-is) (block_steps short row w.block_rows.result w.in-Blocks.is w.block_rows.ensures)
+      | in-Columns+in_ok-apart-in-Columns w ↦
+          subst Steps (sym w.apart-is)
+          (column_steps short row w.in_ok-apart-in-Columns.apart w.line_rows.result w.in-Columns.is w.in_ok-apart-in-Columns.ensures.1 w.line_rows.ensures)
+      | in-Morton w ↦
+          subst Steps (sym w.apart-is)
+          (digit_steps short row w.digit_rows.result w.in-Morton.is w.digit_rows.ensures.some w.digit_rows.ensures.few w.digit_rows.ensures.apart)
+    ] in
+    steps_stretch short row c.args.most c.match-self.apart.2 _ c.in_ok-start.ensures.some alone c.requires.some c.in_ok-start.ensures.start c.min.ensures steps

@@ -1,0 +1,14 @@
+use Rattle.std.proofs.Common.{refl}
+use Rattle.piece_bits.specs.declared.field.Field.{Field}
+use Rattle.piece_bits.proofs.AlongLaws.{short_of}
+use Rattle.piece_bits.proofs.shorten.shortened.Goals as goal
+
+pub along-requires-clause-low : goal.along-requires-clause-low
+along-requires-clause-low c =
+    let field : Field = record { signed = c.args.hold.signed; width = c.args.hold.width; ones = 0; half = 0 } in
+    (c.in_ok-stand.ensures field refl refl).low
+
+pub returns : goal.returns
+returns c =
+    short_of c.args.order c.args.extents.now c.args.pieces.now c.args.hold c.in_ok-path.path c.in_ok-stand.stand c.along.result c.along.ensures
+    c.in_ok-stand.ensures c.in_ok-path.ensures.path c.rank-rank.ensures.extents.rows

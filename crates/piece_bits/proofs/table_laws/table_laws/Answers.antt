@@ -1,0 +1,19 @@
+use Rattle.piece_bits.specs.EntryLaws.{image_of_table, settled_after, same_sign}
+use Rattle.piece_bits.specs.ImageLaws.{image_table}
+use Rattle.piece_bits.specs.KeptTableLaws.{declared_with_entry}
+use Rattle.piece_bits.proofs.table_laws.table_laws.Goals as goal
+
+pub returns-clause-image : goal.returns-clause-image
+returns-clause-image c = image_of_table
+
+pub returns-clause-told : goal.returns-clause-told
+returns-clause-told c = λ mode layout slots kinds holds laid paired table bits is shape stays. image_table layout slots holds laid table bits is mode kinds paired shape stays
+
+pub returns-clause-settled : goal.returns-clause-settled
+returns-clause-settled c = settled_after
+
+pub returns-clause-changed : goal.returns-clause-changed
+returns-clause-changed c = declared_with_entry
+
+pub returns-clause-entry : goal.returns-clause-entry
+returns-clause-entry c = same_sign

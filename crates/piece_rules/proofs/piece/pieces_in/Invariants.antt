@@ -1,7 +1,0 @@
--- the pieces so far
-use Rattle.std.proofs.Common.{◌≡◌, take}
-use Rattle.piece_rules.specs.PieceRules.{pieces_in}
-use Rattle.piece_rules.proofs.piece.pieces_in.Given as goal
-
-abbrev pub invariant-loop-rule : goal.invariant-loop-rule
-invariant-loop-rule l = l.pieces.items ≡ pieces_in (take l.rule-index l.rules.items) l.slot

@@ -1,3 +1,0 @@
-pub mod PieceRules
-pub mod BeginsLaws
-pub mod DenseLaws

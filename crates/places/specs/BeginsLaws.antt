@@ -1,0 +1,53 @@
+-- Where pieces begin: within their type, and as the code works it out.
+use Rattle.std.proofs.Common.{◌≡◌, ℕ, ◌+◌, ◌-◌, ◌*◌, ◌/◌, ◌%◌, ◌^◌, ◌<◌, List, length, get_or, All, w64, bit_and, sym, ap, ◌∙◌, subst, arith}
+use Rattle.std.specs.Int.{trailing_zeros}
+use Rattle.std.proofs.Math.Nat.{mod-lt, mod-eq_of_lt}
+use Rattle.std.proofs.Math.Pow.{pow-lt}
+use Rattle.std.proofs.lemmas.List.{length-map, get_or-map}
+use Rattle.std.proofs.lemmas.Nat.{and_mask}
+use Rattle.std.proofs.lemmas.Nat.Bits.{bit_at-trailing_zeros}
+use Rattle.places.specs.Layout.{Owner}
+use Rattle.places.specs.Laws.{IsPiece, IsLocated}
+use Rattle.places.specs.PieceRules.{begin_in, piece_in, pieces_in}
+use Rattle.places.specs.declared.rule.PieceRule.{PieceRule}
+
+-- pieces that are places of a layout begin at numbers that fit their type
+pub begins_fit : (layout : List (List Owner)) (s c w slot : ℕ) (rules : List PieceRule) → IsLocated layout s c w (pieces_in rules slot)
+    → All (λ rule. begin_in rule slot < 2 ^ 64) rules
+begins_fit layout s c w slot rules located = λ k d inside.
+    let size : length (pieces_in rules slot) ≡ length rules = length-map rules (λ (rule : PieceRule). piece_in rule slot) in
+    let each : IsPiece layout (get_or (pieces_in rules slot) k (piece_in d slot)) = located.each k (piece_in d slot) (omega arith) in
+    let same : get_or (pieces_in rules slot) k (piece_in d slot) ≡ piece_in (get_or rules k d) slot =
+    get_or-map (λ (rule : PieceRule). piece_in rule slot) rules k d (piece_in d slot) inside in
+    let here : IsPiece layout (piece_in (get_or rules k d) slot) = subst (IsPiece layout) same each in
+    let bound : begin_in (get_or rules k d) slot + (get_or rules k d).bits < 2 ^ 64 = here.bound in
+    omega arith
+
+-- in blocks of one slot, slots follow each other a block apart
+pub one_lane : (base slot block lane : ℕ) → base + slot / 1 * block + slot % 1 * lane ≡ base + slot * block
+one_lane base slot block lane =
+    let quotient : slot / 1 ≡ slot = omega arith in
+    let rest : slot % 1 ≡ 0 = omega arith in
+    let blocks : slot / 1 * block ≡ slot * block = ap (λ (n : ℕ). n * block) quotient in
+    let lanes : slot % 1 * lane ≡ 0 * lane = ap (λ (n : ℕ). n * lane) rest in
+    omega arith
+
+-- in blocks of a power of two the place in the block is what a mask leaves
+pub masked : (slot lanes power lane : ℕ) → lanes ≡ 2 ^ power → bit_and slot (lanes - 1) * lane ≡ slot % lanes * lane
+masked slot lanes power lane e =
+    ap (λ (n : ℕ). bit_and slot (n - 1) * lane) e ∙ ap (λ (n : ℕ). n * lane) (and_mask slot power) ∙ ap (λ (n : ℕ). slot % n * lane) (sym e)
+
+-- and the number of the block what a shift leaves
+pub powered : (slot lanes power block : ℕ) → lanes ≡ 2 ^ power → slot / 2 ^ power * block ≡ slot / lanes * block
+powered slot lanes power block e = ap (λ (n : ℕ). slot / n * block) (sym e)
+
+-- the test of a power of two, as the code makes it
+pub power_is : (lanes : ℕ) → 0 < lanes → lanes ≡ (1 * 2 ^ trailing_zeros w64 lanes) % 2 ^ 64 → lanes ≡ 2 ^ trailing_zeros w64 lanes
+power_is lanes some e =
+    let power : ℕ = trailing_zeros w64 lanes in
+    let below : (1 * 2 ^ power) % 2 ^ 64 < 2 ^ 64 = mod-lt (1 * 2 ^ power) (omega arith) in
+    let small : lanes < 2 ^ 64 = omega arith in
+    let low : power < 64 = (bit_at-trailing_zeros w64 lanes some small).0 in
+    let fits : 2 ^ power < 2 ^ 64 = pow-lt low in
+    let one : 1 * 2 ^ power ≡ 2 ^ power = omega arith in
+    e ∙ ap (λ (n : ℕ). n % 2 ^ 64) one ∙ mod-eq_of_lt fits

@@ -1,0 +1,63 @@
+-- Pieces that lie one behind another.
+use Rattle.std.proofs.Common.{◌≡◌, ℕ, ◌+◌, ◌*◌, ◌/◌, ◌%◌, ◌<◌, sym, ap, ◌∙◌, arith}
+use Rattle.std.proofs.lemmas.Nat.{div-mul-add, div-add-mod'}
+use Rattle.places.specs.SlotsLaws.{times_bytes}
+use Rattle.places.specs.PieceRules.{begin_in, IsDense}
+use Rattle.places.specs.BeginsLaws.{one_lane}
+use Rattle.places.specs.declared.rule.PieceRule.{PieceRule}
+
+-- nothing is said of blocks of no slot
+pub not_dense : (rule : PieceRule) → IsDense 0 rule
+not_dense rule = record { next = λ slot j l. absurd (omega arith); bytes = λ slot l. absurd (omega arith) }
+
+-- in blocks of one slot that follow each other
+begin_alone : (rule : PieceRule) (slot : ℕ) → rule.lanes ≡ 1 → begin_in rule slot ≡ rule.base + slot * rule.block
+begin_alone rule slot one =
+    ap (λ (n : ℕ). rule.base + slot / n * rule.block + slot % n * rule.lane) one ∙ one_lane rule.base slot rule.block rule.lane
+
+-- all slots of an array are one block
+pub dense_array : (rule : PieceRule) (lanes : ℕ) → rule.lanes ≡ 1 → rule.block ≡ rule.bits → rule.base % 8 ≡ 0 → rule.bits % 8 ≡ 0 → IsDense lanes rule
+dense_array rule lanes one step base bits = record {
+  next = λ slot j l.
+      let product : (slot + j) * rule.block ≡ slot * rule.block + j * rule.block = grind arith in
+      let last : j * rule.block ≡ j * rule.bits = ap (λ (n : ℕ). j * n) step in
+      let here : begin_in rule slot ≡ rule.base + slot * rule.block = begin_alone rule slot one in
+      let there : begin_in rule (slot + j) ≡ rule.base + (slot + j) * rule.block = begin_alone rule (slot + j) one in
+      there ∙ (let e : rule.base + (slot + j) * rule.block ≡ rule.base + slot * rule.block + j * rule.bits = omega arith in e) ∙ ap (λ (n : ℕ). n + j * rule.bits) (sym here);
+  bytes = λ slot l.
+      let block : (slot * rule.block) % 8 ≡ 0 = times_bytes slot rule.block (ap (λ (n : ℕ). n % 8) step ∙ bits) in
+      let all : (rule.base + slot * rule.block) % 8 ≡ 0 = omega arith in
+      ap (λ (n : ℕ). n % 8) (begin_alone rule slot one) ∙ all;
+}
+
+-- a slot of the same block
+block_same : (slot j lanes : ℕ) → slot % lanes + j < lanes → (slot + j) / lanes ≡ slot / lanes
+block_same slot j lanes l =
+    let parts : slot / lanes * lanes + slot % lanes ≡ slot = div-add-mod' slot lanes in
+    let all : slot + j ≡ slot / lanes * lanes + (slot % lanes + j) = omega arith in
+    ap (λ (n : ℕ). n / lanes) all ∙ div-mul-add (slot / lanes) lanes (slot % lanes + j) l
+
+lane_more : (slot j lanes : ℕ) → slot % lanes + j < lanes → (slot + j) % lanes ≡ slot % lanes + j
+lane_more slot j lanes l =
+    let parts : slot / lanes * lanes + slot % lanes ≡ slot = div-add-mod' slot lanes in
+    let there : (slot + j) / lanes * lanes + (slot + j) % lanes ≡ slot + j = div-add-mod' (slot + j) lanes in
+    let blocks : (slot + j) / lanes * lanes ≡ slot / lanes * lanes = ap (λ (n : ℕ). n * lanes) (block_same slot j lanes l) in
+    omega arith
+
+-- the lanes of a block
+pub dense_lanes : (rule : PieceRule) (lanes : ℕ) → rule.lanes ≡ lanes → rule.lane ≡ rule.bits → rule.base % 8 ≡ 0 → rule.block % 8 ≡ 0 → rule.bits % 8 ≡ 0 → IsDense lanes rule
+dense_lanes rule lanes same step base block bits = record {
+  next = λ slot j l.
+      let begins : (s : ℕ) → begin_in rule s ≡ rule.base + s / lanes * rule.block + s % lanes * rule.lane = λ s. ap (λ (n : ℕ). rule.base + s / n * rule.block + s % n * rule.lane) same in
+      let blocks : (slot + j) / lanes * rule.block ≡ slot / lanes * rule.block = ap (λ (n : ℕ). n * rule.block) (block_same slot j lanes l) in
+      let moved : (slot + j) % lanes * rule.lane ≡ (slot % lanes + j) * rule.lane = ap (λ (n : ℕ). n * rule.lane) (lane_more slot j lanes l) in
+      let product : (slot % lanes + j) * rule.lane ≡ slot % lanes * rule.lane + j * rule.lane = grind arith in
+      let last : j * rule.lane ≡ j * rule.bits = ap (λ (n : ℕ). j * n) step in
+      let all : rule.base + (slot + j) / lanes * rule.block + (slot + j) % lanes * rule.lane ≡ rule.base + slot / lanes * rule.block + slot % lanes * rule.lane + j * rule.bits = omega arith in
+      begins (slot + j) ∙ all ∙ ap (λ (n : ℕ). n + j * rule.bits) (sym (begins slot));
+  bytes = λ slot l.
+      let one : (slot / lanes * rule.block) % 8 ≡ 0 = times_bytes (slot / lanes) rule.block block in
+      let two : (slot % lanes * rule.lane) % 8 ≡ 0 = times_bytes (slot % lanes) rule.lane (ap (λ (n : ℕ). n % 8) step ∙ bits) in
+      let all : (rule.base + slot / lanes * rule.block + slot % lanes * rule.lane) % 8 ≡ 0 = omega arith in
+      ap (λ (n : ℕ). (rule.base + slot / n * rule.block + slot % n * rule.lane) % 8) same ∙ all;
+}

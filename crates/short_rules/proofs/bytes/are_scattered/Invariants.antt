@@ -1,8 +1,0 @@
--- the pieces so far
-use Rattle.std.proofs.Common.{ℕ, ◌<◌, get_or}
-use Rattle.piece_rules.specs.declared.rule.PieceRule.{PieceRule}
-use Rattle.short_rules.specs.Stands.{IsScatteredByte}
-use Rattle.short_rules.proofs.bytes.are_scattered.Given as goal
-
-abbrev pub invariant-loop-piece : goal.invariant-loop-piece
-invariant-loop-piece l = (j : ℕ) (d : PieceRule) → j < l.piece-index → IsScatteredByte l.first (get_or l.pieces j d)

@@ -1,7 +1,0 @@
--- the pieces so far as one
-use Rattle.std.proofs.Common.{◌∷◌, drop}
-use Rattle.short_rules.specs.Joins.{Carries}
-use Rattle.short_rules.proofs.join.joined.Given as goal
-
-abbrev pub invariant-loop-next : goal.invariant-loop-next
-invariant-loop-next l = Carries l.pieces (l.one ∷ drop l.next-index l.rest)
