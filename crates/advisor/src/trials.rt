@@ -14,6 +14,7 @@ use piece_bits::{StoreMode, kept};
 use places::Hold;
 use record_dim::{LeafType, Schema};
 use std::alloc::{AllocError as NoMemory, Global};
+use views::raised;
 
 /// A way of storing a leaf of a type, and whether all its values so far stay in it.
 #[derive(Clone, Copy)]
@@ -108,16 +109,6 @@ fn low_stays(mode: StoreMode, trial: Trial, low: i64) -> bool
     ensures { result ≡ low_stays mode trial low }
 {
     stays(mode, trial.kind, trial.hold, raised(trial.kind, low))
-}
-
-// The value of a leaf of a type whose low 64 bits these are.
-fn raised(kind: LeafType, low: i64) -> i128
-    ensures { result ≡ raised kind low }
-{
-    match kind {
-        LeafType::U64 => i128::from(low.cast_unsigned()),
-        _ => i128::from(low),
-    }
 }
 
 // Whether a store of a value in a leaf that is stored so would keep the value.

@@ -1,7 +1,7 @@
 use Rattle.piece_bits.specs.EntryLaws.{image_of_table, settled_after, same_sign}
 use Rattle.piece_bits.specs.ImageLaws.{image_table}
 use Rattle.piece_bits.specs.KeptTableLaws.{declared_with_entry}
-use Rattle.piece_bits.proofs.table_laws.table_laws.Goals as goal
+use Rattle.piece_bits.proofs.told_tables.table_laws.Goals as goal
 
 pub returns-clause-image : goal.returns-clause-image
 returns-clause-image c = image_of_table
