@@ -34,38 +34,38 @@ decreases-read_bracketed l = 10 * l.room + 8
 abbrev pub decreases-read_choice : goal.decreases-read_choice
 decreases-read_choice l = 10 * l.room + 8
 
-abbrev pub invariant-read_boxed-loop-alloc : goal.invariant-read_boxed-loop-alloc
-invariant-read_boxed-loop-alloc l = record {
+abbrev pub invariant-read_boxed-loop-waiting : goal.invariant-read_boxed-loop-waiting
+invariant-read_boxed-loop-waiting l = record {
   same : next_at or_of (conjunction_over (atom_at l.room)) (left_term l.waiting) l.tokens ≡ expr_over (atom_at l.room) l.fn.tokens;
   shorter : length l.tokens ≤ length l.fn.tokens;
 }
 
-abbrev pub decreases-read_boxed-loop-alloc : goal.decreases-read_boxed-loop-alloc
-decreases-read_boxed-loop-alloc l = length l.tokens
+abbrev pub decreases-read_boxed-loop-waiting : goal.decreases-read_boxed-loop-waiting
+decreases-read_boxed-loop-waiting l = length l.tokens
 
-abbrev pub invariant-read_conjunction-loop-alloc : goal.invariant-read_conjunction-loop-alloc
-invariant-read_conjunction-loop-alloc l = record {
+abbrev pub invariant-read_conjunction-loop-waiting : goal.invariant-read_conjunction-loop-waiting
+invariant-read_conjunction-loop-waiting l = record {
   same : next_at and_of (negation_over (atom_at l.room)) (left_term l.waiting) l.tokens ≡ conjunction_over (atom_at l.room) l.fn.tokens;
   shorter : length l.tokens ≤ length l.fn.tokens;
 }
 
-abbrev pub decreases-read_conjunction-loop-alloc : goal.decreases-read_conjunction-loop-alloc
-decreases-read_conjunction-loop-alloc l = length l.tokens
+abbrev pub decreases-read_conjunction-loop-waiting : goal.decreases-read_conjunction-loop-waiting
+decreases-read_conjunction-loop-waiting l = length l.tokens
 
-abbrev pub invariant-read_sum-loop-alloc : goal.invariant-read_sum-loop-alloc
-invariant-read_sum-loop-alloc l = record {
+abbrev pub invariant-read_sum-loop-waiting : goal.invariant-read_sum-loop-waiting
+invariant-read_sum-loop-waiting l = record {
   same : next_at sum_of (product_over (atom_at l.room)) (left_term l.waiting) l.tokens ≡ sum_over (atom_at l.room) l.fn.tokens;
   shorter : length l.tokens ≤ length l.fn.tokens;
 }
 
-abbrev pub decreases-read_sum-loop-alloc : goal.decreases-read_sum-loop-alloc
-decreases-read_sum-loop-alloc l = length l.tokens
+abbrev pub decreases-read_sum-loop-waiting : goal.decreases-read_sum-loop-waiting
+decreases-read_sum-loop-waiting l = length l.tokens
 
-abbrev pub invariant-read_product-loop-alloc : goal.invariant-read_product-loop-alloc
-invariant-read_product-loop-alloc l = record {
+abbrev pub invariant-read_product-loop-waiting : goal.invariant-read_product-loop-waiting
+invariant-read_product-loop-waiting l = record {
   same : next_at product_of (unary_over (atom_at l.room)) (left_term l.waiting) l.tokens ≡ product_over (atom_at l.room) l.fn.tokens;
   shorter : length l.tokens ≤ length l.fn.tokens;
 }
 
-abbrev pub decreases-read_product-loop-alloc : goal.decreases-read_product-loop-alloc
-decreases-read_product-loop-alloc l = length l.tokens
+abbrev pub decreases-read_product-loop-waiting : goal.decreases-read_product-loop-waiting
+decreases-read_product-loop-waiting l = length l.tokens
