@@ -1,5 +1,6 @@
 -- How an expression is read, level by level. `atom` reads the operands without an operator.
-use Rattle.std.specs.Prelude.{ℕ, zero, suc, Bool, List, codes, Option, None, Some, is_some, Result}
+use Rattle.std.specs.Prelude.{Box, box_value, ℕ, zero, suc, Bool, List, codes, Option, None, Some, is_some, Result}
+use Rattle.std.specs.Global.{Global}
 use Rattle.phrases.specs.Reading.{item_at, behind_at, then_at, give_at, either_at, steps_at}
 use Rattle.line_tokens.specs.declared.sign.Sign.TheVariants.{OpenParen, CloseParen, Comma, Minus}
 use Rattle.expr_lang.specs.declared.expr.BinOp.{BinOp}
@@ -35,10 +36,13 @@ behind_left (Some left) right = Binary left.1 left.0 right
 unfoldable pub next_at : (Token → Option BinOp) → (List Token → Result (Value × List Token) ℕ) → Option (Value × BinOp) → List Token → Result (Value × List Token) ℕ
 next_at operator read left = then_at read (λ right. links_at operator read (behind_left left right))
 
--- a left side and its operator as they were read
-abbrev pub left_term : Option (Expr × BinOp) → Option (Value × BinOp)
+-- the value of an expression that was read, and a left side and its operator
+abbrev pub boxed_term : Box Expr Global → Value
+boxed_term boxed = term_of (box_value boxed)
+
+abbrev pub left_term : Option (Box Expr Global × BinOp) → Option (Value × BinOp)
 left_term None = None
-left_term (Some left) = Some (term_of left.0, left.1)
+left_term (Some left) = Some (boxed_term left.0, left.1)
 
 -- how often a token stands in front
 unfoldable pub count_at : (Token → Bool) → ℕ → List Token → Result (ℕ × List Token) ℕ

@@ -4,7 +4,7 @@ ghost use Rattle.line_tokens.specs.declared.sign.Sign.TheVariants.{Minus};
 ghost use Rattle.line_grammar.specs.Tokens.{is_sign, is_word};
 ghost use Rattle.line_grammar.specs.Grammar.{wrapped};
 ghost use Rattle.line_phrases.specs.Gives.{Gives, IsSyntax};
-ghost use Rattle.line_phrases.specs.Exprs.{leaf_at, atom_at, behind_left, bracketed_at, choice_at, count_at, left_term, unary_over, product_over, sum_over, comparison_over, negation_over, conjunction_over, expr_over};
+ghost use Rattle.line_phrases.specs.Exprs.{leaf_at, atom_at, behind_left, boxed_term, bracketed_at, choice_at, count_at, left_term, unary_over, product_over, sum_over, comparison_over, negation_over, conjunction_over, expr_over};
 ghost use Rattle.std.specs.Prelude.{codes, zero};
 
 use crate::{ReadError, Tokens, read_path};
@@ -26,7 +26,7 @@ pub fn read_expr(alloc: Global, room: usize, tokens: &mut Tokens) -> Result<Expr
 #[cycle(expr)]
 #[tactic(auto, unfolding(crate::specs::Exprs::expr_over, crate::specs::Exprs::chain_at, crate::specs::Exprs::next_at), using(crate::proofs::Links::expr_steps))]
 fn read_boxed(alloc: Global, room: usize, tokens: &mut Tokens) -> Result<Box<Expr>, ReadError>
-    ensures gives { Gives (λ x. (term_of x, tokens.new)) result (expr_over (atom_at room) tokens.old) }
+    ensures gives { Gives (λ x. (boxed_term x, tokens.new)) result (expr_over (atom_at room) tokens.old) }
     ensures shorter { OnOk result (length tokens.new < length tokens.old) }
 {
     let mut waiting = None;
@@ -45,7 +45,7 @@ fn read_boxed(alloc: Global, room: usize, tokens: &mut Tokens) -> Result<Box<Exp
 #[cycle(expr)]
 #[tactic(auto, unfolding(crate::specs::Exprs::conjunction_over, crate::specs::Exprs::chain_at, crate::specs::Exprs::next_at), using(crate::proofs::Links::conjunction_steps))]
 fn read_conjunction(alloc: Global, room: usize, tokens: &mut Tokens) -> Result<Box<Expr>, ReadError>
-    ensures gives { Gives (λ x. (term_of x, tokens.new)) result (conjunction_over (atom_at room) tokens.old) }
+    ensures gives { Gives (λ x. (boxed_term x, tokens.new)) result (conjunction_over (atom_at room) tokens.old) }
     ensures shorter { OnOk result (length tokens.new < length tokens.old) }
 {
     let mut waiting = None;
@@ -64,7 +64,7 @@ fn read_conjunction(alloc: Global, room: usize, tokens: &mut Tokens) -> Result<B
 #[cycle(expr)]
 #[tactic(auto, unfolding(crate::specs::Exprs::negation_over, crate::specs::Exprs::prefixed_at))]
 fn read_negation(alloc: Global, room: usize, tokens: &mut Tokens) -> Result<Box<Expr>, ReadError>
-    ensures gives { Gives (λ x. (term_of x, tokens.new)) result (negation_over (atom_at room) tokens.old) }
+    ensures gives { Gives (λ x. (boxed_term x, tokens.new)) result (negation_over (atom_at room) tokens.old) }
     ensures shorter { OnOk result (length tokens.new < length tokens.old) }
 {
     let count = count_words(tokens)?;
@@ -77,7 +77,7 @@ fn read_negation(alloc: Global, room: usize, tokens: &mut Tokens) -> Result<Box<
 #[cycle(expr)]
 #[tactic(auto, unfolding(crate::specs::Exprs::comparison_over))]
 fn read_comparison(alloc: Global, room: usize, tokens: &mut Tokens) -> Result<Box<Expr>, ReadError>
-    ensures gives { Gives (λ x. (term_of x, tokens.new)) result (comparison_over (atom_at room) tokens.old) }
+    ensures gives { Gives (λ x. (boxed_term x, tokens.new)) result (comparison_over (atom_at room) tokens.old) }
     ensures shorter { OnOk result (length tokens.new < length tokens.old) }
 {
     let left = read_sum(alloc, room, tokens)?;
@@ -94,7 +94,7 @@ fn read_comparison(alloc: Global, room: usize, tokens: &mut Tokens) -> Result<Bo
 #[cycle(expr)]
 #[tactic(auto, unfolding(crate::specs::Exprs::sum_over, crate::specs::Exprs::chain_at, crate::specs::Exprs::next_at), using(crate::proofs::Links::sum_steps))]
 fn read_sum(alloc: Global, room: usize, tokens: &mut Tokens) -> Result<Box<Expr>, ReadError>
-    ensures gives { Gives (λ x. (term_of x, tokens.new)) result (sum_over (atom_at room) tokens.old) }
+    ensures gives { Gives (λ x. (boxed_term x, tokens.new)) result (sum_over (atom_at room) tokens.old) }
     ensures shorter { OnOk result (length tokens.new < length tokens.old) }
 {
     let mut waiting = None;
@@ -113,7 +113,7 @@ fn read_sum(alloc: Global, room: usize, tokens: &mut Tokens) -> Result<Box<Expr>
 #[cycle(expr)]
 #[tactic(auto, unfolding(crate::specs::Exprs::product_over, crate::specs::Exprs::chain_at, crate::specs::Exprs::next_at), using(crate::proofs::Links::product_steps))]
 fn read_product(alloc: Global, room: usize, tokens: &mut Tokens) -> Result<Box<Expr>, ReadError>
-    ensures gives { Gives (λ x. (term_of x, tokens.new)) result (product_over (atom_at room) tokens.old) }
+    ensures gives { Gives (λ x. (boxed_term x, tokens.new)) result (product_over (atom_at room) tokens.old) }
     ensures shorter { OnOk result (length tokens.new < length tokens.old) }
 {
     let mut waiting = None;
@@ -132,7 +132,7 @@ fn read_product(alloc: Global, room: usize, tokens: &mut Tokens) -> Result<Box<E
 #[cycle(expr)]
 #[tactic(auto, unfolding(crate::specs::Exprs::unary_over, crate::specs::Exprs::prefixed_at))]
 fn read_unary(alloc: Global, room: usize, tokens: &mut Tokens) -> Result<Box<Expr>, ReadError>
-    ensures gives { Gives (λ x. (term_of x, tokens.new)) result (unary_over (atom_at room) tokens.old) }
+    ensures gives { Gives (λ x. (boxed_term x, tokens.new)) result (unary_over (atom_at room) tokens.old) }
     ensures shorter { OnOk result (length tokens.new < length tokens.old) }
 {
     let count = count_signs(tokens)?;
@@ -145,7 +145,7 @@ fn read_unary(alloc: Global, room: usize, tokens: &mut Tokens) -> Result<Box<Exp
 #[cycle(expr)]
 #[tactic(auto, unfolding(crate::specs::Exprs::atom_at))]
 fn read_atom(alloc: Global, room: usize, tokens: &mut Tokens) -> Result<Box<Expr>, ReadError>
-    ensures gives { Gives (λ x. (term_of x, tokens.new)) result (atom_at room tokens.old) }
+    ensures gives { Gives (λ x. (boxed_term x, tokens.new)) result (atom_at room tokens.old) }
     ensures shorter { OnOk result (length tokens.new < length tokens.old) }
 {
     if room > 0 && tokens.begins_sign(Sign::OpenParen) {
@@ -162,7 +162,7 @@ fn read_atom(alloc: Global, room: usize, tokens: &mut Tokens) -> Result<Box<Expr
 #[cycle(expr)]
 #[tactic(auto, unfolding(crate::specs::Exprs::bracketed_at))]
 fn read_bracketed(alloc: Global, room: usize, tokens: &mut Tokens) -> Result<Box<Expr>, ReadError>
-    ensures gives { Gives (λ x. (term_of x, tokens.new)) result (bracketed_at (expr_over (atom_at room)) tokens.old) }
+    ensures gives { Gives (λ x. (boxed_term x, tokens.new)) result (bracketed_at (expr_over (atom_at room)) tokens.old) }
     ensures shorter { OnOk result (length tokens.new < length tokens.old) }
 {
     tokens.sign(Sign::OpenParen)?;
@@ -175,7 +175,7 @@ fn read_bracketed(alloc: Global, room: usize, tokens: &mut Tokens) -> Result<Box
 #[cycle(expr)]
 #[tactic(auto, unfolding(crate::specs::Exprs::choice_at))]
 fn read_choice(alloc: Global, room: usize, tokens: &mut Tokens) -> Result<Box<Expr>, ReadError>
-    ensures gives { Gives (λ x. (term_of x, tokens.new)) result (choice_at (expr_over (atom_at room)) tokens.old) }
+    ensures gives { Gives (λ x. (boxed_term x, tokens.new)) result (choice_at (expr_over (atom_at room)) tokens.old) }
     ensures shorter { OnOk result (length tokens.new < length tokens.old) }
 {
     let op = tokens.item::<Choice>()?;
@@ -212,7 +212,7 @@ fn joined(
     waiting: Option<(Box<Expr>, BinOp)>,
     right: Box<Expr>,
 ) -> Result<Box<Expr>, NoMemory>
-    ensures { IfOk result (λ x. term_of x ≡ behind_left (left_term waiting) (term_of right)) }
+    ensures { IfOk result (λ x. boxed_term x ≡ behind_left (left_term waiting) (boxed_term right)) }
 {
     match waiting {
         None => Ok(right),
@@ -226,7 +226,7 @@ fn binary(
     left: Box<Expr>,
     right: Box<Expr>,
 ) -> Result<Box<Expr>, NoMemory>
-    ensures { IfOk result (λ x. term_of x ≡ Binary op (term_of left) (term_of right)) }
+    ensures { IfOk result (λ x. boxed_term x ≡ Binary op (boxed_term left) (boxed_term right)) }
 {
     let whole = Box::new(alloc, Expr::Binary { op, left, right })?;
     Ok(whole)
@@ -269,7 +269,7 @@ fn count_signs(tokens: &mut Tokens) -> Result<usize, ReadError>
 // The value with so many `not` in front.
 #[tactic(auto, using(crate::proofs::Links::wrapped_more))]
 fn negated(alloc: Global, count: usize, inner: Box<Expr>) -> Result<Box<Expr>, NoMemory>
-    ensures { IfOk result (λ x. term_of x ≡ wrapped Not count (term_of inner)) }
+    ensures { IfOk result (λ x. boxed_term x ≡ wrapped Not count (boxed_term inner)) }
 {
     let mut value = inner;
     for _ in 0..count {
@@ -281,7 +281,7 @@ fn negated(alloc: Global, count: usize, inner: Box<Expr>) -> Result<Box<Expr>, N
 // The value with so many minuses in front.
 #[tactic(auto, using(crate::proofs::Links::wrapped_more))]
 fn negative(alloc: Global, count: usize, inner: Box<Expr>) -> Result<Box<Expr>, NoMemory>
-    ensures { IfOk result (λ x. term_of x ≡ wrapped Neg count (term_of inner)) }
+    ensures { IfOk result (λ x. boxed_term x ≡ wrapped Neg count (boxed_term inner)) }
 {
     let mut value = inner;
     for _ in 0..count {
