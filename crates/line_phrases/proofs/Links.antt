@@ -1,5 +1,5 @@
 -- How the reading of a chain goes on, and of what stands in front of a value.
-use Rattle.std.proofs.Common.{◌≡◌, ℕ, suc, ◌+◌, true, false, List, Option, Result, Ok, Err, codes, refl, ap, ◌∙◌, add-one}
+use Rattle.std.proofs.Common.{◌≡◌, ℕ, suc, ◌+◌, true, false, List, Option, Some, Result, Ok, Err, codes, refl, sym, ap, ◌∙◌, add-one}
 use Rattle.phrases.specs.Reading.{◌>>=◌, starts, past, item_at, give_at}
 use Rattle.phrases.specs.RepeatedLaws.{Steps, steps_end, steps_shrink, steps_stepped, steps_stop}
 use Rattle.line_tokens.specs.declared.sign.Sign.TheVariants.{Minus}
@@ -10,11 +10,11 @@ use Rattle.line_grammar.specs.declared.token.Token.TheVariants.{Word, Sign as Si
 use Rattle.line_grammar.specs.Tokens.{is_sign, is_word, or_of, and_of, sum_of, product_of}
 use Rattle.line_grammar.specs.Sentences.{Value}
 use Rattle.line_grammar.specs.Grammar.{IsLink, wrapped}
-use Rattle.line_phrases.specs.Exprs.{means, link_at, links_at, count_at, unary_over, product_over, negation_over, conjunction_over, atom_at}
+use Rattle.line_phrases.specs.Exprs.{means, link_at, links_at, next_at, count_at, unary_over, product_over, negation_over, conjunction_over, atom_at}
 use Rattle.line_phrases.specs.BasicsLaws.{exact_sign, exact_word}
 use Rattle.line_phrases.specs.LevelsLaws.{and_operator, atoms, conjunction_parses, link_steps, negation_parses, or_operator, prefix_steps, product_operator, product_parses, sum_operator, unary_parses}
 
--- an operator and an operand more, an operand or an operator that stops, and no operator
+-- an operator and an operand more, an operator that is none, and no operator
 
 module _ {Is : List Token → Value → Type 0} (read : List Token → Result (Value × List Token) ℕ) {operator : Token → Option BinOp} {Between After : List Token → Type 0} (s : Steps (IsLink operator Is) (means operator) (link_at operator read) Between After) where
   linked : (left : Value) (tokens : List Token) (op : BinOp) (us : List Token) (right : Value) (rest : List Token) → starts (means operator) tokens ≡ true → item_at operator tokens ≡ Ok (op, us) → read us ≡ Ok (right, rest) →
@@ -28,6 +28,15 @@ module _ {Is : List Token → Value → Type 0} (read : List Token → Result (V
   link_stop left tokens op us k passes is then = steps_stop (means operator) (link_at operator read) (steps_shrink s) left tokens k passes
       (ap (λ r. r >>= λ x. (read x.1 >>= λ y. give_at (Binary x.0 left y.0) y.1)) is ∙ ap (λ r. r >>= λ y. give_at (Binary op left y.0) y.1) then)
 
+  next_is : (left : Value) (tokens : List Token) (op : BinOp) (us : List Token) (given : Result (Value × List Token) ℕ) → starts (means operator) tokens ≡ true → item_at operator tokens ≡ Ok (op, us) → read us ≡ given →
+      links_at operator read left tokens ≡ next_at operator read (Some (left, op)) us
+  unfolding next_at
+  next_is left tokens op us (Ok then) passes is same = linked left tokens op us then.0 then.1 passes is same ∙ sym (ap (λ (r : Result (Value × List Token) ℕ). r >>= λ x. links_at operator read (Binary op left x.0) x.1) same)
+  next_is left tokens op us (Err k) passes is same = link_stop left tokens op us k passes is same ∙ sym (ap (λ (r : Result (Value × List Token) ℕ). r >>= λ x. links_at operator read (Binary op left x.0) x.1) same)
+
+  link_next : (left : Value) (tokens : List Token) (op : BinOp) (us : List Token) → starts (means operator) tokens ≡ true → item_at operator tokens ≡ Ok (op, us) → links_at operator read left tokens ≡ next_at operator read (Some (left, op)) us
+  link_next left tokens op us passes is = next_is left tokens op us (read us) passes is refl
+
   link_bare : (left : Value) (tokens : List Token) (k : ℕ) → starts (means operator) tokens ≡ true → item_at operator tokens ≡ Err k → links_at operator read left tokens ≡ Err k
   unfolding links_at
   link_bare left tokens k passes is = steps_stop (means operator) (link_at operator read) (steps_shrink s) left tokens k passes
@@ -37,12 +46,9 @@ module _ {Is : List Token → Value → Type 0} (read : List Token → Result (V
   unfolding links_at
   link_end left tokens falls = steps_end (means operator) (link_at operator read) left tokens falls
 
-pub expr_linked : (n : ℕ) (left : Value) (tokens : List Token) (op : BinOp) (us : List Token) (right : Value) (rest : List Token) → starts (means or_of) tokens ≡ true → item_at or_of tokens ≡ Ok (op, us) → conjunction_over (atom_at n) us ≡ Ok (right, rest) →
-    links_at or_of (conjunction_over (atom_at n)) left tokens ≡ links_at or_of (conjunction_over (atom_at n)) (Binary op left right) rest
-expr_linked n = linked (conjunction_over (atom_at n)) (link_steps 1 or_operator (conjunction_parses (atoms n)))
-
-pub expr_link_stop : (n : ℕ) (left : Value) (tokens : List Token) (op : BinOp) (us : List Token) (k : ℕ) → starts (means or_of) tokens ≡ true → item_at or_of tokens ≡ Ok (op, us) → conjunction_over (atom_at n) us ≡ Err k → links_at or_of (conjunction_over (atom_at n)) left tokens ≡ Err k
-expr_link_stop n = link_stop (conjunction_over (atom_at n)) (link_steps 1 or_operator (conjunction_parses (atoms n)))
+pub expr_next : (n : ℕ) (left : Value) (tokens : List Token) (op : BinOp) (us : List Token) → starts (means or_of) tokens ≡ true → item_at or_of tokens ≡ Ok (op, us) →
+    links_at or_of (conjunction_over (atom_at n)) left tokens ≡ next_at or_of (conjunction_over (atom_at n)) (Some (left, op)) us
+expr_next n = link_next (conjunction_over (atom_at n)) (link_steps 1 or_operator (conjunction_parses (atoms n)))
 
 pub expr_link_bare : (n : ℕ) (left : Value) (tokens : List Token) (k : ℕ) → starts (means or_of) tokens ≡ true → item_at or_of tokens ≡ Err k → links_at or_of (conjunction_over (atom_at n)) left tokens ≡ Err k
 expr_link_bare n = link_bare (conjunction_over (atom_at n)) (link_steps 1 or_operator (conjunction_parses (atoms n)))
@@ -50,14 +56,11 @@ expr_link_bare n = link_bare (conjunction_over (atom_at n)) (link_steps 1 or_ope
 pub expr_link_end : (n : ℕ) (left : Value) (tokens : List Token) → starts (means or_of) tokens ≡ false → links_at or_of (conjunction_over (atom_at n)) left tokens ≡ Ok (left, tokens)
 expr_link_end n = link_end (conjunction_over (atom_at n)) (link_steps 1 or_operator (conjunction_parses (atoms n)))
 
-pub ruleset expr_steps = (expr_linked, expr_link_stop, expr_link_bare, expr_link_end)
+pub ruleset expr_steps = (expr_next, expr_link_bare, expr_link_end)
 
-pub conjunction_linked : (n : ℕ) (left : Value) (tokens : List Token) (op : BinOp) (us : List Token) (right : Value) (rest : List Token) → starts (means and_of) tokens ≡ true → item_at and_of tokens ≡ Ok (op, us) → negation_over (atom_at n) us ≡ Ok (right, rest) →
-    links_at and_of (negation_over (atom_at n)) left tokens ≡ links_at and_of (negation_over (atom_at n)) (Binary op left right) rest
-conjunction_linked n = linked (negation_over (atom_at n)) (link_steps 2 and_operator (negation_parses (atoms n)))
-
-pub conjunction_link_stop : (n : ℕ) (left : Value) (tokens : List Token) (op : BinOp) (us : List Token) (k : ℕ) → starts (means and_of) tokens ≡ true → item_at and_of tokens ≡ Ok (op, us) → negation_over (atom_at n) us ≡ Err k → links_at and_of (negation_over (atom_at n)) left tokens ≡ Err k
-conjunction_link_stop n = link_stop (negation_over (atom_at n)) (link_steps 2 and_operator (negation_parses (atoms n)))
+pub conjunction_next : (n : ℕ) (left : Value) (tokens : List Token) (op : BinOp) (us : List Token) → starts (means and_of) tokens ≡ true → item_at and_of tokens ≡ Ok (op, us) →
+    links_at and_of (negation_over (atom_at n)) left tokens ≡ next_at and_of (negation_over (atom_at n)) (Some (left, op)) us
+conjunction_next n = link_next (negation_over (atom_at n)) (link_steps 2 and_operator (negation_parses (atoms n)))
 
 pub conjunction_link_bare : (n : ℕ) (left : Value) (tokens : List Token) (k : ℕ) → starts (means and_of) tokens ≡ true → item_at and_of tokens ≡ Err k → links_at and_of (negation_over (atom_at n)) left tokens ≡ Err k
 conjunction_link_bare n = link_bare (negation_over (atom_at n)) (link_steps 2 and_operator (negation_parses (atoms n)))
@@ -65,14 +68,11 @@ conjunction_link_bare n = link_bare (negation_over (atom_at n)) (link_steps 2 an
 pub conjunction_link_end : (n : ℕ) (left : Value) (tokens : List Token) → starts (means and_of) tokens ≡ false → links_at and_of (negation_over (atom_at n)) left tokens ≡ Ok (left, tokens)
 conjunction_link_end n = link_end (negation_over (atom_at n)) (link_steps 2 and_operator (negation_parses (atoms n)))
 
-pub ruleset conjunction_steps = (conjunction_linked, conjunction_link_stop, conjunction_link_bare, conjunction_link_end)
+pub ruleset conjunction_steps = (conjunction_next, conjunction_link_bare, conjunction_link_end)
 
-pub sum_linked : (n : ℕ) (left : Value) (tokens : List Token) (op : BinOp) (us : List Token) (right : Value) (rest : List Token) → starts (means sum_of) tokens ≡ true → item_at sum_of tokens ≡ Ok (op, us) → product_over (atom_at n) us ≡ Ok (right, rest) →
-    links_at sum_of (product_over (atom_at n)) left tokens ≡ links_at sum_of (product_over (atom_at n)) (Binary op left right) rest
-sum_linked n = linked (product_over (atom_at n)) (link_steps 4 sum_operator (product_parses (atoms n)))
-
-pub sum_link_stop : (n : ℕ) (left : Value) (tokens : List Token) (op : BinOp) (us : List Token) (k : ℕ) → starts (means sum_of) tokens ≡ true → item_at sum_of tokens ≡ Ok (op, us) → product_over (atom_at n) us ≡ Err k → links_at sum_of (product_over (atom_at n)) left tokens ≡ Err k
-sum_link_stop n = link_stop (product_over (atom_at n)) (link_steps 4 sum_operator (product_parses (atoms n)))
+pub sum_next : (n : ℕ) (left : Value) (tokens : List Token) (op : BinOp) (us : List Token) → starts (means sum_of) tokens ≡ true → item_at sum_of tokens ≡ Ok (op, us) →
+    links_at sum_of (product_over (atom_at n)) left tokens ≡ next_at sum_of (product_over (atom_at n)) (Some (left, op)) us
+sum_next n = link_next (product_over (atom_at n)) (link_steps 4 sum_operator (product_parses (atoms n)))
 
 pub sum_link_bare : (n : ℕ) (left : Value) (tokens : List Token) (k : ℕ) → starts (means sum_of) tokens ≡ true → item_at sum_of tokens ≡ Err k → links_at sum_of (product_over (atom_at n)) left tokens ≡ Err k
 sum_link_bare n = link_bare (product_over (atom_at n)) (link_steps 4 sum_operator (product_parses (atoms n)))
@@ -80,14 +80,11 @@ sum_link_bare n = link_bare (product_over (atom_at n)) (link_steps 4 sum_operato
 pub sum_link_end : (n : ℕ) (left : Value) (tokens : List Token) → starts (means sum_of) tokens ≡ false → links_at sum_of (product_over (atom_at n)) left tokens ≡ Ok (left, tokens)
 sum_link_end n = link_end (product_over (atom_at n)) (link_steps 4 sum_operator (product_parses (atoms n)))
 
-pub ruleset sum_steps = (sum_linked, sum_link_stop, sum_link_bare, sum_link_end)
+pub ruleset sum_steps = (sum_next, sum_link_bare, sum_link_end)
 
-pub product_linked : (n : ℕ) (left : Value) (tokens : List Token) (op : BinOp) (us : List Token) (right : Value) (rest : List Token) → starts (means product_of) tokens ≡ true → item_at product_of tokens ≡ Ok (op, us) → unary_over (atom_at n) us ≡ Ok (right, rest) →
-    links_at product_of (unary_over (atom_at n)) left tokens ≡ links_at product_of (unary_over (atom_at n)) (Binary op left right) rest
-product_linked n = linked (unary_over (atom_at n)) (link_steps 5 product_operator (unary_parses (atoms n)))
-
-pub product_link_stop : (n : ℕ) (left : Value) (tokens : List Token) (op : BinOp) (us : List Token) (k : ℕ) → starts (means product_of) tokens ≡ true → item_at product_of tokens ≡ Ok (op, us) → unary_over (atom_at n) us ≡ Err k → links_at product_of (unary_over (atom_at n)) left tokens ≡ Err k
-product_link_stop n = link_stop (unary_over (atom_at n)) (link_steps 5 product_operator (unary_parses (atoms n)))
+pub product_next : (n : ℕ) (left : Value) (tokens : List Token) (op : BinOp) (us : List Token) → starts (means product_of) tokens ≡ true → item_at product_of tokens ≡ Ok (op, us) →
+    links_at product_of (unary_over (atom_at n)) left tokens ≡ next_at product_of (unary_over (atom_at n)) (Some (left, op)) us
+product_next n = link_next (unary_over (atom_at n)) (link_steps 5 product_operator (unary_parses (atoms n)))
 
 pub product_link_bare : (n : ℕ) (left : Value) (tokens : List Token) (k : ℕ) → starts (means product_of) tokens ≡ true → item_at product_of tokens ≡ Err k → links_at product_of (unary_over (atom_at n)) left tokens ≡ Err k
 product_link_bare n = link_bare (unary_over (atom_at n)) (link_steps 5 product_operator (unary_parses (atoms n)))
@@ -95,7 +92,7 @@ product_link_bare n = link_bare (unary_over (atom_at n)) (link_steps 5 product_o
 pub product_link_end : (n : ℕ) (left : Value) (tokens : List Token) → starts (means product_of) tokens ≡ false → links_at product_of (unary_over (atom_at n)) left tokens ≡ Ok (left, tokens)
 product_link_end n = link_end (unary_over (atom_at n)) (link_steps 5 product_operator (unary_parses (atoms n)))
 
-pub ruleset product_steps = (product_linked, product_link_stop, product_link_bare, product_link_end)
+pub ruleset product_steps = (product_next, product_link_bare, product_link_end)
 
 pub word_counted : (count : ℕ) (tokens us : List Token) → starts (is_word (codes "not")) tokens ≡ true → past (is_word (codes "not")) tokens ≡ Ok us → count_at (is_word (codes "not")) count tokens ≡ count_at (is_word (codes "not")) (count + 1) us
 unfolding count_at

@@ -1,9 +1,11 @@
 -- How an expression is read, level by level. `atom` reads the operands without an operator.
-use Rattle.std.specs.Prelude.{ℕ, zero, suc, Bool, List, codes, Option, is_some, Result}
+use Rattle.std.specs.Prelude.{Box, box_value, ℕ, zero, suc, Bool, List, codes, Option, None, Some, is_some, Result}
+use Rattle.std.specs.Global.{Global}
 use Rattle.phrases.specs.Reading.{item_at, behind_at, then_at, give_at, either_at, steps_at}
 use Rattle.line_tokens.specs.declared.sign.Sign.TheVariants.{OpenParen, CloseParen, Comma, Minus}
 use Rattle.expr_lang.specs.declared.expr.BinOp.{BinOp}
-use Rattle.expr_lang.specs.Terms.{Number as Constant, Entry, Index, Neg, Not, Binary}
+use Rattle.expr_lang.specs.declared.expr.Expr.{Expr}
+use Rattle.expr_lang.specs.Terms.{Number as Constant, Entry, Index, Neg, Not, Binary, term_of}
 use Rattle.line_grammar.specs.declared.token.Token.{Token}
 use Rattle.line_grammar.specs.Tokens.{is_sign, is_word, number_of, index_of, choice_of, or_of, and_of, comparison_of, sum_of, product_of}
 use Rattle.line_grammar.specs.Sentences.{Value}
@@ -24,6 +26,23 @@ links_at operator read = steps_at (means operator) (link_at operator read)
 
 unfoldable pub chain_at : (Token → Option BinOp) → (List Token → Result (Value × List Token) ℕ) → List Token → Result (Value × List Token) ℕ
 chain_at operator read = then_at read (links_at operator read)
+
+-- a value behind what stands in front of it: a left side and its operator, or nothing
+abbrev pub behind_left : Option (Value × BinOp) → Value → Value
+behind_left None right = right
+behind_left (Some left) right = Binary left.1 left.0 right
+
+-- the next operand of a chain, and the operators and operands behind it
+unfoldable pub next_at : (Token → Option BinOp) → (List Token → Result (Value × List Token) ℕ) → Option (Value × BinOp) → List Token → Result (Value × List Token) ℕ
+next_at operator read left = then_at read (λ right. links_at operator read (behind_left left right))
+
+-- the value of an expression that was read, and a left side and its operator
+abbrev pub boxed_term : Box Expr Global → Value
+boxed_term boxed = term_of (box_value boxed)
+
+abbrev pub left_term : Option (Box Expr Global × BinOp) → Option (Value × BinOp)
+left_term None = None
+left_term (Some left) = Some (boxed_term left.0, left.1)
 
 -- how often a token stands in front
 unfoldable pub count_at : (Token → Bool) → ℕ → List Token → Result (ℕ × List Token) ℕ

@@ -4,7 +4,7 @@ ghost use Rattle.line_tokens.specs.declared.sign.Sign.TheVariants.{Minus};
 ghost use Rattle.line_grammar.specs.Tokens.{is_sign, is_word};
 ghost use Rattle.line_grammar.specs.Grammar.{wrapped};
 ghost use Rattle.line_phrases.specs.Gives.{Gives, IsSyntax};
-ghost use Rattle.line_phrases.specs.Exprs.{leaf_at, atom_at, bracketed_at, choice_at, count_at, unary_over, product_over, sum_over, comparison_over, negation_over, conjunction_over, expr_over};
+ghost use Rattle.line_phrases.specs.Exprs.{leaf_at, atom_at, behind_left, boxed_term, bracketed_at, choice_at, count_at, left_term, unary_over, product_over, sum_over, comparison_over, negation_over, conjunction_over, expr_over};
 ghost use Rattle.std.specs.Prelude.{codes, zero};
 
 use crate::{ReadError, Tokens, read_path};
@@ -13,43 +13,58 @@ use line_grammar::{Choice, Comparison, Conjunction, Disjunction, Index, Number, 
 use line_tokens::Sign;
 use std::alloc::{AllocError as NoMemory, Global};
 
-/// The expression at the front. Its brackets nest at most `room` deep. Chains are walked by loops, so only brackets take stack.
-#[cycle(expr)]
-#[tactic(auto, unfolding(crate::specs::Exprs::expr_over, crate::specs::Exprs::chain_at), using(crate::proofs::Links::expr_steps))]
+/// The expression at the front. Its brackets nest at most `room` deep. Chains are walked by loops, so only brackets take stack; a level calls
+/// the next one at one place where it can, so that the compiler makes one frame of several.
 pub fn read_expr(alloc: Global, room: usize, tokens: &mut Tokens) -> Result<Expr, ReadError>
     ensures gives { Gives (λ x. (term_of x, tokens.new)) result (expr_over (atom_at room) tokens.old) }
     ensures shorter { OnOk result (length tokens.new < length tokens.old) }
 {
-    let mut left = read_conjunction(alloc, room, tokens)?;
-    while tokens.begins::<Disjunction>() {
-        let op = tokens.item::<Disjunction>()?;
+    let boxed = read_boxed(alloc, room, tokens)?;
+    Ok(Box::into_inner(boxed))
+}
+
+#[cycle(expr)]
+#[tactic(auto, unfolding(crate::specs::Exprs::expr_over, crate::specs::Exprs::chain_at, crate::specs::Exprs::next_at), using(crate::proofs::Links::expr_steps))]
+fn read_boxed(alloc: Global, room: usize, tokens: &mut Tokens) -> Result<Box<Expr>, ReadError>
+    ensures gives { Gives (λ x. (boxed_term x, tokens.new)) result (expr_over (atom_at room) tokens.old) }
+    ensures shorter { OnOk result (length tokens.new < length tokens.old) }
+{
+    let mut waiting = None;
+    loop {
         let right = read_conjunction(alloc, room, tokens)?;
-        left = binary(alloc, op, left, right)?;
+        let value = joined(alloc, waiting, right)?;
+        if !tokens.begins::<Disjunction>() {
+            return Ok(value);
+        }
+        let op = tokens.item::<Disjunction>()?;
+        waiting = Some((value, op));
     }
-    Ok(left)
 }
 
 // `and` between negations.
 #[cycle(expr)]
-#[tactic(auto, unfolding(crate::specs::Exprs::conjunction_over, crate::specs::Exprs::chain_at), using(crate::proofs::Links::conjunction_steps))]
-fn read_conjunction(alloc: Global, room: usize, tokens: &mut Tokens) -> Result<Expr, ReadError>
-    ensures gives { Gives (λ x. (term_of x, tokens.new)) result (conjunction_over (atom_at room) tokens.old) }
+#[tactic(auto, unfolding(crate::specs::Exprs::conjunction_over, crate::specs::Exprs::chain_at, crate::specs::Exprs::next_at), using(crate::proofs::Links::conjunction_steps))]
+fn read_conjunction(alloc: Global, room: usize, tokens: &mut Tokens) -> Result<Box<Expr>, ReadError>
+    ensures gives { Gives (λ x. (boxed_term x, tokens.new)) result (conjunction_over (atom_at room) tokens.old) }
     ensures shorter { OnOk result (length tokens.new < length tokens.old) }
 {
-    let mut left = read_negation(alloc, room, tokens)?;
-    while tokens.begins::<Conjunction>() {
-        let op = tokens.item::<Conjunction>()?;
+    let mut waiting = None;
+    loop {
         let right = read_negation(alloc, room, tokens)?;
-        left = binary(alloc, op, left, right)?;
+        let value = joined(alloc, waiting, right)?;
+        if !tokens.begins::<Conjunction>() {
+            return Ok(value);
+        }
+        let op = tokens.item::<Conjunction>()?;
+        waiting = Some((value, op));
     }
-    Ok(left)
 }
 
 // `not` in front of a comparison, any number of times.
 #[cycle(expr)]
 #[tactic(auto, unfolding(crate::specs::Exprs::negation_over, crate::specs::Exprs::prefixed_at))]
-fn read_negation(alloc: Global, room: usize, tokens: &mut Tokens) -> Result<Expr, ReadError>
-    ensures gives { Gives (λ x. (term_of x, tokens.new)) result (negation_over (atom_at room) tokens.old) }
+fn read_negation(alloc: Global, room: usize, tokens: &mut Tokens) -> Result<Box<Expr>, ReadError>
+    ensures gives { Gives (λ x. (boxed_term x, tokens.new)) result (negation_over (atom_at room) tokens.old) }
     ensures shorter { OnOk result (length tokens.new < length tokens.old) }
 {
     let count = count_words(tokens)?;
@@ -61,8 +76,8 @@ fn read_negation(alloc: Global, room: usize, tokens: &mut Tokens) -> Result<Expr
 // Two sums and a comparison between them, or one sum.
 #[cycle(expr)]
 #[tactic(auto, unfolding(crate::specs::Exprs::comparison_over))]
-fn read_comparison(alloc: Global, room: usize, tokens: &mut Tokens) -> Result<Expr, ReadError>
-    ensures gives { Gives (λ x. (term_of x, tokens.new)) result (comparison_over (atom_at room) tokens.old) }
+fn read_comparison(alloc: Global, room: usize, tokens: &mut Tokens) -> Result<Box<Expr>, ReadError>
+    ensures gives { Gives (λ x. (boxed_term x, tokens.new)) result (comparison_over (atom_at room) tokens.old) }
     ensures shorter { OnOk result (length tokens.new < length tokens.old) }
 {
     let left = read_sum(alloc, room, tokens)?;
@@ -77,41 +92,47 @@ fn read_comparison(alloc: Global, room: usize, tokens: &mut Tokens) -> Result<Ex
 
 // `+` and `-` between products.
 #[cycle(expr)]
-#[tactic(auto, unfolding(crate::specs::Exprs::sum_over, crate::specs::Exprs::chain_at), using(crate::proofs::Links::sum_steps))]
-fn read_sum(alloc: Global, room: usize, tokens: &mut Tokens) -> Result<Expr, ReadError>
-    ensures gives { Gives (λ x. (term_of x, tokens.new)) result (sum_over (atom_at room) tokens.old) }
+#[tactic(auto, unfolding(crate::specs::Exprs::sum_over, crate::specs::Exprs::chain_at, crate::specs::Exprs::next_at), using(crate::proofs::Links::sum_steps))]
+fn read_sum(alloc: Global, room: usize, tokens: &mut Tokens) -> Result<Box<Expr>, ReadError>
+    ensures gives { Gives (λ x. (boxed_term x, tokens.new)) result (sum_over (atom_at room) tokens.old) }
     ensures shorter { OnOk result (length tokens.new < length tokens.old) }
 {
-    let mut left = read_product(alloc, room, tokens)?;
-    while tokens.begins::<Sum>() {
-        let op = tokens.item::<Sum>()?;
+    let mut waiting = None;
+    loop {
         let right = read_product(alloc, room, tokens)?;
-        left = binary(alloc, op, left, right)?;
+        let value = joined(alloc, waiting, right)?;
+        if !tokens.begins::<Sum>() {
+            return Ok(value);
+        }
+        let op = tokens.item::<Sum>()?;
+        waiting = Some((value, op));
     }
-    Ok(left)
 }
 
 // `*`, `/` and `%` between operands.
 #[cycle(expr)]
-#[tactic(auto, unfolding(crate::specs::Exprs::product_over, crate::specs::Exprs::chain_at), using(crate::proofs::Links::product_steps))]
-fn read_product(alloc: Global, room: usize, tokens: &mut Tokens) -> Result<Expr, ReadError>
-    ensures gives { Gives (λ x. (term_of x, tokens.new)) result (product_over (atom_at room) tokens.old) }
+#[tactic(auto, unfolding(crate::specs::Exprs::product_over, crate::specs::Exprs::chain_at, crate::specs::Exprs::next_at), using(crate::proofs::Links::product_steps))]
+fn read_product(alloc: Global, room: usize, tokens: &mut Tokens) -> Result<Box<Expr>, ReadError>
+    ensures gives { Gives (λ x. (boxed_term x, tokens.new)) result (product_over (atom_at room) tokens.old) }
     ensures shorter { OnOk result (length tokens.new < length tokens.old) }
 {
-    let mut left = read_unary(alloc, room, tokens)?;
-    while tokens.begins::<Product>() {
-        let op = tokens.item::<Product>()?;
+    let mut waiting = None;
+    loop {
         let right = read_unary(alloc, room, tokens)?;
-        left = binary(alloc, op, left, right)?;
+        let value = joined(alloc, waiting, right)?;
+        if !tokens.begins::<Product>() {
+            return Ok(value);
+        }
+        let op = tokens.item::<Product>()?;
+        waiting = Some((value, op));
     }
-    Ok(left)
 }
 
 // `-` in front of an operand, any number of times.
 #[cycle(expr)]
 #[tactic(auto, unfolding(crate::specs::Exprs::unary_over, crate::specs::Exprs::prefixed_at))]
-fn read_unary(alloc: Global, room: usize, tokens: &mut Tokens) -> Result<Expr, ReadError>
-    ensures gives { Gives (λ x. (term_of x, tokens.new)) result (unary_over (atom_at room) tokens.old) }
+fn read_unary(alloc: Global, room: usize, tokens: &mut Tokens) -> Result<Box<Expr>, ReadError>
+    ensures gives { Gives (λ x. (boxed_term x, tokens.new)) result (unary_over (atom_at room) tokens.old) }
     ensures shorter { OnOk result (length tokens.new < length tokens.old) }
 {
     let count = count_signs(tokens)?;
@@ -123,30 +144,29 @@ fn read_unary(alloc: Global, room: usize, tokens: &mut Tokens) -> Result<Expr, R
 // An operand without an operator of its own.
 #[cycle(expr)]
 #[tactic(auto, unfolding(crate::specs::Exprs::atom_at))]
-fn read_atom(alloc: Global, room: usize, tokens: &mut Tokens) -> Result<Expr, ReadError>
-    ensures gives { Gives (λ x. (term_of x, tokens.new)) result (atom_at room tokens.old) }
+fn read_atom(alloc: Global, room: usize, tokens: &mut Tokens) -> Result<Box<Expr>, ReadError>
+    ensures gives { Gives (λ x. (boxed_term x, tokens.new)) result (atom_at room tokens.old) }
     ensures shorter { OnOk result (length tokens.new < length tokens.old) }
 {
-    if room == 0 {
-        return read_leaf(alloc, tokens);
-    }
-    if tokens.begins_sign(Sign::OpenParen) {
+    if room > 0 && tokens.begins_sign(Sign::OpenParen) {
         return read_bracketed(alloc, room - 1, tokens);
     }
-    if tokens.begins::<Choice>() {
+    if room > 0 && tokens.begins::<Choice>() {
         return read_choice(alloc, room - 1, tokens);
     }
-    read_leaf(alloc, tokens)
+    let leaf = read_leaf(alloc, tokens)?;
+    let boxed = Box::new(alloc, leaf)?;
+    Ok(boxed)
 }
 
 #[cycle(expr)]
 #[tactic(auto, unfolding(crate::specs::Exprs::bracketed_at))]
-fn read_bracketed(alloc: Global, room: usize, tokens: &mut Tokens) -> Result<Expr, ReadError>
-    ensures gives { Gives (λ x. (term_of x, tokens.new)) result (bracketed_at (expr_over (atom_at room)) tokens.old) }
+fn read_bracketed(alloc: Global, room: usize, tokens: &mut Tokens) -> Result<Box<Expr>, ReadError>
+    ensures gives { Gives (λ x. (boxed_term x, tokens.new)) result (bracketed_at (expr_over (atom_at room)) tokens.old) }
     ensures shorter { OnOk result (length tokens.new < length tokens.old) }
 {
     tokens.sign(Sign::OpenParen)?;
-    let value = read_expr(alloc, room, tokens)?;
+    let value = read_boxed(alloc, room, tokens)?;
     tokens.sign(Sign::CloseParen)?;
     Ok(value)
 }
@@ -154,15 +174,15 @@ fn read_bracketed(alloc: Global, room: usize, tokens: &mut Tokens) -> Result<Exp
 // `min` or `max` of two expressions.
 #[cycle(expr)]
 #[tactic(auto, unfolding(crate::specs::Exprs::choice_at))]
-fn read_choice(alloc: Global, room: usize, tokens: &mut Tokens) -> Result<Expr, ReadError>
-    ensures gives { Gives (λ x. (term_of x, tokens.new)) result (choice_at (expr_over (atom_at room)) tokens.old) }
+fn read_choice(alloc: Global, room: usize, tokens: &mut Tokens) -> Result<Box<Expr>, ReadError>
+    ensures gives { Gives (λ x. (boxed_term x, tokens.new)) result (choice_at (expr_over (atom_at room)) tokens.old) }
     ensures shorter { OnOk result (length tokens.new < length tokens.old) }
 {
     let op = tokens.item::<Choice>()?;
     tokens.sign(Sign::OpenParen)?;
-    let left = read_expr(alloc, room, tokens)?;
+    let left = read_boxed(alloc, room, tokens)?;
     tokens.sign(Sign::Comma)?;
-    let right = read_expr(alloc, room, tokens)?;
+    let right = read_boxed(alloc, room, tokens)?;
     tokens.sign(Sign::CloseParen)?;
     let value = binary(alloc, op, left, right)?;
     Ok(value)
@@ -186,12 +206,30 @@ fn read_leaf(alloc: Global, tokens: &mut Tokens) -> Result<Expr, ReadError>
     Ok(Expr::Path(path))
 }
 
-fn binary(alloc: Global, op: BinOp, left: Expr, right: Expr) -> Result<Expr, NoMemory>
-    ensures { IfOk result (λ x. term_of x ≡ Binary op (term_of left) (term_of right)) }
+// An operand behind what stands in front of it.
+fn joined(
+    alloc: Global,
+    waiting: Option<(Box<Expr>, BinOp)>,
+    right: Box<Expr>,
+) -> Result<Box<Expr>, NoMemory>
+    ensures { IfOk result (λ x. boxed_term x ≡ behind_left (left_term waiting) (boxed_term right)) }
 {
-    let left = Box::new(alloc, left)?;
-    let right = Box::new(alloc, right)?;
-    Ok(Expr::Binary { op, left, right })
+    match waiting {
+        None => Ok(right),
+        Some((left, op)) => binary(alloc, op, left, right),
+    }
+}
+
+fn binary(
+    alloc: Global,
+    op: BinOp,
+    left: Box<Expr>,
+    right: Box<Expr>,
+) -> Result<Box<Expr>, NoMemory>
+    ensures { IfOk result (λ x. boxed_term x ≡ Binary op (boxed_term left) (boxed_term right)) }
+{
+    let whole = Box::new(alloc, Expr::Binary { op, left, right })?;
+    Ok(whole)
 }
 
 // How often `not` stands in front.
@@ -230,24 +268,24 @@ fn count_signs(tokens: &mut Tokens) -> Result<usize, ReadError>
 
 // The value with so many `not` in front.
 #[tactic(auto, using(crate::proofs::Links::wrapped_more))]
-fn negated(alloc: Global, count: usize, inner: Expr) -> Result<Expr, NoMemory>
-    ensures { IfOk result (λ x. term_of x ≡ wrapped Not count (term_of inner)) }
+fn negated(alloc: Global, count: usize, inner: Box<Expr>) -> Result<Box<Expr>, NoMemory>
+    ensures { IfOk result (λ x. boxed_term x ≡ wrapped Not count (boxed_term inner)) }
 {
     let mut value = inner;
     for _ in 0..count {
-        value = Expr::Not(Box::new(alloc, value)?);
+        value = Box::new(alloc, Expr::Not(value))?;
     }
     Ok(value)
 }
 
 // The value with so many minuses in front.
 #[tactic(auto, using(crate::proofs::Links::wrapped_more))]
-fn negative(alloc: Global, count: usize, inner: Expr) -> Result<Expr, NoMemory>
-    ensures { IfOk result (λ x. term_of x ≡ wrapped Neg count (term_of inner)) }
+fn negative(alloc: Global, count: usize, inner: Box<Expr>) -> Result<Box<Expr>, NoMemory>
+    ensures { IfOk result (λ x. boxed_term x ≡ wrapped Neg count (boxed_term inner)) }
 {
     let mut value = inner;
     for _ in 0..count {
-        value = Expr::Neg(Box::new(alloc, value)?);
+        value = Box::new(alloc, Expr::Neg(value))?;
     }
     Ok(value)
 }

@@ -1,8 +1,7 @@
--- A level is read by the levels below it, and brackets leave less room. In a chain what is read on gives the whole chain.
-use Rattle.std.proofs.Common.{◌≡◌, ◌<◌, ◌+◌, ◌*◌, length}
-use Rattle.expr_lang.specs.Terms.{term_of}
+-- A level is read by the levels below it, and brackets leave less room. In a chain the operands that are left give the whole chain.
+use Rattle.std.proofs.Common.{◌≡◌, ◌<◌, ◌≤◌, ◌+◌, ◌*◌, length}
 use Rattle.line_grammar.specs.Tokens.{or_of, and_of, sum_of, product_of}
-use Rattle.line_phrases.specs.Exprs.{atom_at, links_at, unary_over, product_over, sum_over, negation_over, conjunction_over, expr_over}
+use Rattle.line_phrases.specs.Exprs.{atom_at, next_at, left_term, unary_over, product_over, sum_over, negation_over, conjunction_over, expr_over}
 use Rattle.line_phrases.proofs.exprs.+expr.Given as goal
 
 abbrev pub decreases-read_atom : goal.decreases-read_atom
@@ -26,8 +25,8 @@ decreases-read_negation l = 10 * l.room + 5
 abbrev pub decreases-read_conjunction : goal.decreases-read_conjunction
 decreases-read_conjunction l = 10 * l.room + 6
 
-abbrev pub decreases-read_expr : goal.decreases-read_expr
-decreases-read_expr l = 10 * l.room + 7
+abbrev pub decreases-read_boxed : goal.decreases-read_boxed
+decreases-read_boxed l = 10 * l.room + 7
 
 abbrev pub decreases-read_bracketed : goal.decreases-read_bracketed
 decreases-read_bracketed l = 10 * l.room + 8
@@ -35,38 +34,38 @@ decreases-read_bracketed l = 10 * l.room + 8
 abbrev pub decreases-read_choice : goal.decreases-read_choice
 decreases-read_choice l = 10 * l.room + 8
 
-abbrev pub invariant-read_expr-loop-alloc : goal.invariant-read_expr-loop-alloc
-invariant-read_expr-loop-alloc l = record {
-  same : links_at or_of (conjunction_over (atom_at l.room)) (term_of l.left) l.tokens ≡ expr_over (atom_at l.room) l.fn.tokens;
-  shorter : length l.tokens < length l.fn.tokens;
+abbrev pub invariant-read_boxed-loop-waiting : goal.invariant-read_boxed-loop-waiting
+invariant-read_boxed-loop-waiting l = record {
+  same : next_at or_of (conjunction_over (atom_at l.room)) (left_term l.waiting) l.tokens ≡ expr_over (atom_at l.room) l.fn.tokens;
+  shorter : length l.tokens ≤ length l.fn.tokens;
 }
 
-abbrev pub decreases-read_expr-loop-alloc : goal.decreases-read_expr-loop-alloc
-decreases-read_expr-loop-alloc l = length l.tokens
+abbrev pub decreases-read_boxed-loop-waiting : goal.decreases-read_boxed-loop-waiting
+decreases-read_boxed-loop-waiting l = length l.tokens
 
-abbrev pub invariant-read_conjunction-loop-alloc : goal.invariant-read_conjunction-loop-alloc
-invariant-read_conjunction-loop-alloc l = record {
-  same : links_at and_of (negation_over (atom_at l.room)) (term_of l.left) l.tokens ≡ conjunction_over (atom_at l.room) l.fn.tokens;
-  shorter : length l.tokens < length l.fn.tokens;
+abbrev pub invariant-read_conjunction-loop-waiting : goal.invariant-read_conjunction-loop-waiting
+invariant-read_conjunction-loop-waiting l = record {
+  same : next_at and_of (negation_over (atom_at l.room)) (left_term l.waiting) l.tokens ≡ conjunction_over (atom_at l.room) l.fn.tokens;
+  shorter : length l.tokens ≤ length l.fn.tokens;
 }
 
-abbrev pub decreases-read_conjunction-loop-alloc : goal.decreases-read_conjunction-loop-alloc
-decreases-read_conjunction-loop-alloc l = length l.tokens
+abbrev pub decreases-read_conjunction-loop-waiting : goal.decreases-read_conjunction-loop-waiting
+decreases-read_conjunction-loop-waiting l = length l.tokens
 
-abbrev pub invariant-read_sum-loop-alloc : goal.invariant-read_sum-loop-alloc
-invariant-read_sum-loop-alloc l = record {
-  same : links_at sum_of (product_over (atom_at l.room)) (term_of l.left) l.tokens ≡ sum_over (atom_at l.room) l.fn.tokens;
-  shorter : length l.tokens < length l.fn.tokens;
+abbrev pub invariant-read_sum-loop-waiting : goal.invariant-read_sum-loop-waiting
+invariant-read_sum-loop-waiting l = record {
+  same : next_at sum_of (product_over (atom_at l.room)) (left_term l.waiting) l.tokens ≡ sum_over (atom_at l.room) l.fn.tokens;
+  shorter : length l.tokens ≤ length l.fn.tokens;
 }
 
-abbrev pub decreases-read_sum-loop-alloc : goal.decreases-read_sum-loop-alloc
-decreases-read_sum-loop-alloc l = length l.tokens
+abbrev pub decreases-read_sum-loop-waiting : goal.decreases-read_sum-loop-waiting
+decreases-read_sum-loop-waiting l = length l.tokens
 
-abbrev pub invariant-read_product-loop-alloc : goal.invariant-read_product-loop-alloc
-invariant-read_product-loop-alloc l = record {
-  same : links_at product_of (unary_over (atom_at l.room)) (term_of l.left) l.tokens ≡ product_over (atom_at l.room) l.fn.tokens;
-  shorter : length l.tokens < length l.fn.tokens;
+abbrev pub invariant-read_product-loop-waiting : goal.invariant-read_product-loop-waiting
+invariant-read_product-loop-waiting l = record {
+  same : next_at product_of (unary_over (atom_at l.room)) (left_term l.waiting) l.tokens ≡ product_over (atom_at l.room) l.fn.tokens;
+  shorter : length l.tokens ≤ length l.fn.tokens;
 }
 
-abbrev pub decreases-read_product-loop-alloc : goal.decreases-read_product-loop-alloc
-decreases-read_product-loop-alloc l = length l.tokens
+abbrev pub decreases-read_product-loop-waiting : goal.decreases-read_product-loop-waiting
+decreases-read_product-loop-waiting l = length l.tokens

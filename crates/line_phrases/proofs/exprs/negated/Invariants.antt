@@ -1,8 +1,9 @@
 -- the value so far
 use Rattle.std.proofs.Common.{◌≡◌}
-use Rattle.expr_lang.specs.Terms.{term_of, Not}
+use Rattle.expr_lang.specs.Terms.{Not}
 use Rattle.line_grammar.specs.Grammar.{wrapped}
+use Rattle.line_phrases.specs.Exprs.{boxed_term}
 use Rattle.line_phrases.proofs.exprs.negated.Given as goal
 
 abbrev pub invariant-loop : goal.invariant-loop
-invariant-loop l = term_of l.value ≡ wrapped Not l.counter (term_of l.fn.inner)
+invariant-loop l = boxed_term l.value ≡ wrapped Not l.counter (boxed_term l.fn.inner)
