@@ -1,12 +1,11 @@
 -- Spans that are a window.
-use Rattle.std.proofs.Common.{◌≡◌, ℕ, true, false, nat_le, List, [], ◌∷◌, refl, ⊎_elim}
+use Rattle.std.proofs.Common.{◌≡◌, ℕ, true, false, nat_le, List, [], ◌∷◌, refl}
 use Rattle.std.specs.Prelude.{◌&&◌}
-use Rattle.std.proofs.lemmas.Bool.{and_parts, cases_Bool, le-leb, leb-true, false≢true}
+use Rattle.std.proofs.lemmas.Bool.{and_parts, le-leb, leb-true, false≢true}
 use Rattle.extents.specs.declared.window.Span.{Span}
 use Rattle.extents.specs.Windows.{IsWindow}
-use Rattle.worlds.specs.Outcomes.{Goes, Faults}
+use Rattle.worlds.specs.Outcomes.{Goes}
 use Rattle.worlds.specs.Windows.{are_inside, windowed}
-use Rattle.worlds.specs.declared.fault.CommandFault.TheVariants.{BadWindow}
 
 inside_true : (extents : List ℕ) (spans : List Span) → IsWindow extents spans → are_inside extents spans ≡ true
 inside_true [] [] is = refl
@@ -26,9 +25,3 @@ is_window (extent ∷ extents) (span ∷ spans) inside =
 
 pub windowed_goes : (extents : List ℕ) (spans : List Span) → IsWindow extents spans → windowed extents spans ≡ Goes (extents, spans)
 windowed_goes extents spans is = rw (inside_true extents spans is) refl
-
-pub windowed_faults : (extents : List ℕ) (spans : List Span) → (IsWindow extents spans → ⊥) → windowed extents spans ≡ Faults BadWindow
-windowed_faults extents spans none = ⊎_elim
-    (λ (inside : are_inside extents spans ≡ true). absurd (none (is_window extents spans inside)))
-    (λ (outside : are_inside extents spans ≡ false). rw outside refl)
-    (cases_Bool (are_inside extents spans))

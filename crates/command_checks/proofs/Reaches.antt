@@ -1,5 +1,5 @@
 -- Whether a term reads inside the array is seen at two rows of a window: its first and its last.
-use Rattle.std.proofs.Common.{◌≡◌, ℕ, suc, ◌+◌, ◌-◌, ◌<◌, ◌≤◌, ◌≤ℤ◌, Bool, true, false, ℤ, pos, negsuc, neg_ℤ, ◌+ℤ◌, ◌-ℤ◌, List, [], ◌∷◌, length, map, get_or, drop, Contains, Some, ⊎_elim, refl, ap, sym, subst, ◌∙◌, arith}
+use Rattle.std.proofs.Common.{◌≡◌, ℕ, ◌+◌, ◌-◌, ◌<◌, ◌≤◌, ◌≤ℤ◌, Bool, true, false, ℤ, pos, negsuc, neg_ℤ, ◌+ℤ◌, ◌-ℤ◌, List, [], ◌∷◌, length, map, get_or, Contains, Some, ⊎_elim, refl, ap, sym, subst, ◌∙◌, arith}
 use Rattle.std.specs.Prelude.{◌&&◌, ◌||◌, ◌==◌, nat_lt, int_le, slice_get}
 use Rattle.std.specs.List.{list_all, position_or_len}
 use Rattle.std.specs.Cmp.Rules.{signed_items}
@@ -8,7 +8,6 @@ use Rattle.std.proofs.lemmas.Bool.Decides.{nat_tests}
 use Rattle.std.proofs.lemmas.Int.{ints}
 use Rattle.std.proofs.lemmas.List.Sums.{AllPass-from_list_all, list_all-from_AllPass, passes_at_first, fails_before_first}
 use Rattle.std.proofs.lemmas.Option.{slice_get-get_or, slice_get_within, get_or_from_slice_get}
-use Rattle.std.proofs.Math.Seq.{drop-cons}
 use Rattle.extents.specs.Indices.{indices, IsInside}
 use Rattle.extents.specs.IndicesLaws.{inside_of_entry, row_of_inside}
 use Rattle.extents.specs.declared.window.Span.{Span}
@@ -224,7 +223,3 @@ reaches_rest window offsets rest is long near so =
     sym (reaches_is window offsets is ∙ rw (same, near) so)
 
 -- ---- the dimensions, one by one
-
-pub stay_turn : (extents : List ℕ) (spans : List Span) (offsets : List ℤ) (d : ℕ) (span : Span) (offset : ℤ) → d < length extents → d < length spans → d < length offsets
-    → all_stay (drop d extents) (drop d spans) (drop d offsets) ≡ (stays (get_or extents d 0) (get_or spans d span) (get_or offsets d offset) && all_stay (drop (suc d) extents) (drop (suc d) spans) (drop (suc d) offsets))
-stay_turn extents spans offsets d span offset a b c = rw (drop-cons extents d 0 a, drop-cons spans d span b, drop-cons offsets d offset c) refl

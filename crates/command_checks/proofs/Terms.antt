@@ -1,20 +1,17 @@
 -- The terms of a stencil, one after another.
-use Rattle.std.proofs.Common.{◌≡◌, ℕ, zero, suc, ◌+◌, ◌<◌, ◌≤◌, Bool, true, false, not, ℤ, pos, List, [], ◌∷◌, ◌++◌, length, map, take, get_or, refl, sym, ap, subst, ◌∙◌, arith}
-use Rattle.std.specs.Prelude.{All, ◌&&◌, ◌==◌, ◌^◌, nat_lt, int_le}
-use Rattle.std.specs.List.{list_all}
+use Rattle.std.proofs.Common.{◌≡◌, ℕ, zero, suc, ◌+◌, ◌<◌, ◌≤◌, Bool, true, false, not, pos, List, [], ◌∷◌, ◌++◌, length, map, take, get_or, refl, sym, ap, subst, ◌∙◌, arith}
+use Rattle.std.specs.Prelude.{All, ◌&&◌, ◌^◌, nat_lt, int_le}
 use Rattle.std.proofs.lemmas.Bool.{and_parts}
 use Rattle.std.proofs.lemmas.Bool.Decides.{nat_tests}
 use Rattle.std.proofs.lemmas.Int.{ints}
 use Rattle.std.proofs.lemmas.List.{take_more, map-append}
 use Rattle.std.proofs.lemmas.Grind.{common_steps}
-use Rattle.extents.specs.Indices.{indices}
-use Rattle.std.proofs.lemmas.List.Folds.{list_all_at, list_all_more}
 use Rattle.std.proofs.lemmas.List.Sums.{AllPass-from_list_all}
 use Rattle.line_grammar.specs.declared.line.TermText.{TermText}
 use Rattle.record_dim.specs.Trees.{Fields}
 use Rattle.subviews.specs.Plans.{IsTermOf}
-use Rattle.subviews.specs.Stencils.{Weighted, weighted, is_divisor, is_offset, is_weight, reaches, row_from}
-use Rattle.subviews.specs.SubViews.{WindowOf, rows_of}
+use Rattle.subviews.specs.Stencils.{Weighted, weighted, is_divisor, is_weight, reaches}
+use Rattle.subviews.specs.SubViews.{WindowOf}
 use Rattle.subviews.specs.declared.term.Term.{Term}
 use Rattle.worlds.specs.Names.{leaf_of}
 use Rattle.worlds.specs.Outcomes.{Goes, ◌>>=◌, refused_if}
@@ -80,27 +77,11 @@ divides_some divisor divides =
     let low = (and_parts (int_le (pos 1) (pos divisor)) (int_le (pos divisor) (pos (2 ^ 31))) divides).0 in
     grind (arith, ints, low)
 
--- one term more, or one that does not reach
-pub reach_more : (window : WindowOf) (texts : List TermText) (i : ℕ) (text : TermText) → i < length texts → all_reach window (take i texts) ≡ true → reaches window (get_or texts i text).offsets ≡ true
-    → all_reach window (take (i + 1) texts) ≡ true
-reach_more window texts i text small so_far reach = list_all_more (λ (one : TermText). reaches window one.offsets) texts i text small ∙ rw (so_far, reach) refl
-
-pub reach_stops : (window : WindowOf) (texts : List TermText) (i : ℕ) (text : TermText) → i < length texts → reaches window (get_or texts i text).offsets ≡ false → all_reach window texts ≡ false
-reach_stops window texts i text small stops = list_all_at (λ (one : TermText). reaches window one.offsets) texts i text small stops
-
 pub reach_at : (window : WindowOf) (texts : List TermText) (i : ℕ) (text : TermText) → i < length texts → all_reach window texts ≡ true → reaches window (get_or texts i text).offsets ≡ true
 reach_at window texts i text small all = AllPass-from_list_all (λ (one : TermText). reaches window one.offsets) texts all i text small
 
 pub weigh_at : (texts : List TermText) (i : ℕ) (text : TermText) → i < length texts → all_weigh texts ≡ true → is_weight (get_or texts i text).weight ≡ true
 weigh_at texts i text small all = AllPass-from_list_all (λ (one : TermText). is_weight one.weight) texts all i text small
-
--- offsets that reach are as many as the extents, and none is too far
-pub reach_parts : (window : WindowOf) (offsets : List ℤ) → reaches window offsets ≡ true → (length offsets ≡ length window.0) × (list_all is_offset offsets ≡ true)
-reach_parts window offsets reach =
-    let lands = list_all (λ row. nat_lt (row_from window.0 row offsets) (length (indices window.0))) (rows_of window) in
-    let parts = and_parts (length offsets == length window.0) (list_all is_offset offsets && lands) reach in
-    let near = (and_parts (list_all is_offset offsets) lands parts.1).0 in
-    (grind (arith, nat_tests, parts.0), near)
 
 -- ---- the terms of the code
 

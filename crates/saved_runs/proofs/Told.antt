@@ -58,9 +58,6 @@ told_inside {v = v} k opening closing o p c t = record {
 pub record Keeps {A : Type 0} (k : ℕ) (Is : Phrase A) : Type 0 where
   pub at : (xs : List Token) (v : A) → Is xs v → Each IsSpelled xs → Fits k xs
 
-pub keeps_more : {A : Type 0} {Is : Phrase A} (k m : ℕ) → k ≤ m → Keeps k Is → Keeps m Is
-keeps_more k m less one = record { at = λ xs v is spelled. fits_more k m xs less (one.at xs v is spelled) }
-
 pub keeps_nothing : {A : Type 0} (k : ℕ) (value : A) → Keeps k (IsNothing value)
 keeps_nothing k value = record { at = λ xs v is spelled. rw is.0 (fits_more 0 k [] (omega arith) no_tokens_fit) }
 

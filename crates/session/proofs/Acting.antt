@@ -1,11 +1,10 @@
 -- The parts of an update by actors, and what is done by it.
-use Rattle.std.proofs.Common.{◌≡◌, ℕ, suc, ◌+◌, ◌/◌, ◌%◌, ◌^◌, ◌<◌, ◌≤◌, Bool, true, false, ℤ, nat_le, List, [], ◌∷◌, length, get_or, set, drop, map, Result, Ok, Err, refl, sym, ap, ◌∙◌, arith}
+use Rattle.std.proofs.Common.{◌≡◌, ℕ, suc, ◌+◌, ◌/◌, ◌%◌, ◌^◌, ◌≤◌, Bool, true, false, ℤ, nat_le, List, [], ◌∷◌, length, get_or, set, map, Result, Ok, Err, refl, sym, ap, ◌∙◌, arith}
 use Rattle.std.specs.Result.{IsErrAnd}
 use Rattle.std.specs.Prelude.{◌*◌, not, nat_lt, sum_by, slice_set, filter, Option, Some, None}
 use Rattle.std.proofs.lemmas.Bool.{and_parts, leb-true}
 use Rattle.std.proofs.lemmas.Bool.Decides.{nat_tests}
 use Rattle.std.proofs.lemmas.List.{length-map, length-set}
-use Rattle.std.proofs.Math.Seq.{drop-cons}
 use Rattle.actors.specs.Runs.{Run, uncounted, started_run, after_turns}
 use Rattle.actor_steps.specs.Confluence.{State, moved, turned}
 use Rattle.actor_steps.specs.Cuts.{AreCuts, actor_of, are_cuts}
@@ -35,17 +34,6 @@ use Rattle.command_checks.specs.declared.fault.StepFault.TheVariants as step
 use Rattle.session.specs.Changes.{left_with}
 use Rattle.session.specs.Teams.{Bindings, shared_out, acted}
 use Rattle.session.proofs.Indexing.{read_stored}
-
--- cuts from one of them on: it falls, or it is the next that the others may not fall below
-pub cuts_stop : (cuts : List ℕ) (i from rows : ℕ) → i < length cuts → get_or cuts i 0 < from → are_cuts from (drop i cuts) rows ≡ false
-cuts_stop cuts i from rows small low =
-    let falls : nat_le from (get_or cuts i 0) ≡ false = grind (arith, nat_tests) in
-    rw (drop-cons cuts i 0 small, falls) refl
-
-pub cuts_more : (cuts : List ℕ) (i from rows : ℕ) → i < length cuts → from ≤ get_or cuts i 0 → are_cuts from (drop i cuts) rows ≡ are_cuts (get_or cuts i 0) (drop (suc i) cuts) rows
-cuts_more cuts i from rows small high =
-    let rises : nat_le from (get_or cuts i 0) ≡ true = grind (arith, nat_tests) in
-    rw (drop-cons cuts i 0 small, rises) refl
 
 -- cuts that pass
 of_fit : (test : Bool) → refused_if (not test) (BadActors Cuts) ≡ Goes tt → test ≡ true

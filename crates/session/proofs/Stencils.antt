@@ -1,21 +1,18 @@
 -- What stencils do, and the buffer of their rounds.
-use Rattle.std.proofs.Common.{◌≡◌, ◌∙◌, ℕ, List, [], Ok, Err, sym, ap}
+use Rattle.std.proofs.Common.{◌≡◌, ◌∙◌, ℕ, List}
 use Rattle.extents.specs.declared.window.Span.{Span}
 use Rattle.line_grammar.specs.declared.line.TermText.{TermText}
 use Rattle.map_checks.specs.Mappings.{IsBuiltTerm}
-use Rattle.map_expr.specs.Terms.{Term, Aos, Soa, Aosoa, BitAos, BitSoa, Split, Byteswap, Bytesplit, Change, Count, Heat, Named, uncounted}
+use Rattle.map_expr.specs.Terms.{Term, Count, Heat, uncounted}
 use Rattle.record_dim.specs.declared.path.PathStep.{PathStep}
-use Rattle.subviews.specs.Stencils.{Stencil, stenciled, rounds_log}
-use Rattle.subviews.specs.declared.fault.StencilFault.{StencilFault}
-use Rattle.views.specs.Tables.{Table, after_stores}
+use Rattle.subviews.specs.Stencils.{Stencil}
+use Rattle.views.specs.Tables.{Table}
 use Rattle.worlds.specs.OnView.{done_to}
-use Rattle.worlds.specs.Outcomes.{Goes, Faults}
-use Rattle.worlds.specs.Stencil.{fit_stencil, room_beside, stencil_fault, stencil_rounds, stencil_run}
-use Rattle.worlds.specs.declared.fault.CommandFault.{CommandFault}
+use Rattle.worlds.specs.Outcomes.{Goes}
+use Rattle.worlds.specs.Stencil.{fit_stencil, room_beside, stencil_rounds, stencil_run}
 use Rattle.command_checks.specs.Gives.{GivesUp}
 use Rattle.command_checks.specs.GivesLaws.{GivesUp-then, goes_then}
 use Rattle.command_checks.specs.declared.fault.StepFault.{StepFault}
-use Rattle.session.specs.Changes.{left_with}
 use Rattle.session.proofs.Exits.{goes_gives}
 
 -- ---- the parts of the command
@@ -36,14 +33,6 @@ module _ (live : ℕ) (table : Table) (spans : List Span) (path : List PathStep)
   run_is stencil fit room = goes_then _ _ _ fit ∙ goes_then _ _ _ room
 
 -- ---- its rounds
-
-pub rounds_go : (table view : Table) (stencil : Stencil) (rounds : ℕ) → stenciled table stencil rounds ≡ Ok view.rows → view ≡ after_stores table view.rows (rounds_log stencil rounds)
-    → done_to table (stencil_rounds table rounds stencil) ≡ Goes (left_with view [])
-rounds_go table view stencil rounds is left = rw is (ap (λ (t : Table). Goes (left_with t [])) (sym left))
-
-pub rounds_stop : (table : Table) (stencil : Stencil) (rounds : ℕ) (fault : StencilFault) (told : CommandFault) → stenciled table stencil rounds ≡ Err fault → told ≡ stencil_fault table.fields stencil.leaf fault
-    → done_to table (stencil_rounds table rounds stencil) ≡ Faults told
-rounds_stop table stencil rounds fault told is tells = rw is (ap (λ (f : CommandFault). Faults f) (sym tells))
 
 -- ---- expressions without counters
 
