@@ -18,7 +18,7 @@ use Rattle.places.specs.declared.forms.AosForm.TheVariants.{Packed}
 use Rattle.schema_lang.specs.Bodies.{line_at, command_at, body_at, new_at, flag_at, load_at}
 use Rattle.line_grammar.specs.declared.version.Version.TheVariants.{One}
 use Rattle.schema_lang.specs.LineOf.{line_of, told, spots_in, spots_within, spots_behind}
-use Rattle.generator.specs.Generated.{generated_lines, generated_files}
+use Rattle.layout_cli.specs.Generated.{generated_lines, generated_files}
 use Rattle.layout_io.specs.Files.{file_of}
 use Rattle.line_tokens.specs.declared.spots.Spot.{Spot}
 use Rattle.line_grammar.specs.declared.token.Token.{Token}

@@ -14,7 +14,7 @@ use Rattle.worlds.specs.Fold.{run_from, after}
 use Rattle.worlds.specs.RunAnswers.{Answers, IsRun, HasCause, HasSinkCause}
 use Rattle.worlds.specs.declared.status.Status.{Status}
 use Rattle.worlds.specs.declared.status.Status.TheVariants.{Done, CommandFault, Usage, SourceFault, SinkFault, NoMemory}
-use Rattle.generator.specs.Generated.{script_text, dataset_text, generated_lines, generated_files}
+use Rattle.layout_cli.specs.Generated.{script_text, dataset_text, generated_lines, generated_files}
 use Rattle.line_grammar.specs.declared.version.Version.TheVariants.{One}
 use Rattle.session_runs.specs.Steps.{step_text, step_line}
 use Rattle.session_runs.specs.Scripts.{run_form, run_headed, script_lines, version_line, faulted}

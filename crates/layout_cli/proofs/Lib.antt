@@ -5,3 +5,6 @@ pub mod ScriptLines
 pub mod NoFile
 pub mod FileLines
 pub mod Generated
+mod Words
+mod Negated
+mod Texts

@@ -12,7 +12,7 @@ use Rattle.csv.specs.Reading.{strip_bom}
 use Rattle.layout_io.specs.Decimal.{digits_text}
 use Rattle.layout_io.specs.DecimalLaws.{decimal-digits_text}
 use Rattle.worlds.specs.Lines.{is_line_end, without_cr, ended_lines, lines_in}
-use Rattle.generator.specs.Generated.{ended, generated_lines, script_text}
+use Rattle.layout_cli.specs.Generated.{ended, generated_lines, script_text}
 
 -- no byte that could be a part of the end of a line
 abbrev pub is_plain : List ℕ → Bool

@@ -1,2 +1,4 @@
 pub mod Run
 pub mod EqualScripts
+pub mod Generated
+pub mod Numbers

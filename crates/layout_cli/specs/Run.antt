@@ -1,8 +1,8 @@
 -- The run of the program on a list of words: what it writes and how it ends, over the files of its shelf.
 use Rattle.std.specs.Prelude.{ℕ, ◌≡◌, ◌^◌, List, ◌∷◌, [], length, Option, None, Some, codes, bytes_eq, nat_lt, if◌then◌else◌}
 use Rattle.layout_io.specs.Files.{File, file_of}
-use Rattle.generator.specs.Generated.{script_text, dataset_text, generated_files}
-use Rattle.generator.specs.Numbers.{number_of}
+use Rattle.layout_cli.specs.Generated.{script_text, dataset_text, generated_files}
+use Rattle.layout_cli.specs.Numbers.{number_of}
 use Rattle.worlds.specs.FaultTexts.{unread_text}
 use Rattle.worlds.specs.declared.fault.CommandFault.TheVariants.{ScriptTooLong}
 use Rattle.worlds.specs.Outcome.{Output, Misused, Unread}

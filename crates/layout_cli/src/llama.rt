@@ -5,7 +5,10 @@ ghost use Rattle.layout_io.specs.Writing.{Writes};
 ghost use Rattle.worlds.specs.RunAnswers.{IsRun, HasCause, HasSinkCause};
 ghost use Rattle.layout_cli.specs.Run.{run, run_file, run_generated, script_name, gen_words, IsMisuse, usage_text};
 
-use generator::{GeneratedShelf, gen_dataset, gen_number, gen_script};
+use crate::dataset::gen_dataset;
+use crate::number::gen_number;
+use crate::script::gen_script;
+use crate::shelf::GeneratedShelf;
 use layout_io::{Failed, ReadEnd, Shelf, Sink, read_all, write_all};
 use session_runs::run_form;
 use std::alloc::Global;

@@ -2,8 +2,12 @@
 // that is made of the number.
 #![tactic(auto)]
 
+mod dataset;
 mod laws;
 mod llama;
+mod number;
+mod script;
+mod shelf;
 
 use layout_io::{FileShelf, OutSink};
 use std::alloc::AllocError as NoMemory;
@@ -32,5 +36,7 @@ fn main(rt: HostRuntime) -> ExitCode {
     ExitCode::from(status.number())
 }
 
+#[cfg(test)]
+mod generated_tests;
 #[cfg(test)]
 mod tests;

@@ -9,7 +9,7 @@ use std::test::Fail;
 use views::View;
 
 // The file of two packed records, 258 and -1, 3 and 4: the two lines of its header have 32 and 41 bytes.
-pub(crate) const FILE: &[u8] =
+const FILE: &[u8] =
     b"LLAMAB1\n\x49\x00\x00\x00record R { f0 : u16 , f1 : i8 }\nview V : R [ 2 ] as aos ( packed , row )\n\x02\x01\xff\x03\x00\x04";
 
 fn two_records(alloc: Global) -> Result<View, Fail> {

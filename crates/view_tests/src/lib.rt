@@ -10,8 +10,6 @@ mod copies;
 #[cfg(test)]
 mod kernels;
 #[cfg(test)]
-mod library_calls;
-#[cfg(test)]
 mod orders;
 #[cfg(test)]
 mod row_faults;

@@ -1,9 +1,0 @@
-use Rattle.std.proofs.Common.{◌≡◌, ◌∙◌, pos, neg_ℤ, rules, arith}
-use Rattle.layout_io.specs.Decimal.{decimal_text}
-use Rattle.generator.proofs.Negated.{negated}
-use Rattle.generator.proofs.dataset.push_negated.Goals as goal
-
-pub returns : goal.returns
-returns c =
-    let digits : c.format.result.now ≡ decimal_text (neg_ℤ (pos c.args.number)) = c.format.ensures.text ∙ negated c.args.number c.from.result (omega arith) c.from.ensures in
-    search (rules, digits)

@@ -1,9 +1,0 @@
-use Rattle.std.proofs.Common.{◌≡◌, ◌∙◌, arith, rules}
-use Rattle.layout_io.specs.Decimal.{digits_text}
-use Rattle.layout_io.specs.DecimalLaws.{decimal-digits_text}
-use Rattle.generator.proofs.number.push_number.Goals as goal
-
-pub returns : goal.returns
-returns c =
-    let digits : c.format.result.now ≡ digits_text c.args.number = c.format.ensures.text ∙ decimal-digits_text c.args.number (omega arith) in
-    search (rules, digits)

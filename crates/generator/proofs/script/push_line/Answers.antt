@@ -1,9 +1,0 @@
-use Rattle.std.proofs.Common.{rules}
-use Rattle.layout_io.specs.Decimal.{digits_text}
-use Rattle.generator.proofs.Texts.{line_put}
-use Rattle.generator.proofs.script.push_line.Goals as goal
-
-pub returns : goal.returns
-returns c =
-    let line = line_put c.args.text.now c.args.front.now (digits_text c.args.n) c.args.back.now in
-    search (rules, line)

@@ -1,0 +1,76 @@
+// The calls of the library for C that take memory and that no command makes, with ample memory: that it is wanting is an answer that no clause
+// rules out.
+use c_lines::{
+    lay_anew, loaded_view, new_view, open_view, put_blob, put_file, put_table, run_kernel,
+};
+use std::alloc::Global;
+use std::marker::Brand;
+use std::sync::ledger::Blank;
+use std::test::Fail;
+use views::View;
+
+const RECORD: &[u8] = b"record R { f0 : u16 , f1 : i8 }";
+
+const VIEW: &[u8] = b"view V : R [ 3 ] as aos ( packed , row )";
+
+const LOAD: &[u8] = b"load V : R [ ? ] as aos ( packed , row ) from \"any\"";
+
+// Two records, as `print` shows them, and their file: the two lines of its header have 32 and 41 bytes.
+const TEXT: &[u8] = b"f0,f1\n258,-1\n3,4\n";
+
+const FILE: &[u8] =
+    b"LLAMAB1\n\x49\x00\x00\x00record R { f0 : u16 , f1 : i8 }\nview V : R [ 2 ] as aos ( packed , row )\n\x02\x01\xff\x03\x00\x04";
+
+// A view of these two records.
+fn loaded(alloc: Global) -> Result<View, Fail> {
+    let view = loaded_view::<Brand>(alloc, RECORD, LOAD, TEXT, Blank::new(1));
+    Ok(view.ok().ok_or("not loaded")?)
+}
+
+// Whether the text of a view is this one, of at most 18 bytes.
+fn shows(alloc: Global, view: &mut View, due: &[u8]) -> bool {
+    let mut text = [0; 18];
+    let mut needed = 0;
+    let put = put_table::<Brand>(alloc, view, &mut text, &mut needed, Blank::new(1));
+    put.is_ok() && needed <= text.len() && &text[..needed] == due
+}
+
+#[test]
+fn a_view_of_two_lines_has_zeros(rt: HostRuntime) -> Result<(), Fail> {
+    let mut view = new_view(rt.alloc(), RECORD, VIEW).ok().ok_or("no view")?;
+    assert!(rt; shows(rt.alloc(), &mut view, b"f0,f1\n0,0\n0,0\n0,0\n"));
+    Ok(())
+}
+
+#[test]
+fn a_dataset_is_loaded_and_printed(rt: HostRuntime) -> Result<(), Fail> {
+    let mut view = loaded(rt.alloc())?;
+    assert!(rt; shows(rt.alloc(), &mut view, TEXT));
+    Ok(())
+}
+
+#[test]
+fn a_table_is_summed_and_laid_anew(rt: HostRuntime) -> Result<(), Fail> {
+    let mut view = loaded(rt.alloc())?;
+    let sum = b"kernel V sum(f0) lanes 2";
+    let number = run_kernel::<Brand>(rt.alloc(), &mut view, sum, Blank::new(1));
+    assert!(rt; number.ok() == Some(Some(261)));
+    let arrays = b"relayout V as soa(multi, row)";
+    let laid = lay_anew::<Brand>(rt.alloc(), &mut view, arrays, Blank::new(1));
+    let (mut bytes, mut needed) = ([0; 2], 0);
+    let put = put_blob(&view, 1, &mut bytes, &mut needed);
+    assert!(rt; laid.is_ok() && put.is_ok() && bytes == [255, 4]);
+    Ok(())
+}
+
+#[test]
+fn a_view_is_put_as_its_file_and_opened(rt: HostRuntime) -> Result<(), Fail> {
+    let view = loaded(rt.alloc())?;
+    let (mut bytes, mut needed) = ([0; 91], 0);
+    let put = put_file(rt.alloc(), &view, &mut bytes, &mut needed);
+    assert!(rt; put.is_ok() && needed == 91 && &bytes[..] == FILE);
+    let opened = open_view::<Brand>(rt.alloc(), FILE, Blank::new(1));
+    let mut opened = opened.ok().ok_or("not opened")?;
+    assert!(rt; shows(rt.alloc(), &mut opened, TEXT));
+    Ok(())
+}

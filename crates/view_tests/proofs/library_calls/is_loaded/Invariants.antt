@@ -1,4 +1,0 @@
-use Rattle.view_tests.proofs.library_calls.is_loaded.Given as goal
-
-abbrev pub ghosts-put_table : goal.ghosts-put_table
-ghosts-put_table a = record { name = a.blank.name; parts = a.blank.parts }

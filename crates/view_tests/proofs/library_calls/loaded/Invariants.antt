@@ -1,4 +1,0 @@
-use Rattle.view_tests.proofs.library_calls.loaded.Given as goal
-
-abbrev pub ghosts-loaded_view : goal.ghosts-loaded_view
-ghosts-loaded_view a = record { name = a.blank.name; parts = a.blank.parts }
