@@ -27,6 +27,24 @@ fn loaded(alloc: Global) -> Result<View, Fail> {
     Ok(view.ok().ok_or("not loaded")?)
 }
 
+// The view of their file.
+fn opened(alloc: Global) -> Result<View, Fail> {
+    let view = open_view::<Brand>(alloc, FILE, Blank::new(1));
+    Ok(view.ok().ok_or("not opened")?)
+}
+
+// The sum of the first leaf.
+fn sum_of(alloc: Global, view: &mut View) -> Option<Option<i64>> {
+    let line = b"kernel V sum(f0) lanes 2";
+    run_kernel::<Brand>(alloc, view, line, Blank::new(1)).ok()
+}
+
+// Whether a view takes another layout.
+fn is_laid_anew(alloc: Global, view: &mut View) -> bool {
+    let line = b"relayout V as soa(multi, row)";
+    lay_anew::<Brand>(alloc, view, line, Blank::new(1)).is_ok()
+}
+
 // Whether the text of a view is this one, of at most 18 bytes.
 fn shows(alloc: Global, view: &mut View, due: &[u8]) -> bool {
     let mut text = [0; 18];
@@ -52,14 +70,11 @@ fn a_dataset_is_loaded_and_printed(rt: HostRuntime) -> Result<(), Fail> {
 #[test]
 fn a_table_is_summed_and_laid_anew(rt: HostRuntime) -> Result<(), Fail> {
     let mut view = loaded(rt.alloc())?;
-    let sum = b"kernel V sum(f0) lanes 2";
-    let number = run_kernel::<Brand>(rt.alloc(), &mut view, sum, Blank::new(1));
-    assert!(rt; number.ok() == Some(Some(261)));
-    let arrays = b"relayout V as soa(multi, row)";
-    let laid = lay_anew::<Brand>(rt.alloc(), &mut view, arrays, Blank::new(1));
+    assert!(rt; sum_of(rt.alloc(), &mut view) == Some(Some(261)));
+    assert!(rt; is_laid_anew(rt.alloc(), &mut view));
     let (mut bytes, mut needed) = ([0; 2], 0);
     let put = put_blob(&view, 1, &mut bytes, &mut needed);
-    assert!(rt; laid.is_ok() && put.is_ok() && bytes == [255, 4]);
+    assert!(rt; put.is_ok() && bytes == [255, 4]);
     Ok(())
 }
 
@@ -69,8 +84,7 @@ fn a_view_is_put_as_its_file_and_opened(rt: HostRuntime) -> Result<(), Fail> {
     let (mut bytes, mut needed) = ([0; 91], 0);
     let put = put_file(rt.alloc(), &view, &mut bytes, &mut needed);
     assert!(rt; put.is_ok() && needed == 91 && &bytes[..] == FILE);
-    let opened = open_view::<Brand>(rt.alloc(), FILE, Blank::new(1));
-    let mut opened = opened.ok().ok_or("not opened")?;
-    assert!(rt; shows(rt.alloc(), &mut opened, TEXT));
+    let mut view = opened(rt.alloc())?;
+    assert!(rt; shows(rt.alloc(), &mut view, TEXT));
     Ok(())
 }
