@@ -1,12 +1,14 @@
 // A view as the bytes of a file, and the view of such bytes.
-ghost use Rattle.std.specs.Prelude.{◌≡◌, ◌<◌};
+ghost use Rattle.std.specs.Prelude.{◌≡◌, ◌<◌, length, MatchResult};
+ghost use Rattle.blob_file.specs.Files.{file_of};
+ghost use Rattle.blob_file.specs.Saving.{blobs_of, header_of};
 ghost use Rattle.c_lines.specs.Answers.{Tells};
 ghost use Rattle.c_lines.specs.Buffers.{file_refusal, file_told, opened_told, TellsPut};
+ghost use Rattle.c_lines.specs.declared.refusal.Refusal.TheVariants.{NoMemory};
 
-use crate::byte_sink::ByteSink;
-use crate::copy_out::copy_out;
 use crate::refusal::Refusal;
-use blob_file::{FileFault, SaveEnd, read_file, write_file};
+use crate::slice_sink::SliceSink;
+use blob_file::{FileFault, SaveEnd, file_len, read_file, write_file};
 use record_dim::Steps;
 use std::alloc::Global;
 use std::sync::ledger::{Blank, Ledger};
@@ -22,10 +24,31 @@ pub fn put_file(
 ) -> Result<(), Refusal>
     ensures { TellsPut (file_told view.now) buffer.old needed.old result buffer.new needed.new }
 {
-    let mut sink = ByteSink::new(alloc);
+    let len = match file_len(alloc, view) {
+        Ok(len) => len,
+        Err(SaveEnd::TooBig) => return Err(Refusal::TooBig),
+        Err(_) => return Err(Refusal::NoMemory),
+    };
+    if len > buffer.len() {
+        *needed = len;
+        return Err(Refusal::NoRoom);
+    }
+    fill(alloc, view, &mut buffer[..len])?;
+    *needed = len;
+    Ok(())
+}
+
+// Makes bytes those of the file of a view, which are as many. Where memory runs out they stay as they are.
+fn fill(alloc: Global, view: &View, bytes: &mut [u8]) -> Result<(), Refusal>
+    requires { length bytes.old ≡ length (file_of (header_of view.now) (blobs_of view.now)) }
+    ensures { MatchResult result
+        (λ _. bytes.new ≡ file_of (header_of view.now) (blobs_of view.now))
+        (λ refusal. (refusal ≡ NoMemory) × (bytes.new ≡ bytes.old)) }
+{
+    let mut sink = SliceSink::new(bytes);
     match write_file(alloc, view, &mut sink) {
-        Ok(()) => copy_out(sink.taken(), buffer, needed),
-        Err(SaveEnd::TooBig) => Err(Refusal::TooBig),
+        Ok(()) => Ok(()),
+        // The file has room, and the texts of its header are short.
         Err(_) => Err(Refusal::NoMemory),
     }
 }

@@ -18,6 +18,7 @@ mod print;
 mod refusal;
 mod relayout;
 mod runs;
+mod slice_sink;
 mod told;
 mod unsigned;
 mod values;
