@@ -53,6 +53,13 @@ fn shows(alloc: Global, view: &mut View, due: &[u8]) -> bool {
     put.is_ok() && needed <= text.len() && &text[..needed] == due
 }
 
+// Whether a view is put as that file.
+fn is_put(alloc: Global, view: &View) -> bool {
+    let (mut bytes, mut needed) = ([0; 91], 0);
+    let put = put_file(alloc, view, &mut bytes, &mut needed);
+    put.is_ok() && needed == 91 && &bytes[..] == FILE
+}
+
 #[test]
 fn a_view_of_two_lines_has_zeros(rt: HostRuntime) -> Result<(), Fail> {
     let mut view = new_view(rt.alloc(), RECORD, VIEW).ok().ok_or("no view")?;
@@ -61,9 +68,10 @@ fn a_view_of_two_lines_has_zeros(rt: HostRuntime) -> Result<(), Fail> {
 }
 
 #[test]
-fn a_dataset_is_loaded_and_printed(rt: HostRuntime) -> Result<(), Fail> {
+fn a_dataset_is_loaded_printed_and_put_as_a_file(rt: HostRuntime) -> Result<(), Fail> {
     let mut view = loaded(rt.alloc())?;
     assert!(rt; shows(rt.alloc(), &mut view, TEXT));
+    assert!(rt; is_put(rt.alloc(), &view));
     Ok(())
 }
 
@@ -79,11 +87,7 @@ fn a_table_is_summed_and_laid_anew(rt: HostRuntime) -> Result<(), Fail> {
 }
 
 #[test]
-fn a_view_is_put_as_its_file_and_opened(rt: HostRuntime) -> Result<(), Fail> {
-    let view = loaded(rt.alloc())?;
-    let (mut bytes, mut needed) = ([0; 91], 0);
-    let put = put_file(rt.alloc(), &view, &mut bytes, &mut needed);
-    assert!(rt; put.is_ok() && needed == 91 && &bytes[..] == FILE);
+fn a_file_is_opened(rt: HostRuntime) -> Result<(), Fail> {
     let mut view = opened(rt.alloc())?;
     assert!(rt; shows(rt.alloc(), &mut view, TEXT));
     Ok(())
