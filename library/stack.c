@@ -12,7 +12,7 @@
 
 #include "llama.h"
 
-#define STACK ((size_t)256 * 1024)
+#define STACK ((size_t)512 * 1024)
 #define GUARD ((size_t)64 * 1024)
 #define PATTERN UINT64_C(0x5ca1ab1e0ddba11d)
 
